@@ -1,0 +1,115 @@
+// The bytes of one relocation block.
+ghost use Rattle.std.specs.Prelude.{◌≡◌, ◌+◌, ◌*◌, ◌≤◌, ◌<◌, length, IfOk, List, ℕ};
+ghost use Rattle.ar_disks.specs.Geometry.{block_len_of};
+ghost use Rattle.ar_disks.specs.Block.{zeros, xor, sectors_at, with_sectors};
+
+use crate::bytes::{add_into, overwrite};
+use crate::geometry::{Geometry, SECTOR_LEN};
+use std::alloc::{AllocError, Global};
+use std::marker::Model;
+
+/// The bytes of one relocation block, on the heap. Contracts see it as their list.
+///
+/// Only `new` takes memory, and no call changes the length.
+#[derive(Debug, Drop)]
+pub struct Block {
+    bytes: Vec<u8>,
+}
+
+impl Model for Block {
+    ghost Value = { List ℕ };
+
+    ghost view = { λ block. block.bytes.items };
+}
+
+impl Block {
+    #[tactic(auto, unfolding(crate::specs::Block::zeros))]
+    /// A block of zeros, as long as the geometry says. It fails where memory is refused.
+    pub fn new(alloc: Global, geometry: Geometry) -> Result<Block, AllocError>
+        ensures zero { IfOk result (λ block. block ≡ zeros (block_len_of geometry)) }
+        ensures len { IfOk result (λ block. length block ≡ block_len_of geometry) }
+    {
+        let bytes = vec![in alloc; 0; geometry.block_len()]?;
+        Ok(Block { bytes })
+    }
+
+    /// The bytes.
+    pub fn bytes(&self) -> &[u8]
+        ensures { result.now ≡ self.now }
+    {
+        &self.bytes
+    }
+
+    #[tactic(auto, unfolding(crate::specs::Block::zeros))]
+    /// Sets every byte to zero.
+    pub fn zero(&mut self)
+        ensures zero { self.new ≡ zeros (length self.old) }
+        ensures len { length self.new ≡ length self.old }
+    {
+        self.bytes.fill(0);
+    }
+
+    /// Takes over the bytes of a block of the same length.
+    pub fn copy_from(&mut self, other: &Block)
+        requires { length other.now ≡ length self.old }
+        ensures { self.new ≡ other.now }
+    {
+        self.bytes.copy_from_slice(&other.bytes);
+    }
+
+    /// Takes over bytes, as many as the block has.
+    pub fn copy_from_slice(&mut self, bytes: &[u8])
+        requires { length bytes.now ≡ length self.old }
+        ensures { self.new ≡ bytes.now }
+    {
+        self.bytes.copy_from_slice(bytes);
+    }
+
+    /// Adds this block to another of the same length: each byte there becomes the exclusive or of the two.
+    pub fn xor_into(&self, target: &mut Block)
+        requires { length target.old ≡ length self.now }
+        ensures sum { target.new ≡ xor target.old self.now }
+        ensures len { length target.new ≡ length target.old }
+    {
+        add_into(&self.bytes, &mut target.bytes);
+    }
+
+    /// One sector: 512 bytes.
+    pub fn sector(&self, index: usize) -> &[u8]
+        requires { 512 * (index + 1) ≤ length self.now }
+        ensures bytes { result.now ≡ sectors_at self.now index 1 }
+        ensures len { length result.now ≡ 512 }
+    {
+        self.sectors(index, 1)
+    }
+
+    #[tactic(auto, unfolding(crate::specs::Block::sectors_at))]
+    /// Several sectors in order, from a first one on.
+    pub fn sectors(&self, first: usize, count: usize) -> &[u8]
+        requires { 512 * (first + count) ≤ length self.now }
+        ensures bytes { result.now ≡ sectors_at self.now first count }
+        ensures len { length result.now ≡ 512 * count }
+    {
+        &self.bytes[first * SECTOR_LEN..(first + count) * SECTOR_LEN]
+    }
+
+    /// Puts 512 bytes in place of one sector. The others stay.
+    pub fn set_sector(&mut self, index: usize, bytes: &[u8])
+        requires exists { 512 * (index + 1) ≤ length self.old }
+        requires whole { length bytes.now ≡ 512 }
+        ensures sectors { self.new ≡ with_sectors self.old index bytes.now }
+        ensures len { length self.new ≡ length self.old }
+    {
+        self.set_sectors(index, bytes);
+    }
+
+    #[tactic(auto, unfolding(crate::specs::Block::with_sectors))]
+    /// Puts the bytes of whole sectors in place of as many, from a first one on. The others stay.
+    pub fn set_sectors(&mut self, first: usize, bytes: &[u8])
+        requires { 512 * first + length bytes.now ≤ length self.old }
+        ensures sectors { self.new ≡ with_sectors self.old first bytes.now }
+        ensures len { length self.new ≡ length self.old }
+    {
+        overwrite(&mut self.bytes, first * SECTOR_LEN, bytes);
+    }
+}

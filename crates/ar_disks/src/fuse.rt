@@ -1,0 +1,107 @@
+// A disk that is lost after a number of calls, for tests.
+ghost use Rattle.std.specs.Prelude.{◌≡◌, ◌-◌, ◌<◌, ◌↔◌, IsTrue, false, length};
+ghost use Rattle.std.specs.Bool.{OnTrue, OnFalse};
+ghost use Rattle.ar_disks.specs.Geometry.{block_len_of};
+ghost use Rattle.ar_disks.specs.Disk.{HasPlace, Reads, Writes};
+
+use crate::{Block, Disk, Geometry, MemDisk};
+use std::marker::Model;
+
+/// A disk in memory that passes a number of reads and writes and is gone from the next one on.
+#[derive(Debug, Drop)]
+pub struct FuseDisk {
+    disk: MemDisk,
+    left: u64,
+    gone: bool,
+    faults: u64,
+}
+
+impl Model for FuseDisk {
+    ghost use Rattle.std.specs.Prelude.{◌≡◌, IsTrue};
+    ghost use Rattle.ar_disks.specs.Fuse.{FuseState};
+
+    ghost Value = { FuseState };
+
+    ghost view = { λ f. record { disk = record f.disk { gone = f.gone; faults = f.faults }; left = f.left } };
+
+    ghost invariant = { λ f. IsTrue f.gone → f.left ≡ 0 };
+}
+
+impl FuseDisk {
+    ghost use Rattle.ar_disks.specs.Fuse.{blown};
+
+    /// The disk, with a fuse of so many reads and writes. It is not gone yet and has met no fault.
+    pub fn new(disk: MemDisk, calls: u64) -> FuseDisk
+        ensures disk { result.disk ≡ disk }
+        ensures left { result.left ≡ calls }
+    {
+        FuseDisk {
+            disk,
+            left: calls,
+            gone: false,
+            faults: 0,
+        }
+    }
+
+    /// How many reads and writes still pass.
+    pub fn left(&self) -> u64
+        ensures { result ≡ self.now.left }
+    {
+        self.left
+    }
+
+    // Uses up one call of the fuse, or counts a fault where none is left.
+    fn passes(&mut self) -> bool
+        ensures passes { IsTrue result ↔ (0 < self.old.left) }
+        ensures used { OnTrue result (self.new ≡ record self.old { left = self.old.left - 1 }) }
+        ensures blown { OnFalse result (self.new ≡ blown self.old) }
+        ensures there { IsTrue result → self.old.disk.gone ≡ false }
+    {
+        if self.left > 0 {
+            self.left -= 1;
+            return true;
+        }
+        self.gone = true;
+        self.faults = self.faults.saturating_add(1);
+        false
+    }
+}
+
+impl Disk for FuseDisk {
+    ghost state = { λ fuse. fuse.disk };
+
+    fn geometry(&self) -> Geometry {
+        self.disk.geometry()
+    }
+
+    fn extents(&self) -> u16 {
+        self.disk.extents()
+    }
+
+    fn read(&mut self, ext: u16, row: u16, into: &mut Block) -> bool
+        requires place { HasPlace self.old.disk ext row }
+        requires whole { length into.old ≡ block_len_of self.old.disk.geometry }
+        ensures read { Reads self.old.disk self.new.disk ext row result into.new }
+        ensures len { length into.new ≡ length into.old }
+        // It passes as many calls as the fuse has left.
+        ensures fuse { IsTrue result ↔ (0 < self.old.left) }
+        ensures left { self.new.left ≡ self.old.left - 1 }
+    {
+        self.passes() && self.disk.read(ext, row, into)
+    }
+
+    fn write(&mut self, ext: u16, row: u16, from: &Block) -> bool
+        requires place { HasPlace self.old.disk ext row }
+        requires whole { length from.now ≡ block_len_of self.old.disk.geometry }
+        ensures written { Writes self.old.disk self.new.disk ext row result from.now }
+        // It passes as many calls as the fuse has left.
+        ensures fuse { IsTrue result ↔ (0 < self.old.left) }
+        ensures left { self.new.left ≡ self.old.left - 1 }
+    {
+        self.passes() && self.disk.write(ext, row, from)
+    }
+
+    fn faults(&self) -> u64 {
+        self.faults
+    }
+}

@@ -1,0 +1,120 @@
+// A disk in memory, which never faults.
+ghost use Rattle.std.specs.Prelude.{◌≡◌, ◌*◌, ◌+◌, ◌<◌, IsTrue, IfOk, length, replicate};
+ghost use Rattle.ar_disks.specs.Geometry.{extent_len_of, block_len_of};
+ghost use Rattle.ar_disks.specs.Disk.{HasPlace, Reads, Writes, offset_of};
+
+use crate::bytes::overwrite;
+use crate::{Block, Disk, Geometry};
+use std::alloc::{AllocError, Global};
+use std::marker::Model;
+
+/// A disk in memory, its bytes in one allocation. It never faults. Contracts see it as what stands on it.
+#[derive(Debug, Drop)]
+pub struct MemDisk {
+    geometry: Geometry,
+    extents: u16,
+    bytes: Vec<u8>,
+}
+
+impl Model for MemDisk {
+    ghost use Rattle.std.specs.Prelude.{◌≡◌, ◌*◌, length, false};
+    ghost use Rattle.ar_disks.specs.Geometry.{extent_len_of};
+    ghost use Rattle.ar_disks.specs.Disk.{DiskState};
+
+    ghost Value = { DiskState };
+
+    ghost view = { λ d. record { geometry = d.geometry; extents = d.extents; bytes = d.bytes.items; gone = false; faults = 0 } };
+
+    ghost invariant = { λ d. length d.bytes.items ≡ d.extents * extent_len_of d.geometry };
+}
+
+impl MemDisk {
+    ghost use Rattle.ar_disks.specs.Memory.{sound_disk};
+
+    /// A disk that starts with these bytes, extent by extent.
+    pub fn new(geometry: Geometry, extents: u16, bytes: Vec<u8>) -> MemDisk
+        requires { length bytes.items ≡ extents * extent_len_of geometry }
+        ensures { result ≡ sound_disk geometry extents bytes.items }
+    {
+        MemDisk {
+            geometry,
+            extents,
+            bytes,
+        }
+    }
+
+    /// A disk that starts with one byte everywhere. It fails where memory is refused.
+    pub fn filled(
+        alloc: Global,
+        geometry: Geometry,
+        extents: u16,
+        byte: u8,
+    ) -> Result<MemDisk, AllocError>
+        ensures { IfOk result (λ disk. disk ≡ sound_disk geometry extents (replicate (extents * extent_len_of geometry) byte)) }
+    {
+        let bytes = vec![in alloc; byte; disk_len(geometry, extents)]?;
+        Ok(MemDisk::new(geometry, extents, bytes))
+    }
+}
+
+impl Disk for MemDisk {
+    ghost state = { λ disk. disk };
+
+    fn geometry(&self) -> Geometry {
+        self.geometry
+    }
+
+    fn extents(&self) -> u16 {
+        self.extents
+    }
+
+    fn read(&mut self, ext: u16, row: u16, into: &mut Block) -> bool
+        requires place { HasPlace self.old ext row }
+        requires whole { length into.old ≡ block_len_of self.old.geometry }
+        ensures read { Reads self.old self.new ext row result into.new }
+        ensures len { length into.new ≡ length into.old }
+        // It never faults.
+        ensures sound { IsTrue result }
+    {
+        let from = offset(self.geometry, ext, row);
+        into.copy_from_slice(&self.bytes[from..from + self.geometry.block_len()]);
+        true
+    }
+
+    fn write(&mut self, ext: u16, row: u16, from: &Block) -> bool
+        requires place { HasPlace self.old ext row }
+        requires whole { length from.now ≡ block_len_of self.old.geometry }
+        ensures written { Writes self.old self.new ext row result from.now }
+        // It never faults.
+        ensures sound { IsTrue result }
+    {
+        let to = offset(self.geometry, ext, row);
+        overwrite(&mut self.bytes, to, from.bytes());
+        true
+    }
+
+    fn faults(&self) -> u64 {
+        let _geometry = &self.geometry;
+        0
+    }
+}
+
+// How many bytes a disk has.
+fn disk_len(geometry: Geometry, extents: u16) -> usize
+    ensures { result ≡ extents * extent_len_of geometry }
+{
+    match geometry {
+        Geometry::Paper => extents as usize * 1_048_576,
+        Geometry::Small => extents as usize * 2_048,
+    }
+}
+
+// Where a row of an extent begins among a disk's bytes.
+fn offset(geometry: Geometry, ext: u16, row: u16) -> usize
+    ensures { result ≡ offset_of geometry ext row }
+{
+    match geometry {
+        Geometry::Paper => (ext as usize * 16 + row as usize) * 65_536,
+        Geometry::Small => (ext as usize * 2 + row as usize) * 1_024,
+    }
+}
