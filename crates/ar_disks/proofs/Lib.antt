@@ -1,3 +1,4 @@
 pub mod Fused
 pub mod Places
+pub mod Sectors
 pub mod Xor

@@ -48,7 +48,7 @@ between-overwritten_after xs ys a b n e h =
     (ap (λ l. drop b l) (sym (append_assoc (take a xs) ys (drop (a + length ys) xs)))
     ∙ drop-append-drop (a + length ys) xs (take a xs ++ ys) b e front)
 
-between-overwritten_apart : (xs ys : List ℕ) (a b n : ℕ) → (b + n ≤ a) ⊎ (a + length ys ≤ b) → a + length ys ≤ length xs
+pub between-overwritten_apart : (xs ys : List ℕ) (a b n : ℕ) → (b + n ≤ a) ⊎ (a + length ys ≤ b) → a + length ys ≤ length xs
     → slice_range (overwritten xs a ys) b (b + n) ≡ slice_range xs b (b + n)
 between-overwritten_apart xs ys a b n (inl before) h = between-overwritten_before xs ys a b n before h
 between-overwritten_apart xs ys a b n (inr after) h = between-overwritten_after xs ys a b n after h
