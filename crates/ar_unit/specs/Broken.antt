@@ -1,0 +1,69 @@
+-- What is still known of a unit on an array that has lost its data, and what it answers then.
+use Rattle.std.specs.Prelude.{ℕ, ◌*◌, Bool, true, false, ◌==◌, ◌&&◌, not, if◌then◌else◌, max, List, length, take, Result, Ok, Err}
+use Rattle.ar_scsi.specs.declared.command.Command.{Command}
+use Rattle.ar_scsi.specs.declared.command.Command.TheVariants.{TestReady, Inquiry, Capacity, Read, Write}
+use Rattle.ar_scsi.specs.declared.reply.Reply.{Reply}
+use Rattle.ar_scsi.specs.declared.reply.Status.{Status}
+use Rattle.ar_scsi.specs.declared.reply.Status.TheVariants.{Good, CheckCondition, Busy}
+use Rattle.ar_scsi.specs.declared.sense.Sense.{Sense}
+use Rattle.ar_scsi.specs.Data.{inquiry_data, capacity_data}
+use Rattle.ar_scsi.specs.Field.{operation_code}
+use Rattle.ar_scsi.specs.Reading.{reading}
+use Rattle.ar_scsi.specs.Reply.{good, check}
+use Rattle.ar_scsi.specs.Sense.{internal_target_failure, capacity_data_has_changed, logical_block_address_out_of_range, data_phase_error}
+use Rattle.ar_unit.specs.Unit.{UnitState, Absent, Present, absent_reply, is_past_end, Entry, Make, Grow, Remove, Cmd}
+
+-- whether the unit is there, how many sectors it has, and its mark
+pub record Shape : Type 0 where
+  pub present : Bool
+  pub sectors : ℕ
+  pub attention : Bool
+
+-- the shape of a unit
+abbrev pub shape_of : UnitState → Shape
+shape_of Absent = record { present = false; sectors = 0; attention = false }
+shape_of (Present sectors attention) = record { present = true; sectors = length sectors; attention = attention }
+
+-- the shape after an entry. A command leaves everything but a mark that it has told.
+abbrev pub shape_after : Shape → Entry → Shape
+shape_after shape (Make n) = record { present = true; sectors = n; attention = false }
+shape_after shape (Grow n) =
+    if shape.present then (record { present = true; sectors = max shape.sectors n; attention = true }) else shape
+shape_after shape Remove = record { present = false; sectors = 0; attention = false }
+shape_after shape (Cmd cdb bytes) = record shape { attention = shape.attention && (operation_code cdb == 0x12) }
+
+-- the command needs the unit's blocks, or says that they can be had
+abbrev pub needs_blocks : Result Command Sense → Bool
+needs_blocks (Ok TestReady) = true
+needs_blocks (Ok (Read lba count)) = true
+needs_blocks (Ok (Write lba count fua)) = true
+needs_blocks other = false
+
+-- the status is GOOD
+abbrev pub is_good : Status → Bool
+is_good Good = true
+is_good CheckCondition = false
+is_good Busy = false
+
+-- what a broken array says in place of a reply: HARDWARE ERROR to a command that needs blocks and would be GOOD
+abbrev pub where_broken : List ℕ → Reply → Reply
+where_broken cdb reply = if is_good reply.status && needs_blocks (reading cdb) then check internal_target_failure else reply
+
+-- the same from the command block on, by the number of sectors
+unfoldable pub broken_obeyed : ℕ → Result Command Sense → ℕ → Reply
+broken_obeyed sectors (Err sense) sent = check sense
+broken_obeyed sectors (Ok TestReady) sent = check internal_target_failure
+broken_obeyed sectors (Ok (Inquiry len)) sent = good (take len (inquiry_data true))
+broken_obeyed sectors (Ok Capacity) sent = good (capacity_data sectors)
+broken_obeyed sectors (Ok (Read lba count)) sent =
+    if is_past_end sectors lba count then check logical_block_address_out_of_range else check internal_target_failure
+broken_obeyed sectors (Ok (Write lba count fua)) sent =
+    if is_past_end sectors lba count then check logical_block_address_out_of_range
+    else (if not (sent == count * 512) then check data_phase_error else check internal_target_failure)
+
+-- the reply of a broken array to a command block with so many bytes of data, by the shape alone
+unfoldable pub broken_answer : Shape → List ℕ → ℕ → Reply
+broken_answer shape cdb sent =
+    if not shape.present then absent_reply cdb
+    else (if shape.attention && not (operation_code cdb == 0x12) then check capacity_data_has_changed
+    else broken_obeyed shape.sectors (reading cdb) sent)

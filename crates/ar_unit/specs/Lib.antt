@@ -1,0 +1,10 @@
+pub mod Broken
+pub mod Plain
+pub mod Sectors
+pub mod Unit
+pub use Rattle.ar_scsi.specs.Block
+pub use Rattle.ar_scsi.specs.Data
+pub use Rattle.ar_scsi.specs.Field
+pub use Rattle.ar_scsi.specs.Reading
+pub use Rattle.ar_scsi.specs.Reply
+pub use Rattle.ar_scsi.specs.Sense

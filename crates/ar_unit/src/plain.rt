@@ -1,0 +1,238 @@
+// The plain program: a unit as a list of sectors.
+ghost use Rattle.std.specs.Prelude.{◌≡◌, ◌≢◌, ◌+◌, ◌-◌, ◌++◌, ◌*◌, ◌<◌, ◌≤◌, ◌^◌, Bool, [], nat_lt, if◌then◌else◌, length, take, drop, OnOk, OnErr, IfOk, vec_len};
+ghost use Rattle.std.specs.List.{concat};
+ghost use Rattle.ar_scsi.specs.Data as table;
+ghost use Rattle.ar_scsi.specs.Reply as shape;
+ghost use Rattle.ar_unit.specs.Sectors.{cut, written, zero_sectors};
+ghost use Rattle.ar_unit.specs.Unit as unit;
+ghost use Rattle.ar_unit.specs.Unit.{Absent, Present, Make, Grow, Remove, answer, after, obeyed, leaving, absent_reply, read_reply, write_answer, IsGiven, IsServed};
+
+use ar_scsi::{
+    Command, Reply, Sense, allocation_length, capacity_data, decode, inquiry_data, is_inquiry,
+};
+use bytes::Bytes;
+use std::alloc::{AllocError, Global};
+use std::marker::Model;
+
+const ZERO_SECTOR: [u8; 512] = [0; 512];
+
+/// A logical unit, kept as a plain list of sectors. Contracts see it as the definition's state.
+#[derive(Drop)]
+pub struct PlainUnit {
+    present: bool,
+    sectors: Vec<[u8; 512]>,
+    attention: bool,
+}
+
+impl Model for PlainUnit {
+    ghost use Rattle.ar_unit.specs.Unit.{UnitState};
+
+    ghost Value = { UnitState };
+
+    ghost use Rattle.ar_unit.specs.Plain.{plain_view, IsSized};
+
+    ghost view = { plain_view };
+
+    ghost invariant = { λ unit. IsSized unit.present unit.sectors.items };
+}
+
+impl PlainUnit {
+    /// No unit. It takes no memory.
+    pub fn new(alloc: Global) -> PlainUnit
+        ensures { result ≡ Absent }
+    {
+        PlainUnit {
+            present: false,
+            sectors: Vec::new(alloc),
+            attention: false,
+        }
+    }
+
+    /// Makes the unit, of so many zero sectors, in place of what was there. `Err` leaves it as it was.
+    pub fn make(&mut self, sectors: u32) -> Result<(), AllocError>
+        requires { 1 ≤ sectors }
+        ensures ok { OnOk result (self.new ≡ after self.old (Make sectors)) }
+        ensures err { OnErr result (self.new ≡ self.old) }
+    {
+        let mut fresh = Vec::new(*self.sectors.allocator());
+        lengthen(&mut fresh, sectors)?;
+        self.sectors = fresh;
+        self.present = true;
+        self.attention = false;
+        Ok(())
+    }
+
+    /// Adds zero sectors to a unit that is there, up to this number of them, and has the next command but
+    /// INQUIRY told. Where no unit is, nothing happens. `Err` leaves it as it was.
+    pub fn grow(&mut self, sectors: u32) -> Result<(), AllocError>
+        ensures ok { OnOk result (self.new ≡ after self.old (Grow sectors)) }
+        ensures err { OnErr result (self.new ≡ self.old) }
+    {
+        if self.present {
+            lengthen(&mut self.sectors, sectors)?;
+            self.attention = true;
+        }
+        Ok(())
+    }
+
+    /// Removes the unit.
+    pub fn remove(&mut self)
+        ensures { self.new ≡ after self.old Remove }
+    {
+        self.present = false;
+        self.sectors.clear();
+    }
+
+    /// Answers a command that came with these bytes. BUSY stands only for want of memory for the bytes of
+    /// a reply, and leaves the unit as it was.
+    pub fn answer(&mut self, alloc: Global, cdb: &[u8; 16], bytes: &[u8]) -> Reply
+        ensures { IsServed self.old (answer self.old cdb.now bytes.now) result self.new }
+    {
+        if !self.present {
+            return absent(alloc, cdb);
+        }
+        if self.attention && !is_inquiry(cdb) {
+            self.attention = false;
+            return Reply::check(Sense::CAPACITY_DATA_HAS_CHANGED);
+        }
+        match decode(cdb) {
+            Ok(command) => obey(alloc, &mut self.sectors, command, bytes),
+            Err(sense) => Reply::check(sense),
+        }
+    }
+}
+
+// The reply where no unit is.
+fn absent(alloc: Global, cdb: &[u8; 16]) -> Reply
+    ensures { IsGiven (absent_reply cdb.now) result }
+{
+    if is_inquiry(cdb) {
+        inquiry(alloc, false, allocation_length(cdb))
+    } else {
+        Reply::check(Sense::LOGICAL_UNIT_NOT_SUPPORTED)
+    }
+}
+
+// Does what a valid block asks of a unit that is there.
+#[tactic(auto, unfolding(crate::specs::Unit::obeyed))]
+fn obey(alloc: Global, sectors: &mut Vec<[u8; 512]>, command: Command, bytes: &[u8]) -> Reply
+    requires some { 1 ≤ vec_len sectors.old }
+    requires few { vec_len sectors.old < 2 ^ 32 }
+    ensures served { (attention : Bool) → IsServed (Present sectors.old.items attention)
+        (obeyed sectors.old.items attention (Ok command) bytes.now)
+        result (Present sectors.new.items attention) }
+    ensures len { vec_len sectors.new ≡ vec_len sectors.old }
+{
+    match command {
+        Command::TestReady => Reply::good(Bytes::new()),
+        Command::Inquiry { allocation_length } => inquiry(alloc, true, allocation_length),
+        Command::Capacity => with_bytes(alloc, &capacity_data(sectors.len() as u32)),
+        Command::Read { lba, count } => read(alloc, sectors, lba, count),
+        Command::Write { lba, count, fua: _ } => write(sectors, lba, count, bytes),
+    }
+}
+
+fn inquiry(alloc: Global, present: bool, allocation_length: u16) -> Reply
+    ensures { IsGiven (shape.good (take allocation_length (table.inquiry_data present))) result }
+{
+    let data = inquiry_data(present);
+    let shown = usize::from(allocation_length).min(data.len());
+    with_bytes(alloc, &data[..shown])
+}
+
+// GOOD with a copy of these bytes, or BUSY.
+fn with_bytes(alloc: Global, bytes: &[u8]) -> Reply
+    ensures { IsGiven (shape.good bytes.now) result }
+{
+    if bytes.is_empty() {
+        return Reply::good(Bytes::new());
+    }
+    match Bytes::copy_from_slice(alloc, bytes) {
+        Ok(payload) => Reply::good(payload),
+        Err(_) => Reply::busy(),
+    }
+}
+
+// The range ends past a unit of `sectors` sectors. 128 bits hold each sum.
+fn is_past_end(sectors: usize, lba: u64, count: u16) -> bool
+    ensures { result ≡ unit.is_past_end sectors lba count }
+{
+    u128::from(lba) + u128::from(count) > sectors as u128
+}
+
+fn read(alloc: Global, sectors: &Vec<[u8; 512]>, lba: u64, count: u16) -> Reply
+    ensures { IsGiven (read_reply sectors.now.items lba count) result }
+{
+    if is_past_end(sectors.len(), lba, count) {
+        return Reply::check(Sense::LOGICAL_BLOCK_ADDRESS_OUT_OF_RANGE);
+    }
+    let first = lba as usize;
+    let wanted = &sectors[first..first + usize::from(count)];
+    if byte_count(wanted) == 0 {
+        return Reply::good(Bytes::new());
+    }
+    match joined(alloc, wanted) {
+        Ok(payload) => Reply::good(payload),
+        Err(_) => Reply::busy(),
+    }
+}
+
+// How many bytes sectors have.
+fn byte_count(sectors: &[[u8; 512]]) -> usize
+    requires { length sectors.now < 2 ^ 16 }
+    ensures { result ≡ length (concat sectors.now) }
+{
+    512 * sectors.len()
+}
+
+// The bytes of sectors, one after another.
+fn joined(alloc: Global, sectors: &[[u8; 512]]) -> Result<Bytes, AllocError>
+    requires { length sectors.now < 2 ^ 16 }
+    ensures { IfOk result (λ bytes. bytes ≡ concat sectors.now) }
+{
+    let mut bytes = Vec::with_capacity(alloc, byte_count(sectors))?;
+    for sector in sectors {
+        bytes.extend_from_slice(sector)?;
+    }
+    Ok(Bytes::from_vec(bytes)?)
+}
+
+// Says what it did by the table's reply and the sectors, at any mark.
+fn write(sectors: &mut Vec<[u8; 512]>, lba: u64, count: u16, bytes: &[u8]) -> Reply
+    ensures served { (attention : Bool) → leaving (Present sectors.new.items attention) result
+        ≡ write_answer sectors.old.items attention lba count bytes.now }
+    ensures len { vec_len sectors.new ≡ vec_len sectors.old }
+{
+    if is_past_end(sectors.len(), lba, count) {
+        return Reply::check(Sense::LOGICAL_BLOCK_ADDRESS_OUT_OF_RANGE);
+    }
+    if bytes.len() != usize::from(count) * 512 {
+        return Reply::check(Sense::DATA_PHASE_ERROR);
+    }
+    let first = lba as usize;
+    let end = first + usize::from(count);
+    overwrite(&mut sectors[first..end], bytes);
+    Reply::good(Bytes::new())
+}
+
+// Writes bytes over sectors.
+fn overwrite(sectors: &mut [[u8; 512]], bytes: &[u8])
+    requires { length bytes.now ≡ length sectors.old * 512 }
+    ensures { sectors.new ≡ cut 512 (length sectors.old) bytes.now }
+{
+    for i in 0..sectors.len() {
+        let sector = &mut sectors[i];
+        sector.copy_from_slice(&bytes[512 * i..512 * (i + 1)]);
+    }
+}
+
+// Adds zero sectors up to `count` of them, where there are fewer. `Err` adds none.
+#[tactic(auto, unfolding(crate::specs::Sectors::zero_sector))]
+fn lengthen(sectors: &mut Vec<[u8; 512]>, count: u32) -> Result<(), AllocError>
+    ensures ok { OnOk result (sectors.new.items
+        ≡ sectors.old.items ++ zero_sectors (count - vec_len sectors.old)) }
+    ensures err { OnErr result (sectors.new.items ≡ sectors.old.items) }
+{
+    let count = (count as usize).max(sectors.len());
+    sectors.resize(count, ZERO_SECTOR)
+}
