@@ -1,0 +1,27 @@
+use Rattle.std.proofs.Common.{◌≡◌, length, Some, None, sym, ap, ◌∙◌, subst}
+use Rattle.std.proofs.lemmas.Bool.{false≢true}
+use Rattle.ar_cache.specs.Cache.{IsSound, cached}
+use Rattle.ar_cache.proofs.Sound.{cached_whole}
+use Rattle.ar_cache.proofs.cache.Cache.get.Goals as goal
+
+pub copy_from-requires : goal.copy_from-requires
+copy_from-requires g c =
+    let sound : IsSound c.args.self.now = subst IsSound c.self.view_is c.self.invariant.0 in
+    let hit = subst (λ s. cached s c.args.key ≡ Some c.in-Some.block.now) c.self.view_is (sym c.in-Some.ensures) in
+    cached_whole c.args.self.now c.args.key c.in-Some.block.now sound hit ∙ sym c.requires.whole
+
+pub returns-in-Some-clause-len : goal.returns-in-Some-clause-len
+returns-in-Some-clause-len g c =
+    let sound : IsSound c.args.self.now = subst IsSound c.self.view_is c.self.invariant.0 in
+    let hit = subst (λ s. cached s c.args.key ≡ Some c.in-Some.block.now) c.self.view_is (sym c.in-Some.ensures) in
+    ap length c.copy_from.ensures ∙ cached_whole c.args.self.now c.args.key c.in-Some.block.now sound hit ∙ sym c.requires.whole
+
+pub returns-in-Some-clause-miss : goal.returns-in-Some-clause-miss
+returns-in-Some-clause-miss g c miss =
+    let hit = subst (λ s. cached s c.args.key ≡ Some c.in-Some.block.now) c.self.view_is (sym c.in-Some.ensures) in
+    cc
+
+pub returns-in-None-clause-hit : goal.returns-in-None-clause-hit
+returns-in-None-clause-hit g c hit =
+    let miss = subst (λ s. cached s c.args.key ≡ None) c.self.view_is (sym c.in-None.ensures) in
+    absurd (false≢true (rw miss at hit))

@@ -1,0 +1,103 @@
+use Rattle.std.proofs.Common.{◌≡◌, ◌≢◌, ◌≤◌, ◌∷◌, length, IsTrue, Some, None, inr, refl, sym, ap, ◌∙◌, subst}
+use Rattle.std.proofs.lemmas.Bool.{false≢true}
+use Rattle.ar_disks.specs.declared.address.Key.{Key}
+use Rattle.ar_cache.specs.Cache.{cached, last_key, Sees, SameSeen, KnowsAll, with_entries, without_last}
+use Rattle.ar_cache.proofs.Lookups.{others_given, absent_apart, seen_given, seen_front, seen_through, sees_after, absent_without_last, known_front, known_without_last, known_kept}
+use Rattle.ar_cache.proofs.Uses.{with_room_full, fits_put, fits_without_last, ≤_antisym}
+use Rattle.ar_cache.proofs.cache.Cache.put_over.Goals as goal
+
+pub returns-then-insert-clause-sees : goal.returns-then-insert-clause-sees
+returns-then-insert-clause-sees g c done =
+    let old = c.args.self.now in
+    let f = g.B.Backing.block_at c.args.backing.now in
+    let h = g.B.Backing.block_at c.destage_last.new.backing in
+    let d = c.destage_last.ensures in
+    let left = with_entries old (without_last old.entries) in
+    let full = ≤_antisym d.sound.fits c.requires.full in
+    let new = c.if-insert.ensures.put ∙ ap (λ es. with_entries old ((c.args.key, c.args.block.now) ∷ es)) (with_room_full old full) in
+    let given : SameSeen old f left h = seen_given c.destage_last.result old f h c.in_default.not-Broken d.sound.distinct d.given (λ e. ap g.B.Backing.block_at (d.quiet e)) in
+    subst (λ s. Sees old f s h c.args.key c.args.block.now) (sym new)
+    (sees_after old left (with_entries left ((c.args.key, c.args.block.now) ∷ left.entries)) f h h c.args.key c.args.block.now given (seen_front left h c.args.key c.args.block.now))
+
+pub returns-then-insert-clause-fits : goal.returns-then-insert-clause-fits
+returns-then-insert-clause-fits g c =
+    let old = c.args.self.now in
+    subst (λ s. length s.entries ≤ s.capacity) (sym c.if-insert.ensures.put) (fits_put old c.args.key c.args.block.now (c.if-insert.ensures.room refl))
+
+pub returns-then-insert-clause-all_known : goal.returns-then-insert-clause-all_known
+returns-then-insert-clause-all_known g c =
+    let old = c.args.self.now in
+    let knows = g.B.Backing.knows in
+    let d = c.destage_last.ensures in
+    let left = with_entries old (without_last old.entries) in
+    let full = ≤_antisym d.sound.fits c.requires.full in
+    let new = c.if-insert.ensures.put ∙ ap (λ es. with_entries old ((c.args.key, c.args.block.now) ∷ es)) (with_room_full old full) in
+    let kept = known_kept (knows c.args.backing.now) (knows c.destage_last.new.backing) old d.keeps.same_keys c.requires.all_known in
+    let this = subst IsTrue (sym (d.keeps.same_keys c.args.key)) c.requires.known in
+    subst (KnowsAll (knows c.destage_last.new.backing)) (sym new)
+    (known_front (knows c.destage_last.new.backing) left c.args.key c.args.block.now this
+    (known_without_last (knows c.destage_last.new.backing) old d.sound.distinct kept))
+
+pub returns-in-Done-clause-sees : goal.returns-in-Done-clause-sees
+returns-in-Done-clause-sees g c done =
+    let old = c.args.self.now in
+    let f = g.B.Backing.block_at c.args.backing.now in
+    let h = g.B.Backing.block_at c.destage_last.new.backing in
+    let j = g.B.Backing.block_at c.put.new.self in
+    let d = c.destage_last.ensures in
+    let left = with_entries old (without_last old.entries) in
+    let new = c.drop_last.ensures ∙ ap (λ s. with_entries s (without_last s.entries)) c.if-insert.ensures.refused in
+    let given : SameSeen old f left h = seen_given c.destage_last.result old f h c.in_default.not-Broken d.sound.distinct d.given (λ e. ap g.B.Backing.block_at (d.quiet e)) in
+    let absent = absent_without_last old.entries c.args.key d.sound.distinct c.requires.absent in
+    subst (λ s. Sees old f s j c.args.key c.args.block.now) (sym new)
+    (sees_after old left left f h j c.args.key c.args.block.now given (seen_through left h j c.args.key c.args.block.now absent (c.in-Done.ensures.written refl)))
+
+pub returns-in-Done-clause-taken : goal.returns-in-Done-clause-taken
+returns-in-Done-clause-taken g c done =
+    let old = c.args.self.now in
+    let full = ≤_antisym c.destage_last.ensures.sound.fits c.requires.full in
+    let new = c.drop_last.ensures ∙ ap (λ s. with_entries s (without_last s.entries)) c.if-insert.ensures.refused in
+    inr (new ∙ ap (with_entries old) (sym (with_room_full old full)))
+
+pub returns-in-Done-clause-fits : goal.returns-in-Done-clause-fits
+returns-in-Done-clause-fits g c =
+    let old = c.args.self.now in
+    let new = c.drop_last.ensures ∙ ap (λ s. with_entries s (without_last s.entries)) c.if-insert.ensures.refused in
+    subst (λ s. length s.entries ≤ s.capacity) (sym new) (fits_without_last old c.destage_last.ensures.sound.fits)
+
+pub returns-in-Done-clause-all_known : goal.returns-in-Done-clause-all_known
+returns-in-Done-clause-all_known g c =
+    let old = c.args.self.now in
+    let knows = g.B.Backing.knows in
+    let d = c.destage_last.ensures in
+    let new = c.drop_last.ensures ∙ ap (λ s. with_entries s (without_last s.entries)) c.if-insert.ensures.refused in
+    let first = known_kept (knows c.args.backing.now) (knows c.destage_last.new.backing) old d.keeps.same_keys c.requires.all_known in
+    let then = known_kept (knows c.destage_last.new.backing) (knows c.put.new.self) old c.in-Done.ensures.keeps.same_keys first in
+    subst (KnowsAll (knows c.put.new.self)) (sym new) (known_without_last (knows c.put.new.self) old d.sound.distinct then)
+
+pub returns-then-insert-clause-blocks : goal.returns-then-insert-clause-blocks
+returns-then-insert-clause-blocks g c done =
+    let old = c.args.self.now in
+    let f = g.B.Backing.block_at c.args.backing.now in
+    let h = g.B.Backing.block_at c.destage_last.new.backing in
+    let d = c.destage_last.ensures in
+    let same = λ (q : Key) (apart : last_key old.entries ≢ Some q). others_given c.destage_last.result old.entries f h q c.in_default.not-Broken d.given (λ e. ap g.B.Backing.block_at (d.quiet e)) apart in
+    record {
+      others = λ q ne apart. same q (apart c.requires.full);
+      held = λ is. same c.args.key (absent_apart old.entries c.args.key d.sound.distinct c.requires.absent);
+    }
+
+pub returns-in-Done-clause-blocks : goal.returns-in-Done-clause-blocks
+returns-in-Done-clause-blocks g c done =
+    let old = c.args.self.now in
+    let f = g.B.Backing.block_at c.args.backing.now in
+    let h = g.B.Backing.block_at c.destage_last.new.backing in
+    let d = c.destage_last.ensures in
+    let new = c.drop_last.ensures ∙ ap (λ s. with_entries s (without_last s.entries)) c.if-insert.ensures.refused in
+    let gone : cached c.drop_last.new.self c.args.key ≡ None = subst (λ s. cached s c.args.key ≡ None) (sym new) (absent_without_last old.entries c.args.key d.sound.distinct c.requires.absent) in
+    record {
+      others = λ q ne apart.
+          (c.in-Done.ensures.written refl).others q ne
+          ∙ others_given c.destage_last.result old.entries f h q c.in_default.not-Broken d.given (λ e. ap g.B.Backing.block_at (d.quiet e)) (apart c.requires.full);
+      held = λ is. absurd (false≢true (rw gone at is));
+    }

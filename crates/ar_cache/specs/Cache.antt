@@ -1,0 +1,130 @@
+-- What a cache is: blocks under keys that the backing has not yet got.
+use Rattle.std.specs.Prelude.{◌≡◌, ◌≢◌, ◌⊎◌, ℕ, ◌-◌, ◌<◌, ◌≤◌, ◌==◌, ◌&&◌, not, Bool, IsTrue, IsSome, List, [], ◌∷◌, Option, Some, option_map, All, length, take, filter, unwrap_or, if◌then◌else◌}
+use Rattle.std.specs.List.{IsDistinct}
+use Rattle.std.specs.Option.{option_map_or}
+use Rattle.std.specs.Map.{keys_of, lookup, remove_entry}
+use Rattle.lru.specs.LruCache.{last_entry}
+use Rattle.ar_disks.specs.declared.address.Addr.{Addr}
+use Rattle.ar_disks.specs.declared.address.Key.{Key}
+use Rattle.ar_disks.specs.declared.geometry.Geometry.{Geometry}
+use Rattle.ar_disks.specs.Geometry.{block_len_of}
+use Rattle.ar_cache.specs.Backing.{Writes}
+use Rattle.ar_cache.specs.declared.answers.Flush.{Flush}
+use Rattle.ar_cache.specs.declared.answers.Flush.TheVariants.{Flushed, Idle, Broken}
+use Rattle.ar_cache.specs.declared.answers.Stored.{Stored}
+use Rattle.ar_cache.specs.declared.answers.Stored.TheVariants as stored
+
+-- the two addresses are one
+abbrev pub same_addr : Addr → Addr → Bool
+same_addr a b = (a.host.number == b.host.number) && (a.lun == b.lun)
+
+-- the two keys are one
+abbrev pub same_key : Key → Key → Bool
+same_key a b = same_addr a.addr b.addr && (a.rb == b.rb)
+
+-- a cache: the geometry of its blocks, how many it may hold, and those that it holds with their keys, the most recently
+-- used first
+pub record CacheState : Type 0 where
+  pub geometry : Geometry
+  pub capacity : ℕ
+  pub entries : List (Key × List ℕ)
+
+-- what holds of every cache: no more entries than its capacity, blocks of its geometry's length, keys all different
+pub record IsSound (cache : CacheState) : Type 0 where
+  pub fits : length cache.entries ≤ cache.capacity
+  pub whole : All (λ e. length e.1 ≡ block_len_of cache.geometry) cache.entries
+  pub distinct : IsDistinct same_key (keys_of cache.entries)
+
+-- the block that is cached under a key
+abbrev pub cached : CacheState → Key → Option (List ℕ)
+cached cache key = lookup (same_key key) cache.entries
+
+-- what a read of a key gives: its cached block where there is one, else the one that stands under it in the backing
+abbrev pub seen : CacheState → (Key → List ℕ) → Key → List ℕ
+seen cache block_at key = unwrap_or (cached cache key) (block_at key)
+
+-- every key is seen with the block that it had
+pub record SameSeen (old : CacheState) (old_block_at : Key → List ℕ)
+    (new : CacheState) (new_block_at : Key → List ℕ) : Type 0 where
+  pub same : (key : Key) → seen new new_block_at key ≡ seen old old_block_at key
+
+-- the key is seen with this block, and every other key with the one that it had
+pub record Sees (old : CacheState) (old_block_at : Key → List ℕ)
+    (new : CacheState) (new_block_at : Key → List ℕ) (key : Key) (block : List ℕ) : Type 0 where
+  pub put : seen new new_block_at key ≡ block
+  pub others : (other : Key) → other ≢ key → seen new new_block_at other ≡ seen old old_block_at other
+
+-- the backing knows every cached key
+pub record KnowsAll (knows : Key → Bool) (cache : CacheState) : Type 0 where
+  pub known : (key : Key) → IsSome (cached cache key) → IsTrue (knows key)
+
+-- the cache with other entries
+abbrev pub with_entries : CacheState → List (Key × List ℕ) → CacheState
+with_entries cache es = record cache { entries = es }
+
+-- the entries but a key's
+abbrev pub without_key : List (Key × List ℕ) → Key → List (Key × List ℕ)
+without_key es key = remove_entry (same_key key) es
+
+-- the entries but an address's
+abbrev pub without_addr : List (Key × List ℕ) → Addr → List (Key × List ℕ)
+without_addr es addr = filter (λ e. not (same_addr addr e.0.addr)) es
+
+-- the entries but the least recently used
+abbrev pub without_last : List (Key × List ℕ) → List (Key × List ℕ)
+without_last es = take (length es - 1) es
+
+-- the entries with the least recently used gone where it is of an address, and else in front
+abbrev pub turned : List (Key × List ℕ) → Addr → List (Key × List ℕ)
+turned es addr =
+    option_map_or (λ e. if same_addr addr e.0.addr then without_last es else (e ∷ without_last es)) (last_entry es) es
+
+-- the key of the least recently used entry
+abbrev pub last_key : List (Key × List ℕ) → Option Key
+last_key es = option_map (λ e. e.0) (last_entry es)
+
+-- the entries once there is room for one more: a full cache has let its least recently used go
+abbrev pub with_room : CacheState → List (Key × List ℕ)
+with_room cache = take (cache.capacity - 1) cache.entries
+
+-- A new key was put: its block is the most recently used entry, or, where memory for it was refused, it went to the
+-- backing and no entry is there. A full cache has let its least recently used go in both cases.
+abbrev pub TakesIn : CacheState → CacheState → Key → List ℕ → Type 0
+TakesIn old new key block =
+    (new ≡ with_entries old ((key, block) ∷ with_room old)) ⊎ (new ≡ with_entries old (with_room old))
+
+-- A put changed the backing's blocks only where it may: under the least recently used key of a full cache, and under
+-- its own key where that has no entry afterwards.
+pub record Spares (old : CacheState) (old_block_at : Key → List ℕ)
+    (new : CacheState) (new_block_at : Key → List ℕ) (key : Key) : Type 0 where
+  pub others : (other : Key) → other ≢ key → (old.capacity ≤ length old.entries → last_key old.entries ≢ Some other)
+      → new_block_at other ≡ old_block_at other
+  pub held : IsSome (cached new key) → new_block_at key ≡ old_block_at key
+
+-- what one flush leaves of a cache, by its answer
+abbrev pub Flushes : Flush → CacheState → CacheState → Type 0
+Flushes (Flushed key) old new = (last_key old.entries ≡ Some key) × (new ≡ with_entries old (without_last old.entries))
+Flushes Idle old new = new ≡ old
+Flushes Broken old new = new ≡ old
+
+-- the least recently used block was given to the backing, which changed no other, by the answer
+abbrev pub Gives : Flush → List (Key × List ℕ) → (Key → List ℕ) → (Key → List ℕ) → Type 0
+Gives (Flushed key) es old new = (block : List ℕ) × (last_entry es ≡ Some (key, block)) × Writes old new key block
+Gives Idle es old new = es ≡ []
+Gives Broken es old new = 0 < length es
+
+-- whether a flush ended broken
+abbrev pub answer_of : Flush → Stored
+answer_of (Flushed key) = stored.Done
+answer_of Idle = stored.Done
+answer_of Broken = stored.Broken
+
+-- A backing broke while the cache was emptied: the most recently used of its entries stand, at least the one whose
+-- destaging broke it, and up to that call no key was seen with another block.
+pub record StopsAt {S : Type 0} (block_at : S → Key → List ℕ) (old new : CacheState) (backing : S) : Type 0 where
+  pub left : ℕ
+  pub some_left : 0 < left
+  pub as_many : left ≤ length old.entries
+  pub entries : new ≡ with_entries old (take left old.entries)
+  pub reached : S
+  pub unchanged : SameSeen old (block_at backing) new (block_at reached)

@@ -1,0 +1,404 @@
+// A cache's calls, each of which changes entries, the backing, or both.
+ghost use Rattle.std.specs.Prelude.{◌≡◌, ◌≢◌, ◌≤◌, ◌<◌, ◌↔◌, ◌∷◌, length, [], IfOk, IfSome, IsTrue, IsSome, false};
+ghost use Rattle.std.specs.Bool.{OnTrue, OnFalse};
+ghost use Rattle.ar_disks.specs.Geometry.{block_len_of};
+ghost use Rattle.ar_disks.specs.declared.address.Key.{Key};
+ghost use Rattle.ar_cache.specs.Backing.{IsHonest, Keeps, SameBlocks, Writes};
+
+use crate::answers::{Flush, Stored};
+use crate::backing::Backing;
+use crate::entries::{last_key, replace};
+use ar_disks::{Addr, Block, Geometry, Key};
+use lru::LruCache;
+use std::alloc::{AllocError, Global};
+use std::marker::Model;
+use std::num::NonZeroUsize;
+
+/// The most entries that a cache may be made for.
+pub const CAPACITY_LIMIT: u32 = 65_536;
+
+/// A write-back cache: blocks under keys, each of which the backing has not yet got. Contracts see it as its geometry,
+/// its capacity and its entries, the most recently used first.
+#[derive(Debug, Drop)]
+pub struct Cache {
+    alloc: Global,
+    geometry: Geometry,
+    capacity: u32,
+    entries: LruCache<Key, Block>,
+    // A block that no entry uses: the next new entry takes it, so that a full cache asks for no memory for a block.
+    spare: Option<Block>,
+}
+
+impl Model for Cache {
+    ghost use Rattle.std.specs.Prelude.{◌≡◌, max, IfSome, length};
+    ghost use Rattle.ar_disks.specs.Geometry.{block_len_of};
+    ghost use Rattle.ar_cache.specs.Cache.{CacheState, IsSound};
+
+    ghost Value = { CacheState };
+
+    ghost view = { λ c. record { geometry = c.geometry; capacity = c.capacity; entries = c.entries.entries } };
+
+    ghost invariant = { λ c. IsSound (record { geometry = c.geometry; capacity = c.capacity; entries = c.entries.entries })
+        × (c.entries.cap ≡ max c.capacity 1)
+        × IfSome c.spare (λ block. length block ≡ block_len_of c.geometry) };
+}
+
+impl Cache {
+    ghost use Rattle.ar_cache.specs.Cache.{CacheState, IsSound, KnowsAll, SameSeen, Sees, Spares, TakesIn, Flushes, Gives, StopsAt};
+    ghost use Rattle.ar_cache.specs.Cache.{answer_of, cached, seen, with_entries, with_room, without_addr, without_key, without_last, same_addr, turned};
+
+    /// A cache without entries, for so many of them (at most 65,536; 0 writes through). It fails where memory is refused.
+    pub fn new(alloc: Global, geometry: Geometry, capacity: u32) -> Result<Cache, AllocError>
+        requires { capacity ≤ CAPACITY_LIMIT }
+        ensures { IfOk result (λ cache.
+            cache ≡ record { geometry = geometry; capacity = capacity; entries = [] }) }
+    {
+        let places = NonZeroUsize::new(capacity as usize).unwrap_or(NonZeroUsize::MIN);
+        Ok(Cache {
+            alloc,
+            geometry,
+            capacity,
+            entries: LruCache::new(alloc, places)?,
+            spare: None,
+        })
+    }
+
+    /// How many blocks are cached.
+    pub fn len(&self) -> usize
+        ensures len { result ≡ length self.now.entries }
+        ensures sound { IsSound self.now }
+    {
+        self.entries.len()
+    }
+
+    /// Whether no block is cached.
+    pub fn is_empty(&self) -> bool
+        ensures { IsTrue result ↔ (self.now.entries ≡ []) }
+    {
+        self.len() == 0
+    }
+
+    /// Reads the block that is seen under a key: the cached one, else the backing's. On Broken any bytes may have come.
+    pub fn get<B: Backing>(&self, key: Key, into: &mut Block, backing: &mut B) -> Stored
+        requires geometry { B.geometry backing.old ≡ self.now.geometry }
+        requires known { IsTrue (B.knows backing.old key) }
+        requires whole { length into.old ≡ block_len_of self.now.geometry }
+        ensures content { result ≡ Stored.Done → into.new ≡ seen self.now (B.block_at backing.old) key }
+        ensures len { length into.new ≡ length into.old }
+        ensures blocks { result ≡ Stored.Done
+            → SameBlocks (B.block_at backing.old) (B.block_at backing.new) }
+        ensures hit { IsSome (cached self.now key)
+            → (result ≡ Stored.Done) × (backing.new ≡ backing.old) }
+        ensures miss { cached self.now key ≡ None → B.reads backing.old backing.new }
+        ensures answer { IsHonest result (B.is_broken backing.old) (B.is_broken backing.new) }
+        ensures keeps { Keeps B.geometry B.knows B.is_broken B.follows backing.old backing.new }
+    {
+        match self.entries.peek(&key) {
+            Some(block) => {
+                into.copy_from(block);
+                Stored::Done
+            }
+            None => backing.get(key, into),
+        }
+    }
+
+    /// Puts a block under a key, as the most recently used.
+    ///
+    /// A present entry takes the block over. For a new key a full cache first destages its least recently used entry.
+    /// Where memory for the new entry is refused, or where the capacity is 0, the block goes straight to the backing.
+    /// On Broken the cache stays as it was.
+    pub fn put<B: Backing>(&mut self, key: Key, block: &Block, backing: &mut B) -> Stored
+        requires geometry { B.geometry backing.old ≡ self.old.geometry }
+        requires known { IsTrue (B.knows backing.old key) }
+        requires all_known { KnowsAll (B.knows backing.old) self.old }
+        requires whole { length block.now ≡ block_len_of self.old.geometry }
+        ensures sees { result ≡ Stored.Done
+            → Sees self.old (B.block_at backing.old) self.new (B.block_at backing.new) key block.now }
+        ensures blocks { result ≡ Stored.Done
+            → Spares self.old (B.block_at backing.old) self.new (B.block_at backing.new) key }
+        ensures present { IsSome (cached self.old key)
+            → (result ≡ Stored.Done) × (backing.new ≡ backing.old)
+            × (self.new ≡ with_entries self.old ((key, block.now) ∷ without_key self.old.entries key)) }
+        ensures absent { cached self.old key ≡ None
+            → result ≡ Stored.Done → TakesIn self.old self.new key block.now }
+        ensures room { IsSome (cached self.new key)
+            → length self.old.entries < self.old.capacity → backing.new ≡ backing.old }
+        ensures broken { result ≡ Stored.Broken → self.new ≡ self.old }
+        ensures fits { length self.new.entries ≤ self.new.capacity }
+        ensures all_known { KnowsAll (B.knows backing.new) self.new }
+        ensures answer { IsHonest result (B.is_broken backing.old) (B.is_broken backing.new) }
+        ensures keeps { Keeps B.geometry B.knows B.is_broken B.follows backing.old backing.new }
+    {
+        if replace(&mut self.entries, key, block) {
+            return Stored::Done;
+        }
+        self.put_new(key, block, backing)
+    }
+
+    /// Destages the least recently used entry: gives its block to the backing, and then lets it go. Idle says that there
+    /// was none. On Broken it stays.
+    pub fn flush_one<B: Backing>(&mut self, backing: &mut B) -> Flush
+        requires geometry { B.geometry backing.old ≡ self.old.geometry }
+        requires all_known { KnowsAll (B.knows backing.old) self.old }
+        ensures entries { Flushes result self.old self.new }
+        ensures idle { (result ≡ Flush.Idle) ↔ (self.old.entries ≡ []) }
+        ensures given { Gives result self.old.entries (B.block_at backing.old) (B.block_at backing.new) }
+        ensures quiet { result ≡ Flush.Idle → backing.new ≡ backing.old }
+        ensures seen { answer_of result ≡ Stored.Done
+            → SameSeen self.old (B.block_at backing.old) self.new (B.block_at backing.new) }
+        ensures all_known { KnowsAll (B.knows backing.new) self.new }
+        ensures answer { IsHonest (answer_of result) (B.is_broken backing.old) (B.is_broken backing.new) }
+        ensures keeps { Keeps B.geometry B.knows B.is_broken B.follows backing.old backing.new }
+    {
+        let answer = self.destage_last(backing);
+        if let Flush::Flushed(_) = answer {
+            self.drop_last();
+        }
+        answer
+    }
+
+    /// Destages the entry of a key, where there is one. On Broken it stays.
+    pub fn flush_key<B: Backing>(&mut self, key: Key, backing: &mut B) -> Stored
+        requires geometry { B.geometry backing.old ≡ self.old.geometry }
+        requires all_known { KnowsAll (B.knows backing.old) self.old }
+        ensures flushed { result ≡ Stored.Done
+            → self.new ≡ with_entries self.old (without_key self.old.entries key) }
+        ensures gone { result ≡ Stored.Done → cached self.new key ≡ None }
+        ensures others { result ≡ Stored.Done
+            → (other : Key) → other ≢ key → cached self.new other ≡ cached self.old other }
+        ensures given { result ≡ Stored.Done
+            → IfSome (cached self.old key)
+            (λ block. Writes (B.block_at backing.old) (B.block_at backing.new) key block) }
+        ensures broken { result ≡ Stored.Broken → self.new ≡ self.old }
+        ensures absent { cached self.old key ≡ None
+            → (result ≡ Stored.Done) × (backing.new ≡ backing.old) }
+        ensures seen { result ≡ Stored.Done
+            → SameSeen self.old (B.block_at backing.old) self.new (B.block_at backing.new) }
+        ensures all_known { KnowsAll (B.knows backing.new) self.new }
+        ensures answer { IsHonest result (B.is_broken backing.old) (B.is_broken backing.new) }
+        ensures keeps { Keeps B.geometry B.knows B.is_broken B.follows backing.old backing.new }
+    {
+        let Some(block) = self.entries.peek(&key) else {
+            return Stored::Done;
+        };
+        match backing.put(key, block) {
+            Stored::Done => {
+                self.take_out(key);
+                Stored::Done
+            }
+            Stored::Broken => Stored::Broken,
+        }
+    }
+
+    /// Destages every entry, the least recently used first. On Broken the one that broke it stays, and those after it.
+    pub fn flush_all<B: Backing>(&mut self, backing: &mut B) -> Stored
+        requires geometry { B.geometry backing.old ≡ self.old.geometry }
+        requires all_known { KnowsAll (B.knows backing.old) self.old }
+        ensures emptied { result ≡ Stored.Done → self.new ≡ with_entries self.old [] }
+        ensures broken { result ≡ Stored.Broken → StopsAt B.block_at self.old self.new backing.old }
+        ensures seen { result ≡ Stored.Done
+            → SameSeen self.old (B.block_at backing.old) self.new (B.block_at backing.new) }
+        ensures all_known { KnowsAll (B.knows backing.new) self.new }
+        ensures answer { IsHonest result (B.is_broken backing.old) (B.is_broken backing.new) }
+        ensures keeps { Keeps B.geometry B.knows B.is_broken B.follows backing.old backing.new }
+    {
+        while self.len() > 0 {
+            if let Flush::Broken = self.flush_one(backing) {
+                return Stored::Broken;
+            }
+        }
+        Stored::Done
+    }
+
+    /// Lets the entries of an address go, without destaging them. The others stay, in their order.
+    pub fn forget(&mut self, addr: Addr)
+        ensures entries { self.new ≡ with_entries self.old (without_addr self.old.entries addr) }
+        ensures gone { (key : Key) → IsTrue (same_addr addr key.addr) → cached self.new key ≡ None }
+        ensures others { (key : Key) → same_addr addr key.addr ≡ false
+            → cached self.new key ≡ cached self.old key }
+    {
+        for _ in 0..self.len() {
+            self.turn(addr);
+        }
+    }
+
+    // Takes the least recently used entry out where it is of an address, and else makes it the most recently used.
+    fn turn(&mut self, addr: Addr)
+        requires { 0 < length self.old.entries }
+        ensures { self.new ≡ with_entries self.old (turned self.old.entries addr) }
+    {
+        let Some(key) = last_key(&self.entries) else {
+            return;
+        };
+        if addr == key.addr {
+            self.drop_last();
+        } else {
+            self.entries.promote(&key);
+        }
+    }
+
+    // Puts a block under a key that isn't cached.
+    fn put_new<B: Backing>(&mut self, key: Key, block: &Block, backing: &mut B) -> Stored
+        requires geometry { B.geometry backing.old ≡ self.old.geometry }
+        requires known { IsTrue (B.knows backing.old key) }
+        requires all_known { KnowsAll (B.knows backing.old) self.old }
+        requires whole { length block.now ≡ block_len_of self.old.geometry }
+        requires absent { cached self.old key ≡ None }
+        ensures sees { result ≡ Stored.Done
+            → Sees self.old (B.block_at backing.old) self.new (B.block_at backing.new) key block.now }
+        ensures blocks { result ≡ Stored.Done
+            → Spares self.old (B.block_at backing.old) self.new (B.block_at backing.new) key }
+        ensures taken { result ≡ Stored.Done → TakesIn self.old self.new key block.now }
+        ensures room { IsSome (cached self.new key)
+            → length self.old.entries < self.old.capacity → backing.new ≡ backing.old }
+        ensures broken { result ≡ Stored.Broken → self.new ≡ self.old }
+        ensures fits { length self.new.entries ≤ self.new.capacity }
+        ensures all_known { KnowsAll (B.knows backing.new) self.new }
+        ensures answer { IsHonest result (B.is_broken backing.old) (B.is_broken backing.new) }
+        ensures keeps { Keeps B.geometry B.knows B.is_broken B.follows backing.old backing.new }
+    {
+        if self.len() < self.capacity as usize {
+            self.put_beside(key, block, backing)
+        } else {
+            self.put_over(key, block, backing)
+        }
+    }
+
+    // The same where the cache isn't full.
+    fn put_beside<B: Backing>(&mut self, key: Key, block: &Block, backing: &mut B) -> Stored
+        requires geometry { B.geometry backing.old ≡ self.old.geometry }
+        requires known { IsTrue (B.knows backing.old key) }
+        requires all_known { KnowsAll (B.knows backing.old) self.old }
+        requires whole { length block.now ≡ block_len_of self.old.geometry }
+        requires absent { cached self.old key ≡ None }
+        requires room { length self.old.entries < self.old.capacity }
+        ensures sees { result ≡ Stored.Done
+            → Sees self.old (B.block_at backing.old) self.new (B.block_at backing.new) key block.now }
+        ensures blocks { result ≡ Stored.Done
+            → Spares self.old (B.block_at backing.old) self.new (B.block_at backing.new) key }
+        ensures taken { result ≡ Stored.Done → TakesIn self.old self.new key block.now }
+        ensures room { IsSome (cached self.new key) → backing.new ≡ backing.old }
+        ensures broken { result ≡ Stored.Broken → self.new ≡ self.old }
+        ensures fits { length self.new.entries ≤ self.new.capacity }
+        ensures all_known { KnowsAll (B.knows backing.new) self.new }
+        ensures answer { IsHonest result (B.is_broken backing.old) (B.is_broken backing.new) }
+        ensures keeps { Keeps B.geometry B.knows B.is_broken B.follows backing.old backing.new }
+    {
+        if self.insert(key, block) {
+            return Stored::Done;
+        }
+        backing.put(key, block)
+    }
+
+    // The same where the cache is full.
+    fn put_over<B: Backing>(&mut self, key: Key, block: &Block, backing: &mut B) -> Stored
+        requires geometry { B.geometry backing.old ≡ self.old.geometry }
+        requires known { IsTrue (B.knows backing.old key) }
+        requires all_known { KnowsAll (B.knows backing.old) self.old }
+        requires whole { length block.now ≡ block_len_of self.old.geometry }
+        requires absent { cached self.old key ≡ None }
+        requires full { self.old.capacity ≤ length self.old.entries }
+        ensures sees { result ≡ Stored.Done
+            → Sees self.old (B.block_at backing.old) self.new (B.block_at backing.new) key block.now }
+        ensures blocks { result ≡ Stored.Done
+            → Spares self.old (B.block_at backing.old) self.new (B.block_at backing.new) key }
+        ensures taken { result ≡ Stored.Done → TakesIn self.old self.new key block.now }
+        ensures broken { result ≡ Stored.Broken → self.new ≡ self.old }
+        ensures fits { length self.new.entries ≤ self.new.capacity }
+        ensures all_known { KnowsAll (B.knows backing.new) self.new }
+        ensures answer { IsHonest result (B.is_broken backing.old) (B.is_broken backing.new) }
+        ensures keeps { Keeps B.geometry B.knows B.is_broken B.follows backing.old backing.new }
+    {
+        if let Flush::Broken = self.destage_last(backing) {
+            return Stored::Broken;
+        }
+        if self.insert(key, block) {
+            return Stored::Done;
+        }
+        match backing.put(key, block) {
+            Stored::Done => {
+                self.drop_last();
+                Stored::Done
+            }
+            Stored::Broken => Stored::Broken,
+        }
+    }
+
+    // Gives the backing the least recently used block, whose entry stays.
+    fn destage_last<B: Backing>(&self, backing: &mut B) -> Flush
+        requires geometry { B.geometry backing.old ≡ self.now.geometry }
+        requires all_known { KnowsAll (B.knows backing.old) self.now }
+        ensures sound { IsSound self.now }
+        ensures given { Gives result self.now.entries (B.block_at backing.old) (B.block_at backing.new) }
+        ensures quiet { result ≡ Flush.Idle → backing.new ≡ backing.old }
+        ensures answer { IsHonest (answer_of result) (B.is_broken backing.old) (B.is_broken backing.new) }
+        ensures keeps { Keeps B.geometry B.knows B.is_broken B.follows backing.old backing.new }
+    {
+        match self.entries.peek_lru() {
+            Some((key, block)) => match backing.put(*key, block) {
+                Stored::Done => Flush::Flushed(*key),
+                Stored::Broken => Flush::Broken,
+            },
+            None => Flush::Idle,
+        }
+    }
+
+    // Puts an entry in front, in the place of the last where the cache is full, and says whether there was memory and
+    // room for it.
+    fn insert(&mut self, key: Key, block: &Block) -> bool
+        requires absent { cached self.old key ≡ None }
+        requires whole { length block.now ≡ block_len_of self.old.geometry }
+        ensures put { OnTrue result
+            (self.new ≡ with_entries self.old ((key, block.now) ∷ with_room self.old)) }
+        ensures room { IsTrue result → 0 < self.old.capacity }
+        ensures refused { OnFalse result (self.new ≡ self.old) }
+    {
+        if self.capacity == 0 {
+            return false;
+        }
+        let Some(mut copy) = self.blank() else {
+            return false;
+        };
+        copy.copy_from(block);
+        match self.entries.push(key, copy) {
+            Ok(Some((_, evicted))) => {
+                self.spare = Some(evicted);
+                true
+            }
+            Ok(None) => true,
+            Err(refused) => {
+                self.spare = Some(refused.value.1);
+                false
+            }
+        }
+    }
+
+    // A block for a new entry: the spare one, else a new one where there is memory.
+    fn blank(&mut self) -> Option<Block>
+        ensures same { self.new ≡ self.old }
+        ensures whole { IfSome result (λ block. length block ≡ block_len_of self.old.geometry) }
+    {
+        match self.spare.take() {
+            Some(block) => Some(block),
+            None => Block::new(self.alloc, self.geometry).ok(),
+        }
+    }
+
+    // Takes the entry of a key out.
+    fn take_out(&mut self, key: Key)
+        ensures { self.new ≡ with_entries self.old (without_key self.old.entries key) }
+    {
+        if let Some(block) = self.entries.pop(&key) {
+            self.spare = Some(block);
+        }
+    }
+
+    // Takes the least recently used entry out.
+    fn drop_last(&mut self)
+        ensures { self.new ≡ with_entries self.old (without_last self.old.entries) }
+    {
+        if let Some((_, block)) = self.entries.pop_lru() {
+            self.spare = Some(block);
+        }
+    }
+}

@@ -1,0 +1,34 @@
+// Changes of a cache's entries that touch no backing.
+ghost use Rattle.std.specs.Prelude.{◌≡◌, ◌↔◌, ◌∷◌, All, IsTrue, IsSome, length};
+ghost use Rattle.std.specs.Bool.{OnTrue, OnFalse};
+ghost use Rattle.std.specs.Map.{lookup};
+ghost use Rattle.lru.specs.LruCache.{lru_cache};
+ghost use Rattle.ar_cache.specs.Cache as spec;
+ghost use Rattle.ar_cache.specs.Cache.{same_key, without_key, CacheState};
+
+use ar_disks::{Block, Key};
+use lru::LruCache;
+
+// Copies a block into the entry of a key, which becomes the most recently used, and says whether there was one.
+pub(crate) fn replace(entries: &mut LruCache<Key, Block>, key: Key, block: &Block) -> bool
+    requires { All (λ e. length e.1 ≡ length block.now) entries.old.entries }
+    ensures found { IsTrue result ↔ IsSome (lookup (same_key key) entries.old.entries) }
+    ensures put { OnTrue result (entries.new ≡ lru_cache ((key, block.now) ∷ without_key entries.old.entries key) entries.old.cap) }
+    ensures absent { OnFalse result (entries.new ≡ entries.old) }
+{
+    match entries.get_mut(&key) {
+        Some(present) => {
+            present.copy_from(block);
+            true
+        }
+        None => false,
+    }
+}
+
+// The key of the least recently used entry.
+pub(crate) fn last_key(entries: &LruCache<Key, Block>) -> Option<Key>
+    ensures { result ≡ spec.last_key entries.now.entries }
+{
+    let (key, _) = entries.peek_lru()?;
+    Some(*key)
+}

@@ -1,0 +1,15 @@
+//! A write-back cache of relocation blocks over any backing that takes and gives blocks by key.
+#![tactic(auto)]
+
+mod answers;
+mod backing;
+mod cache;
+mod entries;
+#[cfg(test)]
+mod shelf;
+#[cfg(test)]
+mod tests;
+
+pub use answers::{Flush, Stored};
+pub use backing::Backing;
+pub use cache::{CAPACITY_LIMIT, Cache};
