@@ -1,0 +1,103 @@
+-- What a read and a write of a row do to a set.
+use Rattle.std.specs.Prelude.{◌≡◌, ◌≢◌, ℕ, ◌+◌, Bool, true, false, List, length, if◌then◌else◌}
+use Rattle.ar_disks.specs.declared.address.Place.{Place}
+use Rattle.ar_disks.specs.Disk.{DiskState}
+use Rattle.ar_extents.specs.declared.health.Health.TheVariants.{Whole, Out, Rebuilding, Broken}
+use Rattle.ar_extents.specs.declared.answers.Got.{Got}
+use Rattle.ar_extents.specs.declared.answers.Got.TheVariants.{Read, Missing as ReadMissing, Broken as ReadBroken}
+use Rattle.ar_extents.specs.declared.answers.Put.{Put}
+use Rattle.ar_extents.specs.declared.answers.Put.TheVariants.{Written, Missing as PutMissing, Broken as PutBroken}
+use Rattle.ar_extents.specs.declared.answers.PutNew.{PutNew}
+use Rattle.ar_extents.specs.declared.answers.PutNew.TheVariants.{Written as NewWritten, GivenUp}
+use Rattle.ar_extents.specs.Health.{after_fault, rebuilt_disk, next_extent}
+use Rattle.ar_extents.specs.declared.health.Health.{Health}
+use Rattle.ar_extents.specs.Set.{SetState, disk_in, faults_of, content, IsLost, IsSound, IsMissing}
+use Rattle.ar_extents.specs.Follows.{Faulted, Follows}
+
+-- The disks of a list before and after an access of one: the others stay.
+pub record OthersStay (olds news : List DiskState) (d : ℕ) : Type 0 where
+  pub others : (x : ℕ) → x ≢ d → disk_in news x ≡ disk_in olds x
+  pub len : length news ≡ length olds
+
+-- One disk of the set was accessed and answered: nothing else changed, but that a fault is counted and moves health.
+pub record Touches (old new : SetState) (d : ℕ) (answered : Bool) : Type 0 where
+  pub geometry : new.geometry ≡ old.geometry
+  pub extents : new.extents ≡ old.extents
+  pub others : OthersStay old.disks new.disks d
+  pub health : new.health ≡ (if answered then old.health else after_fault old.health d)
+  pub faults : faults_of new d ≡ (if answered then faults_of old d else faults_of old d + 1)
+  pub loose : new.loose ≡ old.loose
+
+-- A lost extent isn't accessed: nothing changes then. A sound one's disk alone is. Whatever is answered, no disk is lost
+-- without a cause, and what is loose stays so.
+pub record Accesses (old new : SetState) (place : Place) (answered : Bool) : Type 0 where
+  pub lost : IsLost old place → new ≡ old
+  pub sound : IsSound old place → Touches old new place.disk answered
+  pub follows : Follows old new
+  pub loose : new.loose ≡ old.loose
+
+-- the bytes are those of a row that could be used, and still can
+pub record IsRead (old new : SetState) (place : Place) (row : ℕ) (bytes : List ℕ) : Type 0 where
+  pub bytes_are : bytes ≡ content old place row
+  pub was_sound : IsSound old place
+  pub sound : IsSound new place
+
+-- what the answer of a read says
+abbrev pub Gets : SetState → SetState → Place → ℕ → List ℕ → Got → Type 0
+Gets old new place row bytes Read = IsRead old new place row bytes
+Gets old new place row bytes ReadMissing = IsMissing new place
+Gets old new place row bytes ReadBroken = new.health ≡ Broken
+
+-- the row, which could be used and still can, has these bytes now
+pub record IsWritten (old new : SetState) (place : Place) (row : ℕ) (bytes : List ℕ) : Type 0 where
+  pub content_is : content new place row ≡ bytes
+  pub was_sound : IsSound old place
+  pub sound : IsSound new place
+
+-- what the answer of a write says
+abbrev pub Puts : SetState → SetState → Place → ℕ → List ℕ → Put → Type 0
+Puts old new place row bytes Written = IsWritten old new place row bytes
+Puts old new place row bytes PutMissing = IsMissing new place
+Puts old new place row bytes PutBroken = new.health ≡ Broken
+
+-- the lowest extent that isn't done of the disk that is rebuilt
+abbrev pub next_place : SetState → Place
+next_place s = record { disk = rebuilt_disk s.health; extent = next_extent s.health }
+
+-- the disk that was rebuilt has faulted, and is out
+pub record IsGivenUp (old new : SetState) : Type 0 where
+  pub faulted : Faulted old new (rebuilt_disk old.health)
+  pub out : new.health ≡ Out (rebuilt_disk old.health)
+
+-- what the answer of a write to the extent that is rebuilt next says
+abbrev pub PutsNew : SetState → SetState → ℕ → List ℕ → PutNew → Type 0
+PutsNew old new row bytes NewWritten = (content new (next_place old) row ≡ bytes) × (new.health ≡ old.health)
+PutsNew old new row bytes GivenUp = IsGivenUp old new
+
+-- whether the disk answered
+abbrev pub is_read : Got → Bool
+is_read Read = true
+is_read ReadMissing = false
+is_read ReadBroken = false
+
+abbrev pub is_written : Put → Bool
+is_written Written = true
+is_written PutMissing = false
+is_written PutBroken = false
+
+abbrev pub is_new_written : PutNew → Bool
+is_new_written NewWritten = true
+is_new_written GivenUp = false
+
+-- the answer of a read, and of a write, at an extent that is lost
+abbrev pub lost_got : Health → Got
+lost_got Whole = ReadMissing
+lost_got (Out x) = ReadMissing
+lost_got (Rebuilding x done) = ReadMissing
+lost_got Broken = ReadBroken
+
+abbrev pub lost_put : Health → Put
+lost_put Whole = PutMissing
+lost_put (Out x) = PutMissing
+lost_put (Rebuilding x done) = PutMissing
+lost_put Broken = PutBroken

@@ -1,0 +1,10 @@
+pub mod Health
+pub mod Set
+pub mod Follows
+pub mod Access
+pub mod Loose
+pub mod Changes
+-- the words of ar_disks that clauses of this crate cite
+pub use Rattle.ar_disks.specs.Geometry
+pub use Rattle.ar_disks.specs.Disk
+pub use Rattle.ar_disks.specs.Members

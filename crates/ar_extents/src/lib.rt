@@ -1,0 +1,16 @@
+//! The disk set: which disks are sound, reads and writes of their extents, and which extents are in no group.
+#![tactic(auto)]
+
+mod answers;
+mod health;
+mod marks;
+mod refusal;
+mod set;
+mod shape;
+#[cfg(test)]
+mod tests;
+
+pub use answers::{Got, Put, PutNew};
+pub use health::Health;
+pub use refusal::{DiskRefusal, StartFault};
+pub use set::{DiskSet, fault_of};

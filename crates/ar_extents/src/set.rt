@@ -1,0 +1,83 @@
+// The disks of an array.
+ghost use Rattle.std.specs.Prelude.{◌≡◌, ◌≤◌, length};
+
+use crate::Health;
+use crate::marks::Marks;
+use ar_disks::{Disk, Geometry, Place};
+use std::marker::Model;
+
+mod access;
+mod changes;
+mod space;
+mod start;
+
+pub use start::fault_of;
+
+/// Disks of one shape, with their health and the marks of their loose extents.
+#[derive(Drop)]
+pub struct DiskSet<D: Disk> {
+    geometry: Geometry,
+    extents: u16,
+    disks: Vec<D>,
+    health: Health,
+    loose: Vec<Marks>,
+}
+
+impl<D: Disk> Model for DiskSet<D> {
+    ghost use Rattle.std.specs.Prelude.{map};
+    ghost use Rattle.ar_extents.specs.Set.{SetState, IsKept};
+
+    ghost Value = { SetState };
+
+    ghost view = { λ s. record { geometry = s.geometry; extents = s.extents; disks = map D.state s.disks.items; health = s.health; loose = s.loose.items } };
+
+    ghost invariant = { λ s. IsKept (record { geometry = s.geometry; extents = s.extents; disks = map D.state s.disks.items; health = s.health; loose = s.loose.items }) };
+}
+
+impl<D: Disk> DiskSet<D> {
+    ghost use Rattle.ar_extents.specs.Health.{is_missing, HealthFits};
+    ghost use Rattle.ar_extents.specs.Set.{IsKept};
+
+    /// The geometry of all disks.
+    pub fn geometry(&self) -> Geometry
+        ensures { result ≡ self.now.geometry }
+    {
+        self.geometry
+    }
+
+    /// How many extents each disk has: 1 to 1,024.
+    pub fn extents(&self) -> u16
+        ensures same { result ≡ self.now.extents }
+        ensures at_least { 1 ≤ result }
+        ensures at_most { result ≤ 1024 }
+    {
+        self.extents
+    }
+
+    /// How many disks there are, 4 to 12.
+    pub fn count(&self) -> u8
+        ensures same { result ≡ length self.now.disks }
+        ensures at_least { 4 ≤ result }
+        ensures at_most { result ≤ 12 }
+    {
+        self.disks.len() as u8
+    }
+
+    /// Which disk is down, if any.
+    pub fn health(&self) -> Health
+        ensures same { result ≡ self.now.health }
+        ensures fits { HealthFits result (length self.now.disks) self.now.extents }
+
+        // What the type keeps, for callers that need it.
+        ensures kept { IsKept self.now }
+    {
+        self.health
+    }
+
+    /// Whether an extent is missing: its disk is out, or isn't rebuilt so far. On a broken set none is.
+    pub fn missing(&self, place: Place) -> bool
+        ensures { result ≡ is_missing self.now.health place.disk place.extent }
+    {
+        self.health.is_missing(place)
+    }
+}

@@ -1,0 +1,103 @@
+// Reads and writes of rows.
+ghost use Rattle.std.specs.Prelude.{◌≡◌, ◌<◌, map, length, vec_len};
+ghost use Rattle.ar_disks.specs.Geometry.{rows_of, block_len_of};
+ghost use Rattle.ar_disks.specs.Disk.{HasPlace, Reads, Writes};
+ghost use Rattle.ar_extents.specs.Set.{disk_in, HasExtent};
+ghost use Rattle.ar_extents.specs.Health.{IsRebuilding, rebuilt_disk};
+ghost use Rattle.ar_extents.specs.Follows.{Follows, Keeps, KeepsBut, Anywhere};
+ghost use Rattle.ar_extents.specs.Access.{OthersStay, Touches, Accesses, Gets, Puts, PutsNew, is_read, is_written, is_new_written, next_place};
+
+use super::DiskSet;
+use crate::{Got, Health, Put, PutNew};
+use ar_disks::{Block, Disk, Place};
+
+impl<D: Disk> DiskSet<D> {
+    /// Reads a row of an extent into `into`, a block of the set's length; after another answer than `Read` any bytes may
+    /// stand in it. A missing extent isn't accessed.
+    pub fn get(&mut self, place: Place, row: u16, into: &mut Block) -> Got
+        requires place { HasExtent self.old place }
+        requires row { row < rows_of self.old.geometry }
+        requires whole { length into.old ≡ block_len_of self.old.geometry }
+        ensures answer { Gets self.old self.new place row into.new result }
+        ensures access { Accesses self.old self.new place (is_read result) }
+        ensures keeps { Keeps Anywhere self.old self.new }
+        ensures len { length into.new ≡ length into.old }
+    {
+        if self.health.is_lost(place) {
+            return Got::lost(self.health);
+        }
+        if read_disk(&mut self.disks, place, row, into) {
+            return Got::Read;
+        }
+        self.health = self.health.after_fault(place.disk);
+        Got::lost(self.health)
+    }
+
+    /// Writes a row of an extent, from a block of the set's length; after another answer than `Written` any bytes may
+    /// stand in that row. A missing extent isn't accessed.
+    pub fn put(&mut self, place: Place, row: u16, from: &Block) -> Put
+        requires place { HasExtent self.old place }
+        requires row { row < rows_of self.old.geometry }
+        requires whole { length from.now ≡ block_len_of self.old.geometry }
+        ensures answer { Puts self.old self.new place row from.now result }
+        ensures access { Accesses self.old self.new place (is_written result) }
+        ensures keeps { KeepsBut place row self.old self.new }
+    {
+        if self.health.is_lost(place) {
+            return Put::lost(self.health);
+        }
+        if write_disk(&mut self.disks, place, row, from) {
+            return Put::Written;
+        }
+        self.health = self.health.after_fault(place.disk);
+        Put::lost(self.health)
+    }
+
+    /// Writes a row of the lowest extent that isn't done of the disk that is rebuilt, from a block of the set's length.
+    /// `GivenUp` says that this disk faulted: it is out then.
+    pub fn put_new(&mut self, row: u16, from: &Block) -> PutNew
+        requires rebuilding { IsRebuilding self.old.health }
+        requires row { row < rows_of self.old.geometry }
+        requires whole { length from.now ≡ block_len_of self.old.geometry }
+        ensures answer { PutsNew self.old self.new row from.now result }
+        ensures touches { Touches self.old self.new (rebuilt_disk self.old.health) (is_new_written result) }
+        ensures keeps { KeepsBut (next_place self.old) row self.old self.new }
+        ensures follows { Follows self.old self.new }
+    {
+        let Health::Rebuilding(disk, extent) = self.health else {
+            unreachable!()
+        };
+        if write_disk(&mut self.disks, Place { disk, extent }, row, from) {
+            return PutNew::Written;
+        }
+        self.health = self.health.after_fault(disk);
+        PutNew::GivenUp
+    }
+}
+
+// Reads a row of one of the disks.
+fn read_disk<D: Disk>(disks: &mut Vec<D>, place: Place, row: u16, into: &mut Block) -> bool
+    requires exists { place.disk < vec_len disks.old }
+    requires place { HasPlace (disk_in (map D.state disks.old.items) place.disk) place.extent row }
+    requires whole { length into.old ≡ block_len_of (disk_in (map D.state disks.old.items) place.disk).geometry }
+    ensures read { Reads (disk_in (map D.state disks.old.items) place.disk)
+        (disk_in (map D.state disks.new.items) place.disk) place.extent row result into.new }
+    ensures others { OthersStay (map D.state disks.old.items) (map D.state disks.new.items) place.disk }
+    ensures len { length into.new ≡ length into.old }
+{
+    let disk = &mut disks[place.disk as usize];
+    disk.read(place.extent, row, into)
+}
+
+// Writes a row of one of the disks.
+fn write_disk<D: Disk>(disks: &mut Vec<D>, place: Place, row: u16, from: &Block) -> bool
+    requires exists { place.disk < vec_len disks.old }
+    requires place { HasPlace (disk_in (map D.state disks.old.items) place.disk) place.extent row }
+    requires whole { length from.now ≡ block_len_of (disk_in (map D.state disks.old.items) place.disk).geometry }
+    ensures written { Writes (disk_in (map D.state disks.old.items) place.disk)
+        (disk_in (map D.state disks.new.items) place.disk) place.extent row result from.now }
+    ensures others { OthersStay (map D.state disks.old.items) (map D.state disks.new.items) place.disk }
+{
+    let disk = &mut disks[place.disk as usize];
+    disk.write(place.extent, row, from)
+}

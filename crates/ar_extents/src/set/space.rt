@@ -1,0 +1,49 @@
+// Loose extents.
+ghost use Rattle.std.specs.Prelude.{◌≡◌, ◌<◌, length, true, false, IfSome};
+ghost use Rattle.ar_extents.specs.Set.{HasExtent};
+ghost use Rattle.ar_extents.specs.Loose.{is_loose, loose_count, lowest_loose, taken, given};
+
+use super::DiskSet;
+use ar_disks::{Disk, Place};
+
+impl<D: Disk> DiskSet<D> {
+    /// How many extents of a disk are loose.
+    pub fn loose(&self, disk: u8) -> u16
+        requires { disk < length self.now.disks }
+        ensures { result ≡ loose_count self.now disk }
+    {
+        self.loose[disk as usize].count()
+    }
+
+    /// The extent that `take` would take: the lowest loose one of a disk, or None.
+    pub fn lowest_loose(&self, disk: u8) -> Option<u16>
+        requires { disk < length self.now.disks }
+        ensures lowest { result ≡ lowest_loose self.now disk }
+        ensures exists { IfSome result (λ extent. extent < self.now.extents) }
+    {
+        self.loose[disk as usize].lowest()
+    }
+
+    /// Takes the lowest loose extent of a disk, which isn't loose from then on. None where there is none.
+    pub fn take(&mut self, disk: u8) -> Option<u16>
+        requires { disk < length self.old.disks }
+        ensures lowest { result ≡ lowest_loose self.old disk }
+        ensures exists { IfSome result (λ extent. extent < self.old.extents) }
+        ensures taken { self.new ≡ taken self.old disk result }
+        ensures used { IfSome result (λ extent. is_loose self.new (record { disk = disk; extent = extent }) ≡ false) }
+    {
+        let extent = self.lowest_loose(disk)?;
+        self.loose[disk as usize].set(extent, false);
+        Some(extent)
+    }
+
+    /// Makes an extent loose that wasn't.
+    pub fn give(&mut self, place: Place)
+        requires exists { HasExtent self.old place }
+        requires used { is_loose self.old place ≡ false }
+        ensures given { self.new ≡ given self.old place }
+        ensures loose { is_loose self.new place ≡ true }
+    {
+        self.loose[place.disk as usize].set(place.extent, true);
+    }
+}
