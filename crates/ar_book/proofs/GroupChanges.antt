@@ -1,0 +1,255 @@
+-- The book's invariant after a change of one group's use, of one extent, or of how many groups there are.
+use Rattle.std.proofs.Common.{◌≡◌, ◌≢◌, ℕ, zero, suc, ◌<◌, ◌≤◌, ◌+◌, ◌-◌, ◌*◌, ◌^◌, true, false, ◌||◌, None, Some, is_some, List, [], ◌∷◌, ◌++◌, length, get_or, set, sum_by, count_by, refl, sym, ap, subst, ◌∙◌, inl, inr, arith, true≢false, length-append, eq-eqb}
+use Rattle.std.proofs.Math.ListN.{length-set, length-replicate}
+use Rattle.std.proofs.Math.Nat.{mul-le-mul_left}
+use Rattle.std.proofs.lemmas.Option.{none-some}
+use Rattle.std.proofs.lemmas.List.{get_or_append_left, get_or_push, get_or_past}
+use Rattle.std.proofs.lemmas.List.Sums.{sum_by_push, sum_by-set}
+use Rattle.std.proofs.lemmas.Bool.{cases_lt, or_left, or_right, and_from}
+use Rattle.std.proofs.lemmas.Bool.Decides.{eqb_tells}
+use Rattle.ar_disks.specs.Geometry.{rows_of}
+use Rattle.ar_disks.specs.Members.{member, with_member, AreApart, AreDisjoint}
+use Rattle.ar_disks.specs.declared.address.Key.{Key}
+use Rattle.ar_disks.specs.declared.address.Place.{Place}
+use Rattle.ar_disks.specs.declared.address.Members.{Members}
+use Rattle.ar_book.specs.declared.class.Class.{Class}
+use Rattle.ar_book.specs.declared.class.Class.TheVariants.{Free}
+use Rattle.ar_book.specs.declared.class.Slot.{Slot}
+use Rattle.ar_book.specs.Tables.{GroupState, Tables, no_group, group_in, key_in, class_of, used, slots_of, reserved}
+use Rattle.ar_book.specs.Changes.{opened, free_group, formed, shifted}
+use Rattle.ar_book.specs.Choices.{same_place, stands_on, IsUnused}
+use Rattle.ar_book.specs.Book.{GroupsStand, IsKept}
+use Rattle.ar_book.proofs.Padding.{nothing, get_none, count_none}
+use Rattle.ar_book.proofs.GroupLemmas.{put_same, put_other, stand_put, disjoint_flips}
+use Rattle.ar_book.proofs.AgreeLemmas.{agree_same}
+
+-- a group is put whose slots are those of the one that stood there
+module _ (t : Tables) (n g : ℕ) (x : GroupState) (ok : IsKept t n) (inside : g < length t.groups) (same : x.slots ≡ (group_in t.groups g).slots) where
+  keys : (s : Slot) → key_in (set t.groups g x) s ≡ key_in t.groups s
+  keys s = elim (eqb_tells s.group g) [
+    | inl e ↦
+        ap (λ i. get_or (group_in (set t.groups g x) i).slots s.slot None) e.1
+        ∙ ap (λ y. get_or y.slots s.slot None) (put_same t.groups g x inside)
+        ∙ ap (λ l. get_or l s.slot None) same
+        ∙ sym (ap (λ i. get_or (group_in t.groups i).slots s.slot None) e.1)
+    | inr d ↦ ap (λ y. get_or y.slots s.slot None) (put_other t.groups g x s.group d.1)
+  ]
+
+  count : sum_by used (set t.groups g x) ≡ sum_by used t.groups
+  count =
+      let all : sum_by used (set t.groups g x) + used (group_in t.groups g) ≡ sum_by used t.groups + used x = sum_by-set used t.groups g x no_group inside in
+      let here : used x ≡ used (group_in t.groups g) = ap (λ l. count_by is_some l) same in
+      omega arith
+
+  pub group_kept : GroupsStand t.geometry (set t.groups g x) → IsKept (record t { groups = set t.groups g x }) n
+  group_kept stand = record {
+    tables = record {
+      groups = stand;
+      units = ok.tables.units;
+      agree = agree_same t.groups (set t.groups g x) t.units t.units ok.tables.agree keys (λ k. refl) count refl;
+      room = subst (λ m. reserved t ≤ 3 * rows_of t.geometry * (m - 1)) (sym (length-set t.groups g x)) ok.tables.room;
+    };
+    total = ok.total;
+  }
+
+-- a free group is opened
+pub opened_kept : (t : Tables) (n g : ℕ) (c : Class) → IsKept t n → g < length t.groups → class_of t g ≡ Free → IsKept (opened t g c) n
+opened_kept t n g c ok inside free =
+    let old = group_in t.groups g in
+    let x : GroupState = record old { class = c } in
+    let gs = ok.tables.groups in
+    group_kept t n g x ok inside refl
+    (stand_put t.geometry t.groups gs g x inside (gs.long g inside)
+    (λ i k e.
+    let within : i < slots_of t.geometry old.class = gs.within (record { group = g; slot = i }) k e in
+    let none : slots_of t.geometry old.class ≡ 0 = ap (λ b. slots_of t.geometry b) free in
+    absurd (omega arith))
+    (gs.apart g inside)
+    (λ i hi ne. gs.disjoint i g hi inside ne)
+    (gs.first g inside))
+
+-- a member that is put, and the others
+pub member_same : (m : Members) (p : ℕ) (x : Place) → member (with_member m p x) p ≡ x
+member_same m zero x = refl
+member_same m (suc zero) x = refl
+member_same m (suc (suc zero)) x = refl
+member_same m (suc (suc (suc p))) x = refl
+
+pub member_other : (m : Members) (p j : ℕ) (x : Place) → p < 4 → j < 4 → j ≢ p → member (with_member m p x) j ≡ member m j
+member_other m zero zero x hp hj ne = absurd (ne refl)
+member_other m zero (suc zero) x hp hj ne = refl
+member_other m zero (suc (suc zero)) x hp hj ne = refl
+member_other m zero (suc (suc (suc j))) x hp hj ne = refl
+member_other m (suc zero) zero x hp hj ne = refl
+member_other m (suc zero) (suc zero) x hp hj ne = absurd (ne refl)
+member_other m (suc zero) (suc (suc zero)) x hp hj ne = refl
+member_other m (suc zero) (suc (suc (suc j))) x hp hj ne = refl
+member_other m (suc (suc zero)) zero x hp hj ne = refl
+member_other m (suc (suc zero)) (suc zero) x hp hj ne = refl
+member_other m (suc (suc zero)) (suc (suc zero)) x hp hj ne = absurd (ne refl)
+member_other m (suc (suc zero)) (suc (suc (suc j))) x hp hj ne = refl
+member_other m (suc (suc (suc p))) zero x hp hj ne = refl
+member_other m (suc (suc (suc p))) (suc zero) x hp hj ne = refl
+member_other m (suc (suc (suc p))) (suc (suc zero)) x hp hj ne = refl
+member_other m (suc (suc (suc p))) (suc (suc (suc j))) x hp hj ne = absurd (ne (omega arith))
+
+-- an extent that is no member is none of them
+pub stands_on_member : (m : Members) (x : Place) (j : ℕ) → same_place (member m j) x ≡ true → stands_on m x ≡ true
+stands_on_member m x zero e = or_left _ _ (or_left _ _ (or_left _ _ e))
+stands_on_member m x (suc zero) e = or_left _ _ (or_left _ _ (or_right (same_place m.first x) _ e))
+stands_on_member m x (suc (suc zero)) e = or_left _ _ (or_right (same_place m.first x || same_place m.second x) _ e)
+stands_on_member m x (suc (suc (suc j))) e = or_right (same_place m.first x || same_place m.second x || same_place m.third x) _ e
+
+pub not_member : (m : Members) (x : Place) → stands_on m x ≡ false → (j : ℕ) → (member m j).disk ≡ x.disk → (member m j).extent ≢ x.extent
+not_member m x unused j d e = true≢false (sym (stands_on_member m x j (and_from _ _ (eq-eqb (member m j).disk x.disk d) (eq-eqb (member m j).extent x.extent e))) ∙ unused)
+
+-- a group with another extent
+module _ (t : Tables) (n g p : ℕ) (x : Place) (ok : IsKept t n) (inside : g < length t.groups) (range : p < 4)
+    (unused : (i : ℕ) → i < length t.groups → stands_on (group_in t.groups i).members x ≡ false)
+    (apart : (i : ℕ) → i < 4 → i ≢ p → (member (group_in t.groups g).members i).disk ≢ x.disk)
+    (disk : x.disk < 2 ^ 8) (extent : x.extent < 2 ^ 16) where
+  still_apart : AreApart (with_member (group_in t.groups g).members p x)
+  still_apart i j hi hj ne =
+      let m : Members = (group_in t.groups g).members in
+      elim (eqb_tells i p) [
+        | inl a ↦
+            let j_other : j ≢ p = λ e. ne (a.1 ∙ sym e) in
+            λ e. apart j hj j_other
+            (sym (ap (λ y. y.disk) (member_other m p j x range hj j_other)) ∙ sym e
+            ∙ ap (λ k. (member (with_member m p x) k).disk) a.1 ∙ ap (λ y. y.disk) (member_same m p x))
+        | inr a ↦ elim (eqb_tells j p) [
+          | inl b ↦ λ e. apart i hi a.1
+              (sym (ap (λ y. y.disk) (member_other m p i x range hi a.1)) ∙ e
+              ∙ ap (λ k. (member (with_member m p x) k).disk) b.1 ∙ ap (λ y. y.disk) (member_same m p x))
+          | inr b ↦ λ e. ok.tables.groups.apart g inside i j hi hj ne
+              (sym (ap (λ y. y.disk) (member_other m p i x range hi a.1)) ∙ e ∙ ap (λ y. y.disk) (member_other m p j x range hj b.1))
+        ]
+      ]
+
+  still_disjoint : (i : ℕ) → i < length t.groups → i ≢ g → AreDisjoint (group_in t.groups i).members (with_member (group_in t.groups g).members p x)
+  still_disjoint i hi ne a b ha hb =
+      let m : Members = (group_in t.groups g).members in
+      elim (eqb_tells b p) [
+        | inl q ↦
+            let here : member (with_member m p x) b ≡ x = ap (λ k. member (with_member m p x) k) q.1 ∙ member_same m p x in
+            λ d e. not_member (group_in t.groups i).members x (unused i hi) a (d ∙ ap (λ y. y.disk) here) (e ∙ ap (λ y. y.extent) here)
+        | inr q ↦
+            let here : member (with_member m p x) b ≡ member m b = member_other m p b x range hb q.1 in
+            λ d e. ok.tables.groups.disjoint i g hi inside ne a b ha hb (d ∙ ap (λ y. y.disk) here) (e ∙ ap (λ y. y.extent) here)
+      ]
+
+  still_first : (q : ℕ) → ((with_member (group_in t.groups g).members q x).first.disk < 2 ^ 8) × ((with_member (group_in t.groups g).members q x).first.extent < 2 ^ 16)
+  still_first zero = (disk, extent)
+  still_first (suc zero) = ok.tables.groups.first g inside
+  still_first (suc (suc zero)) = ok.tables.groups.first g inside
+  still_first (suc (suc (suc q))) = ok.tables.groups.first g inside
+
+  pub shifted_kept : IsKept (shifted t g p x) n
+  shifted_kept =
+      let old = group_in t.groups g in
+      let new : GroupState = record old { members = with_member old.members p x } in
+      let gs = ok.tables.groups in
+      group_kept t n g new ok inside refl
+      (stand_put t.geometry t.groups gs g new inside (gs.long g inside)
+      (λ i k e. gs.within (record { group = g; slot = i }) k e)
+      still_apart still_disjoint (still_first p))
+
+-- one group more
+module _ (t : Tables) (n : ℕ) (m : Members) (ok : IsKept t n) (apart : AreApart m)
+    (fresh : (i : ℕ) → i < length t.groups → AreDisjoint (group_in t.groups i).members m)
+    (disk : m.first.disk < 2 ^ 8) (extent : m.first.extent < 2 ^ 16) where
+  new : GroupState
+  new = free_group m (3 * rows_of t.geometry)
+
+  more : List GroupState
+  more = t.groups ++ free_group m (3 * rows_of t.geometry) ∷ []
+
+  low : (i : ℕ) → i < length t.groups → group_in (t.groups ++ free_group m (3 * rows_of t.geometry) ∷ []) i ≡ group_in t.groups i
+  low i h = get_or_append_left t.groups (free_group m (3 * rows_of t.geometry) ∷ []) no_group i h
+
+  top : (i : ℕ) → length t.groups ≡ i → group_in (t.groups ++ free_group m (3 * rows_of t.geometry) ∷ []) i ≡ free_group m (3 * rows_of t.geometry)
+  top i e = get_or_push t.groups (free_group m (3 * rows_of t.geometry)) no_group i e
+
+  size : length (t.groups ++ free_group m (3 * rows_of t.geometry) ∷ []) ≡ length t.groups + 1
+  size = length-append t.groups (free_group m (3 * rows_of t.geometry) ∷ [])
+
+  formed_keys : (s : Slot) → key_in (t.groups ++ free_group m (3 * rows_of t.geometry) ∷ []) s ≡ key_in t.groups s
+  formed_keys s = elim (cases_lt s.group (length t.groups)) [
+    | inl h ↦ ap (λ y. get_or y.slots s.slot None) (low s.group h)
+    | inr h ↦ elim (eqb_tells (length t.groups) s.group) [
+      | inl e ↦
+          ap (λ y. get_or y.slots s.slot None) (top s.group e.1)
+          ∙ get_none {X = Key} (3 * rows_of t.geometry) s.slot
+          ∙ sym (ap (λ y. get_or y.slots s.slot None) (get_or_past t.groups s.group no_group h))
+      | inr d ↦
+          ap (λ y. get_or y.slots s.slot None) (get_or_past (t.groups ++ free_group m (3 * rows_of t.geometry) ∷ []) s.group no_group (omega (arith, size, h, d.1)))
+          ∙ sym (ap (λ y. get_or y.slots s.slot None) (get_or_past t.groups s.group no_group h))
+    ]
+  ]
+
+  -- whatever holds of each group and of the new one holds of all
+  each : (P : GroupState → Type 0) → ((i : ℕ) → i < length t.groups → P (group_in t.groups i)) → P (free_group m (3 * rows_of t.geometry)) → (i : ℕ) → i < length t.groups + 1 → P (group_in (t.groups ++ free_group m (3 * rows_of t.geometry) ∷ []) i)
+  each P old last i h = elim (cases_lt i (length t.groups)) [
+    | inl l ↦ subst P (sym (low i l)) (old i l)
+    | inr l ↦ subst P (sym (top i (omega arith))) last
+  ]
+
+  formed_stand : GroupsStand t.geometry (t.groups ++ free_group m (3 * rows_of t.geometry) ∷ [])
+  formed_stand =
+      let gs = ok.tables.groups in
+      let all = t.groups ++ free_group m (3 * rows_of t.geometry) ∷ [] in
+      record {
+        long = λ i h. each (λ y. length y.slots ≡ 3 * rows_of t.geometry) gs.long (length-replicate (3 * rows_of t.geometry) (nothing Key)) i (omega (arith, size, h));
+        within = λ s k e.
+            let f : key_in t.groups s ≡ Some k = sym (formed_keys s) ∙ e in
+            elim (cases_lt s.group (length t.groups)) [
+              | inl h ↦ subst (λ y. s.slot < slots_of t.geometry y.class) (sym (low s.group h)) (gs.within s k f)
+              | inr h ↦ absurd (none-some k (sym (ap (λ y. get_or y.slots s.slot None) (get_or_past t.groups s.group no_group h)) ∙ f))
+            ];
+        apart = λ i h. each (λ y. AreApart y.members) gs.apart apart i (omega (arith, size, h));
+        disjoint = λ i j hi hj ne. elim (cases_lt i (length t.groups)) [
+          | inl a ↦ elim (cases_lt j (length t.groups)) [
+            | inl b ↦ subst (λ y. AreDisjoint y.members (group_in all j).members) (sym (low i a))
+                (subst (λ y. AreDisjoint (group_in t.groups i).members y.members) (sym (low j b)) (gs.disjoint i j a b ne))
+            | inr b ↦ subst (λ y. AreDisjoint y.members (group_in all j).members) (sym (low i a))
+                (subst (λ y. AreDisjoint (group_in t.groups i).members y.members) (sym (top j (omega (arith, size, hj, b)))) (fresh i a))
+          ]
+          | inr a ↦ elim (cases_lt j (length t.groups)) [
+            | inl b ↦ subst (λ y. AreDisjoint y.members (group_in all j).members) (sym (top i (omega (arith, size, hi, a))))
+                (subst (λ y. AreDisjoint m y.members) (sym (low j b)) (disjoint_flips (group_in t.groups j).members m (fresh j b)))
+            | inr b ↦ absurd (ne (omega (arith, size, hi, hj, a, b)))
+          ]
+        ];
+        first = λ i h. each (λ y. (y.members.first.disk < 2 ^ 8) × (y.members.first.extent < 2 ^ 16)) gs.first (disk, extent) i (omega (arith, size, h));
+      }
+
+  pub formed_kept : IsKept (formed t m) n
+  formed_kept =
+      let all = t.groups ++ free_group m (3 * rows_of t.geometry) ∷ [] in
+      let none : used (free_group m (3 * rows_of t.geometry)) ≡ 0 = count_none Key (3 * rows_of t.geometry) in
+      let count : sum_by used all ≡ sum_by used t.groups + used (free_group m (3 * rows_of t.geometry)) = sum_by_push used t.groups (free_group m (3 * rows_of t.geometry)) in
+      record {
+        tables = record {
+          groups = formed_stand;
+          units = ok.tables.units;
+          agree = agree_same t.groups all t.units t.units ok.tables.agree formed_keys (λ k. refl) (omega arith) refl;
+          room = more_room (rows_of t.geometry) (length t.groups) (length all) (reserved t) size ok.tables.room;
+        };
+        total = ok.total;
+      }
+    where
+      more_room : (e a b r : ℕ) → b ≡ a + 1 → r ≤ 3 * e * (a - 1) → r ≤ 3 * e * (b - 1)
+      more_room e a b r q h =
+          let le : a - 1 ≤ b - 1 = omega arith in
+          omega (arith, mul-le-mul_left (3 * e) le)
+
+-- a group none of whose extents is in use shares none with a group that is there
+pub four_unused : (t : Tables) (m : Members) → IsUnused t m.first → IsUnused t m.second → IsUnused t m.third → IsUnused t m.fourth
+    → (i : ℕ) → i < length t.groups → AreDisjoint (group_in t.groups i).members m
+four_unused t m a b c d i h j k hj hk e = not_member (group_in t.groups i).members (member m k) (by k) j e
+  where
+    by : (k : ℕ) → stands_on (group_in t.groups i).members (member m k) ≡ false
+    by zero = a i h
+    by (suc zero) = b i h
+    by (suc (suc zero)) = c i h
+    by (suc (suc (suc k))) = d i h

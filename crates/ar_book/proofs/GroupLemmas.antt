@@ -1,0 +1,299 @@
+-- What a change of one group leaves in the list of groups.
+use Rattle.std.proofs.Common.{◌≡◌, ◌≢◌, ℕ, suc, ◌+◌, ◌-◌, ◌*◌, ◌^◌, ◌<◌, ◌≤◌, Bool, true, false, cond, eqb, if◌then◌else◌, Option, None, Some, is_some, List, [], ◌∷◌, length, get_or, set, map, All, sum_by, count_by, refl, sym, ap, subst, ◌∙◌, inl, inr, arith, get_or-set_same, get_or-set_other}
+use Rattle.std.proofs.lemmas.List.{get_or_past}
+use Rattle.std.proofs.lemmas.List.Sums.{sum_by-set, sum_by-cons, get_or-le-sum_by}
+use Rattle.std.proofs.lemmas.Option.{none-some}
+use Rattle.std.proofs.lemmas.Bool.{cases_lt, eqb-true}
+use Rattle.std.proofs.lemmas.Bool.Decides.{eqb_tells}
+use Rattle.std.proofs.Math.ListN.{length-set}
+use Rattle.std.specs.List.{IsDistinct}
+use Rattle.std.proofs.lemmas.List.{length-map, get_or-map}
+use Rattle.std.proofs.lemmas.List.Elements.{All-contains}
+use Rattle.std.proofs.lemmas.Map.Keys.{IsDistinct-from_apart}
+use Rattle.std.proofs.lemmas.Map.Steps.{length-le_from_distinct_below}
+use Rattle.std.proofs.lemmas.Map.Views.{Contains-from_any}
+use Rattle.ar_disks.specs.Geometry.{rows_of}
+use Rattle.ar_disks.specs.Members.{AreApart, AreDisjoint}
+use Rattle.ar_disks.specs.declared.address.Key.{Key}
+use Rattle.ar_disks.specs.declared.address.Members.{Members}
+use Rattle.ar_disks.specs.declared.geometry.Geometry.{Geometry}
+use Rattle.ar_book.specs.declared.class.Slot.{Slot}
+use Rattle.ar_book.specs.declared.class.Class.{Class}
+use Rattle.ar_book.specs.declared.class.Class.TheVariants.{Free, Mirrored, Parity}
+use Rattle.ar_disks.specs.declared.geometry.Geometry.TheVariants.{Paper, Small}
+use Rattle.ar_book.specs.Tables.{GroupState, no_group, group_in, key_in, used, slots_of, is_free}
+use Rattle.ar_book.specs.Changes.{with_key, without_key, freed, named, vacated}
+use Rattle.ar_book.specs.Book.{GroupsStand}
+use Rattle.ar_book.proofs.Keys.{make_slot}
+
+-- a slot that names a block is there
+pub there_group : (gs : List GroupState) (s : Slot) (k : Key) → key_in gs s ≡ Some k → s.group < length gs
+there_group gs s k e =
+    elim (cases_lt s.group (length gs)) [
+      | inl h ↦ h
+      | inr h ↦ absurd (none-some k (sym (ap (λ x. get_or x.slots s.slot None) (get_or_past gs s.group no_group h)) ∙ e))
+    ]
+
+pub there_slot : (gs : List GroupState) (s : Slot) (k : Key) → key_in gs s ≡ Some k → s.slot < length (group_in gs s.group).slots
+there_slot gs s k e =
+    elim (cases_lt s.slot (length (group_in gs s.group).slots)) [
+      | inl h ↦ h
+      | inr h ↦ absurd (none-some k (sym (get_or_past (group_in gs s.group).slots s.slot None h) ∙ e))
+    ]
+
+-- the group that was put
+pub put_same : (gs : List GroupState) (g : ℕ) (x : GroupState) → g < length gs → group_in (set gs g x) g ≡ x
+put_same gs g x h = get_or-set_same gs g x no_group h
+
+-- the others stay
+pub put_other : (gs : List GroupState) (g : ℕ) (x : GroupState) (i : ℕ) → i ≢ g → group_in (set gs g x) i ≡ group_in gs i
+put_other gs g x i ne = get_or-set_other gs g i x no_group ne
+
+-- one slot of one group is another, and no other slot
+module _ (gs : List GroupState) (s : Slot) (x : GroupState) (o : Option Key) (inside : s.group < length gs) (is : x.slots ≡ set (group_in gs s.group).slots s.slot o) where
+  pub slot_same : s.slot < length (group_in gs s.group).slots → key_in (set gs s.group x) s ≡ o
+  slot_same h =
+      ap (λ y. get_or y.slots s.slot None) (put_same gs s.group x inside)
+      ∙ ap (λ l. get_or l s.slot None) is
+      ∙ get_or-set_same (group_in gs s.group).slots s.slot o None h
+
+  pub slot_other : (r : Slot) → r ≢ s → key_in (set gs s.group x) r ≡ key_in gs r
+  slot_other r ne =
+      elim (eqb_tells r.group s.group) [
+        | inl e ↦
+            let n : r.slot ≢ s.slot = λ q. ne (make_slot r s e.1 q) in
+            ap (λ i. get_or (group_in (set gs s.group x) i).slots r.slot None) e.1
+            ∙ ap (λ y. get_or y.slots r.slot None) (put_same gs s.group x inside)
+            ∙ ap (λ l. get_or l r.slot None) is
+            ∙ get_or-set_other (group_in gs s.group).slots s.slot r.slot o None n
+            ∙ sym (ap (λ i. get_or (group_in gs i).slots r.slot None) e.1)
+        | inr n ↦ ap (λ y. get_or y.slots r.slot None) (put_other gs s.group x r.group n.1)
+      ]
+
+  -- the slots that name a block are one more, or one fewer, as this one does and did
+  pub slot_count : s.slot < length (group_in gs s.group).slots → sum_by used (set gs s.group x) + cond (is_some (key_in gs s)) 1 0 ≡ sum_by used gs + cond (is_some o) 1 0
+  slot_count h =
+      let one : count_by is_some (set (group_in gs s.group).slots s.slot o) + cond (is_some (key_in gs s)) 1 0 ≡ used (group_in gs s.group) + cond (is_some o) 1 0 =
+      sum_by-set (λ k. cond (is_some k) 1 0) (group_in gs s.group).slots s.slot o None h in
+      let here : used x ≡ count_by is_some (set (group_in gs s.group).slots s.slot o) = ap (λ l. count_by is_some l) is in
+      let all : sum_by used (set gs s.group x) + used (group_in gs s.group) ≡ sum_by used gs + used x = sum_by-set used gs s.group x no_group inside in
+      omega arith
+
+-- the groups stand where the one that was put does
+pub disjoint_flips : (m n : Members) → AreDisjoint m n → AreDisjoint n m
+disjoint_flips m n d i j hi hj e f = d j i hj hi (sym e) (sym f)
+
+module _ (geo : Geometry) (gs : List GroupState) (ok : GroupsStand geo gs) (g : ℕ) (x : GroupState) (inside : g < length gs) where
+  pub stand_put : length x.slots ≡ 3 * rows_of geo
+      → ((i : ℕ) (k : Key) → get_or x.slots i None ≡ Some k → i < slots_of geo x.class)
+      → AreApart x.members
+      → ((i : ℕ) → i < length gs → i ≢ g → AreDisjoint (group_in gs i).members x.members)
+      → (x.members.first.disk < 2 ^ 8) × (x.members.first.extent < 2 ^ 16)
+      → GroupsStand geo (set gs g x)
+  stand_put long within apart disjoint first =
+      let same = put_same gs g x inside in
+      let len : length (set gs g x) ≡ length gs = length-set gs g x in
+      let other : (i : ℕ) → i ≢ g → group_in (set gs g x) i ≡ group_in gs i = put_other gs g x in
+      record {
+        long = λ i h. elim (eqb_tells i g) [
+          | inl e ↦ ap (λ j. length (group_in (set gs g x) j).slots) e.1 ∙ ap (λ y. length y.slots) same ∙ long
+          | inr n ↦ ap (λ y. length y.slots) (other i n.1) ∙ ok.long i (omega arith)
+        ];
+        within = λ s k e. elim (eqb_tells s.group g) [
+          | inl q ↦
+              let here : group_in (set gs g x) s.group ≡ x = ap (λ j. group_in (set gs g x) j) q.1 ∙ same in
+              subst (λ y. s.slot < slots_of geo y.class) (sym here) (within s.slot k (sym (ap (λ y. get_or y.slots s.slot None) here) ∙ e))
+          | inr n ↦
+              let here = other s.group n.1 in
+              subst (λ y. s.slot < slots_of geo y.class) (sym here) (ok.within s k (sym (ap (λ y. get_or y.slots s.slot None) here) ∙ e))
+        ];
+        apart = λ i h. elim (eqb_tells i g) [
+          | inl e ↦ subst (λ y. AreApart y.members) (sym (ap (λ j. group_in (set gs g x) j) e.1 ∙ same)) apart
+          | inr n ↦ subst (λ y. AreApart y.members) (sym (other i n.1)) (ok.apart i (omega arith))
+        ];
+        disjoint = λ i j hi hj ne. elim (eqb_tells i g) [
+          | inl e ↦
+              let j_other : j ≢ g = λ q. ne (e.1 ∙ sym q) in
+              subst (λ y. AreDisjoint y.members (group_in (set gs g x) j).members) (sym (ap (λ k. group_in (set gs g x) k) e.1 ∙ same))
+              (subst (λ y. AreDisjoint x.members y.members) (sym (other j j_other))
+              (disjoint_flips (group_in gs j).members x.members (disjoint j (omega arith) j_other)))
+          | inr n ↦ elim (eqb_tells j g) [
+            | inl e ↦
+                subst (λ y. AreDisjoint (group_in (set gs g x) i).members y.members) (sym (ap (λ k. group_in (set gs g x) k) e.1 ∙ same))
+                (subst (λ y. AreDisjoint y.members x.members) (sym (other i n.1)) (disjoint i (omega arith) n.1))
+            | inr m ↦
+                subst (λ y. AreDisjoint y.members (group_in (set gs g x) j).members) (sym (other i n.1))
+                (subst (λ y. AreDisjoint (group_in gs i).members y.members) (sym (other j m.1)) (ok.disjoint i j (omega arith) (omega arith) ne))
+          ]
+        ];
+        first = λ i h. elim (eqb_tells i g) [
+          | inl e ↦ subst (λ y. (y.members.first.disk < 2 ^ 8) × (y.members.first.extent < 2 ^ 16)) (sym (ap (λ j. group_in (set gs g x) j) e.1 ∙ same)) first
+          | inr n ↦ subst (λ y. (y.members.first.disk < 2 ^ 8) × (y.members.first.extent < 2 ^ 16)) (sym (other i n.1)) (ok.first i (omega arith))
+        ];
+      }
+
+-- freeing a group changes its class alone
+pub freed_members : (x : GroupState) → (freed x).members ≡ x.members
+freed_members x = by (eqb (used x) 0)
+  where
+    by : (b : Bool) → (if b then record x { class = Free } else x).members ≡ x.members
+    by true = refl
+    by false = refl
+
+pub freed_slots : (x : GroupState) → (freed x).slots ≡ x.slots
+freed_slots x = by (eqb (used x) 0)
+  where
+    by : (b : Bool) → (if b then record x { class = Free } else x).slots ≡ x.slots
+    by true = refl
+    by false = refl
+
+-- and only where no slot names a block
+pub freed_class : (x : GroupState) (i : ℕ) (k : Key) → get_or x.slots i None ≡ Some k → (freed x).class ≡ x.class
+freed_class x i k e = elim (eqb_tells (used x) 0) [ inl z ↦ absurd (none_used z.1) | inr n ↦ ap (λ b. (if b then record x { class = Free } else x).class) n.0 ]
+  where
+    none_used : used x ≡ 0 → ⊥
+    none_used z = elim (cases_lt i (length x.slots)) [
+      | inl h ↦
+          let le : cond {A = ℕ} (is_some (get_or x.slots i None)) 1 0 ≤ used x = get_or-le-sum_by (λ o. cond (is_some o) 1 0) x.slots i None h in
+          let one : cond {A = ℕ} (is_some (get_or x.slots i None)) 1 0 ≡ 1 = ap (λ (o : Option Key). cond {A = ℕ} (is_some o) 1 0) e in
+          omega arith
+      | inr h ↦ absurd (none-some k (sym (get_or_past x.slots i None h) ∙ e))
+    ]
+
+-- a slot that names another block
+module _ (gs : List GroupState) (s : Slot) (k : Key) (inside : s.group < length gs) where
+  pub named_same : s.slot < length (group_in gs s.group).slots → key_in (named gs s k) s ≡ Some k
+  named_same h = slot_same gs s (with_key (group_in gs s.group) s.slot k) (Some k) inside refl h
+
+  pub named_other : (r : Slot) → r ≢ s → key_in (named gs s k) r ≡ key_in gs r
+  named_other r ne = slot_other gs s (with_key (group_in gs s.group) s.slot k) (Some k) inside refl r ne
+
+  pub named_count : s.slot < length (group_in gs s.group).slots → key_in gs s ≡ None → sum_by used (named gs s k) ≡ sum_by used gs + 1
+  named_count h e =
+      let all = slot_count gs s (with_key (group_in gs s.group) s.slot k) (Some k) inside refl h in
+      let none : cond {A = ℕ} (is_some (key_in gs s)) 1 0 ≡ 0 = ap (λ (o : Option Key). cond {A = ℕ} (is_some o) 1 0) e in
+      omega arith
+
+  pub named_shape : (i : ℕ) → length (group_in (named gs s k) i).slots ≡ length (group_in gs i).slots
+  named_shape i = elim (eqb_tells i s.group) [
+    | inl e ↦
+        ap (λ j. length (group_in (named gs s k) j).slots) e.1
+        ∙ ap (λ y. length y.slots) (put_same gs s.group (with_key (group_in gs s.group) s.slot k) inside)
+        ∙ length-set (group_in gs s.group).slots s.slot (Some k)
+        ∙ sym (ap (λ j. length (group_in gs j).slots) e.1)
+    | inr n ↦ ap (λ y. length y.slots) (put_other gs s.group (with_key (group_in gs s.group) s.slot k) i n.1)
+  ]
+
+  pub named_stand : (geo : Geometry) → GroupsStand geo gs → s.slot < slots_of geo (group_in gs s.group).class → GroupsStand geo (named gs s k)
+  named_stand geo ok h =
+      let old = group_in gs s.group in
+      stand_put geo gs ok s.group (with_key old s.slot k) inside
+      (length-set old.slots s.slot (Some k) ∙ ok.long s.group inside)
+      (λ i j e. elim (eqb_tells i s.slot) [
+        | inl q ↦ subst (λ n. n < slots_of geo old.class) (sym q.1) h
+        | inr n ↦ ok.within (record { group = s.group; slot = i }) j (sym (get_or-set_other old.slots s.slot i (Some k) None n.1) ∙ e)
+      ])
+      (ok.apart s.group inside)
+      (λ i hi ne. ok.disjoint i s.group hi inside ne)
+      (ok.first s.group inside)
+
+-- a slot that names nothing
+module _ (gs : List GroupState) (s : Slot) (inside : s.group < length gs) where
+  is : (without_key (group_in gs s.group) s.slot).slots ≡ set (group_in gs s.group).slots s.slot None
+  is = freed_slots (record (group_in gs s.group) { slots = set (group_in gs s.group).slots s.slot None })
+
+  pub vacated_same : s.slot < length (group_in gs s.group).slots → key_in (vacated gs (Some s)) s ≡ None
+  vacated_same h = slot_same gs s (without_key (group_in gs s.group) s.slot) None inside is h
+
+  pub vacated_other : (r : Slot) → r ≢ s → key_in (vacated gs (Some s)) r ≡ key_in gs r
+  vacated_other r ne = slot_other gs s (without_key (group_in gs s.group) s.slot) None inside is r ne
+
+  pub vacated_count : s.slot < length (group_in gs s.group).slots → (k : Key) → key_in gs s ≡ Some k → sum_by used (vacated gs (Some s)) + 1 ≡ sum_by used gs
+  vacated_count h k e =
+      let all = slot_count gs s (without_key (group_in gs s.group) s.slot) None inside is h in
+      let one : cond {A = ℕ} (is_some (key_in gs s)) 1 0 ≡ 1 = ap (λ (o : Option Key). cond {A = ℕ} (is_some o) 1 0) e in
+      omega arith
+
+  pub vacated_shape : (i : ℕ) → length (group_in (vacated gs (Some s)) i).slots ≡ length (group_in gs i).slots
+  vacated_shape i = elim (eqb_tells i s.group) [
+    | inl e ↦
+        ap (λ j. length (group_in (vacated gs (Some s)) j).slots) e.1
+        ∙ ap (λ y. length y.slots) (put_same gs s.group (without_key (group_in gs s.group) s.slot) inside)
+        ∙ ap length is
+        ∙ length-set (group_in gs s.group).slots s.slot None
+        ∙ sym (ap (λ j. length (group_in gs j).slots) e.1)
+    | inr n ↦ ap (λ y. length y.slots) (put_other gs s.group (without_key (group_in gs s.group) s.slot) i n.1)
+  ]
+
+  pub vacated_stand : (geo : Geometry) → GroupsStand geo gs → GroupsStand geo (vacated gs (Some s))
+  vacated_stand geo ok =
+      let old = group_in gs s.group in
+      let cleared : GroupState = record old { slots = set old.slots s.slot None } in
+      let new : GroupState = without_key old s.slot in
+      let members : new.members ≡ old.members = freed_members cleared in
+      stand_put geo gs ok s.group new inside
+      (ap length is ∙ length-set old.slots s.slot None ∙ ok.long s.group inside)
+      (λ i j e.
+      let f : get_or cleared.slots i None ≡ Some j = sym (ap (λ l. get_or l i None) is) ∙ e in
+      elim (eqb_tells i s.slot) [
+        | inl q ↦ absurd (still i j q.1 f)
+        | inr n ↦ subst (λ c. i < slots_of geo c) (sym (freed_class cleared i j f))
+            (ok.within (record { group = s.group; slot = i }) j (sym (get_or-set_other old.slots s.slot i None None n.1) ∙ f))
+      ])
+      (subst (λ m. AreApart m) (sym members) (ok.apart s.group inside))
+      (λ i hi ne. subst (λ m. AreDisjoint (group_in gs i).members m) (sym members) (ok.disjoint i s.group hi inside ne))
+      (subst (λ m. (m.first.disk < 2 ^ 8) × (m.first.extent < 2 ^ 16)) (sym members) (ok.first s.group inside))
+    where
+      still : (i : ℕ) (j : Key) → i ≡ s.slot → get_or (set (group_in gs s.group).slots s.slot None) i None ≡ Some j → ⊥
+      still i j q f = elim (cases_lt s.slot (length (group_in gs s.group).slots)) [
+        | inl h ↦ none-some j (sym (ap (λ n. get_or (set (group_in gs s.group).slots s.slot None) n None) q ∙ get_or-set_same (group_in gs s.group).slots s.slot None None h) ∙ f)
+        | inr h ↦ none-some j (sym (get_or_past (set (group_in gs s.group).slots s.slot None) i None (omega (arith, length-set (group_in gs s.group).slots s.slot None, q))) ∙ f)
+      ]
+
+-- there are no more groups than places for their first members
+code_of : GroupState → ℕ
+code_of g = g.members.first.disk * 65536 + g.members.first.extent
+
+pub few_groups : (geo : Geometry) (gs : List GroupState) → GroupsStand geo gs → length gs ≤ 16777216
+unfolding code_of
+few_groups geo gs ok =
+    let size : length (map code_of gs) ≡ length gs = length-map gs code_of in
+    let at : (i d : ℕ) → i < length gs → get_or (map code_of gs) i d ≡ code_of (group_in gs i) = λ i d h. get_or-map code_of gs i no_group d h in
+    let below : All (λ x. x < 16777216) (map code_of gs) = λ i d h.
+    let f = ok.first i (omega arith) in
+    let e = at i d (omega arith) in
+    omega arith in
+    let distinct : IsDistinct eqb (map code_of gs) = IsDistinct-from_apart eqb (map code_of gs) (λ i j d lt h.
+    elim (eqb_tells (get_or (map code_of gs) i d) (get_or (map code_of gs) j d)) [
+      | inl same ↦
+          let a = at i d (omega arith) in
+          let b = at j d (omega arith) in
+          let f = ok.first i (omega arith) in
+          let g = ok.first j (omega arith) in
+          let disk : (group_in gs i).members.first.disk ≡ (group_in gs j).members.first.disk = omega arith in
+          let extent : (group_in gs i).members.first.extent ≡ (group_in gs j).members.first.extent = omega arith in
+          absurd (ok.disjoint i j (omega arith) (omega arith) (omega arith) 0 0 (omega arith) (omega arith) disk extent)
+      | inr other ↦ other.0
+    ]) in
+    let all = length-le_from_distinct_below (map code_of gs) 16777216 distinct
+    (λ q h. All-contains (λ x. x < 16777216) (map code_of gs) q below (Contains-from_any {eq = eqb} (λ x y e. eqb-true x y e) q (map code_of gs) h)) in
+    omega arith
+
+-- where no group is free the count is 0
+pub no_free : (gs : List GroupState) → ((h : ℕ) → h < length gs → (group_in gs h).class ≡ Free → ⊥) → count_by (λ (g : GroupState). is_free g.class) gs ≡ 0
+no_free [] never = refl
+no_free (x ∷ gs) never =
+    let head : count_by (λ (g : GroupState). is_free g.class) (x ∷ gs) ≡ cond {A = ℕ} (is_free x.class) 1 0 + count_by (λ (g : GroupState). is_free g.class) gs = sum_by-cons (λ (g : GroupState). cond {A = ℕ} (is_free g.class) 1 0) x gs in
+    let rest = no_free gs (λ h l e. never (suc h) (omega arith) e) in
+    let none : cond {A = ℕ} (is_free x.class) 1 0 ≡ 0 = by x.class (λ e. never 0 (omega arith) e) in
+    omega arith
+  where
+    by : (c : Class) → (c ≡ Free → ⊥) → cond {A = ℕ} (is_free c) 1 0 ≡ 0
+    by Free f = absurd (f refl)
+    by Mirrored f = refl
+    by Parity f = refl
+
+-- a group's worth of slots for each but one fits 32 bits
+pub room_fits : (g : Geometry) (n : ℕ) → n ≤ 16777216 → 3 * rows_of g * (n - 1) < 2 ^ 32
+room_fits Paper n h = omega arith
+room_fits Small n h = omega arith

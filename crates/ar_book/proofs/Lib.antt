@@ -1,0 +1,13 @@
+pub mod Padding
+pub mod Keys
+pub mod UnitLemmas
+pub mod GroupLemmas
+pub mod AgreeLemmas
+pub mod PlaceLemmas
+pub mod KeptLemmas
+pub mod UnitChanges
+pub mod GroupChanges
+pub mod RefusalLemmas
+pub mod CountLemmas
+pub mod DropLemmas
+pub mod OldestLemmas

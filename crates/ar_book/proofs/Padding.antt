@@ -1,0 +1,34 @@
+-- Empty places behind the end of a list change no reading of it.
+use Rattle.std.proofs.Common.{◌≡◌, ◌+◌, ℕ, zero, suc, Option, None, is_some, List, [], ◌∷◌, ◌++◌, get_or, count_by, cond, replicate, refl, arith}
+use Rattle.std.proofs.lemmas.List.Sums.{sum_by-cons, sum_by-append}
+
+-- nothing, of a type
+abbrev pub nothing : (X : Type 0) → Option X
+nothing X = None
+
+-- 1 where there is something
+abbrev pub one_if : {X : Type 0} → Option X → ℕ
+one_if o = cond (is_some o) 1 0
+
+pub get_none : {X : Type 0} (n i : ℕ) → get_or (replicate n (nothing X)) i (nothing X) ≡ nothing X
+get_none zero i = refl
+get_none (suc n) zero = refl
+get_none (suc n) (suc i) = get_none n i
+
+pub get_padded : {X : Type 0} (xs : List (Option X)) (n i : ℕ) → get_or (xs ++ replicate n (nothing X)) i (nothing X) ≡ get_or xs i (nothing X)
+get_padded [] n i = get_none n i
+get_padded (x ∷ xs) n zero = refl
+get_padded (x ∷ xs) n (suc i) = get_padded xs n i
+
+pub count_none : (X : Type 0) (n : ℕ) → count_by is_some (replicate n (nothing X)) ≡ 0
+count_none X zero = refl
+count_none X (suc n) =
+    let head : count_by is_some (replicate (suc n) (nothing X)) ≡ 0 + count_by is_some (replicate n (nothing X)) = sum_by-cons one_if (nothing X) (replicate n (nothing X)) in
+    let rest : count_by is_some (replicate n (nothing X)) ≡ 0 = count_none X n in
+    omega arith
+
+pub count_padded : {X : Type 0} (xs : List (Option X)) (n : ℕ) → count_by is_some (xs ++ replicate n (nothing X)) ≡ count_by is_some xs
+count_padded {X} xs n =
+    let all : count_by is_some (xs ++ replicate n (nothing X)) ≡ count_by is_some xs + count_by is_some (replicate n (nothing X)) = sum_by-append one_if xs (replicate n (nothing X)) in
+    let none : count_by is_some (replicate n (nothing X)) ≡ 0 = count_none X n in
+    omega arith

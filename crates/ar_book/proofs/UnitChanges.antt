@@ -1,0 +1,173 @@
+-- The book's invariant after a change of one unit, or of which units there are.
+use Rattle.std.proofs.Common.{◌≡◌, ℕ, ◌<◌, ◌≤◌, ◌+◌, ◌-◌, ◌*◌, Bool, true, false, cond, Option, None, Some, is_some, IsSome, List, [], ◌∷◌, ◌++◌, length, get_or, set, replicate, sum_by, All, refl, sym, ap, subst, ◌∙◌, inl, inr, arith, true≢false, length-append}
+use Rattle.std.specs.List.{IsDistinct}
+use Rattle.std.specs.Map.{lookup, set_value, keys_of, values_of}
+use Rattle.std.specs.Option.{unwrap_or}
+use Rattle.std.proofs.Math.ListN.{length-set, length-replicate}
+use Rattle.std.proofs.lemmas.Option.{none-some}
+use Rattle.std.proofs.lemmas.List.Sums.{sum_by_push}
+use Rattle.std.proofs.lemmas.List.Elements.{All-push}
+use Rattle.ar_disks.specs.Geometry.{rows_of}
+use Rattle.ar_disks.specs.declared.address.Addr.{Addr}
+use Rattle.ar_disks.specs.declared.address.Key.{Key}
+use Rattle.ar_book.specs.declared.class.Slot.{Slot}
+use Rattle.ar_book.specs.Tables.{UnitState, Tables, no_unit, same_addr, unit_in, home_in, placed, blocks_of, reserved, HasBlock}
+use Rattle.ar_book.specs.Changes.{new_unit, longer, made, grown, unmarked, restamped}
+use Rattle.ar_book.specs.Book.{IsUnit, IsKept}
+use Rattle.ar_book.proofs.Padding.{nothing, get_none, get_padded, count_none, count_padded}
+use Rattle.ar_book.proofs.Keys.{addr_tells}
+use Rattle.ar_book.proofs.UnitLemmas.{has_by_block, unit_same, unit_other, unit_sum, units_put}
+use Rattle.ar_book.proofs.AgreeLemmas.{agree_same}
+use Rattle.ar_book.proofs.PlaceLemmas.{unit_whole}
+
+-- where there is no such unit nothing is put
+pub put_absent : (test : Addr → Bool) (us : List (Addr × UnitState)) (u : UnitState) → lookup test us ≡ None → set_value test us u ≡ us
+put_absent test [] u e = refl
+put_absent test (x ∷ us) u e = by (put_absent test us u) (test x.0) refl
+  where
+    by : (lookup test us ≡ None → set_value test us u ≡ us) → (b : Bool) → test x.0 ≡ b → set_value test (x ∷ us) u ≡ x ∷ us
+    by rest true h = absurd (none-some x.1 (sym e ∙ ap (λ c. cond c (Some x.1) (lookup test us)) h))
+    by rest false h =
+        ap (λ c. cond c ((x.0, u) ∷ us) (x ∷ set_value test us u)) h
+        ∙ ap (λ l. x ∷ l) (rest (sym (ap (λ c. cond c (Some x.1) (lookup test us)) h) ∙ e))
+
+-- a unit is put whose blocks have the homes that they had, and m more blocks without one
+module _ (t : Tables) (n m puts : ℕ) (a : Addr) (u : UnitState) (ok : IsKept t n) (there : IsSome (lookup (same_addr a) t.units)) (whole : IsUnit t.geometry u)
+    (homes : (i : ℕ) → get_or u.homes i None ≡ get_or (unit_in t.units a).homes i None) (count : placed u ≡ placed (unit_in t.units a))
+    (more : length u.homes ≡ length (unit_in t.units a).homes + m) (room : reserved t + m ≤ 3 * rows_of t.geometry * (length t.groups - 1)) where
+  units : List (Addr × UnitState)
+  units = set_value (same_addr a) t.units u
+
+  same : (k : Key) → home_in (set_value (same_addr a) t.units u) k ≡ home_in t.units k
+  same k = elim (addr_tells a k.addr) [
+    | inl e ↦
+        ap (λ b. get_or (unit_in (set_value (same_addr a) t.units u) b).homes k.rb None) (sym e.1)
+        ∙ ap (λ x. get_or x.homes k.rb None) (unit_same t.units a u there)
+        ∙ homes k.rb
+        ∙ ap (λ b. get_or (unit_in t.units b).homes k.rb None) e.1
+    | inr d ↦ ap (λ x. get_or x.homes k.rb None) (unit_other t.units a u there k.addr d.1)
+  ]
+
+  total : reserved (record t { units = set_value (same_addr a) t.units u; puts = puts }) ≡ reserved t + m
+  total =
+      let all : sum_by (λ x. length x.homes) (values_of (set_value (same_addr a) t.units u)) + length (unit_in t.units a).homes ≡ sum_by (λ x. length x.homes) (values_of t.units) + length u.homes =
+      unit_sum t.units a u there (λ x. length x.homes) in
+      omega arith
+
+  pub put_kept : (p : ℕ) → p ≡ n + m → IsKept (record t { units = set_value (same_addr a) t.units u; puts = puts }) p
+  put_kept p e = record {
+    tables = record {
+      groups = ok.tables.groups;
+      units = units_put t.geometry t.units a u ok.tables.units whole;
+      agree = agree_same t.groups t.groups t.units (set_value (same_addr a) t.units u) ok.tables.agree (λ s. refl) same refl
+          (let all = unit_sum t.units a u there placed in omega arith);
+      room = subst (λ x. x ≤ 3 * rows_of t.geometry * (length t.groups - 1)) (sym total) room;
+    };
+    total = e ∙ ap (λ x. x + m) ok.total ∙ sym total;
+  }
+
+-- a block with another stamp
+pub restamped_kept : (t : Tables) (n puts stamp : ℕ) (k : Key) → IsKept t n → HasBlock t k → IsKept (record t { units = restamped t.units k stamp; puts = puts }) n
+restamped_kept t n puts stamp k ok block =
+    let there = has_by_block t.units k.addr k.rb block in
+    let old = unit_in t.units k.addr in
+    let w : IsUnit t.geometry old = unit_whole t.geometry t.units k.addr ok.tables.units there in
+    put_kept t n 0 puts k.addr (record old { stamps = set old.stamps k.rb stamp }) ok there
+    (record { some = w.some; few = w.few; homes = w.homes; stamps = length-set old.stamps k.rb stamp ∙ w.stamps })
+    (λ i. refl) refl (omega arith) (omega (arith, ok.tables.room)) n (omega arith)
+
+pub stamps_long : (t : Tables) (n : ℕ) (k : Key) → IsKept t n → HasBlock t k → k.rb < length (unit_in t.units k.addr).stamps
+stamps_long t n k ok block =
+    let w : IsUnit t.geometry (unit_in t.units k.addr) = unit_whole t.geometry t.units k.addr ok.tables.units (has_by_block t.units k.addr k.rb block) in
+    omega (arith, w.homes, w.stamps, block)
+
+-- a unit without its mark
+pub unmarked_kept : (t : Tables) (n : ℕ) (a : Addr) → IsKept t n → IsKept (unmarked t a) n
+unmarked_kept t n a ok = by (is_some (lookup (same_addr a) t.units)) refl
+  where
+    by : (b : Bool) → is_some (lookup (same_addr a) t.units) ≡ b → IsKept (unmarked t a) n
+    by true there =
+        let old = unit_in t.units a in
+        let w : IsUnit t.geometry old = unit_whole t.geometry t.units a ok.tables.units there in
+        put_kept t n 0 t.puts a (record old { attention = false }) ok there (record { some = w.some; few = w.few; homes = w.homes; stamps = w.stamps })
+        (λ i. refl) refl (omega arith) (omega (arith, ok.tables.room)) n (omega arith)
+    by false gone = subst (λ us. IsKept (record t { units = us }) n) (sym (put_absent (same_addr a) t.units (record (unit_in t.units a) { attention = false }) (none_of (lookup (same_addr a) t.units) gone))) ok
+      where
+        none_of : (o : Option UnitState) → is_some o ≡ false → o ≡ None
+        none_of None e = refl
+        none_of (Some u) e = absurd (true≢false e)
+
+-- a longer unit
+pub grown_kept : (t : Tables) (n : ℕ) (a : Addr) (sectors : ℕ) → IsKept t n → IsSome (lookup (same_addr a) t.units)
+    → length (unit_in t.units a).homes ≤ blocks_of t.geometry sectors → 0 < sectors → sectors ≤ 1048576
+    → reserved t + (blocks_of t.geometry sectors - length (unit_in t.units a).homes) ≤ 3 * rows_of t.geometry * (length t.groups - 1)
+    → IsKept (grown t a sectors) (n + (blocks_of t.geometry sectors - length (unit_in t.units a).homes))
+grown_kept t n a sectors ok there le some few room =
+    let old = unit_in t.units a in
+    let more : ℕ = blocks_of t.geometry sectors - length old.homes in
+    let w : IsUnit t.geometry old = unit_whole t.geometry t.units a ok.tables.units there in
+    let homes : length (old.homes ++ replicate more (nothing Slot)) ≡ length old.homes + more = length-append old.homes (replicate more (nothing Slot)) ∙ ap (λ x. length old.homes + x) (length-replicate more (nothing Slot)) in
+    let stamps : length (old.stamps ++ replicate more 0) ≡ length old.stamps + more = length-append old.stamps (replicate more 0) ∙ ap (λ x. length old.stamps + x) (length-replicate more 0) in
+    put_kept t n more t.puts a (longer t.geometry old sectors) ok there
+    (record { some = some; few = few; homes = omega arith; stamps = omega (arith, w.homes, w.stamps) })
+    (λ i. get_padded old.homes more i) (count_padded old.homes more) homes room (n + more) refl
+
+-- one unit more
+values_push : (us : List (Addr × UnitState)) (a : Addr) (u : UnitState) → values_of (us ++ (a, u) ∷ []) ≡ values_of us ++ u ∷ []
+values_push [] a u = refl
+values_push (x ∷ us) a u = ap (λ l. x.1 ∷ l) (values_push us a u)
+
+homes_of_found : Option UnitState → List (Option Slot)
+homes_of_found o = (unwrap_or o no_unit).homes
+
+home_push : (test : Addr → Bool) (us : List (Addr × UnitState)) (a : Addr) (u : UnitState) (i : ℕ) → get_or u.homes i None ≡ nothing Slot
+    → get_or (unwrap_or (lookup test (us ++ (a, u) ∷ [])) no_unit).homes i None ≡ get_or (unwrap_or (lookup test us) no_unit).homes i None
+home_push test [] a u i e = by (test a)
+  where
+    by : (b : Bool) → get_or (unwrap_or (cond b (Some u) None) no_unit).homes i None ≡ nothing Slot
+    by true = e
+    by false = refl
+home_push test (x ∷ us) a u i e = by (test x.0) (home_push test us a u i e)
+  where
+    by : (b : Bool) → get_or (unwrap_or (lookup test (us ++ (a, u) ∷ [])) no_unit).homes i None ≡ get_or (unwrap_or (lookup test us) no_unit).homes i None
+        → get_or (unwrap_or (cond b (Some x.1) (lookup test (us ++ (a, u) ∷ []))) no_unit).homes i None ≡ get_or (unwrap_or (cond b (Some x.1) (lookup test us)) no_unit).homes i None
+    by true h = refl
+    by false h = h
+
+module _ (t : Tables) (n : ℕ) (a : Addr) (sectors : ℕ) (ok : IsKept t n) (some : 0 < sectors) (few : sectors ≤ 1048576)
+    (room : reserved t + blocks_of t.geometry sectors ≤ 3 * rows_of t.geometry * (length t.groups - 1)) where
+  whole : IsUnit t.geometry (new_unit t.geometry sectors)
+  whole = record {
+    some = some;
+    few = few;
+    homes = length-replicate (blocks_of t.geometry sectors) (nothing Slot);
+    stamps = length-replicate (blocks_of t.geometry sectors) 0;
+  }
+
+  made_total : reserved (made t a sectors) ≡ reserved t + blocks_of t.geometry sectors
+  made_total =
+      ap (λ l. sum_by (λ x. length x.homes) l) (values_push t.units a (new_unit t.geometry sectors))
+      ∙ sum_by_push (λ x. length x.homes) (values_of t.units) (new_unit t.geometry sectors)
+      ∙ ap (λ x. reserved t + x) (length-replicate (blocks_of t.geometry sectors) (nothing Slot))
+
+  made_placed : sum_by placed (values_of (t.units ++ (a, new_unit t.geometry sectors) ∷ [])) ≡ sum_by placed (values_of t.units)
+  made_placed =
+      let all = ap (λ l. sum_by placed l) (values_push t.units a (new_unit t.geometry sectors)) ∙ sum_by_push placed (values_of t.units) (new_unit t.geometry sectors) in
+      let none : placed (new_unit t.geometry sectors) ≡ 0 = count_none Slot (blocks_of t.geometry sectors) in
+      omega arith
+
+  pub made_kept : IsDistinct same_addr (keys_of (t.units ++ (a, new_unit t.geometry sectors) ∷ [])) → IsKept (made t a sectors) (n + blocks_of t.geometry sectors)
+  made_kept distinct = record {
+    tables = record {
+      groups = ok.tables.groups;
+      units = record {
+        distinct = distinct;
+        whole = subst (λ l. All (IsUnit t.geometry) l) (sym (values_push t.units a (new_unit t.geometry sectors))) (All-push (IsUnit t.geometry) (values_of t.units) (new_unit t.geometry sectors) ok.tables.units.whole whole);
+      };
+      agree = agree_same t.groups t.groups t.units (t.units ++ (a, new_unit t.geometry sectors) ∷ []) ok.tables.agree (λ s. refl)
+          (λ k. home_push (same_addr k.addr) t.units a (new_unit t.geometry sectors) k.rb (get_none {X = Slot} (blocks_of t.geometry sectors) k.rb))
+          refl made_placed;
+      room = subst (λ x. x ≤ 3 * rows_of t.geometry * (length t.groups - 1)) (sym made_total) room;
+    };
+    total = ap (λ x. x + blocks_of t.geometry sectors) ok.total ∙ sym made_total;
+  }

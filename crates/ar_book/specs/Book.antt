@@ -1,0 +1,60 @@
+-- What the book keeps true of its tables.
+use Rattle.std.specs.Prelude.{◌≡◌, ◌≢◌, ℕ, ◌-◌, ◌*◌, ◌^◌, ◌<◌, ◌≤◌, List, length, slice_index_or, sum_by, All, Option, None, Some, IsSome}
+use Rattle.std.specs.List.{IsDistinct}
+use Rattle.std.specs.Map.{keys_of, values_of}
+use Rattle.ar_disks.specs.Geometry.{rows_of}
+use Rattle.ar_disks.specs.Members.{AreApart, AreDisjoint}
+use Rattle.ar_disks.specs.declared.address.Addr.{Addr}
+use Rattle.ar_disks.specs.declared.address.Key.{Key}
+use Rattle.ar_disks.specs.declared.geometry.Geometry.{Geometry}
+use Rattle.ar_book.specs.declared.class.Slot.{Slot}
+use Rattle.ar_book.specs.Tables.{GroupState, UnitState, Tables, same_addr, group_in, key_in, home_in, slots_of, used, placed, blocks_of, reserved}
+
+-- the groups by themselves
+pub record GroupsStand (g : Geometry) (groups : List GroupState) : Type 0 where
+  -- each has as many slots as a group with parity
+  pub long : (i : ℕ) → i < length groups → length (group_in groups i).slots ≡ 3 * rows_of g
+  -- a slot that names a block is one of its class's, so a free group names none
+  pub within : (s : Slot) (k : Key) → key_in groups s ≡ Some k → s.slot < slots_of g (group_in groups s.group).class
+  -- the members of each stand on four disks
+  pub apart : (i : ℕ) → i < length groups → AreApart (group_in groups i).members
+  -- no extent is in two of them
+  pub disjoint : (i j : ℕ) → i < length groups → j < length groups → i ≢ j → AreDisjoint (group_in groups i).members (group_in groups j).members
+  -- the first member's place fits its types, so there are no more groups than places
+  pub first : (i : ℕ) → i < length groups → ((group_in groups i).members.first.disk < 2 ^ 8) × ((group_in groups i).members.first.extent < 2 ^ 16)
+
+-- a unit by itself: its length is allowed, and it has a home and a stamp for each block
+pub record IsUnit (g : Geometry) (u : UnitState) : Type 0 where
+  pub some : 0 < u.sectors
+  pub few : u.sectors ≤ 1048576
+  pub homes : length u.homes ≡ blocks_of g u.sectors
+  pub stamps : length u.stamps ≡ blocks_of g u.sectors
+
+-- the units by themselves: one for an address
+pub record UnitsStand (g : Geometry) (units : List (Addr × UnitState)) : Type 0 where
+  pub distinct : IsDistinct same_addr (keys_of units)
+  pub whole : All (IsUnit g) (values_of units)
+
+-- homes and slots are inverse to each other
+pub record Agree (groups : List GroupState) (units : List (Addr × UnitState)) : Type 0 where
+  pub to_slot : (k : Key) (s : Slot) → home_in units k ≡ Some s → key_in groups s ≡ Some k
+  pub to_home : (k : Key) (s : Slot) → key_in groups s ≡ Some k → home_in units k ≡ Some s
+  -- as many slots name a block as blocks have a home
+  pub counted : sum_by used groups ≡ sum_by placed (values_of units)
+
+-- each of these homes is a slot that names a block, and no two are one slot
+pub record AreHomes (groups : List GroupState) (homes : List (Option Slot)) : Type 0 where
+  pub there : (i : ℕ) (s : Slot) → slice_index_or homes i None ≡ Some s → IsSome (key_in groups s)
+  pub apart : (i j : ℕ) (s : Slot) → slice_index_or homes i None ≡ Some s → slice_index_or homes j None ≡ Some s → i ≡ j
+
+-- the tables agree, and the units' blocks leave one group's worth of room
+pub record TablesAgree (t : Tables) : Type 0 where
+  pub groups : GroupsStand t.geometry t.groups
+  pub units : UnitsStand t.geometry t.units
+  pub agree : Agree t.groups t.units
+  pub room : reserved t ≤ 3 * rows_of t.geometry * (length t.groups - 1)
+
+-- the book keeps the number of reserved blocks beside its tables
+pub record IsKept (t : Tables) (kept : ℕ) : Type 0 where
+  pub tables : TablesAgree t
+  pub total : kept ≡ reserved t

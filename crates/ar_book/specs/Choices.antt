@@ -1,0 +1,90 @@
+-- What the searches choose: by slot order, by the lowest number, or the oldest.
+use Rattle.std.specs.Prelude.{◌≡◌, ℕ, ◌<◌, ◌≤◌, ◌⊎◌, Bool, false, ◌&&◌, ◌||◌, ◌==◌, List, length, slice_index_or, Option, None, IsSome, IfSome, IsSomeAnd}
+use Rattle.std.specs.List.{position_or_len}
+use Rattle.std.specs.Map.{keys_of}
+use Rattle.ar_disks.specs.declared.address.Addr.{Addr}
+use Rattle.ar_disks.specs.declared.address.Key.{Key}
+use Rattle.ar_disks.specs.declared.address.Place.{Place}
+use Rattle.ar_disks.specs.declared.address.Members.{Members}
+use Rattle.ar_book.specs.declared.class.Class.{Class}
+use Rattle.ar_book.specs.declared.class.Class.TheVariants.{Free, Mirrored}
+use Rattle.ar_book.specs.declared.class.Level.TheVariants.{Mirrored as MirroredLevel}
+use Rattle.ar_book.specs.declared.class.Slot.{Slot}
+use Rattle.ar_book.specs.Tables.{GroupState, UnitState, Tables, group_in, key_at, home, stamp_of, class_of, level_in, level, slots_of, same_addr, HasBlock}
+
+-- slots are ordered by group, then by number in the group
+abbrev pub IsUpTo : Slot → Slot → Type 0
+IsUpTo s r = (s.group < r.group) ⊎ ((s.group ≡ r.group) × (s.slot ≤ r.slot))
+
+-- the slot is there, in a group of that class, and names nothing
+pub record IsHole (t : Tables) (c : Class) (s : Slot) : Type 0 where
+  pub group : s.group < length t.groups
+  pub class : class_of t s.group ≡ c
+  pub slot : s.slot < slots_of t.geometry c
+  pub empty : key_at t s ≡ None
+
+-- the group has a slot of that number, which names nothing
+pub record IsHoleOf (t : Tables) (g i : ℕ) : Type 0 where
+  pub slot : i < slots_of t.geometry (class_of t g)
+  pub empty : slice_index_or (group_in t.groups g).slots i None ≡ None
+
+-- the group is free, and none with a lower number is
+pub record IsLowestFree (t : Tables) (g : ℕ) : Type 0 where
+  pub there : g < length t.groups
+  pub free : class_of t g ≡ Free
+  pub least : (h : ℕ) → h < g → class_of t h ≡ Free → ⊥
+
+-- the block of a unit stands in a mirrored group
+pub record IsMirrored (t : Tables) (k : Key) : Type 0 where
+  pub block : HasBlock t k
+  pub level : level t k ≡ MirroredLevel
+
+-- a unit's place in order of making
+abbrev pub place_of : Tables → Addr → ℕ
+place_of t a = position_or_len (same_addr a) (keys_of t.units)
+
+-- the first block was written longer ago; where the stamps are equal its unit was made earlier, or it is the lower one of a unit
+abbrev pub IsNoNewer : Tables → Key → Key → Type 0
+IsNoNewer t k j =
+    (stamp_of t k < stamp_of t j)
+    ⊎ ((stamp_of t k ≡ stamp_of t j) × ((place_of t k.addr < place_of t j.addr) ⊎ ((place_of t k.addr ≡ place_of t j.addr) × (k.rb ≤ j.rb))))
+
+-- of the mirrored blocks of the units with places from the one to before the other, the one that no other is older than
+pub record IsOldestOf (t : Tables) (from to : ℕ) (o : Option Key) : Type 0 where
+  pub found : IfSome o (λ k. IsMirrored t k × (from ≤ place_of t k.addr) × (place_of t k.addr < to))
+  pub least : (j : Key) → IsMirrored t j → from ≤ place_of t j.addr → place_of t j.addr < to → IsSomeAnd o (λ k. IsNoNewer t k j)
+
+-- block i of a unit stands in a mirrored group
+abbrev pub IsMirroredIn : List GroupState → UnitState → ℕ → Type 0
+IsMirroredIn groups u i = (i < length u.homes) × (level_in groups (slice_index_or u.homes i None) ≡ MirroredLevel)
+
+-- of the mirrored ones among a unit's first blocks, the one with the least stamp, and of those the lowest
+pub record IsOldestIn (groups : List GroupState) (u : UnitState) (to : ℕ) (o : Option ℕ) : Type 0 where
+  pub found : IfSome o (λ i. IsMirroredIn groups u i × (i < to))
+  pub least : (j : ℕ) → IsMirroredIn groups u j → j < to
+      → IsSomeAnd o (λ i. (slice_index_or u.stamps i 0 < slice_index_or u.stamps j 0) ⊎ ((slice_index_or u.stamps i 0 ≡ slice_index_or u.stamps j 0) × (i ≤ j)))
+
+-- some block of a unit has no home
+pub record IsWaiting (t : Tables) : Type 0 where
+  pub key : Key
+  pub block : HasBlock t key
+  pub unplaced : home t key ≡ None
+
+-- the group is mirrored, each of its slots names a block, and no group with a lower number is mirrored
+pub record IsFullMirrored (t : Tables) (g : ℕ) : Type 0 where
+  pub there : g < length t.groups
+  pub mirrored : class_of t g ≡ Mirrored
+  pub full : (i : ℕ) → i < slots_of t.geometry Mirrored → IsSome (slice_index_or (group_in t.groups g).slots i None)
+  pub least : (h : ℕ) → h < g → class_of t h ≡ Mirrored → ⊥
+
+-- whether the two are one extent
+abbrev pub same_place : Place → Place → Bool
+same_place p q = (p.disk == q.disk) && (p.extent == q.extent)
+
+-- whether the extent is one of the four
+abbrev pub stands_on : Members → Place → Bool
+stands_on m p = same_place m.first p || same_place m.second p || same_place m.third p || same_place m.fourth p
+
+-- the extent is in no group
+abbrev pub IsUnused : Tables → Place → Type 0
+IsUnused t p = (i : ℕ) → i < length t.groups → stands_on (group_in t.groups i).members p ≡ false

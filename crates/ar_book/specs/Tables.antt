@@ -1,0 +1,148 @@
+-- The tables of the book as plain data, and how they are read.
+use Rattle.std.specs.Prelude.{ℕ, ◌+◌, ◌-◌, ◌*◌, ◌/◌, ◌<◌, Bool, true, false, ◌&&◌, ◌==◌, List, [], length, slice_index_or, sum_by, count_by, Option, None, Some, is_some}
+use Rattle.std.specs.Option.{unwrap_or}
+use Rattle.std.specs.Map.{lookup, values_of}
+use Rattle.ar_disks.specs.Geometry.{sectors_of, rows_of}
+use Rattle.ar_disks.specs.declared.address.Addr.{Addr}
+use Rattle.ar_disks.specs.declared.address.Key.{Key}
+use Rattle.ar_disks.specs.declared.address.Place.{Place}
+use Rattle.ar_disks.specs.declared.address.Members.{Members}
+use Rattle.ar_disks.specs.declared.geometry.Geometry.{Geometry}
+use Rattle.ar_book.specs.declared.class.Class.{Class}
+use Rattle.ar_book.specs.declared.class.Class.TheVariants.{Free, Mirrored, Parity}
+use Rattle.ar_book.specs.declared.class.Level.{Level}
+use Rattle.ar_book.specs.declared.class.Level.TheVariants.{Unplaced, Mirrored as MirroredLevel, Parity as ParityLevel}
+use Rattle.ar_book.specs.declared.class.Slot.{Slot}
+
+-- a group: what it is used for, its extents, and what each of its slots names
+pub record GroupState : Type 0 where
+  pub class : Class
+  pub members : Members
+  pub slots : List (Option Key)
+
+-- a unit: its length, for each of its blocks the home and the stamp, and the mark that says that it grew
+pub record UnitState : Type 0 where
+  pub sectors : ℕ
+  pub homes : List (Option Slot)
+  pub stamps : List ℕ
+  pub attention : Bool
+
+-- the whole book: groups by number, units in order of making, and how many stamps were given
+pub record Tables : Type 0 where
+  pub geometry : Geometry
+  pub groups : List GroupState
+  pub units : List (Addr × UnitState)
+  pub puts : ℕ
+
+-- what stands at a number that no group has: a free group without a slot
+abbrev pub no_group : GroupState
+no_group =
+    let nowhere : Place = record { disk = 0; extent = 0 } in
+    record { class = Free; members = record { first = nowhere; second = nowhere; third = nowhere; fourth = nowhere }; slots = [] }
+
+-- what stands at an address that no unit has: a unit without a block
+abbrev pub no_unit : UnitState
+no_unit = record { sectors = 0; homes = []; stamps = []; attention = false }
+
+-- whether the two are one address
+abbrev pub same_addr : Addr → Addr → Bool
+same_addr a b = (a.host.number == b.host.number) && (a.lun == b.lun)
+
+-- the group with a number
+abbrev pub group_in : List GroupState → ℕ → GroupState
+group_in groups g = slice_index_or groups g no_group
+
+-- the block that a slot names
+abbrev pub key_in : List GroupState → Slot → Option Key
+key_in groups s = slice_index_or (group_in groups s.group).slots s.slot None
+
+-- whether there is a unit at an address
+abbrev pub has_unit_in : List (Addr × UnitState) → Addr → Bool
+has_unit_in units a = is_some (lookup (same_addr a) units)
+
+-- the unit at an address
+abbrev pub unit_in : List (Addr × UnitState) → Addr → UnitState
+unit_in units a = unwrap_or (lookup (same_addr a) units) no_unit
+
+-- the slot that a block has for its home
+abbrev pub home_in : List (Addr × UnitState) → Key → Option Slot
+home_in units k = slice_index_or (unit_in units k.addr).homes k.rb None
+
+-- the block that a slot names, or none
+abbrev pub key_at : Tables → Slot → Option Key
+key_at t s = key_in t.groups s
+
+-- the slot that a block has for its home, or none
+abbrev pub home : Tables → Key → Option Slot
+home t k = home_in t.units k
+
+-- the stamp of a block
+abbrev pub stamp_of : Tables → Key → ℕ
+stamp_of t k = slice_index_or (unit_in t.units k.addr).stamps k.rb 0
+
+-- whether there is a unit at an address
+abbrev pub has_unit : Tables → Addr → Bool
+has_unit t a = has_unit_in t.units a
+
+-- the key is one of a unit's blocks
+abbrev pub HasBlock : Tables → Key → Type 0
+HasBlock t k = k.rb < length (unit_in t.units k.addr).homes
+
+-- how many slots a group of a class has: one for each pair of a mirrored row, three for each row with parity
+abbrev pub slots_of : Geometry → Class → ℕ
+slots_of g Free = 0
+slots_of g Mirrored = 2 * rows_of g
+slots_of g Parity = 3 * rows_of g
+
+-- the class of the group with a number
+abbrev pub class_of : Tables → ℕ → Class
+class_of t g = (group_in t.groups g).class
+
+-- there is such a slot: its group has that number of slots at least
+abbrev pub HasSlot : Tables → Slot → Type 0
+HasSlot t s = (s.group < length t.groups) × (s.slot < slots_of t.geometry (class_of t s.group))
+
+-- the level of a class
+abbrev pub level_of : Class → Level
+level_of Free = Unplaced
+level_of Mirrored = MirroredLevel
+level_of Parity = ParityLevel
+
+-- the level at which a home stands
+abbrev pub level_in : List GroupState → Option Slot → Level
+level_in groups None = Unplaced
+level_in groups (Some s) = level_of (group_in groups s.group).class
+
+-- the level of a block: that of its home's class
+abbrev pub level : Tables → Key → Level
+level t k = level_in t.groups (home t k)
+
+-- whether the class is Free
+abbrev pub is_free : Class → Bool
+is_free Free = true
+is_free Mirrored = false
+is_free Parity = false
+
+-- how many groups are free
+abbrev pub free_groups : Tables → ℕ
+free_groups t = count_by (λ g. is_free g.class) t.groups
+
+-- how many slots of a group name a block
+abbrev pub used : GroupState → ℕ
+used g = count_by is_some g.slots
+
+-- how many blocks of a unit have a home
+abbrev pub placed : UnitState → ℕ
+placed u = count_by is_some u.homes
+
+-- how many blocks so many sectors fill
+abbrev pub blocks_of : Geometry → ℕ → ℕ
+blocks_of g sectors = (sectors + (sectors_of g - 1)) / sectors_of g
+
+-- the blocks of all units, placed or not
+abbrev pub reserved : Tables → ℕ
+reserved t = sum_by (λ u. length u.homes) (values_of t.units)
+
+-- how many more blocks units may have: one group's worth stays back for the squeeze
+abbrev pub room : Tables → ℕ
+room t = 3 * rows_of t.geometry * (length t.groups - 1) - reserved t

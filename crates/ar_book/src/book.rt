@@ -1,0 +1,189 @@
+// The book itself, and what it answers of its groups and units.
+ghost use Rattle.std.specs.Prelude.{◌≡◌, ◌<◌, length, [], slice_get, slice_index_or, Some, None, IfSome, IfNone, is_some};
+ghost use Rattle.std.specs.Option.{option_map};
+ghost use Rattle.std.specs.Map.{lookup};
+ghost use Rattle.ar_book.specs.Tables.{same_addr, has_unit, unit_in, key_at, home, level, stamp_of, class_of, group_in, used, room, free_groups};
+ghost use Rattle.ar_book.specs.Changes.{unmarked};
+ghost use Rattle.ar_book.specs.Book.{TablesAgree};
+
+use crate::tables::{clear_mark, free_count, home_in, key_in, level_in};
+use crate::{Class, Group, Level, Slot, UnitTable};
+use ar_disks::{Addr, Geometry, Key, Members};
+use indexmap::IndexMap;
+use std::alloc::Global;
+use std::marker::Model;
+
+/// The book of a disk array's space: groups of four extents, units in order of making, and which slot of which group is the home
+/// of each block.
+///
+/// Memory is taken by `form_group`, `make` and `grow` alone.
+#[derive(Drop)]
+pub struct Book {
+    pub(crate) alloc: Global,
+    pub(crate) geometry: Geometry,
+    pub(crate) groups: Vec<Group>,
+    pub(crate) units: IndexMap<Addr, UnitTable>,
+    pub(crate) puts: u64,
+    pub(crate) reserved: u32,
+}
+
+impl Model for Book {
+    ghost use Rattle.ar_book.specs.Tables.{Tables};
+    ghost use Rattle.ar_book.specs.Book.{IsKept};
+
+    ghost Value = { Tables };
+
+    ghost view = { λ b. record { geometry = b.geometry; groups = b.groups.items; units = b.units.entries; puts = b.puts } };
+
+    ghost invariant = { λ b. IsKept (record { geometry = b.geometry; groups = b.groups.items; units = b.units.entries; puts = b.puts }) b.reserved };
+}
+
+impl Book {
+    /// An empty book, for blocks of this geometry.
+    pub fn new(alloc: Global, geometry: Geometry) -> Book
+        ensures { result ≡ record { geometry = geometry; groups = []; units = []; puts = 0 } }
+    {
+        Book {
+            alloc,
+            geometry,
+            groups: Vec::new(alloc),
+            units: IndexMap::new(alloc),
+            puts: 0,
+            reserved: 0,
+        }
+    }
+
+    /// The geometry of the blocks.
+    pub fn geometry(&self) -> Geometry
+        ensures { result ≡ self.now.geometry }
+    {
+        self.geometry
+    }
+
+    /// How many groups there are. They are numbered from 0.
+    pub fn groups(&self) -> u32
+        ensures count { result ≡ length self.now.groups }
+        ensures sound { TablesAgree self.now }
+    {
+        self.groups.len() as u32
+    }
+
+    /// What a group is used for.
+    pub fn class(&self, group: u32) -> Class
+        requires { group < length self.now.groups }
+        ensures { result ≡ class_of self.now group }
+    {
+        self.groups[group as usize].class()
+    }
+
+    /// The four extents of a group.
+    pub fn members(&self, group: u32) -> Members
+        requires { group < length self.now.groups }
+        ensures { result ≡ (group_in self.now.groups group).members }
+    {
+        self.groups[group as usize].members()
+    }
+
+    /// How many slots of a group name a block.
+    pub fn used(&self, group: u32) -> u16
+        requires { group < length self.now.groups }
+        ensures { result ≡ used (group_in self.now.groups group) }
+    {
+        self.groups[group as usize].used() as u16
+    }
+
+    /// How many groups are free.
+    pub fn free_groups(&self) -> u32
+        ensures { result ≡ free_groups self.now }
+    {
+        free_count(&self.groups) as u32
+    }
+
+    /// How many more blocks units may have.
+    pub fn room(&self) -> u32
+        ensures { result ≡ room self.now }
+    {
+        let held_back = self.groups().saturating_sub(1);
+        3 * self.geometry.rows() as u32 * held_back - self.reserved
+    }
+
+    /// How many units there are.
+    pub fn units(&self) -> usize
+        ensures { result ≡ length self.now.units }
+    {
+        self.units.len()
+    }
+
+    /// The address of the unit with a place in order of making, from 0; None past the last.
+    pub fn unit_at(&self, place: usize) -> Option<Addr>
+        ensures { result ≡ option_map (λ entry. entry.0) (slice_get self.now.units place) }
+    {
+        let (addr, _) = self.units.get_index(place)?;
+        Some(*addr)
+    }
+
+    /// A unit's length in sectors; None where there is no unit.
+    pub fn sectors(&self, addr: Addr) -> Option<u32>
+        ensures { result ≡ option_map (λ unit. unit.sectors) (lookup (same_addr addr) self.now.units) }
+    {
+        Some(self.units.get(&addr)?.sectors())
+    }
+
+    /// How many blocks a unit has; 0 where there is no unit.
+    pub fn blocks(&self, addr: Addr) -> u32
+        ensures { result ≡ length (unit_in self.now.units addr).homes }
+    {
+        match self.units.get(&addr) {
+            Some(unit) => unit.blocks() as u32,
+            None => 0,
+        }
+    }
+
+    /// Whether a unit has grown since its mark was cleared; false where there is no unit.
+    pub fn attention(&self, addr: Addr) -> bool
+        ensures { result ≡ (unit_in self.now.units addr).attention }
+    {
+        match self.units.get(&addr) {
+            Some(unit) => unit.attention(),
+            None => false,
+        }
+    }
+
+    /// Clears a unit's mark. Where there is no unit nothing changes.
+    pub fn clear_attention(&mut self, addr: Addr)
+        ensures { self.new ≡ unmarked self.old addr }
+    {
+        clear_mark(&mut self.units, addr);
+    }
+
+    /// The slot that is a block's home; None where it has none, or is no block of a unit.
+    pub fn home(&self, key: Key) -> Option<Slot>
+        ensures { result ≡ home self.now key }
+    {
+        home_in(&self.units, key)
+    }
+
+    /// At which level a block stands.
+    pub fn level(&self, key: Key) -> Level
+        ensures { result ≡ level self.now key }
+    {
+        level_in(&self.groups, home_in(&self.units, key))
+    }
+
+    /// A block's stamp; 0 where it has none yet, or is no block of a unit.
+    pub fn stamp_of(&self, key: Key) -> u64
+        ensures { result ≡ stamp_of self.now key }
+    {
+        match self.units.get(&key.addr) {
+            Some(unit) => unit.stamp(key.rb),
+            None => 0,
+        }
+    }
+
+    /// The block that a slot names; None where it names none, or is no slot of a group.
+    pub fn key_at(&self, slot: Slot) -> Option<Key>
+        ensures { result ≡ key_at self.now slot }
+    {
+        key_in(&self.groups, slot)
+    }
+}

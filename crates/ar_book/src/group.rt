@@ -1,0 +1,153 @@
+// A group of the book.
+ghost use Rattle.std.specs.Prelude.{◌≡◌, ℕ, ◌<◌, ◌≤◌, ◌*◌, length, slice_index_or, Some, None, IfSome, IfNone, IfOk, IsSome};
+ghost use Rattle.ar_disks.specs.Geometry.{rows_of};
+ghost use Rattle.ar_disks.specs.Members.{with_member};
+ghost use Rattle.ar_book.specs.Tables.{used, slots_of, is_free};
+ghost use Rattle.ar_book.specs.Changes.{with_key, without_key, free_group};
+ghost use Rattle.ar_book.specs.Choices.{stands_on};
+
+use crate::Class;
+use ar_disks::{Geometry, Key, Members, Place};
+use std::alloc::{AllocError, Global};
+use std::marker::Model;
+
+/// How many slots a group of a class has: 2E, 3E or, where it is free, none.
+pub(crate) fn slots_of(geometry: Geometry, class: Class) -> u16
+    ensures { result ≡ slots_of geometry class }
+{
+    match class {
+        Class::Free => 0,
+        Class::Mirrored => 2 * geometry.rows(),
+        Class::Parity => 3 * geometry.rows(),
+    }
+}
+
+/// A group: its class, its members, and as many slots as a group with parity has.
+#[derive(Drop)]
+pub struct Group {
+    class: Class,
+    members: Members,
+    slots: Vec<Option<Key>>,
+}
+
+impl Model for Group {
+    ghost use Rattle.ar_book.specs.Tables.{GroupState};
+
+    ghost Value = { GroupState };
+
+    ghost view = { λ g. record { class = g.class; members = g.members; slots = g.slots.items } };
+}
+
+impl Group {
+    /// A free group with so many slots.
+    pub(crate) fn new(alloc: Global, members: Members, slots: u16) -> Result<Group, AllocError>
+        ensures { IfOk result (λ g. g ≡ free_group members slots) }
+    {
+        Ok(Group {
+            class: Class::Free,
+            members,
+            slots: vec![in alloc; None; slots as usize]?,
+        })
+    }
+
+    /// What the group is used for.
+    pub(crate) fn class(&self) -> Class
+        ensures { result ≡ self.now.class }
+    {
+        self.class
+    }
+
+    /// The group's extents.
+    pub(crate) fn members(&self) -> Members
+        ensures { result ≡ self.now.members }
+    {
+        self.members
+    }
+
+    /// Whether the group is free.
+    pub(crate) fn is_free(&self) -> bool
+        ensures { result ≡ is_free self.now.class }
+    {
+        match self.class {
+            Class::Free => true,
+            _ => false,
+        }
+    }
+
+    /// Whether an extent is one of the group's.
+    pub(crate) fn stands_on(&self, place: Place) -> bool
+        ensures { result ≡ stands_on self.now.members place }
+    {
+        let members = &self.members;
+        members.first == place
+            || members.second == place
+            || members.third == place
+            || members.fourth == place
+    }
+
+    /// The block that a slot names; None past the last slot.
+    pub(crate) fn key(&self, slot: u16) -> Option<Key>
+        ensures { result ≡ slice_index_or self.now.slots slot None }
+    {
+        if (slot as usize) < self.slots.len() {
+            self.slots[slot as usize]
+        } else {
+            None
+        }
+    }
+
+    /// How many slots name a block.
+    pub(crate) fn used(&self) -> usize
+        ensures { result ≡ used self.now }
+    {
+        self.slots.iter().filter(|key| key.is_some()).count()
+    }
+
+    /// The lowest slot below `end` that names no block.
+    pub(crate) fn lowest_hole(&self, end: u16) -> Option<u16>
+        ensures found { IfSome result (λ i. (i < end) × (slice_index_or self.now.slots i None ≡ None)) }
+        ensures least { IfSome result (λ i. (j : ℕ) → j < i → IsSome (slice_index_or self.now.slots j None)) }
+        ensures none { IfNone result ((j : ℕ) → j < end → IsSome (slice_index_or self.now.slots j None)) }
+    {
+        for slot in 0..end {
+            if self.key(slot).is_none() {
+                return Some(slot);
+            }
+        }
+        None
+    }
+
+    /// Lets a slot name a block.
+    pub(crate) fn name(&mut self, slot: u16, key: Key)
+        requires { slot < length self.old.slots }
+        ensures { self.new ≡ with_key self.old slot key }
+    {
+        self.slots[slot as usize] = Some(key);
+    }
+
+    /// Lets a slot name nothing. The group is free where it was the last that did.
+    pub(crate) fn vacate(&mut self, slot: u16)
+        requires { slot < length self.old.slots }
+        ensures { self.new ≡ without_key self.old slot }
+    {
+        self.slots[slot as usize] = None;
+        if self.used() == 0 {
+            self.class = Class::Free;
+        }
+    }
+
+    /// Gives the group another class.
+    pub(crate) fn open(&mut self, class: Class)
+        ensures { self.new ≡ record self.old { class = class } }
+    {
+        self.class = class;
+    }
+
+    /// Puts another extent at a member position, 0 to 3.
+    pub(crate) fn set_member(&mut self, position: u8, place: Place)
+        requires { position < 4 }
+        ensures { self.new ≡ record self.old { members = with_member self.old.members position place } }
+    {
+        self.members.set(position, place);
+    }
+}

@@ -1,0 +1,96 @@
+// The forming and opening of groups, and a change of one extent.
+ghost use Rattle.std.specs.Prelude.{◌≡◌, ◌≢◌, ℕ, ◌+◌, ◌<◌, ◌≤◌, ◌↔◌, length, IsTrue, IfSome, IfOk, OnErr, IsNone, IsSome, OnSome, IfNone};
+ghost use Rattle.ar_disks.specs.Members.{member, AreApart, AreDisjoint};
+ghost use Rattle.ar_book.specs.Tables.{group_in, free_groups};
+ghost use Rattle.ar_book.specs.Changes.{opened, formed, shifted};
+ghost use Rattle.ar_book.specs.Choices.{IsLowestFree, IsUnused, stands_on};
+
+use crate::tables::{open_class, replace_member};
+use crate::{Book, Class, Group};
+use ar_disks::{Members, Place};
+use std::alloc::AllocError;
+
+impl Book {
+    /// Forms a free group with the next number, which it answers. Without memory nothing changes.
+    pub fn form_group(&mut self, members: Members) -> Result<u32, AllocError>
+        requires apart { AreApart members }
+        requires fresh { (i : ℕ) → i < length self.old.groups → AreDisjoint (group_in self.old.groups i).members members }
+        ensures number { IfOk result (λ group. group ≡ length self.old.groups) }
+        ensures formed { IfOk result (λ _. self.new ≡ formed self.old members) }
+        ensures unchanged { OnErr result (self.new ≡ self.old) }
+    {
+        // Read, so that their ranges are known: there are no more groups than places.
+        let (_disk, _extent) = (members.first.disk, members.first.extent);
+        let number = self.groups();
+        let group = Group::new(self.alloc, members, 3 * self.geometry.rows())?;
+        self.groups.push(group)?;
+        Ok(number)
+    }
+
+    /// Opens the lowest free group for a class, and answers its number. Only while at least two groups are free: else None, and nothing
+    /// changes.
+    pub fn open_group(&mut self, class: Class) -> Option<u32>
+        ensures when { IsSome result ↔ (2 ≤ free_groups self.old) }
+        ensures lowest { IfSome result (IsLowestFree self.old) }
+        ensures opened { IfSome result (λ group. self.new ≡ opened self.old group class) }
+        ensures unchanged { IfNone result (self.new ≡ self.old) }
+    {
+        if self.free_groups() < 2 {
+            return None;
+        }
+        let group = self.lowest_free();
+        open_class(&mut self.groups, group, class);
+        Some(group)
+    }
+
+    /// Opens the one free group for a class, and answers its number. The caller empties another group at once.
+    pub fn open_last(&mut self, class: Class) -> u32
+        requires { free_groups self.old ≡ 1 }
+        ensures lowest { IsLowestFree self.old result }
+        ensures opened { self.new ≡ opened self.old result class }
+    {
+        let last = self.lowest_free();
+        open_class(&mut self.groups, last, class);
+        last
+    }
+
+    // The lowest free group.
+    fn lowest_free(&self) -> u32
+        requires { 0 < free_groups self.now }
+        ensures { IsLowestFree self.now result }
+    {
+        for number in 0..self.groups() {
+            if self.groups[number as usize].is_free() {
+                return number;
+            }
+        }
+        unreachable!()
+    }
+
+    /// The group that an extent is in, or None. There is at most one.
+    pub fn group_at(&self, place: Place) -> Option<u32>
+        ensures there { IfSome result (λ group. group < length self.now.groups) }
+        ensures found { IfSome result (λ group. IsTrue (stands_on (group_in self.now.groups group).members place)) }
+        ensures none { IfNone result (IsUnused self.now place) }
+    {
+        for number in 0..self.groups() {
+            if self.groups[number as usize].stands_on(place) {
+                return Some(number);
+            }
+        }
+        None
+    }
+
+    /// Puts an extent that is in no group at a member position, 0 to 3, of a group; the others stay.
+    pub fn set_member(&mut self, group: u32, position: u8, place: Place)
+        requires there { group < length self.old.groups }
+        requires range { position < 4 }
+        requires unused { IsUnused self.old place }
+        requires apart { (i : ℕ) → i < 4 → i ≢ position → (member (group_in self.old.groups group).members i).disk ≢ place.disk }
+        ensures { self.new ≡ shifted self.old group position place }
+    {
+        // Read, so that their ranges are known: there are no more groups than places.
+        let (_disk, _extent) = (place.disk, place.extent);
+        replace_member(&mut self.groups, group, position, place);
+    }
+}

@@ -1,0 +1,22 @@
+//! The space book: which extents form groups, which blocks the groups' slots hold, and which units there are.
+#![tactic(auto)]
+
+mod book;
+mod class;
+mod group;
+mod groups;
+mod oldest;
+mod places;
+mod refusal;
+mod search;
+mod tables;
+#[cfg(test)]
+mod tests;
+mod unit;
+mod units;
+
+pub use book::Book;
+pub use class::{Class, Level, Slot};
+pub use group::Group;
+pub use refusal::Refusal;
+pub use unit::UnitTable;

@@ -1,0 +1,192 @@
+// Reads and writes of one slot or one home in the lists that the book keeps.
+ghost use Rattle.std.specs.Prelude.{◌≡◌, ◌<◌, ◌≤◌, length, fold, count_by, ◌++◌, [], ◌∷◌, slice_set, false, None, OnOk, OnErr, IfNone, IsSome};
+ghost use Rattle.std.specs.Map.{lookup, keys_of, set_value, remove_entry};
+ghost use Rattle.std.specs.List.{IsDistinct};
+ghost use Rattle.std.specs.Option.{ForSome};
+ghost use Rattle.ar_book.specs.Tables.{is_free, level_in, group_in, key_in, home_in, unit_in, blocks_of, same_addr};
+ghost use Rattle.ar_book.specs.Book.{AreHomes};
+ghost use Rattle.ar_book.specs.Changes.{named, vacated, homed, restamped, new_unit, longer, moved};
+
+use crate::{Class, Group, Level, Slot, UnitTable};
+use ar_disks::{Addr, Geometry, Key, Place};
+use indexmap::IndexMap;
+use std::alloc::{AllocError, Global};
+
+/// How many groups are free.
+pub(crate) fn free_count(groups: &[Group]) -> usize
+    ensures { result ≡ count_by (λ group. is_free group.class) groups.now }
+{
+    groups.iter().filter(|group| group.is_free()).count()
+}
+
+/// The block that a slot names; None where there is no such slot.
+pub(crate) fn key_in(groups: &[Group], slot: Slot) -> Option<Key>
+    ensures { result ≡ key_in groups.now slot }
+{
+    if (slot.group as usize) < groups.len() {
+        groups[slot.group as usize].key(slot.slot)
+    } else {
+        None
+    }
+}
+
+/// The level at which a home stands.
+pub(crate) fn level_in(groups: &[Group], home: Option<Slot>) -> Level
+    ensures { result ≡ level_in groups.now home }
+{
+    match home {
+        Some(slot) => class_in(groups, slot.group).level(),
+        None => Level::Unplaced,
+    }
+}
+
+// The class of a group; Free where there is no such group.
+fn class_in(groups: &[Group], number: u32) -> Class
+    ensures { result ≡ (group_in groups.now number).class }
+{
+    if (number as usize) < groups.len() {
+        groups[number as usize].class()
+    } else {
+        Class::Free
+    }
+}
+
+/// Lets a slot name a block.
+pub(crate) fn name_slot(groups: &mut Vec<Group>, slot: Slot, key: Key)
+    requires group { slot.group < length groups.old.items }
+    requires slot { slot.slot < length (group_in groups.old.items slot.group).slots }
+    ensures { groups.new.items ≡ named groups.old.items slot key }
+{
+    let group = &mut groups[slot.group as usize];
+    group.name(slot.slot, key);
+}
+
+/// Lets a slot that names a block, where one is given, name nothing.
+pub(crate) fn vacate_slot(groups: &mut Vec<Group>, slot: Option<Slot>)
+    requires group { ForSome slot (λ s. s.group < length groups.old.items) }
+    requires slot { ForSome slot (λ s. s.slot < length (group_in groups.old.items s.group).slots) }
+    ensures { groups.new.items ≡ vacated groups.old.items slot }
+{
+    if let Some(slot) = slot {
+        let group = &mut groups[slot.group as usize];
+        group.vacate(slot.slot);
+    }
+}
+
+/// Lets each slot that is one of these homes name nothing, in order.
+pub(crate) fn vacate_all(groups: &mut Vec<Group>, homes: &[Option<Slot>])
+    requires { AreHomes groups.old.items homes.now }
+    ensures { groups.new.items ≡ fold vacated groups.old.items homes.now }
+{
+    for home in homes {
+        vacate_slot(groups, *home);
+    }
+}
+
+/// The slot that a block has for its home, or none.
+pub(crate) fn home_in(units: &IndexMap<Addr, UnitTable>, key: Key) -> Option<Slot>
+    ensures { result ≡ home_in units.now.entries key }
+{
+    units.get(&key.addr)?.home(key.rb)
+}
+
+/// Gives a block of a unit another home, or none.
+pub(crate) fn set_home(units: &mut IndexMap<Addr, UnitTable>, key: Key, home: Option<Slot>)
+    requires { key.rb < length (unit_in units.old.entries key.addr).homes }
+    ensures { units.new.entries ≡ homed units.old.entries key home }
+{
+    if let Some(unit) = units.get_mut(&key.addr) {
+        unit.set_home(key.rb, home);
+    }
+}
+
+/// Gives a block of a unit another stamp.
+pub(crate) fn set_stamp(units: &mut IndexMap<Addr, UnitTable>, key: Key, stamp: u64)
+    requires { key.rb < length (unit_in units.old.entries key.addr).stamps }
+    ensures { units.new.entries ≡ restamped units.old.entries key stamp }
+{
+    if let Some(unit) = units.get_mut(&key.addr) {
+        unit.set_stamp(key.rb, stamp);
+    }
+}
+
+/// Makes a unit that is there longer and marks it. Without memory it stays as it was.
+#[tactic(auto, using(std::proofs::lemmas::Map::Steps::set_value_same))]
+pub(crate) fn grow_unit(
+    units: &mut IndexMap<Addr, UnitTable>,
+    addr: Addr,
+    geometry: Geometry,
+    sectors: u32,
+) -> Result<(), AllocError>
+    requires there { IsSome (lookup (same_addr addr) units.old.entries) }
+    requires most { sectors ≤ 1048576 }
+    requires homes { length (unit_in units.old.entries addr).homes ≤ blocks_of geometry sectors }
+    requires stamps { length (unit_in units.old.entries addr).stamps ≡ length (unit_in units.old.entries addr).homes }
+    ensures ok { OnOk result (units.new.entries ≡ set_value (same_addr addr) units.old.entries (longer geometry (unit_in units.old.entries addr) sectors)) }
+    ensures err { OnErr result (units.new.entries ≡ units.old.entries) }
+{
+    match units.get_mut(&addr) {
+        Some(unit) => unit.grow(geometry, sectors),
+        None => unreachable!(),
+    }
+}
+
+/// Adds a unit of so many sectors behind the others. Without memory they stay as they were.
+pub(crate) fn add_unit(
+    alloc: Global,
+    units: &mut IndexMap<Addr, UnitTable>,
+    addr: Addr,
+    geometry: Geometry,
+    sectors: u32,
+) -> Result<(), AllocError>
+    requires new { lookup (same_addr addr) units.old.entries ≡ None }
+    requires most { sectors ≤ 1048576 }
+    ensures ok { OnOk result (units.new.entries ≡ units.old.entries ++ (addr, new_unit geometry sectors) ∷ []) }
+    ensures distinct { OnOk result (IsDistinct same_addr (keys_of units.new.entries)) }
+    ensures err { OnErr result (units.new.entries ≡ units.old.entries) }
+{
+    let table = UnitTable::new(alloc, geometry, sectors)?;
+    match units.insert(addr, table) {
+        Ok(_) => Ok(()),
+        Err(_) => Err(AllocError),
+    }
+}
+
+/// Takes a unit out; None where there is none.
+pub(crate) fn take_unit(units: &mut IndexMap<Addr, UnitTable>, addr: Addr) -> Option<UnitTable>
+    ensures taken { result ≡ lookup (same_addr addr) units.old.entries }
+    ensures left { units.new.entries ≡ remove_entry (same_addr addr) units.old.entries }
+    ensures none { IfNone result (units.new.entries ≡ units.old.entries) }
+    ensures distinct { IsDistinct same_addr (keys_of units.new.entries) }
+{
+    units.shift_remove(&addr)
+}
+
+/// Clears a unit's mark, if the unit is there.
+#[tactic(auto, using(crate::proofs::UnitChanges::put_absent))]
+pub(crate) fn clear_mark(units: &mut IndexMap<Addr, UnitTable>, addr: Addr)
+    ensures { units.new.entries ≡ set_value (same_addr addr) units.old.entries (record (unit_in units.old.entries addr) { attention = false }) }
+{
+    if let Some(unit) = units.get_mut(&addr) {
+        unit.clear_attention();
+    }
+}
+
+/// Gives a group another class.
+pub(crate) fn open_class(groups: &mut Vec<Group>, number: u32, class: Class)
+    requires { number < length groups.old.items }
+    ensures { groups.new.items ≡ slice_set groups.old.items number (record (group_in groups.old.items number) { class = class }) }
+{
+    let group = &mut groups[number as usize];
+    group.open(class);
+}
+
+/// Puts another extent at a member position, 0 to 3, of a group.
+pub(crate) fn replace_member(groups: &mut Vec<Group>, number: u32, position: u8, place: Place)
+    requires there { number < length groups.old.items }
+    requires range { position < 4 }
+    ensures { groups.new.items ≡ moved groups.old.items number position place }
+{
+    let group = &mut groups[number as usize];
+    group.set_member(position, place);
+}
