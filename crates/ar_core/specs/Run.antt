@@ -1,0 +1,53 @@
+-- The isolation theorem: each unit answers as one plain list of sectors that only its own host changes.
+use Rattle.std.specs.Prelude.{◌≡◌, ◌≢◌, ℕ, false, IsTrue, Some, List, [], ◌∷◌, take, slice_get}
+use Rattle.ar_disks.specs.declared.address.Host.{Host}
+use Rattle.ar_scsi.specs.declared.reply.Reply.{Reply}
+use Rattle.ar_scsi.specs.declared.reply.Status.TheVariants.{Busy}
+use Rattle.ar_unit.specs.Unit.{UnitState, answer, unit_run}
+use Rattle.ar_unit.specs.Broken.{where_broken}
+use Rattle.ar_core.specs.declared.event.Event.{Event}
+use Rattle.ar_core.specs.declared.event.Event.TheVariants.{Cmd as CmdEvent}
+use Rattle.ar_core.specs.declared.event.Outcome.{Outcome}
+use Rattle.ar_core.specs.declared.event.Outcome.TheVariants.{Cmd as CmdOutcome}
+use Rattle.ar_core.specs.Array.{ArrayState, image}
+use Rattle.ar_core.specs.Sectors.{Address}
+use Rattle.ar_core.specs.Step.{Steps, own}
+
+-- the events were answered by these outcomes, one step after another, and left the array in these states in turn
+abbrev pub Run : ArrayState → List Event → List Outcome → List ArrayState → Type 0
+Run old [] [] [] = Unit {0}
+Run old (event ∷ events) (outcome ∷ outcomes) (new ∷ states) = Steps old event outcome new × Run new events outcomes states
+Run old events outcomes states = ⊥
+
+-- the last of the states, or the first where there is none
+abbrev pub last_of : ArrayState → List ArrayState → ArrayState
+last_of old [] = old
+last_of old (new ∷ states) = last_of new states
+
+-- the unit at an address just before event k: what its own entries among the first k make of it
+abbrev pub unit_before : ArrayState → Address → List Event → List Outcome → ℕ → UnitState
+unit_before old a events outcomes k = unit_run (image old a) (own a (take k events) (take k outcomes))
+
+-- event k is a command, and was answered other than BUSY
+pub record IsAnswered (events : List Event) (outcomes : List Outcome) (k : ℕ) (host : Host) (lun : ℕ) (cdb payload : List ℕ) (reply : Reply) : Type 0 where
+  pub event : slice_get events k ≡ Some (CmdEvent host lun cdb payload)
+  pub outcome : slice_get outcomes k ≡ Some (CmdOutcome reply)
+  pub not_busy : reply.status ≢ Busy
+
+-- Every command that was answered other than BUSY has the reply that the unit's own list of sectors gives: the list that the
+-- unit's own makings, removals and commands before it have made, whatever all other events did. Where the array is broken
+-- after the command, the reply is that of a broken array in its place.
+pub record IsIsolated (old : ArrayState) (events : List Event) (outcomes : List Outcome) (states : List ArrayState) : Type 0 where
+  pub sound :
+      (k : ℕ) (host : Host) (lun : ℕ) (cdb payload : List ℕ) (reply : Reply) (new : ArrayState)
+      → IsAnswered events outcomes k host lun cdb payload reply → slice_get states k ≡ Some new → new.broken ≡ false
+      → reply ≡ (answer (unit_before old (host.number, lun) events outcomes k) cdb payload).reply
+  pub broken :
+      (k : ℕ) (host : Host) (lun : ℕ) (cdb payload : List ℕ) (reply : Reply) (new : ArrayState)
+      → IsAnswered events outcomes k host lun cdb payload reply → slice_get states k ≡ Some new → IsTrue new.broken
+      → reply ≡ where_broken cdb (answer (unit_before old (host.number, lun) events outcomes k) cdb payload).reply
+
+-- the outcomes of a run that left the array in the state new
+abbrev pub IsRun : ArrayState → List Event → List Outcome → ArrayState → Type 0
+IsRun old events outcomes new =
+    (states : List ArrayState) × Run old events outcomes states × (last_of old states ≡ new) × IsIsolated old events outcomes states

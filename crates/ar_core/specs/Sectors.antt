@@ -1,0 +1,38 @@
+-- The sectors of a unit, as they lie in its blocks.
+use Rattle.std.specs.Prelude.{ℕ, ◌/◌, ◌%◌, ◌==◌, ◌&&◌, Bool, List, map}
+use Rattle.std.specs.List.{range_with_len}
+use Rattle.ar_disks.specs.declared.address.Addr.{Addr}
+use Rattle.ar_disks.specs.declared.address.Key.{Key}
+use Rattle.ar_disks.specs.declared.geometry.Geometry.{Geometry}
+use Rattle.ar_disks.specs.Geometry.{sectors_of}
+use Rattle.ar_disks.specs.Block.{sectors_at}
+
+-- an address: the host's number and the LUN
+abbrev pub Address : Type 0
+Address = ℕ × ℕ
+
+abbrev pub address_of : Addr → Address
+address_of addr = (addr.host.number, addr.lun)
+
+abbrev pub same_address : Address → Address → Bool
+same_address a b = (a.0 == b.0) && (a.1 == b.1)
+
+-- the keys name one block
+abbrev pub same_key : Key → Key → Bool
+same_key k key = same_address (address_of k.addr) (address_of key.addr) && (k.rb == key.rb)
+
+-- the key of a unit's block
+abbrev pub key_of : Addr → ℕ → Key
+key_of addr rb = record { addr = addr; rb = rb }
+
+-- a unit's blocks by their number
+abbrev pub blocks_of : (Key → List ℕ) → Addr → ℕ → List ℕ
+blocks_of block_at addr rb = block_at (key_of addr rb)
+
+-- sector i of a unit whose block of each number is given
+unfoldable pub sector_in : Geometry → (ℕ → List ℕ) → ℕ → List ℕ
+sector_in g blocks i = sectors_at (blocks (i / sectors_of g)) (i % sectors_of g) 1
+
+-- its sectors from one on, so many
+abbrev pub sectors_in : Geometry → (ℕ → List ℕ) → ℕ → ℕ → List (List ℕ)
+sectors_in g blocks first count = map (sector_in g blocks) (range_with_len first count)
