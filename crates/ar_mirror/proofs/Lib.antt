@@ -1,0 +1,4 @@
+pub mod SlotLemmas
+pub mod Holding
+pub mod Losing
+pub mod Rebuilding

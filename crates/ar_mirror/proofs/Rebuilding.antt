@@ -1,0 +1,92 @@
+-- What slots hold while an extent is rebuilt, and once it counts as done.
+use Rattle.std.proofs.Common.{◌≡◌, ◌⊎◌, inl, inr, ℕ, zero, suc, ◌+◌, ◌*◌, ◌/◌, ◌<◌, true, List, refl, sym, ◌∙◌, ap, subst, arith}
+use Rattle.std.proofs.lemmas.Bool.Decides.{nat_tests}
+use Rattle.ar_disks.specs.declared.address.Place.{Place}
+use Rattle.ar_disks.specs.declared.address.Members.{Members}
+use Rattle.ar_extents.specs.declared.health.Health.{Health}
+use Rattle.ar_extents.specs.declared.health.Health.TheVariants.{Whole, Out, Rebuilding, Broken}
+use Rattle.ar_extents.specs.Health.{is_missing, IsRebuilding, rebuilt_disk, next_extent}
+use Rattle.ar_extents.specs.Set.{SetState, HasExtent, content, IsSound, IsMissing}
+use Rattle.ar_extents.specs.Changes.{with_done}
+use Rattle.ar_extents.specs.Follows.{Follows, KeepsBut}
+use Rattle.ar_extents.specs.Access.{next_place}
+use Rattle.ar_extents.proofs.Losses.{missing_lost, lost_not_sound, sound_with_done}
+use Rattle.ar_mirror.specs.Slots.{one_of, other_of, row_of, slots_of, partner_of}
+use Rattle.ar_disks.specs.Geometry.{rows_of}
+use Rattle.ar_disks.specs.Members.{member}
+use Rattle.ar_mirror.specs.Holds.{Holds}
+use Rattle.ar_mirror.specs.Calls.{IsInPair, AllSlotsHold, IsCopied}
+use Rattle.ar_mirror.proofs.SlotLemmas.{same_place, pair_fits}
+use Rattle.ar_mirror.proofs.Holding.{holds_at}
+
+missing_at_mark : (h : Health) → IsRebuilding h → is_missing h (rebuilt_disk h) (next_extent h) ≡ true
+missing_at_mark Whole is = absurd is
+missing_at_mark (Out x) is = absurd is
+missing_at_mark (Rebuilding x done) is = grind (arith, nat_tests)
+missing_at_mark Broken is = absurd is
+
+-- the extent that is rebuilt next is missing
+pub next_missing : (s : SetState) → IsRebuilding s.health → IsMissing s (next_place s)
+next_missing s is = missing_at_mark s.health is
+
+-- a row of an extent that is sound, when only a missing one was written
+kept_when_sound : (a b : SetState) (p : Place) (written row : ℕ) → IsRebuilding a.health → Follows a b → KeepsBut (next_place a) written a b → IsSound b p → content b p row ≡ content a p row
+kept_when_sound a b p written row is ab keeps sound =
+    keeps.other_places.rows p
+    (λ same. lost_not_sound a p (missing_lost a p (let P : Place → Type 0 = λ x. IsMissing a x in subst P (sym same) (next_missing a is))) (ab.usable p sound))
+    row
+
+-- writing the extent that is rebuilt takes no slot's block away
+pub rebuild_holds : (a b : SetState) (written : ℕ) → IsRebuilding a.health → Follows a b → KeepsBut (next_place a) written a b → AllSlotsHold a b
+rebuild_holds a b written is ab keeps = record {
+  slots = λ m slot block has.
+      holds_at b a.geometry m slot block ab.geometry
+      (record {
+        one_has = λ sound.
+            kept_when_sound a b (one_of a.geometry m slot) written (row_of a.geometry slot) is ab keeps sound ∙ has.one_has (ab.usable (one_of a.geometry m slot) sound);
+        other_has = λ sound.
+            kept_when_sound a b (other_of a.geometry m slot) written (row_of a.geometry slot) is ab keeps sound ∙ has.other_has (ab.usable (other_of a.geometry m slot) sound);
+      });
+}
+
+done_has : (s : SetState) (p : Place) (row : ℕ) (block : List ℕ) → HasExtent s p → (IsSound s p → content s p row ≡ block)
+    → (p ≡ next_place s → content s p row ≡ block) → IsSound (with_done s) p → content (with_done s) p row ≡ block
+unfolding content
+done_has s p row block there has rebuilt sound =
+    elim (same_place p (next_place s)) [
+      | inl same ↦ rebuilt same
+      | inr ne ↦ has (sound_with_done s p there.extent ne sound)
+    ]
+
+-- Once the extent counts as done, a slot holds its block where the extent isn't in its pair, or has the block by now.
+pub holds_with_done : (s : SetState) (m : Members) (slot : ℕ) (block : List ℕ) → HasExtent s (one_of s.geometry m slot) → HasExtent s (other_of s.geometry m slot)
+    → (IsInPair s.geometry m slot (next_place s) → content s (next_place s) (row_of s.geometry slot) ≡ block) → Holds s m slot block → Holds (with_done s) m slot block
+holds_with_done s m slot block one other rebuilt has =
+    let P : Place → Type 0 = λ x. content s x (row_of s.geometry slot) ≡ block in
+    record {
+      one_has = λ sound. done_has s (one_of s.geometry m slot) (row_of s.geometry slot) block one has.one_has (λ same. subst P (sym same) (rebuilt (inl (sym same)))) sound;
+      other_has = λ sound. done_has s (other_of s.geometry m slot) (row_of s.geometry slot) block other has.other_has (λ same. subst P (sym same) (rebuilt (inr (sym same)))) sound;
+    }
+
+partner_of_one : (pair : ℕ) → pair < 2 → partner_of (2 * pair) ≡ 2 * pair + 1
+partner_of_one zero lt = refl
+partner_of_one (suc zero) lt = refl
+partner_of_one (suc (suc n)) lt = absurd (omega arith)
+
+partner_of_other : (pair : ℕ) → pair < 2 → partner_of (2 * pair + 1) ≡ 2 * pair
+partner_of_other zero lt = refl
+partner_of_other (suc zero) lt = refl
+partner_of_other (suc (suc n)) lt = absurd (omega arith)
+
+-- A rebuilt row has the block that the slot of that row holds.
+pub rebuilt_has : (a b : SetState) (m : Members) (slot position : ℕ) (block : List ℕ) → slot < slots_of a.geometry
+    → (position ≡ 2 * (slot / rows_of a.geometry)) ⊎ (position ≡ 2 * (slot / rows_of a.geometry) + 1)
+    → IsCopied a b (member m (partner_of position)) (row_of a.geometry slot) → Holds a m slot block → content b (next_place a) (row_of a.geometry slot) ≡ block
+rebuilt_has a b m slot position block lt (inl is) copied has =
+    let partner = ap (λ n. member m (partner_of n)) is ∙ ap (λ n. member m n) (partner_of_one (slot / rows_of a.geometry) (pair_fits a.geometry slot lt)) in
+    let P : Place → Type 0 = λ p. IsSound a p in
+    copied.same ∙ ap (λ (p : Place). content a p (row_of a.geometry slot)) partner ∙ has.other_has (subst P partner copied.was_sound)
+rebuilt_has a b m slot position block lt (inr is) copied has =
+    let partner = ap (λ n. member m (partner_of n)) is ∙ ap (λ n. member m n) (partner_of_other (slot / rows_of a.geometry) (pair_fits a.geometry slot lt)) in
+    let P : Place → Type 0 = λ p. IsSound a p in
+    copied.same ∙ ap (λ (p : Place). content a p (row_of a.geometry slot)) partner ∙ has.one_has (subst P partner copied.was_sound)

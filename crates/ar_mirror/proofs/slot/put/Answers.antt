@@ -1,0 +1,26 @@
+use Rattle.ar_mirror.proofs.Holding.{slot_written}
+use Rattle.ar_mirror.proofs.slot.put.Goals as goal
+
+pub returns-in-Broken-put-clause-holds : goal.returns-in-Broken-put-clause-holds
+returns-in-Broken-put-clause-holds g c =
+    let pair = c.pair_of-pair.ensures in
+    let first = c.put.ensures in
+    let second = c.put-in-Written.ensures in
+    (slot_written c.args.members.now c.args.slot _ _ _ _ _ _ _ _ _ _ c.requires.group c.requires.slot c.geometry.ensures pair.one pair.other pair.row
+    first.answer first.access first.keeps second.answer second.access second.keeps).holds
+
+pub returns-in-Written-put-clause-holds : goal.returns-in-Written-put-clause-holds
+returns-in-Written-put-clause-holds g c =
+    let pair = c.pair_of-pair.ensures in
+    let first = c.put.ensures in
+    let second = c.put-in-Written.ensures in
+    (slot_written c.args.members.now c.args.slot _ _ _ _ _ _ _ _ _ _ c.requires.group c.requires.slot c.geometry.ensures pair.one pair.other pair.row
+    first.answer first.access first.keeps second.answer second.access second.keeps).holds
+
+pub returns-in-Written-put-clause-slots : goal.returns-in-Written-put-clause-slots
+returns-in-Written-put-clause-slots g c =
+    let pair = c.pair_of-pair.ensures in
+    let first = c.put.ensures in
+    let second = c.put-in-Written.ensures in
+    (slot_written c.args.members.now c.args.slot _ _ _ _ _ _ _ _ _ _ c.requires.group c.requires.slot c.geometry.ensures pair.one pair.other pair.row
+    first.answer first.access first.keeps second.answer second.access second.keeps).slots

@@ -1,0 +1,70 @@
+-- What the calls on a mirrored group answer, and what they leave as it was.
+use Rattle.std.specs.Prelude.{◌≡◌, ◌≢◌, ◌⊎◌, ℕ, ◌<◌, List}
+use Rattle.ar_disks.specs.declared.geometry.Geometry.{Geometry}
+use Rattle.ar_disks.specs.declared.address.Place.{Place}
+use Rattle.ar_disks.specs.declared.address.Members.{Members}
+use Rattle.ar_disks.specs.Members.{AreDisjoint}
+use Rattle.ar_extents.specs.declared.health.Health.{Health}
+use Rattle.ar_extents.specs.declared.health.Health.TheVariants.{Whole, Out, Rebuilding, Broken as AllBroken}
+use Rattle.ar_extents.specs.Set.{SetState, disk_in, content, IsSound, IsLost}
+use Rattle.ar_extents.specs.Access.{next_place, IsGivenUp}
+use Rattle.ar_mirror.specs.declared.answers.Outcome.{Outcome}
+use Rattle.ar_mirror.specs.declared.answers.Outcome.TheVariants.{Done, Broken}
+use Rattle.ar_mirror.specs.declared.answers.Rebuilt.{Rebuilt}
+use Rattle.ar_mirror.specs.declared.answers.Rebuilt.TheVariants.{Done as RowDone, GivenUp, Broken as RowBroken}
+use Rattle.ar_mirror.specs.Slots.{one_of, other_of, row_of, slots_of}
+use Rattle.ar_mirror.specs.Holds.{Holds}
+
+-- what a call answers where it leaves this health: only a broken set keeps it from being done
+abbrev pub outcome_of : Health → Outcome
+outcome_of Whole = Done
+outcome_of (Out x) = Done
+outcome_of (Rebuilding x done) = Done
+outcome_of AllBroken = Broken
+
+-- the bytes are the block that the slot held, read from the first member of its pair that is still sound
+pub record IsGiven (old new : SetState) (m : Members) (slot : ℕ) (bytes : List ℕ) : Type 0 where
+  pub held : (block : List ℕ) → Holds old m slot block → bytes ≡ block
+  pub first : IsSound new (one_of old.geometry m slot) → bytes ≡ content old (one_of old.geometry m slot) (row_of old.geometry slot)
+  pub second : IsLost new (one_of old.geometry m slot) → bytes ≡ content old (other_of old.geometry m slot) (row_of old.geometry slot)
+
+-- what the answer of a read says
+abbrev pub Gives : SetState → SetState → Members → ℕ → List ℕ → Outcome → Type 0
+Gives old new m slot bytes Done = IsGiven old new m slot bytes
+Gives old new m slot bytes Broken = Unit {0}
+
+-- the extent is one of the slot's pair
+abbrev pub IsInPair : Geometry → Members → ℕ → Place → Type 0
+IsInPair g m slot p = (p ≡ one_of g m slot) ⊎ (p ≡ other_of g m slot)
+
+-- no block but those of the slot's row in its pair may have changed
+pub record KeepsButSlot (m : Members) (slot : ℕ) (old new : SetState) : Type 0 where
+  pub rows : (p : Place) (row : ℕ) → (IsInPair old.geometry m slot p → row ≢ row_of old.geometry slot) → content new p row ≡ content old p row
+
+-- every other slot of the group holds what it held
+pub record OtherSlotsHold (m : Members) (slot : ℕ) (old new : SetState) : Type 0 where
+  pub slots : (t : ℕ) → t < slots_of old.geometry → t ≢ slot → (block : List ℕ) → Holds old m t block → Holds new m t block
+
+-- every slot of every group that shares no extent with this one holds what it held
+pub record OtherGroupsHold (m : Members) (old new : SetState) : Type 0 where
+  pub groups : (n : Members) → AreDisjoint m n → (t : ℕ) → t < slots_of old.geometry → (block : List ℕ) → Holds old n t block → Holds new n t block
+
+-- no disk but those of the slot's pair was accessed
+pub record TouchesPair (m : Members) (slot : ℕ) (old new : SetState) : Type 0 where
+  pub others : (d : ℕ) → d ≢ (one_of old.geometry m slot).disk → d ≢ (other_of old.geometry m slot).disk → disk_in new.disks d ≡ disk_in old.disks d
+
+-- every slot of every mirrored group holds what it held
+pub record AllSlotsHold (old new : SetState) : Type 0 where
+  pub slots : (m : Members) (slot : ℕ) (block : List ℕ) → Holds old m slot block → Holds new m slot block
+
+-- the row of the rebuilt extent is that of its partner
+pub record IsCopied (old new : SetState) (partner : Place) (row : ℕ) : Type 0 where
+  pub same : content new (next_place old) row ≡ content old partner row
+  pub was_sound : IsSound old partner
+  pub health : new.health ≡ old.health
+
+-- what the answer of a rebuilt row says
+abbrev pub Rebuilds : SetState → SetState → Place → ℕ → Rebuilt → Type 0
+Rebuilds old new partner row RowDone = IsCopied old new partner row
+Rebuilds old new partner row GivenUp = IsGivenUp old new
+Rebuilds old new partner row RowBroken = new.health ≡ AllBroken

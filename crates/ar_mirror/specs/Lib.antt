@@ -1,0 +1,9 @@
+pub mod Slots
+pub mod Holds
+pub mod Calls
+-- the words of lower crates that clauses of this crate cite
+pub use Rattle.ar_extents.specs.Set
+pub use Rattle.ar_extents.specs.Follows
+pub use Rattle.ar_extents.specs.Access
+pub use Rattle.ar_disks.specs.Geometry
+pub use Rattle.ar_disks.specs.Members

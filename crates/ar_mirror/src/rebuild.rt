@@ -1,0 +1,65 @@
+// Rebuilding of rows.
+ghost use Rattle.std.specs.Prelude.{◌≡◌, ◌≢◌, ◌<◌, length};
+ghost use Rattle.ar_disks.specs.Geometry.{rows_of, block_len_of};
+ghost use Rattle.ar_disks.specs.Members.{member};
+ghost use Rattle.ar_extents.specs.Health.{IsRebuilding};
+ghost use Rattle.ar_extents.specs.Follows.{Follows, KeepsBut};
+ghost use Rattle.ar_extents.specs.Access.{next_place};
+ghost use Rattle.ar_extents.specs.Set.{HasExtent};
+ghost use Rattle.ar_mirror.specs.Slots.{IsGroup, partner_of};
+ghost use Rattle.ar_mirror.specs.Calls.{Rebuilds, AllSlotsHold};
+
+use crate::Rebuilt;
+use crate::pair::partner;
+use ar_disks::{Block, Disk, Members, Place, Scratch};
+use ar_extents::{DiskSet, Got, PutNew};
+
+/// Copies a row to the member at a position, 0 to 3, from the other member of its pair. The member has to be the extent that
+/// is rebuilt next: the lowest that isn't done of the disk that is being rebuilt. `GivenUp` says that this disk faulted: it
+/// is out then, and any bytes may stand in the row.
+pub fn rebuild_row<D: Disk>(
+    set: &mut DiskSet<D>,
+    members: &Members,
+    position: u8,
+    row: u16,
+    scratch: &mut Scratch,
+) -> Rebuilt
+    requires group { IsGroup set.old members.now }
+    requires position { position < 4 }
+    requires row { row < rows_of set.old.geometry }
+    requires rebuilding { IsRebuilding set.old.health }
+    requires next { member members.now position ≡ next_place set.old }
+    requires scratch { scratch.old.geometry ≡ set.old.geometry }
+    ensures answer { Rebuilds set.old set.new (member members.now (partner_of position)) row result }
+    ensures keeps { KeepsBut (next_place set.old) row set.old set.new }
+    ensures slots { AllSlotsHold set.old set.new }
+    ensures follows { Follows set.old set.new }
+    ensures loose { set.new.loose ≡ set.old.loose }
+    ensures scratch { scratch.new.geometry ≡ scratch.old.geometry }
+{
+    let from = members.at(partner(position));
+    copy_row(set, from, row, &mut scratch.first)
+}
+
+// Copies a row from an extent of another disk to the one that is rebuilt next, by way of a block.
+fn copy_row<D: Disk>(set: &mut DiskSet<D>, from: Place, row: u16, block: &mut Block) -> Rebuilt
+    requires from { HasExtent set.old from }
+    requires apart { (next_place set.old).disk ≢ from.disk }
+    requires row { row < rows_of set.old.geometry }
+    requires rebuilding { IsRebuilding set.old.health }
+    requires whole { length block.old ≡ block_len_of set.old.geometry }
+    ensures answer { Rebuilds set.old set.new from row result }
+    ensures keeps { KeepsBut (next_place set.old) row set.old set.new }
+    ensures follows { Follows set.old set.new }
+    ensures loose { set.new.loose ≡ set.old.loose }
+    ensures len { length block.new ≡ length block.old }
+{
+    match set.get(from, row, block) {
+        Got::Read => match set.put_new(row, block) {
+            PutNew::Written => Rebuilt::Done,
+            PutNew::GivenUp => Rebuilt::GivenUp,
+        },
+        // One disk is down already, so a fault of another one breaks the set.
+        Got::Missing | Got::Broken => Rebuilt::Broken,
+    }
+}

@@ -1,0 +1,65 @@
+// Reads and writes of slots.
+ghost use Rattle.std.specs.Prelude.{◌≡◌, ◌<◌, length};
+ghost use Rattle.ar_disks.specs.Geometry.{block_len_of};
+ghost use Rattle.ar_extents.specs.Follows.{Follows, Keeps, Anywhere};
+ghost use Rattle.ar_mirror.specs.Slots.{slots_of, IsGroup};
+ghost use Rattle.ar_mirror.specs.Holds.{Holds};
+ghost use Rattle.ar_mirror.specs.Calls.{outcome_of, Gives, KeepsButSlot, OtherSlotsHold, OtherGroupsHold, TouchesPair};
+
+use crate::Outcome;
+use crate::pair::pair_of;
+use ar_disks::{Block, Disk, Members};
+use ar_extents::{DiskSet, Got, Put};
+
+/// Reads a slot, below twice the rows of an extent, into `into`, a block of the set's length. It reads the first member of
+/// the slot's pair that isn't missing and, where that one faults, the other. After `Broken` any bytes may stand in `into`.
+pub fn get<D: Disk>(set: &mut DiskSet<D>, members: &Members, slot: u16, into: &mut Block) -> Outcome
+    requires group { IsGroup set.old members.now }
+    requires slot { slot < slots_of set.old.geometry }
+    requires whole { length into.old ≡ block_len_of set.old.geometry }
+    ensures outcome { result ≡ outcome_of set.new.health }
+    ensures gives { Gives set.old set.new members.now slot into.new result }
+    ensures keeps { Keeps Anywhere set.old set.new }
+    ensures follows { Follows set.old set.new }
+    ensures touches { TouchesPair members.now slot set.old set.new }
+    ensures loose { set.new.loose ≡ set.old.loose }
+    ensures len { length into.new ≡ length into.old }
+{
+    let pair = pair_of(set.geometry(), members, slot);
+    match set.get(pair.one, pair.row, into) {
+        Got::Read => Outcome::Done,
+        Got::Missing => match set.get(pair.other, pair.row, into) {
+            Got::Read => Outcome::Done,
+            // Two members of different disks are never both missing.
+            Got::Missing | Got::Broken => Outcome::Broken,
+        },
+        Got::Broken => Outcome::Broken,
+    }
+}
+
+/// Writes a slot, below twice the rows of an extent, from a block of the set's length. It writes every member of the slot's
+/// pair that isn't missing. After `Broken` any bytes may stand in the slot's rows.
+pub fn put<D: Disk>(set: &mut DiskSet<D>, members: &Members, slot: u16, from: &Block) -> Outcome
+    requires group { IsGroup set.old members.now }
+    requires slot { slot < slots_of set.old.geometry }
+    requires whole { length from.now ≡ block_len_of set.old.geometry }
+    ensures outcome { result ≡ outcome_of set.new.health }
+    // On a broken set no member is sound, so this speaks of what is done.
+    ensures holds { Holds set.new members.now slot from.now }
+    ensures slots { OtherSlotsHold members.now slot set.old set.new }
+    ensures groups { OtherGroupsHold members.now set.old set.new }
+    ensures keeps { KeepsButSlot members.now slot set.old set.new }
+    ensures follows { Follows set.old set.new }
+    ensures touches { TouchesPair members.now slot set.old set.new }
+    ensures loose { set.new.loose ≡ set.old.loose }
+{
+    let pair = pair_of(set.geometry(), members, slot);
+    match set.put(pair.one, pair.row, from) {
+        Put::Broken => Outcome::Broken,
+        // Where this one is missing, the other isn't.
+        Put::Written | Put::Missing => match set.put(pair.other, pair.row, from) {
+            Put::Broken => Outcome::Broken,
+            Put::Written | Put::Missing => Outcome::Done,
+        },
+    }
+}
