@@ -3,7 +3,7 @@ use Rattle.std.specs.Prelude.{◌≡◌, ◌≢◌, ℕ, ◌+◌, ◌*◌, ◌<�
 use Rattle.ar_disks.specs.declared.geometry.Geometry.{Geometry}
 use Rattle.ar_disks.specs.Geometry.{rows_of, block_len_of}
 
--- All that calls can learn of a disk, now and later. Its bytes lie extent by extent, and row by row in each.
+-- What stands on a disk, and whether it has gone. The bytes lie extent by extent, and row by row in each.
 pub record DiskState : Type 0 where
   pub geometry : Geometry
   pub extents : ℕ

@@ -104,7 +104,7 @@ impl Block {
     }
 
     #[tactic(auto, unfolding(crate::specs::Block::with_sectors))]
-    /// Puts the bytes of whole sectors in place of as many, from a first one on. The others stay.
+    /// Puts bytes in place of as many, from the first of a sector on. The others stay. Callers give whole sectors.
     pub fn set_sectors(&mut self, first: usize, bytes: &[u8])
         requires { 512 * first + length bytes.now ≤ length self.old }
         ensures sectors { self.new ≡ with_sectors self.old first bytes.now }

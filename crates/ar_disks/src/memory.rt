@@ -17,13 +17,14 @@ pub struct MemDisk {
 }
 
 impl Model for MemDisk {
-    ghost use Rattle.std.specs.Prelude.{◌≡◌, ◌*◌, length, false};
+    ghost use Rattle.std.specs.Prelude.{◌≡◌, ◌*◌, length};
     ghost use Rattle.ar_disks.specs.Geometry.{extent_len_of};
     ghost use Rattle.ar_disks.specs.Disk.{DiskState};
+    ghost use Rattle.ar_disks.specs.Memory.{sound_disk};
 
     ghost Value = { DiskState };
 
-    ghost view = { λ d. record { geometry = d.geometry; extents = d.extents; bytes = d.bytes.items; gone = false; faults = 0 } };
+    ghost view = { λ d. sound_disk d.geometry d.extents d.bytes.items };
 
     ghost invariant = { λ d. length d.bytes.items ≡ d.extents * extent_len_of d.geometry };
 }
@@ -103,18 +104,12 @@ impl Disk for MemDisk {
 fn disk_len(geometry: Geometry, extents: u16) -> usize
     ensures { result ≡ extents * extent_len_of geometry }
 {
-    match geometry {
-        Geometry::Paper => extents as usize * 1_048_576,
-        Geometry::Small => extents as usize * 2_048,
-    }
+    usize::from(extents) * (usize::from(geometry.rows()) * geometry.block_len())
 }
 
 // Where a row of an extent begins among a disk's bytes.
 fn offset(geometry: Geometry, ext: u16, row: u16) -> usize
     ensures { result ≡ offset_of geometry ext row }
 {
-    match geometry {
-        Geometry::Paper => (ext as usize * 16 + row as usize) * 65_536,
-        Geometry::Small => (ext as usize * 2 + row as usize) * 1_024,
-    }
+    (usize::from(ext) * usize::from(geometry.rows()) + usize::from(row)) * geometry.block_len()
 }

@@ -19,7 +19,7 @@ number i n cdb = big_number n (drop i cdb)
 abbrev pub operation_code : List ℕ → ℕ
 operation_code cdb = byte 0 cdb
 
--- NACA, bit 2 of CONTROL, which is byte i (SPC-3, CONTROL byte)
+-- NACA, bit 2 of CONTROL, which is byte i (SAM-3, CONTROL byte)
 abbrev pub naca : ℕ → List ℕ → ℕ
 naca i cdb = bit i 2 cdb
 

@@ -13,11 +13,12 @@ pub enum Status {
     Good,
     /// Not done, and the sense says why.
     CheckCondition,
-    /// Not done for want of memory, and nothing has changed.
+    /// Not done for want of memory, and no unit has changed.
     Busy,
 }
 
-/// The answer to a command: sense goes with CHECK CONDITION alone, bytes with GOOD alone.
+/// The answer to a command. `good`, `check` and `busy` make those that stand: sense with CHECK CONDITION alone, bytes
+/// with GOOD alone.
 #[derive(Debug, Drop, PartialEq, Eq)]
 pub struct Reply {
     pub status: Status,
@@ -61,14 +62,20 @@ impl Reply {
 }
 
 impl Clone for Reply {
+    ghost use Rattle.std.specs.Prelude.{[]};
+
     ghost is_clone = { λ reply copy. copy ≡ reply };
 
-    /// A reply with the same bytes, which are shared and not copied.
+    ghost is_infallible = { λ reply. reply.payload ≡ [] };
+
+    /// A reply with the same bytes, which are shared and not copied. `Err` comes only where the bytes can't be
+    /// shared, never where there are none.
     fn clone(&self) -> Result<Reply, AllocError> {
+        let bytes = &self.payload;
         Ok(Reply {
             status: self.status,
             sense: self.sense,
-            payload: self.payload.clone()?,
+            payload: bytes.slice(0..bytes.len())?,
         })
     }
 }

@@ -145,6 +145,21 @@ fn sense_bytes(rt: HostRuntime) {
 }
 
 #[test]
+fn senses_of_the_standard(rt: HostRuntime) {
+    for (sense, key, asc, ascq) in [
+        (Sense::INTERNAL_TARGET_FAILURE, 0x04, 0x44, 0x00),
+        (Sense::INVALID_COMMAND_OPERATION_CODE, 0x05, 0x20, 0x00),
+        (Sense::LOGICAL_BLOCK_ADDRESS_OUT_OF_RANGE, 0x05, 0x21, 0x00),
+        (Sense::INVALID_FIELD_IN_CDB, 0x05, 0x24, 0x00),
+        (Sense::LOGICAL_UNIT_NOT_SUPPORTED, 0x05, 0x25, 0x00),
+        (Sense::CAPACITY_DATA_HAS_CHANGED, 0x06, 0x2A, 0x09),
+        (Sense::DATA_PHASE_ERROR, 0x0B, 0x4B, 0x00),
+    ] {
+        assert_eq!(rt; sense, Sense { key, asc, ascq });
+    }
+}
+
+#[test]
 fn data_bytes(rt: HostRuntime) {
     let there = [
         0x00, 0x00, 0x05, 0x02, 0x1F, 0x00, 0x00, 0x00, 0x41, 0x55, 0x54, 0x4F, 0x52, 0x41, 0x49,
