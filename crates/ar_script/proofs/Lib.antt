@@ -1,0 +1,3 @@
+pub mod BlockLemmas
+pub mod LineLemmas
+pub mod WordLemmas

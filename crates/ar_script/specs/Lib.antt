@@ -1,0 +1,4 @@
+pub mod Blocks
+pub mod Lines
+pub mod Orders
+pub mod Words

@@ -1,0 +1,151 @@
+// The lines of a script, read in large pieces.
+ghost use Rattle.std.specs.Prelude.{◌≡◌, ◌≢◌, ◌-◌, ◌≤◌, ◌++◌, IsTrue, None, OnOk, IfErr, OnErr, unwrap_or, vec_len};
+ghost use Rattle.std.specs.List.{list_all};
+ghost use Rattle.ar_script.specs.Lines.{is_printable, IsLine, IsNumbered, part_fault};
+
+use crate::{Fault, FaultKind};
+use std::alloc::Global;
+use std::io::{BufRead, BufReader, Read};
+use std::{io, str};
+
+/// Bytes of a line at most, without the one that ends it.
+const LINE_MAX: usize = 4_096;
+
+/// Lines of a script at most.
+const LINES_MAX: u32 = 1_000_000;
+
+/// The lines of a script, one at a time.
+#[derive(Drop)]
+pub struct Lines<R: Read + Drop> {
+    source: BufReader<R>,
+    line: Vec<u8>,
+    number: u32,
+    is_at_end: bool,
+    ghost few: { number ≤ 1000000 },
+    ghost whole: { IsLine line.items },
+}
+
+impl<R: Read + Drop> Lines<R> {
+    /// No line is read yet. It fails where memory is refused.
+    pub fn new(alloc: Global, reader: R) -> io::Result<Lines<R>> {
+        let line = Vec::with_capacity(alloc, LINE_MAX)?;
+        let source = BufReader::new(alloc, reader)?;
+        Ok(Lines {
+            source,
+            line,
+            number: 0,
+            is_at_end: false,
+        })
+    }
+
+    /// How many lines were begun.
+    pub fn number(&self) -> u32
+        ensures { result ≤ 1000000 }
+    {
+        self.number
+    }
+
+    /// Nothing more of what was read is left, so that the next line has to be waited for.
+    pub fn is_drained(&self) -> bool {
+        !self.is_at_end && self.source.buffer().is_empty()
+    }
+
+    /// Goes on to the next line, or says that there is none.
+    pub fn advance(&mut self) -> Result<bool, Fault>
+        ensures { IfErr result IsNumbered }
+    {
+        let line = self.number + 1;
+        if is_at_end(&mut self.source, self.is_at_end).map_err(|kind| Fault::Line { line, kind })? {
+            self.is_at_end = true;
+            return Ok(false);
+        }
+        if self.number >= LINES_MAX {
+            let kind = FaultKind::TooManyLines;
+            return Err(Fault::Line { line, kind });
+        }
+        self.number = line;
+        self.line.clear();
+        self.is_at_end = read_line(&mut self.source, &mut self.line).map_err(|kind| Fault::Line {
+            line,
+            kind,
+        })?;
+        Ok(true)
+    }
+
+    /// The line, without the byte that ends it.
+    pub fn line(&self) -> &str {
+        match str::from_utf8(self.line.as_slice()) {
+            Ok(line) => line,
+            // The characters of ASCII are a text.
+            Err(_) => unreachable!(),
+        }
+    }
+}
+
+// Whether the input ends here.
+fn is_at_end<R: Read + Drop>(source: &mut BufReader<R>, was_at_end: bool) -> Result<bool, FaultKind>
+    ensures { IfErr result (λ kind. kind ≡ FaultKind.ReadFault) }
+{
+    if was_at_end {
+        return Ok(true);
+    }
+    match source.fill_buf() {
+        Ok(bytes) => Ok(bytes.is_empty()),
+        Err(_) => Err(FaultKind::ReadFault),
+    }
+}
+
+// Reads up to the end of a line, and says whether the input ended there.
+fn read_line<R: Read + Drop>(
+    source: &mut BufReader<R>,
+    line: &mut Vec<u8>,
+) -> Result<bool, FaultKind>
+    requires { IsLine line.old.items }
+    ensures whole { IsLine line.new.items }
+    ensures few { IfErr result (λ kind. kind ≢ FaultKind.TooManyLines) }
+{
+    for _ in 0..=LINE_MAX {
+        let bytes = source.fill_buf().map_err(|_| FaultKind::ReadFault)?;
+        if bytes.is_empty() {
+            return Ok(true);
+        }
+        let end = bytes.iter().position(|byte| *byte == b'\n');
+        let part = &bytes[..end.unwrap_or(bytes.len())];
+        take_part(line, part)?;
+        let used = part.len() + usize::from(end.is_some());
+        source.consume(used);
+        if end.is_some() {
+            return Ok(false);
+        }
+    }
+    Err(FaultKind::LineTooLong)
+}
+
+// Adds a part to a line. Of what fits, each byte has to be a printable character.
+fn take_part(line: &mut Vec<u8>, part: &[u8]) -> Result<(), FaultKind>
+    requires { IsLine line.old.items }
+    ensures taken { OnOk result (line.new.items ≡ line.old.items ++ part.now) }
+    ensures fits { OnOk result (part_fault (4096 - vec_len line.old) part.now ≡ None) }
+    ensures refused { IfErr result (λ kind. kind ≡ unwrap_or (part_fault (4096 - vec_len line.old) part.now) FaultKind.NoMemory) }
+    ensures unchanged { OnErr result (line.new.items ≡ line.old.items) }
+    ensures whole { IsLine line.new.items }
+{
+    let room = LINE_MAX - line.len();
+    let fitting = &part[..part.len().min(room)];
+    if !all_printable(fitting) {
+        return Err(FaultKind::BadCharacter);
+    }
+    if part.len() > room {
+        return Err(FaultKind::LineTooLong);
+    }
+    if line.extend_from_slice(part).is_err() {
+        return Err(FaultKind::NoMemory);
+    }
+    Ok(())
+}
+
+fn all_printable(bytes: &[u8]) -> bool
+    ensures { result ≡ list_all is_printable bytes.now }
+{
+    bytes.iter().all(|byte| *byte >= b' ' && *byte <= b'~')
+}
