@@ -1,4 +1,4 @@
--- When a unit is not made, not made longer, or not dropped. Want of memory aside, which no clause decides.
+-- When a unit is not made, or not made longer. Want of memory aside, which no clause decides.
 use Rattle.std.specs.Prelude.{ℕ, ◌-◌, ◌||◌, ◌==◌, nat_lt, nat_le, not, if◌then◌else◌, length, Option, None, Some}
 use Rattle.ar_disks.specs.declared.address.Addr.{Addr}
 use Rattle.ar_book.specs.declared.refusal.Refusal.{Refusal}

@@ -98,7 +98,7 @@ slots_of g Parity = 3 * rows_of g
 abbrev pub class_of : Tables → ℕ → Class
 class_of t g = (group_in t.groups g).class
 
--- there is such a slot: its group has that number of slots at least
+-- there is such a slot: its group has more slots than its number
 abbrev pub HasSlot : Tables → Slot → Type 0
 HasSlot t s = (s.group < length t.groups) × (s.slot < slots_of t.geometry (class_of t s.group))
 

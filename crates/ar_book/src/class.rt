@@ -14,7 +14,7 @@ pub enum Class {
 /// Where a block stands, by the class of the group that holds it.
 #[derive(Clone, Copy, Debug, PartialEq, Eq)]
 pub enum Level {
-    /// Nowhere: it has never been written.
+    /// Nowhere: it has no home.
     Unplaced,
     /// In a mirrored group.
     Mirrored,

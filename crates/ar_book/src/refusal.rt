@@ -7,7 +7,7 @@ pub enum Refusal {
     /// The unit is there already.
     #[error("M1 Exists")]
     Exists,
-    /// No unit may have this length, or none that is there may shrink to it.
+    /// No unit may have this length, or the unit that is there isn't shorter.
     #[error("M2 Size")]
     Size,
     /// The new blocks exceed the room, which it carries.

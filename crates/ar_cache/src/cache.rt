@@ -25,7 +25,7 @@ pub struct Cache {
     geometry: Geometry,
     capacity: u32,
     entries: LruCache<Key, Block>,
-    // A block that no entry uses: the next new entry takes it, so that a full cache asks for no memory for a block.
+    // A block that no entry uses. The next new entry takes it, so a full cache asks for memory for one block at most.
     spare: Option<Block>,
 }
 

@@ -80,11 +80,13 @@ is_read Read = true
 is_read ReadMissing = false
 is_read ReadBroken = false
 
+-- the write was done
 abbrev pub is_written : Put → Bool
 is_written Written = true
 is_written PutMissing = false
 is_written PutBroken = false
 
+-- the write to a rebuilt extent was done
 abbrev pub is_new_written : PutNew → Bool
 is_new_written NewWritten = true
 is_new_written GivenUp = false

@@ -13,6 +13,7 @@ use Rattle.ar_extents.specs.declared.refusal.StartFault.TheVariants.{BadCount, W
 use Rattle.ar_extents.specs.Health.{is_out, after_fault, after_done}
 use Rattle.ar_extents.specs.Set.{SetState, disk_in}
 
+-- two geometries are the same
 abbrev pub same_geometry : Geometry → Geometry → Bool
 same_geometry Paper Paper = true
 same_geometry Paper Small = false
@@ -23,6 +24,7 @@ same_geometry Small Small = true
 abbrev pub has_shape : Geometry → ℕ → DiskState → Bool
 has_shape geometry extents disk = same_geometry disk.geometry geometry && (disk.extents == extents)
 
+-- the set is broken
 abbrev pub is_broken : Health → Bool
 is_broken Whole = false
 is_broken (Out x) = false

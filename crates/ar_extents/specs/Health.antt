@@ -52,6 +52,7 @@ rebuilt_disk (Out x) = 0
 rebuilt_disk (Rebuilding x done) = x
 rebuilt_disk Broken = 0
 
+-- the extent that is rebuilt next
 abbrev pub next_extent : Health → ℕ
 next_extent Whole = 0
 next_extent (Out x) = 0

@@ -36,9 +36,8 @@ impl Health {
         ensures { result ≡ is_missing self place.disk place.extent }
     {
         match self {
-            Health::Whole | Health::Broken => false,
-            Health::Out(disk) => place.disk == disk,
-            Health::Rebuilding(disk, done) => place.disk == disk && place.extent >= done,
+            Health::Broken => false,
+            _ => self.is_lost(place),
         }
     }
 

@@ -143,7 +143,7 @@ fn a_disk_is_lost_at_any_call(rt: HostRuntime) -> Result<(), Fail> {
     let alloc = rt.alloc();
     let from = filled(&rt, alloc, 0xAA)?;
     let mut into = filled(&rt, alloc, 0)?;
-    // Nine calls reach disk 1, in turn a write and a read; the fuse passes the first of them.
+    // Nine calls reach disk 1, a write and two reads in turn; the fuse passes the first of them.
     for passes in 0..9 {
         let mut set = four(alloc, passes)?;
         for call in 0..9 {
@@ -373,6 +373,14 @@ fn refusals_have_numbers(rt: HostRuntime) -> Result<(), Fail> {
         (DiskRefusal::Broken, "E6 Broken"),
     ] {
         let shown = format!(in alloc; "{refusal}")?;
+        assert_eq!(rt; shown.as_str(), text);
+    }
+    for (fault, text) in [
+        (StartFault::BadCount, "BadCount"),
+        (StartFault::WrongSize, "WrongSize"),
+        (StartFault::NoMemory, "NoMemory"),
+    ] {
+        let shown = format!(in alloc; "{fault}")?;
         assert_eq!(rt; shown.as_str(), text);
     }
     Ok(())
