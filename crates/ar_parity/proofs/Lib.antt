@@ -1,0 +1,5 @@
+pub mod Sums
+pub mod Agrees
+pub mod Updates
+pub mod SlotLemmas
+pub mod OneBlock

@@ -1,0 +1,8 @@
+use Rattle.ar_parity.proofs.Agrees.{three_sum_done}
+use Rattle.ar_parity.proofs.degraded.sum_of_three.Goals as goal
+
+pub returns-in-Done-clause-block : goal.returns-in-Done-clause-block
+returns-in-Done-clause-block g c =
+    three_sum_done c.add_beside.result c.args.set.now c.sum_of_two.new.set c.args.members.now c.args.row c.args.lost c.another-third.result
+    c.sum_of_two.new.into c.add_beside.new.into c.another-third.ensures.below
+    c.in-Done.ensures.follows c.in-Done.ensures.keeps c.in-Done.ensures.sum c.add_beside.ensures.bytes

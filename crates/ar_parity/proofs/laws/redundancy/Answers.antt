@@ -1,0 +1,5 @@
+use Rattle.ar_parity.proofs.OneBlock.{holds_without, holds_one}
+use Rattle.ar_parity.proofs.laws.redundancy.Goals as goal
+
+pub returns : goal.returns
+returns c = record { kept = holds_without; one = holds_one }

@@ -1,0 +1,29 @@
+use Rattle.std.proofs.Common.{arith}
+use Rattle.ar_extents.proofs.Follows.{follows_then}
+use Rattle.ar_parity.specs.Row.{parity_position}
+use Rattle.ar_parity.proofs.Updates.{both_changed, alone_changed, broken_changed}
+use Rattle.ar_parity.proofs.update.update.Goals as goal
+
+pub returns-in-Read-clause-agrees : goal.returns-in-Read-clause-agrees
+returns-in-Read-clause-agrees g c =
+    both_changed c.args.set.now c.get.new.self c.write_both.new.set c.args.members.now c.args.row c.args.position c.parity_at-parity.result
+    (parity_position c.args.row) c.at.result c.args.from.now c.args.before.now c.get.new.into c.xor_into.new.target c.xor_into-in-Read.new.target
+    c.at.ensures c.parity_at-parity.ensures.position c.requires.below c.parity_at-parity.ensures.below c.requires.apart c.requires.whole
+    c.get.ensures.access.follows c.get.ensures.keeps c.in-Read.ensures.answer c.xor_into.ensures.sum c.xor_into-in-Read.ensures.sum
+    c.write_both.ensures.follows c.write_both.ensures.block c.write_both.ensures.parity c.write_both.ensures.others
+
+pub returns-in-Read-clause-follows : goal.returns-in-Read-clause-follows
+returns-in-Read-clause-follows g c =
+    follows_then c.args.set.now c.get.new.self c.write_both.new.set c.get.ensures.access.follows c.write_both.ensures.follows
+
+pub returns-in-Missing-clause-agrees : goal.returns-in-Missing-clause-agrees
+returns-in-Missing-clause-agrees g c = λ blocks agrees before.
+    alone_changed c.args.set.now c.get.new.self c.write.new.set c.args.members.now c.args.row c.args.position c.parity_at-parity.result
+    (parity_position c.args.row) c.at.result c.args.from.now c.requires.group.apart c.at.ensures c.parity_at-parity.ensures.position c.requires.below
+    c.parity_at-parity.ensures.below c.requires.apart c.requires.whole c.get.ensures.access.follows c.get.ensures.keeps c.in-Missing.ensures.answer
+    c.write.ensures.follows c.write.ensures.keeps c.write.ensures.here blocks agrees
+
+pub returns-in-Broken-clause-agrees : goal.returns-in-Broken-clause-agrees
+returns-in-Broken-clause-agrees g c = λ blocks agrees before.
+    broken_changed c.args.set.now c.get.new.self c.args.members.now c.args.row c.args.position (parity_position c.args.row) c.args.from.now
+    c.get.ensures.access.follows c.in-Broken.ensures.answer c.requires.below (omega arith) c.requires.apart c.requires.whole blocks agrees

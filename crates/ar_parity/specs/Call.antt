@@ -1,0 +1,44 @@
+-- What calls on a group answer.
+use Rattle.std.specs.Prelude.{◌≡◌, ◌≢◌, ℕ, List}
+use Rattle.ar_disks.specs.declared.address.Members.{Members}
+use Rattle.ar_disks.specs.Members.{member}
+use Rattle.ar_extents.specs.declared.health.Health.TheVariants.{Out, Broken as AllBroken}
+use Rattle.ar_extents.specs.Health.{rebuilt_disk}
+use Rattle.ar_extents.specs.Set.{SetState, content}
+use Rattle.ar_extents.specs.Follows.{Faulted}
+use Rattle.ar_parity.specs.declared.outcome.Outcome.{Outcome}
+use Rattle.ar_parity.specs.declared.outcome.Outcome.TheVariants.{Done, Broken}
+use Rattle.ar_parity.specs.declared.outcome.RowOutcome.{RowOutcome}
+use Rattle.ar_parity.specs.declared.outcome.RowOutcome.TheVariants.{Done as RowDone, GivenUp, Broken as RowBroken}
+use Rattle.ar_parity.specs.Row.{Blocks, block, changed, parity_position}
+use Rattle.ar_parity.specs.Group.{RowAgrees}
+
+-- a call answers `Broken` exactly where the set is broken after it
+abbrev pub Tells : SetState → Outcome → Type 0
+Tells s Done = s.health ≢ AllBroken
+Tells s Broken = s.health ≡ AllBroken
+
+-- what is said of a call that is done
+abbrev pub OnDone : Outcome → Type 0 → Type 0
+OnDone Done P = P
+OnDone Broken P = Unit {0}
+
+-- Whatever four blocks the row agreed on, it agrees on them with a new block at a position, and with the parity that goes with it.
+pub record Changes (old new : SetState) (m : Members) (row position : ℕ) (bytes : List ℕ) : Type 0 where
+  pub agrees : (blocks : Blocks) → RowAgrees old m row blocks → RowAgrees new m row (changed blocks position (parity_position row) bytes)
+
+-- The member's row has the block that agrees with the three others, and nothing was lost.
+pub record IsRebuilt (old new : SetState) (m : Members) (position row : ℕ) : Type 0 where
+  pub agrees : (blocks : Blocks) → RowAgrees old m row blocks → content new (member m position) row ≡ block blocks position
+  pub health : new.health ≡ old.health
+
+-- the disk that was rebuilt has faulted, and is out
+pub record IsGivenUp (old new : SetState) : Type 0 where
+  pub faulted : Faulted old new (rebuilt_disk old.health)
+  pub out : new.health ≡ Out (rebuilt_disk old.health)
+
+-- what the rebuild of a row answers
+abbrev pub Rebuilds : SetState → SetState → Members → ℕ → ℕ → RowOutcome → Type 0
+Rebuilds old new m position row RowDone = IsRebuilt old new m position row
+Rebuilds old new m position row GivenUp = IsGivenUp old new
+Rebuilds old new m position row RowBroken = new.health ≡ AllBroken

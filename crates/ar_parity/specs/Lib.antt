@@ -1,0 +1,13 @@
+pub mod Row
+pub mod Others
+pub mod Group
+pub mod Call
+-- the words of lower crates that clauses of this crate cite
+pub use Rattle.ar_extents.specs.Health
+pub use Rattle.ar_extents.specs.Set
+pub use Rattle.ar_extents.specs.Follows
+pub use Rattle.ar_extents.specs.Access
+pub use Rattle.ar_disks.specs.Block
+pub use Rattle.ar_disks.specs.Disk
+pub use Rattle.ar_disks.specs.Geometry
+pub use Rattle.ar_disks.specs.Members

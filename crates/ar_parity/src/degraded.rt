@@ -1,0 +1,83 @@
+// What is read where a member is lost.
+ghost use Rattle.std.specs.Prelude.{◌≡◌, ◌≢◌, ◌<◌, length};
+ghost use Rattle.ar_disks.specs.Block.{xor};
+ghost use Rattle.ar_disks.specs.Geometry.{rows_of, block_len_of};
+ghost use Rattle.ar_disks.specs.Members.{member};
+ghost use Rattle.ar_extents.specs.Set.{IsLost};
+ghost use Rattle.ar_extents.specs.Follows.{Follows, Keeps, Anywhere};
+ghost use Rattle.ar_parity.specs.Row.{Blocks, block};
+ghost use Rattle.ar_parity.specs.Group.{IsGroup, RowAgrees};
+ghost use Rattle.ar_parity.specs.Call.{Tells, OnDone};
+
+use crate::Outcome;
+use crate::slots::{another, highest_beside, lowest_beside};
+use crate::steps::{add_beside, read_beside};
+use ar_disks::{Block, Disk, Members};
+use ar_extents::DiskSet;
+
+// Adds the two blocks of a row that are neither the lost one nor the one beside it.
+pub fn sum_of_two<D: Disk>(
+    set: &mut DiskSet<D>,
+    members: &Members,
+    lost: u8,
+    beside: u8,
+    row: u16,
+    into: &mut Block,
+    spare: &mut Block,
+) -> Outcome
+    requires group { IsGroup set.old members.now }
+    requires lost_below { lost < 4 }
+    requires below { beside < 4 }
+    requires apart { beside ≢ lost }
+    requires lost { IsLost set.old (member members.now lost) }
+    requires row { row < rows_of set.old.geometry }
+    requires whole { length into.old ≡ block_len_of set.old.geometry }
+    requires spare_whole { length spare.old ≡ block_len_of set.old.geometry }
+    ensures answer { Tells set.new result }
+    ensures sum { OnDone result ((blocks : Blocks) → RowAgrees set.old members.now row blocks
+        → into.new ≡ xor (block blocks beside) (block blocks lost)) }
+    ensures health { OnDone result (set.new.health ≡ set.old.health) }
+    ensures keeps { Keeps Anywhere set.old set.new }
+    ensures follows { Follows set.old set.new }
+    ensures loose { set.new.loose ≡ set.old.loose }
+    ensures len { length into.new ≡ length into.old }
+    ensures spare_len { length spare.new ≡ length spare.old }
+{
+    let low = lowest_beside(lost, beside);
+    let high = highest_beside(lost, beside);
+    match read_beside(set, members, lost, low, row, into) {
+        Outcome::Done => add_beside(set, members, lost, high, row, into, spare),
+        Outcome::Broken => Outcome::Broken,
+    }
+}
+
+// Adds the three blocks of a row beside the lost one, which gives the lost one.
+pub fn sum_of_three<D: Disk>(
+    set: &mut DiskSet<D>,
+    members: &Members,
+    lost: u8,
+    row: u16,
+    into: &mut Block,
+    spare: &mut Block,
+) -> Outcome
+    requires group { IsGroup set.old members.now }
+    requires below { lost < 4 }
+    requires lost { IsLost set.old (member members.now lost) }
+    requires row { row < rows_of set.old.geometry }
+    requires whole { length into.old ≡ block_len_of set.old.geometry }
+    requires spare_whole { length spare.old ≡ block_len_of set.old.geometry }
+    ensures answer { Tells set.new result }
+    ensures block { OnDone result ((blocks : Blocks) → RowAgrees set.old members.now row blocks → into.new ≡ block blocks lost) }
+    ensures health { OnDone result (set.new.health ≡ set.old.health) }
+    ensures keeps { Keeps Anywhere set.old set.new }
+    ensures follows { Follows set.old set.new }
+    ensures loose { set.new.loose ≡ set.old.loose }
+    ensures len { length into.new ≡ length into.old }
+    ensures spare_len { length spare.new ≡ length spare.old }
+{
+    let third = another(lost);
+    match sum_of_two(set, members, lost, third, row, into, spare) {
+        Outcome::Done => add_beside(set, members, lost, third, row, into, spare),
+        Outcome::Broken => Outcome::Broken,
+    }
+}

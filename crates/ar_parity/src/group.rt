@@ -1,0 +1,108 @@
+// Blocks of a group with parity, by slot.
+ghost use Rattle.std.specs.Prelude.{◌≡◌, ◌≢◌, ℕ, ◌*◌, ◌<◌, List, length};
+ghost use Rattle.ar_disks.specs.Block.{zeros};
+ghost use Rattle.ar_disks.specs.Geometry.{rows_of, block_len_of};
+ghost use Rattle.ar_extents.specs.Follows.{Follows, Keeps, Anywhere};
+ghost use Rattle.ar_parity.specs.Row.{row_of, data_position, zero_blocks};
+ghost use Rattle.ar_parity.specs.Group.{IsGroup, RowAgrees, Holds, IsOutside, KeepsButRow};
+ghost use Rattle.ar_parity.specs.Call.{Tells, OnDone, Changes};
+
+use crate::Outcome;
+use crate::degraded::sum_of_three;
+use crate::slots::{data_at, row_of_slot};
+use crate::update::change;
+use crate::zero::zero_row;
+use ar_disks::{Block, Disk, Members, Scratch};
+use ar_extents::{DiskSet, Got};
+
+/// Writes zeros to every row of the members that aren't missing, whatever stood there: every slot holds zeros then.
+///
+/// `Broken` says that the set is broken; any bytes may stand in the members then.
+pub fn open_zero<D: Disk>(set: &mut DiskSet<D>, members: &Members, scratch: &mut Scratch) -> Outcome
+    requires group { IsGroup set.old members.now }
+    requires scratch { scratch.old.geometry ≡ set.old.geometry }
+    ensures answer { Tells set.new result }
+    ensures slots { (slot : ℕ) → slot < 3 * rows_of set.old.geometry
+        → Holds set.new members.now slot (zeros (block_len_of set.old.geometry)) }
+    ensures rows { (row : ℕ) → row < rows_of set.old.geometry
+        → RowAgrees set.new members.now row (zero_blocks (block_len_of set.old.geometry)) }
+    ensures keeps { Keeps (IsOutside members.now) set.old set.new }
+    ensures follows { Follows set.old set.new }
+    ensures loose { set.new.loose ≡ set.old.loose }
+    ensures geometry { scratch.new.geometry ≡ scratch.old.geometry }
+{
+    let zero = &mut scratch.first;
+    zero.zero();
+    for row in 0..set.geometry().rows() {
+        match zero_row(set, members, row, zero) {
+            Outcome::Done => {}
+            Outcome::Broken => return Outcome::Broken,
+        }
+    }
+    Outcome::Done
+}
+
+/// Reads the block of a slot into `into`: from its member, or where that is missing as the sum of the row's three others.
+///
+/// After `Broken` any bytes may stand in `into`.
+pub fn get<D: Disk>(
+    set: &mut DiskSet<D>,
+    members: &Members,
+    slot: u16,
+    into: &mut Block,
+    scratch: &mut Scratch,
+) -> Outcome
+    requires group { IsGroup set.old members.now }
+    requires slot { slot < 3 * rows_of set.old.geometry }
+    requires whole { length into.old ≡ block_len_of set.old.geometry }
+    requires scratch { scratch.old.geometry ≡ set.old.geometry }
+    ensures answer { Tells set.new result }
+    ensures block { OnDone result ((b : List ℕ) → Holds set.old members.now slot b → into.new ≡ b) }
+    ensures keeps { Keeps Anywhere set.old set.new }
+    ensures follows { Follows set.old set.new }
+    ensures loose { set.new.loose ≡ set.old.loose }
+    ensures len { length into.new ≡ length into.old }
+    ensures geometry { scratch.new.geometry ≡ scratch.old.geometry }
+{
+    let row = row_of_slot(slot);
+    let position = data_at(slot);
+    match set.get(members.at(position), row, into) {
+        Got::Read => Outcome::Done,
+        Got::Missing => sum_of_three(set, members, position, row, into, &mut scratch.first),
+        Got::Broken => Outcome::Broken,
+    }
+}
+
+/// Writes the block of a slot, and the parity of its row with it, each unless its member is missing. Every other slot that
+/// held a block holds the same.
+///
+/// After `Broken` any bytes may stand in the row.
+pub fn put<D: Disk>(
+    set: &mut DiskSet<D>,
+    members: &Members,
+    slot: u16,
+    from: &Block,
+    scratch: &mut Scratch,
+) -> Outcome
+    requires group { IsGroup set.old members.now }
+    requires slot { slot < 3 * rows_of set.old.geometry }
+    requires whole { length from.now ≡ block_len_of set.old.geometry }
+    requires scratch { scratch.old.geometry ≡ set.old.geometry }
+    ensures answer { Tells set.new result }
+    ensures row { Changes set.old set.new members.now (row_of slot) (data_position slot) from.now }
+    ensures slot { (b : List ℕ) → Holds set.old members.now slot b → Holds set.new members.now slot from.now }
+    ensures others { (k : ℕ) → k ≢ slot → (b : List ℕ) → Holds set.old members.now k b → Holds set.new members.now k b }
+    ensures keeps { KeepsButRow members.now (row_of slot) set.old set.new }
+    ensures follows { Follows set.old set.new }
+    ensures loose { set.new.loose ≡ set.old.loose }
+    ensures geometry { scratch.new.geometry ≡ scratch.old.geometry }
+{
+    change(
+        set,
+        members,
+        data_at(slot),
+        row_of_slot(slot),
+        from,
+        scratch,
+    )
+}

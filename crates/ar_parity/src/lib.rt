@@ -1,0 +1,19 @@
+//! Groups with parity: three blocks of data in each row, and a fourth that makes their sum the zero block.
+#![tactic(auto)]
+
+mod degraded;
+mod group;
+mod laws;
+mod outcome;
+mod rebuild;
+mod slots;
+mod steps;
+#[cfg(test)]
+mod tests;
+mod update;
+mod zero;
+
+pub use group::{get, open_zero, put};
+pub use laws::redundancy;
+pub use outcome::{Outcome, RowOutcome};
+pub use rebuild::rebuild_row;

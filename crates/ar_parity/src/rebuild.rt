@@ -1,0 +1,57 @@
+// The rebuild of a row on a new disk.
+ghost use Rattle.std.specs.Prelude.{◌≡◌, ℕ, ◌<◌};
+ghost use Rattle.ar_disks.specs.Geometry.{rows_of};
+ghost use Rattle.ar_disks.specs.Members.{member};
+ghost use Rattle.ar_extents.specs.Health.{IsRebuilding};
+ghost use Rattle.ar_extents.specs.Access.{next_place};
+ghost use Rattle.ar_extents.specs.Follows.{Follows, KeepsBut};
+ghost use Rattle.ar_parity.specs.Row.{Blocks};
+ghost use Rattle.ar_parity.specs.Group.{IsGroup, RowAgrees};
+ghost use Rattle.ar_parity.specs.Call.{Rebuilds};
+
+use crate::degraded::sum_of_three;
+use crate::{Outcome, RowOutcome};
+use ar_disks::{Disk, Members, Scratch};
+use ar_extents::{DiskSet, PutNew};
+
+/// Writes the sum of a row's three other blocks to the member at a position, which is the lowest extent that isn't done of
+/// the disk that is rebuilt.
+///
+/// `GivenUp` says that this disk faulted: it is out then. After it and after `Broken` any bytes may stand in the row of
+/// that member.
+pub fn rebuild_row<D: Disk>(
+    set: &mut DiskSet<D>,
+    members: &Members,
+    position: u8,
+    row: u16,
+    scratch: &mut Scratch,
+) -> RowOutcome
+    requires group { IsGroup set.old members.now }
+    requires rebuilding { IsRebuilding set.old.health }
+    requires below { position < 4 }
+    requires next { member members.now position ≡ next_place set.old }
+    requires row { row < rows_of set.old.geometry }
+    requires scratch { scratch.old.geometry ≡ set.old.geometry }
+    ensures answer { Rebuilds set.old set.new members.now position row result }
+    ensures agrees { (r : ℕ) (blocks : Blocks) → RowAgrees set.old members.now r blocks → RowAgrees set.new members.now r blocks }
+    ensures keeps { KeepsBut (member members.now position) row set.old set.new }
+    ensures follows { Follows set.old set.new }
+    ensures loose { set.new.loose ≡ set.old.loose }
+    ensures geometry { scratch.new.geometry ≡ scratch.old.geometry }
+{
+    match sum_of_three(
+        set,
+        members,
+        position,
+        row,
+        &mut scratch.first,
+        &mut scratch.second,
+    ) {
+        Outcome::Done => {}
+        Outcome::Broken => return RowOutcome::Broken,
+    }
+    match set.put_new(row, &scratch.first) {
+        PutNew::Written => RowOutcome::Done,
+        PutNew::GivenUp => RowOutcome::GivenUp,
+    }
+}

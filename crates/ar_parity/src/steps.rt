@@ -1,0 +1,103 @@
+// One read or write of a member, in a call that goes on without a lost disk.
+ghost use Rattle.std.specs.Prelude.{◌≡◌, ◌≢◌, ℕ, ◌<◌, List, length};
+ghost use Rattle.ar_disks.specs.Block.{xor};
+ghost use Rattle.ar_disks.specs.Geometry.{rows_of, block_len_of};
+ghost use Rattle.ar_disks.specs.Members.{member};
+ghost use Rattle.ar_extents.specs.Set.{IsLost};
+ghost use Rattle.ar_extents.specs.Follows.{Follows, Keeps, KeepsBut, Anywhere};
+ghost use Rattle.ar_parity.specs.Group.{IsGroup, Stands};
+ghost use Rattle.ar_parity.specs.Call.{Tells, OnDone};
+
+use crate::Outcome;
+use ar_disks::{Block, Disk, Members};
+use ar_extents::{DiskSet, Got, Put};
+
+// Writes a row of a member, unless it is missing.
+pub fn write<D: Disk>(
+    set: &mut DiskSet<D>,
+    members: &Members,
+    position: u8,
+    row: u16,
+    from: &Block,
+) -> Outcome
+    requires group { IsGroup set.old members.now }
+    requires position { position < 4 }
+    requires row { row < rows_of set.old.geometry }
+    requires whole { length from.now ≡ block_len_of set.old.geometry }
+    ensures answer { Tells set.new result }
+    ensures here { Stands set.new members.now row position from.now }
+    ensures keeps { KeepsBut (member members.now position) row set.old set.new }
+    ensures follows { Follows set.old set.new }
+    ensures loose { set.new.loose ≡ set.old.loose }
+{
+    match set.put(members.at(position), row, from) {
+        Put::Written | Put::Missing => Outcome::Done,
+        Put::Broken => Outcome::Broken,
+    }
+}
+
+// Reads a row of a member beside one that is lost.
+pub fn read_beside<D: Disk>(
+    set: &mut DiskSet<D>,
+    members: &Members,
+    lost: u8,
+    position: u8,
+    row: u16,
+    into: &mut Block,
+) -> Outcome
+    requires group { IsGroup set.old members.now }
+    requires lost_below { lost < 4 }
+    requires below { position < 4 }
+    requires apart { position ≢ lost }
+    requires lost { IsLost set.old (member members.now lost) }
+    requires row { row < rows_of set.old.geometry }
+    requires whole { length into.old ≡ block_len_of set.old.geometry }
+    ensures answer { Tells set.new result }
+    ensures bytes { OnDone result ((b : List ℕ) → Stands set.old members.now row position b → into.new ≡ b) }
+    ensures health { OnDone result (set.new.health ≡ set.old.health) }
+    ensures keeps { Keeps Anywhere set.old set.new }
+    ensures follows { Follows set.old set.new }
+    ensures loose { set.new.loose ≡ set.old.loose }
+    ensures len { length into.new ≡ length into.old }
+{
+    match set.get(members.at(position), row, into) {
+        Got::Read => Outcome::Done,
+        Got::Missing | Got::Broken => Outcome::Broken,
+    }
+}
+
+// Adds a row of a member beside one that is lost.
+pub fn add_beside<D: Disk>(
+    set: &mut DiskSet<D>,
+    members: &Members,
+    lost: u8,
+    position: u8,
+    row: u16,
+    into: &mut Block,
+    spare: &mut Block,
+) -> Outcome
+    requires group { IsGroup set.old members.now }
+    requires lost_below { lost < 4 }
+    requires below { position < 4 }
+    requires apart { position ≢ lost }
+    requires lost { IsLost set.old (member members.now lost) }
+    requires row { row < rows_of set.old.geometry }
+    requires whole { length into.old ≡ block_len_of set.old.geometry }
+    requires spare_whole { length spare.old ≡ block_len_of set.old.geometry }
+    ensures answer { Tells set.new result }
+    ensures bytes { OnDone result ((b : List ℕ) → Stands set.old members.now row position b → into.new ≡ xor into.old b) }
+    ensures health { OnDone result (set.new.health ≡ set.old.health) }
+    ensures keeps { Keeps Anywhere set.old set.new }
+    ensures follows { Follows set.old set.new }
+    ensures loose { set.new.loose ≡ set.old.loose }
+    ensures len { length into.new ≡ length into.old }
+    ensures spare_len { length spare.new ≡ length spare.old }
+{
+    match read_beside(set, members, lost, position, row, spare) {
+        Outcome::Done => {
+            spare.xor_into(into);
+            Outcome::Done
+        }
+        Outcome::Broken => Outcome::Broken,
+    }
+}

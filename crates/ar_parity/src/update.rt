@@ -1,0 +1,153 @@
+// How a put changes a row: each new block is computed before the first write.
+ghost use Rattle.std.specs.Prelude.{◌≡◌, ◌≢◌, ℕ, ◌<◌, length};
+ghost use Rattle.ar_disks.specs.Geometry.{rows_of, block_len_of};
+ghost use Rattle.ar_disks.specs.Members.{member};
+ghost use Rattle.ar_extents.specs.Set.{IsLost, content};
+ghost use Rattle.ar_extents.specs.Follows.{Follows};
+ghost use Rattle.ar_parity.specs.Row.{Blocks, block, changed, parity_position};
+ghost use Rattle.ar_parity.specs.Group.{IsGroup, Stands, RowAgrees, KeepsButRow};
+ghost use Rattle.ar_parity.specs.Call.{Tells, Changes};
+
+use crate::Outcome;
+use crate::degraded::sum_of_two;
+use crate::slots::parity_at;
+use crate::steps::write;
+use ar_disks::{Block, Disk, Members, Scratch};
+use ar_extents::{DiskSet, Got};
+
+// Writes a block and the parity of its row, each unless its member is missing.
+fn write_both<D: Disk>(
+    set: &mut DiskSet<D>,
+    members: &Members,
+    position: u8,
+    parity: u8,
+    row: u16,
+    from: &Block,
+    sum: &Block,
+) -> Outcome
+    requires group { IsGroup set.old members.now }
+    requires below { position < 4 }
+    requires parity_below { parity < 4 }
+    requires apart { position ≢ parity }
+    requires row { row < rows_of set.old.geometry }
+    requires whole { length from.now ≡ block_len_of set.old.geometry }
+    requires sum_whole { length sum.now ≡ block_len_of set.old.geometry }
+    ensures answer { Tells set.new result }
+    ensures block { Stands set.new members.now row position from.now }
+    ensures parity { Stands set.new members.now row parity sum.now }
+    ensures others { (i : ℕ) → i < 4 → i ≢ position → i ≢ parity
+        → content set.new (member members.now i) row ≡ content set.old (member members.now i) row }
+    ensures keeps { KeepsButRow members.now row set.old set.new }
+    ensures follows { Follows set.old set.new }
+    ensures loose { set.new.loose ≡ set.old.loose }
+{
+    match write(set, members, position, row, from) {
+        Outcome::Done => write(set, members, parity, row, sum),
+        Outcome::Broken => Outcome::Broken,
+    }
+}
+
+// Puts a block where the block before it is known: reads the parity into `sum` and adds the change. Where the parity is
+// missing the block alone is written.
+fn update<D: Disk>(
+    set: &mut DiskSet<D>,
+    members: &Members,
+    position: u8,
+    row: u16,
+    from: &Block,
+    before: &Block,
+    sum: &mut Block,
+) -> Outcome
+    requires group { IsGroup set.old members.now }
+    requires below { position < 4 }
+    requires apart { position ≢ parity_position row }
+    requires row { row < rows_of set.old.geometry }
+    requires whole { length from.now ≡ block_len_of set.old.geometry }
+    requires before_whole { length before.now ≡ block_len_of set.old.geometry }
+    requires sum_whole { length sum.old ≡ block_len_of set.old.geometry }
+    ensures answer { Tells set.new result }
+    ensures agrees { (blocks : Blocks) → RowAgrees set.old members.now row blocks → before.now ≡ block blocks position
+        → RowAgrees set.new members.now row (changed blocks position (parity_position row) from.now) }
+    ensures keeps { KeepsButRow members.now row set.old set.new }
+    ensures follows { Follows set.old set.new }
+    ensures loose { set.new.loose ≡ set.old.loose }
+    ensures sum_len { length sum.new ≡ length sum.old }
+{
+    let parity = parity_at(row);
+    match set.get(members.at(parity), row, sum) {
+        Got::Read => {
+            before.xor_into(sum);
+            from.xor_into(sum);
+            write_both(set, members, position, parity, row, from, sum)
+        }
+        Got::Missing => write(set, members, position, row, from),
+        Got::Broken => Outcome::Broken,
+    }
+}
+
+// Puts a block whose member is lost, by the parity alone: the sum of the block and of the two others of its row.
+fn put_lost<D: Disk>(
+    set: &mut DiskSet<D>,
+    members: &Members,
+    position: u8,
+    row: u16,
+    from: &Block,
+    sum: &mut Block,
+    spare: &mut Block,
+) -> Outcome
+    requires group { IsGroup set.old members.now }
+    requires below { position < 4 }
+    requires apart { position ≢ parity_position row }
+    requires lost { IsLost set.old (member members.now position) }
+    requires row { row < rows_of set.old.geometry }
+    requires whole { length from.now ≡ block_len_of set.old.geometry }
+    requires sum_whole { length sum.old ≡ block_len_of set.old.geometry }
+    requires spare_whole { length spare.old ≡ block_len_of set.old.geometry }
+    ensures answer { Tells set.new result }
+    ensures agrees { (blocks : Blocks) → RowAgrees set.old members.now row blocks
+        → RowAgrees set.new members.now row (changed blocks position (parity_position row) from.now) }
+    ensures keeps { KeepsButRow members.now row set.old set.new }
+    ensures follows { Follows set.old set.new }
+    ensures loose { set.new.loose ≡ set.old.loose }
+    ensures sum_len { length sum.new ≡ length sum.old }
+    ensures spare_len { length spare.new ≡ length spare.old }
+{
+    let parity = parity_at(row);
+    match sum_of_two(set, members, position, parity, row, sum, spare) {
+        Outcome::Done => {
+            from.xor_into(sum);
+            write(set, members, parity, row, sum)
+        }
+        Outcome::Broken => Outcome::Broken,
+    }
+}
+
+// Puts a block at a position of a row, by the form that the row's members allow.
+pub fn change<D: Disk>(
+    set: &mut DiskSet<D>,
+    members: &Members,
+    position: u8,
+    row: u16,
+    from: &Block,
+    scratch: &mut Scratch,
+) -> Outcome
+    requires group { IsGroup set.old members.now }
+    requires below { position < 4 }
+    requires apart { position ≢ parity_position row }
+    requires row { row < rows_of set.old.geometry }
+    requires whole { length from.now ≡ block_len_of set.old.geometry }
+    requires scratch { scratch.old.geometry ≡ set.old.geometry }
+    ensures answer { Tells set.new result }
+    ensures changes { Changes set.old set.new members.now row position from.now }
+    ensures keeps { KeepsButRow members.now row set.old set.new }
+    ensures follows { Follows set.old set.new }
+    ensures loose { set.new.loose ≡ set.old.loose }
+    ensures geometry { scratch.new.geometry ≡ scratch.old.geometry }
+{
+    let sum = &mut scratch.second;
+    match set.get(members.at(position), row, &mut scratch.first) {
+        Got::Read => update(set, members, position, row, from, &scratch.first, sum),
+        Got::Missing => put_lost(set, members, position, row, from, sum, &mut scratch.first),
+        Got::Broken => Outcome::Broken,
+    }
+}

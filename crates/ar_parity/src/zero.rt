@@ -1,0 +1,33 @@
+// The opening of a row.
+ghost use Rattle.std.specs.Prelude.{◌≡◌, ◌<◌, length};
+ghost use Rattle.ar_disks.specs.Block.{zeros};
+ghost use Rattle.ar_disks.specs.Geometry.{rows_of, block_len_of};
+ghost use Rattle.ar_extents.specs.Follows.{Follows};
+ghost use Rattle.ar_parity.specs.Row.{zero_blocks};
+ghost use Rattle.ar_parity.specs.Group.{IsGroup, RowAgrees, KeepsButRow};
+ghost use Rattle.ar_parity.specs.Call.{Tells};
+
+use crate::Outcome;
+use crate::steps::write;
+use ar_disks::{Block, Disk, Members};
+use ar_extents::DiskSet;
+
+// Writes zeros to a row of each member, unless it is missing.
+pub fn zero_row<D: Disk>(set: &mut DiskSet<D>, members: &Members, row: u16, zero: &Block) -> Outcome
+    requires group { IsGroup set.old members.now }
+    requires row { row < rows_of set.old.geometry }
+    requires zero { zero.now ≡ zeros (block_len_of set.old.geometry) }
+    ensures answer { Tells set.new result }
+    ensures agrees { RowAgrees set.new members.now row (zero_blocks (block_len_of set.old.geometry)) }
+    ensures keeps { KeepsButRow members.now row set.old set.new }
+    ensures follows { Follows set.old set.new }
+    ensures loose { set.new.loose ≡ set.old.loose }
+{
+    for position in 0..4 {
+        match write(set, members, position, row, zero) {
+            Outcome::Done => {}
+            Outcome::Broken => return Outcome::Broken,
+        }
+    }
+    Outcome::Done
+}
