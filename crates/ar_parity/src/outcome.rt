@@ -17,6 +17,6 @@ pub enum RowOutcome {
     Done,
     /// The new disk faulted, and is out.
     GivenUp,
-    /// The set of disks is broken, perhaps since this very call.
+    /// The set of disks is broken, since this very call.
     Broken,
 }

@@ -192,20 +192,19 @@ fn a_group_is_opened_without_its_first_disk(rt: HostRuntime) -> Result<(), Fail>
 }
 
 // Puts into each of the first slots of a new group, and compares where the block and the parity of its row stand.
-fn compare_places(rt: &impl Abort, alloc: Global, geometry: Geometry) -> Result<(), Fail> {
-    for (slot, member, row, parity) in [
-        (0, 1, 0, 0),
-        (1, 2, 0, 0),
-        (2, 3, 0, 0),
-        (3, 0, 1, 1),
-        (4, 2, 1, 1),
-        (5, 3, 1, 1),
-    ] {
+fn compare_places(
+    rt: &impl Abort,
+    alloc: Global,
+    geometry: Geometry,
+    table: &[(u16, u8, u16, u8)],
+) -> Result<(), Fail> {
+    for (slot, member, row, parity) in table {
+        let (slot, member, row, parity) = (*slot, *member, *row, *parity);
         let mut set = set_of(alloc, geometry, 0, WHOLE)?;
         assert_eq!(rt; open(alloc, &mut set)?, Outcome::Done);
         assert_eq!(rt; write(rt, alloc, &mut set, slot, 0xA5)?, Outcome::Done);
         for disk in 0..4 {
-            for r in 0..2 {
+            for r in 0..geometry.rows() {
                 let is_written = r == row && (disk == member || disk == parity);
                 let byte = if is_written { 0xA5 } else { 0x00 };
                 assert_eq!(rt;
@@ -222,8 +221,28 @@ fn compare_places(rt: &impl Abort, alloc: Global, geometry: Geometry) -> Result<
 #[test]
 fn slots_stand_where_the_table_says(rt: HostRuntime) -> Result<(), Fail> {
     let alloc = rt.alloc();
-    compare_places(&rt, alloc, Geometry::SMALL)?;
-    compare_places(&rt, alloc, Geometry::PAPER)
+    let small = [
+        (0, 1, 0, 0),
+        (1, 2, 0, 0),
+        (2, 3, 0, 0),
+        (3, 0, 1, 1),
+        (4, 2, 1, 1),
+        (5, 3, 1, 1),
+    ];
+    compare_places(&rt, alloc, Geometry::SMALL, small.as_slice())?;
+    let paper = [
+        (0, 1, 0, 0),
+        (3, 0, 1, 1),
+        (6, 0, 2, 2),
+        (7, 1, 2, 2),
+        (8, 3, 2, 2),
+        (9, 0, 3, 3),
+        (10, 1, 3, 3),
+        (11, 2, 3, 3),
+        (45, 0, 15, 3),
+        (47, 2, 15, 3),
+    ];
+    compare_places(&rt, alloc, Geometry::PAPER, paper.as_slice())
 }
 
 // Compares what every slot gives with a plain list.
