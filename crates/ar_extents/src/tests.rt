@@ -298,12 +298,7 @@ fn disks_are_refused_in_order(rt: HostRuntime) -> Result<(), Fail> {
     );
     assert_eq!(rt; set.fail(4), Err(DiskRefusal::NoSuchDisk));
     assert_eq!(rt; set.health(), Health::Whole);
-    refused(
-        &rt,
-        set.add(disk(alloc, 3, 0)?),
-        DiskRefusal::WrongSize,
-        3,
-    );
+    refused(&rt, set.add(disk(alloc, 3, 0)?), DiskRefusal::WrongSize, 3);
     assert_eq!(rt; set.count(), 4);
 
     assert_eq!(rt; set.fail(0), Ok(()));
@@ -343,12 +338,7 @@ fn disks_are_refused_in_order(rt: HostRuntime) -> Result<(), Fail> {
 
     assert_eq!(rt; set.fail(5), Ok(()));
     assert_eq!(rt; set.health(), Health::Broken);
-    refused(
-        &rt,
-        set.add(disk(alloc, 3, 0)?),
-        DiskRefusal::Broken,
-        3,
-    );
+    refused(&rt, set.add(disk(alloc, 3, 0)?), DiskRefusal::Broken, 3);
     refused(
         &rt,
         set.replace(12, disk(alloc, 3, 0)?),
