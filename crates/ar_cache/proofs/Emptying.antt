@@ -1,5 +1,5 @@
 -- Where a cache stands while it is emptied.
-use Rattle.std.proofs.Common.{◌≡◌, ◌≤◌, ℕ, Bool, List, length, take}
+use Rattle.std.proofs.Common.{◌≡◌, ◌≤◌, ◌<◌, ℕ, Bool, false, List, length, take}
 use Rattle.ar_disks.specs.declared.address.Key.{Key}
 use Rattle.ar_disks.specs.declared.geometry.Geometry.{Geometry}
 use Rattle.ar_cache.specs.Backing.{Keeps}
@@ -12,4 +12,6 @@ pub record IsEmptying {S : Type 0} (block_at : S → Key → List ℕ) (geometry
   pub unchanged : SameSeen old (block_at from) new (block_at to)
   pub known : KnowsAll (knows to) new
   pub same_broken : is_broken to ≡ is_broken from
+  pub untouched : length new.entries ≡ length old.entries → to ≡ from
+  pub told : length new.entries < length old.entries → is_broken to ≡ false
   pub kept : Keeps geometry knows is_broken follows from to

@@ -120,11 +120,16 @@ answer_of Idle = stored.Done
 answer_of Broken = stored.Broken
 
 -- A backing broke while the cache was emptied: the most recently used of its entries stand, at least the one whose
--- destaging broke it, and up to that call no key was seen with another block.
-pub record StopsAt {S : Type 0} (block_at : S → Key → List ℕ) (old new : CacheState) (backing : S) : Type 0 where
+-- destaging broke it. When that destaging began, the backing was in a state that its own relation joins to the first and to
+-- the last, it was broken only if it was at first, and no key was seen with another block.
+pub record StopsAt {S : Type 0} (block_at : S → Key → List ℕ) (is_broken : S → Bool) (follows : S → S → Type 0)
+    (old new : CacheState) (backing ended : S) : Type 0 where
   pub left : ℕ
   pub some_left : 0 < left
   pub as_many : left ≤ length old.entries
   pub entries : new ≡ with_entries old (take left old.entries)
   pub reached : S
+  pub came : follows backing reached
+  pub went_on : follows reached ended
+  pub same_broken : is_broken reached ≡ is_broken backing
   pub unchanged : SameSeen old (block_at backing) new (block_at reached)

@@ -3,7 +3,7 @@ ghost use Rattle.std.specs.Prelude.{◌≡◌, ◌≢◌, ◌≤◌, ◌<◌, �
 ghost use Rattle.std.specs.Bool.{OnTrue, OnFalse};
 ghost use Rattle.ar_disks.specs.Geometry.{block_len_of};
 ghost use Rattle.ar_disks.specs.declared.address.Key.{Key};
-ghost use Rattle.ar_cache.specs.Backing.{IsHonest, Keeps, SameBlocks, Writes};
+ghost use Rattle.ar_cache.specs.Backing.{IsHonest, stored, Keeps, SameBlocks, Writes};
 
 use crate::answers::{Flush, Stored};
 use crate::backing::Backing;
@@ -91,6 +91,7 @@ impl Cache {
             → (result ≡ Stored.Done) × (backing.new ≡ backing.old) }
         ensures miss { cached self.now key ≡ None → B.reads backing.old backing.new }
         ensures answer { IsHonest result (B.is_broken backing.old) (B.is_broken backing.new) }
+        ensures asked { cached self.now key ≡ None → result ≡ stored (B.is_broken backing.new) }
         ensures keeps { Keeps B.geometry B.knows B.is_broken B.follows backing.old backing.new }
     {
         match self.entries.peek(&key) {
@@ -127,6 +128,9 @@ impl Cache {
         ensures fits { length self.new.entries ≤ self.new.capacity }
         ensures all_known { KnowsAll (B.knows backing.new) self.new }
         ensures answer { IsHonest result (B.is_broken backing.old) (B.is_broken backing.new) }
+        ensures asked { cached self.old key ≡ None
+            → self.old.capacity ≤ length self.old.entries → result ≡ stored (B.is_broken backing.new) }
+        ensures through { cached self.new key ≡ None → result ≡ stored (B.is_broken backing.new) }
         ensures keeps { Keeps B.geometry B.knows B.is_broken B.follows backing.old backing.new }
     {
         if replace(&mut self.entries, key, block) {
@@ -148,6 +152,7 @@ impl Cache {
             → SameSeen self.old (B.block_at backing.old) self.new (B.block_at backing.new) }
         ensures all_known { KnowsAll (B.knows backing.new) self.new }
         ensures answer { IsHonest (answer_of result) (B.is_broken backing.old) (B.is_broken backing.new) }
+        ensures asked { 0 < length self.old.entries → answer_of result ≡ stored (B.is_broken backing.new) }
         ensures keeps { Keeps B.geometry B.knows B.is_broken B.follows backing.old backing.new }
     {
         let answer = self.destage_last(backing);
@@ -176,6 +181,7 @@ impl Cache {
             → SameSeen self.old (B.block_at backing.old) self.new (B.block_at backing.new) }
         ensures all_known { KnowsAll (B.knows backing.new) self.new }
         ensures answer { IsHonest result (B.is_broken backing.old) (B.is_broken backing.new) }
+        ensures asked { IsSome (cached self.old key) → result ≡ stored (B.is_broken backing.new) }
         ensures keeps { Keeps B.geometry B.knows B.is_broken B.follows backing.old backing.new }
     {
         let Some(block) = self.entries.peek(&key) else {
@@ -195,11 +201,14 @@ impl Cache {
         requires geometry { B.geometry backing.old ≡ self.old.geometry }
         requires all_known { KnowsAll (B.knows backing.old) self.old }
         ensures emptied { result ≡ Stored.Done → self.new ≡ with_entries self.old [] }
-        ensures broken { result ≡ Stored.Broken → StopsAt B.block_at self.old self.new backing.old }
+        ensures quiet { self.old.entries ≡ [] → backing.new ≡ backing.old }
+        ensures broken { result ≡ Stored.Broken
+            → StopsAt B.block_at B.is_broken B.follows self.old self.new backing.old backing.new }
         ensures seen { result ≡ Stored.Done
             → SameSeen self.old (B.block_at backing.old) self.new (B.block_at backing.new) }
         ensures all_known { KnowsAll (B.knows backing.new) self.new }
         ensures answer { IsHonest result (B.is_broken backing.old) (B.is_broken backing.new) }
+        ensures asked { 0 < length self.old.entries → result ≡ stored (B.is_broken backing.new) }
         ensures keeps { Keeps B.geometry B.knows B.is_broken B.follows backing.old backing.new }
     {
         while self.len() > 0 {
@@ -255,6 +264,8 @@ impl Cache {
         ensures fits { length self.new.entries ≤ self.new.capacity }
         ensures all_known { KnowsAll (B.knows backing.new) self.new }
         ensures answer { IsHonest result (B.is_broken backing.old) (B.is_broken backing.new) }
+        ensures asked { self.old.capacity ≤ length self.old.entries → result ≡ stored (B.is_broken backing.new) }
+        ensures through { cached self.new key ≡ None → result ≡ stored (B.is_broken backing.new) }
         ensures keeps { Keeps B.geometry B.knows B.is_broken B.follows backing.old backing.new }
     {
         if self.len() < self.capacity as usize {
@@ -282,6 +293,7 @@ impl Cache {
         ensures fits { length self.new.entries ≤ self.new.capacity }
         ensures all_known { KnowsAll (B.knows backing.new) self.new }
         ensures answer { IsHonest result (B.is_broken backing.old) (B.is_broken backing.new) }
+        ensures through { cached self.new key ≡ None → result ≡ stored (B.is_broken backing.new) }
         ensures keeps { Keeps B.geometry B.knows B.is_broken B.follows backing.old backing.new }
     {
         if self.insert(key, block) {
@@ -307,6 +319,7 @@ impl Cache {
         ensures fits { length self.new.entries ≤ self.new.capacity }
         ensures all_known { KnowsAll (B.knows backing.new) self.new }
         ensures answer { IsHonest result (B.is_broken backing.old) (B.is_broken backing.new) }
+        ensures asked { result ≡ stored (B.is_broken backing.new) }
         ensures keeps { Keeps B.geometry B.knows B.is_broken B.follows backing.old backing.new }
     {
         if let Flush::Broken = self.destage_last(backing) {
@@ -332,6 +345,7 @@ impl Cache {
         ensures given { Gives result self.now.entries (B.block_at backing.old) (B.block_at backing.new) }
         ensures quiet { result ≡ Flush.Idle → backing.new ≡ backing.old }
         ensures answer { IsHonest (answer_of result) (B.is_broken backing.old) (B.is_broken backing.new) }
+        ensures asked { 0 < length self.now.entries → answer_of result ≡ stored (B.is_broken backing.new) }
         ensures keeps { Keeps B.geometry B.knows B.is_broken B.follows backing.old backing.new }
     {
         match self.entries.peek_lru() {

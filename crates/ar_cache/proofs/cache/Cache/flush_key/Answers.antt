@@ -1,4 +1,5 @@
 use Rattle.std.proofs.Common.{◌≡◌, IsSome, Some, None, refl, sym, ap, ◌∙◌, subst}
+use Rattle.std.proofs.lemmas.Bool.{false≢true}
 use Rattle.ar_disks.specs.Geometry.{block_len_of}
 use Rattle.ar_cache.specs.Cache.{IsSound, SameSeen, KnowsAll, cached, with_entries}
 use Rattle.ar_cache.proofs.Keys.{same_key_refl}
@@ -11,6 +12,11 @@ returns-in_default-clause-flushed g c done =
     let old = c.args.self.now in
     let miss = subst (λ s. cached s c.args.key ≡ None) c.self.view_is (sym c.in_default.ensures) in
     ap (with_entries old) (sym (without_absent old.entries c.args.key miss))
+
+pub returns-in_default-clause-asked : goal.returns-in_default-clause-asked
+returns-in_default-clause-asked g c is =
+    let miss = subst (λ s. cached s c.args.key ≡ None) c.self.view_is (sym c.in_default.ensures) in
+    absurd (false≢true (rw miss at is))
 
 pub put-requires-clause-known : goal.put-requires-clause-known
 put-requires-clause-known g c =

@@ -21,6 +21,11 @@ returns-in-Some-clause-miss g c miss =
     let hit = subst (λ s. cached s c.args.key ≡ Some c.in-Some.block.now) c.self.view_is (sym c.in-Some.ensures) in
     cc
 
+pub returns-in-Some-clause-asked : goal.returns-in-Some-clause-asked
+returns-in-Some-clause-asked g c miss =
+    let hit = subst (λ s. cached s c.args.key ≡ Some c.in-Some.block.now) c.self.view_is (sym c.in-Some.ensures) in
+    cc
+
 pub returns-in-None-clause-hit : goal.returns-in-None-clause-hit
 returns-in-None-clause-hit g c hit =
     let miss = subst (λ s. cached s c.args.key ≡ None) c.self.view_is (sym c.in-None.ensures) in
