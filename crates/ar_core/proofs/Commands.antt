@@ -17,7 +17,7 @@ use Rattle.ar_unit.proofs.Laws.{after-shape}
 use Rattle.ar_core.specs.Sectors.{Address, address_of, same_address}
 use Rattle.ar_core.specs.Table.{Table}
 use Rattle.ar_core.specs.Array.{ArrayState, image, image_of, unit_sectors, is_at}
-use Rattle.ar_core.specs.Pair.{Follows, SameUnit}
+use Rattle.ar_core.specs.Pair.{Follows, SameUnit, disks_refl, disks_same}
 use Rattle.ar_core.specs.Served.{IsUnit, IsFound, Serves, Commands}
 use Rattle.ar_core.specs.declared.event.Event.{Event}
 use Rattle.ar_core.specs.declared.event.Event.TheVariants.{Make as MakeEvent, Remove as RemoveEvent, Cmd as CmdEvent}
@@ -105,7 +105,7 @@ commands_served old new a addr n cdb bytes reply found serves =
                 ∙ ap shape_of (sym (image-here old addr n b found.unit here))
             | inr there ↦ ap shape_of (image-there new addr n b still there ∙ sym (image-there old addr n b found.unit there))
           ];
-      stays_broken = serves.follows.stays_broken;
+      disks = serves.follows.disks;
     }
 
 -- a command where no unit is
@@ -123,7 +123,7 @@ commands_absent s addr cdb bytes reply none given =
       };
       others = λ now b other. refl;
       shapes = λ b. refl;
-      stays_broken = λ lost. lost;
+      disks = disks_refl s;
     }
 
 same_pair : (a b : Address) → same_address a b ≡ true → a ≡ b
@@ -178,7 +178,7 @@ steps_command old new host lun cdb payload reply c = record {
   answers = c.obeys;
   images = λ now a. command-image old new host.number lun cdb payload reply c now a;
   shapes = λ a. command-shape old new host.number lun cdb payload reply c a;
-  stays_broken = c.stays_broken;
+  disks = c.disks;
 }
 
 abbrev no_entry : List Entry
@@ -195,7 +195,7 @@ steps_nothing old event outcome answers none = record {
   answers = answers;
   images = λ now a. ap (unit_run (image old a)) (sym (none a));
   shapes = λ a. ap (λ (es : List Entry). shape_of (unit_run (image old a) es)) (sym (none a));
-  stays_broken = λ lost. lost;
+  disks = disks_refl old;
 }
 
 either_nothing : (b : Bool) → cond b (no_entry) no_entry ≡ no_entry
@@ -209,7 +209,7 @@ steps_made old new addr n (Ok done) makes made = record {
   answers = makes;
   images = λ now a. becomes-run (same_address (address_of addr) a) (image old a) (Make n) (image new a) (made refl a);
   shapes = λ a. ap shape_of (becomes-run (same_address (address_of addr) a) (image old a) (Make n) (image new a) (made refl a));
-  stays_broken = λ lost. makes.sound ∙ lost;
+  disks = disks_same old new makes.disks;
 }
 steps_made old new addr n (Err refusal) makes made =
     let same : new ≡ old = makes.refused (λ e. cc) in
@@ -223,7 +223,7 @@ steps_removed old new addr (Ok done) removes removed = record {
   answers = removes;
   images = λ now a. becomes-run (same_address (address_of addr) a) (image old a) Remove (image new a) (removed refl a);
   shapes = λ a. ap shape_of (becomes-run (same_address (address_of addr) a) (image old a) Remove (image new a) (removed refl a));
-  stays_broken = λ lost. removes.sound ∙ lost;
+  disks = disks_same old new removes.disks;
 }
 steps_removed old new addr (Err refusal) removes removed =
     let same : new ≡ old = removes.refused (λ e. cc) in

@@ -35,7 +35,7 @@ agrees-step : (old : ArrayState) (event : Event) (outcome : Outcome) (new : Arra
     → Steps old event outcome new → Agrees old u a → Agrees new (unit_run u (entry_at a event outcome)) a
 agrees-step old event outcome new u a steps agrees = record {
   sound = λ now.
-      ap (λ (v : UnitState). unit_run v (entry_at a event outcome)) (agrees.sound (was_sound old.broken new.broken steps.stays_broken now)) ∙ sym (steps.images now a);
+      ap (λ (v : UnitState). unit_run v (entry_at a event outcome)) (agrees.sound (was_sound old.broken new.broken steps.disks.stays_broken now)) ∙ sym (steps.images now a);
   shape = unit_run-shape (entry_at a event outcome) u (image old a) agrees.shape ∙ sym (steps.shapes a);
 }
 
@@ -56,7 +56,7 @@ first_met old s new event outcome u host lun cdb payload reply steps agrees is t
       old = old;
       agrees = agrees;
       obeys = subst (λ (e : Event). Answers old e (CmdOutcome reply) s) is answers;
-      stays = steps.stays_broken;
+      stays = steps.disks.stays_broken;
     })
 
 met : (events : List Event) (outcomes : List Outcome) (states : List ArrayState) (old : ArrayState) (u : UnitState)

@@ -210,7 +210,7 @@ pub serves_read : (old new : ArrayState) (addr : Addr) (n lba count : ℕ) (tran
     → (transfer ≡ Done → IsGiven (good out) reply) → (transfer ≡ Broken → reply ≡ check internal_target_failure) → (transfer ≡ NoMemory → reply ≡ busy)
     → Serves old addr n (leaving (Present (unit_sectors old addr n) false) (good (sectors_read old addr lba count))) (check internal_target_failure) reply new
 serves_read old new addr n lba count Done out reply follows blocks kept there some sound broken bytes done lost refused =
-    let same : Present (unit_sectors new addr n) false ≡ Present (unit_sectors old addr n) false = ap (λ l. Present l false) (unit_sectors-same old new addr n follows.geometry blocks) in
+    let same : Present (unit_sectors new addr n) false ≡ Present (unit_sectors old addr n) false = ap (λ l. Present l false) (unit_sectors-same old new addr n follows.disks.geometry blocks) in
     record {
       follows = follows;
       sound = λ now. record {
@@ -226,7 +226,7 @@ serves_read old new addr n lba count Broken out reply follows blocks kept there 
   broken = λ now. subst (λ (r : Reply). IsGiven (check internal_target_failure) r) (sym (lost refl)) (given_check internal_target_failure);
 }
 serves_read old new addr n lba count NoMemory out reply follows blocks kept there some sound broken bytes done lost refused =
-    let same : Present (unit_sectors new addr n) false ≡ Present (unit_sectors old addr n) false = ap (λ l. Present l false) (unit_sectors-same old new addr n follows.geometry blocks) in
+    let same : Present (unit_sectors new addr n) false ≡ Present (unit_sectors old addr n) false = ap (λ l. Present l false) (unit_sectors-same old new addr n follows.disks.geometry blocks) in
     record {
       follows = follows;
       sound = λ now. record {
@@ -247,7 +247,7 @@ pub serves_write : (old new : ArrayState) (addr : Addr) (n lba count : ℕ) (byt
     → Serves old addr n (leaving (Present (written (unit_sectors old addr n) lba count bytes) false) (good [])) (check internal_target_failure) reply new
 serves_write old new addr n lba count bytes Kept reply follows there within sound broken inside outside done lost =
     let sectors : unit_sectors new addr n ≡ written (unit_sectors old addr n) lba count bytes =
-    ap (λ (g : Geometry). map (sector_in g (blocks_of (block_of new) addr)) (range_with_len 0 n)) follows.geometry
+    ap (λ (g : Geometry). map (sector_in g (blocks_of (block_of new) addr)) (range_with_len 0 n)) follows.disks.geometry
     ∙ written_range (sector_in old.geometry (blocks_of (block_of old) addr)) (sector_in old.geometry (blocks_of (block_of new) addr)) n lba count bytes within (inside refl) (outside refl) in
     record {
       follows = follows;

@@ -9,7 +9,7 @@ use Rattle.std.specs.List.{concat}
 use Rattle.ar_core.specs.Sectors.{Address, address_of, same_address, sectors_in, blocks_of}
 use Rattle.ar_core.specs.Array.{ArrayState, unit_sectors, block_of, image}
 use Rattle.ar_core.specs.Step.{Obeys}
-use Rattle.ar_core.specs.Pair.{Follows}
+use Rattle.ar_core.specs.Pair.{Follows, DisksFollow}
 
 -- the bytes of sectors of a unit
 abbrev pub sectors_read : ArrayState → Addr → ℕ → ℕ → List ℕ
@@ -37,4 +37,4 @@ pub record Commands (old : ArrayState) (a : Address) (cdb bytes : List ℕ) (rep
   pub obeys : Obeys old a cdb bytes reply new
   pub others : new.broken ≡ false → (b : Address) → same_address a b ≡ false → image new b ≡ image old b
   pub shapes : (b : Address) → shape_of (image new b) ≡ shape_of (image old b)
-  pub stays_broken : IsTrue old.broken → IsTrue new.broken
+  pub disks : DisksFollow old new

@@ -16,6 +16,7 @@ use Rattle.ar_core.specs.declared.event.Refusal.TheVariants.{Exists, Size, NoRoo
 use Rattle.ar_core.specs.declared.event.Refusal.TheVariants.{Absent as NoUnit, Broken as IsBroken}
 use Rattle.ar_core.specs.Array.{ArrayState, blocks_for, image, is_at}
 use Rattle.ar_core.specs.Sectors.{Address, address_of, same_address}
+use Rattle.ar_core.specs.Pair.{DisksFollow, SameDisks}
 
 -- the address that an event is about
 abbrev pub address_in : Event → Address
@@ -65,17 +66,17 @@ remove_refusal s addr =
     if s.broken then Some IsBroken
     else (if is_at s.unit addr then None else Some NoUnit)
 
--- a making was done, or refused for its reason and nothing changed; for want of memory it may be refused too
+-- A making was done, or refused for its reason and nothing changed; for want of memory it may be refused too. It touches no disk.
 pub record Makes (old : ArrayState) (addr : Addr) (sectors : ℕ) (result : Result (Unit {0}) Refusal) (new : ArrayState) : Type 0 where
   pub answer : MatchOption (make_refusal old addr sectors) ((result ≡ Ok tt) ⊎ (result ≡ Err NoMemory)) (λ refusal. result ≡ Err refusal)
   pub refused : result ≢ Ok tt → new ≡ old
-  pub sound : new.broken ≡ old.broken
+  pub disks : SameDisks old new
 
--- a removal was done exactly where there is a unit, else nothing changed
+-- a removal was done exactly where there is a unit, else nothing changed; it touches no disk
 pub record Removes (old : ArrayState) (addr : Addr) (result : Result (Unit {0}) Refusal) (new : ArrayState) : Type 0 where
   pub answer : MatchOption (remove_refusal old addr) (result ≡ Ok tt) (λ refusal. result ≡ Err refusal)
   pub refused : result ≢ Ok tt → new ≡ old
-  pub sound : new.broken ≡ old.broken
+  pub disks : SameDisks old new
 
 -- the unit at this address is made, and every other is as it was
 abbrev pub BecomesMade : ArrayState → Addr → ℕ → ArrayState → Type 0
@@ -101,9 +102,9 @@ Answers old (CmdEvent host lun cdb payload) (CmdOutcome reply) new = Obeys old (
 Answers old event outcome new = ⊥
 
 -- One step. Each unit, whatever the event was about, is what its own entry makes of it; of a broken array this is said of
--- whether the unit is there, and its length and mark. A broken array stays broken.
+-- whether the unit is there, and its length and mark. No data are lost but by a disk's fault, and a broken array stays broken.
 pub record Steps (old : ArrayState) (event : Event) (outcome : Outcome) (new : ArrayState) : Type 0 where
   pub answers : Answers old event outcome new
   pub images : new.broken ≡ false → (a : Address) → image new a ≡ unit_run (image old a) (entry_at a event outcome)
   pub shapes : (a : Address) → shape_of (image new a) ≡ shape_of (unit_run (image old a) (entry_at a event outcome))
-  pub stays_broken : IsTrue old.broken → IsTrue new.broken
+  pub disks : DisksFollow old new

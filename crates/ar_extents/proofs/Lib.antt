@@ -5,3 +5,4 @@ pub mod LooseLemmas
 pub mod Losses
 pub mod Access
 pub mod Changes
+pub mod GroupLemmas

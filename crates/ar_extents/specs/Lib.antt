@@ -4,6 +4,7 @@ pub mod Follows
 pub mod Access
 pub mod Loose
 pub mod Changes
+pub mod Groups
 -- the words of ar_disks that clauses of this crate cite
 pub use Rattle.ar_disks.specs.Geometry
 pub use Rattle.ar_disks.specs.Disk

@@ -4,6 +4,7 @@
 mod answers;
 mod health;
 mod marks;
+mod outcome;
 mod refusal;
 mod set;
 mod shape;
@@ -12,5 +13,6 @@ mod tests;
 
 pub use answers::{Got, Put, PutNew};
 pub use health::Health;
+pub use outcome::{Outcome, RowOutcome};
 pub use refusal::{DiskRefusal, StartFault};
 pub use set::{DiskSet, fault_of};

@@ -13,10 +13,12 @@ use Rattle.ar_extents.specs.declared.answers.Put.{Put}
 use Rattle.ar_extents.specs.declared.answers.Put.TheVariants.{Written, Missing, Broken as PutBroken}
 use Rattle.ar_extents.proofs.Follows.{follows_then}
 use Rattle.ar_extents.proofs.Losses.{missing_lost, broken_lost, lost_not_sound, lost_or_sound}
-use Rattle.ar_mirror.specs.Slots.{slots_of, row_of, one_of, other_of, IsGroup}
+use Rattle.ar_extents.specs.Groups.{IsGroup}
+use Rattle.ar_extents.proofs.GroupLemmas.{same_place}
+use Rattle.ar_mirror.specs.Slots.{slots_of, row_of, one_of, other_of}
 use Rattle.ar_mirror.specs.Holds.{BothHave, Holds}
 use Rattle.ar_mirror.specs.Calls.{IsInPair, KeepsButSlot, OtherSlotsHold, OtherGroupsHold, TouchesPair}
-use Rattle.ar_mirror.proofs.SlotLemmas.{same_place, pair_fits, same_slot, members_differ, members_disjoint, pair_apart}
+use Rattle.ar_mirror.proofs.SlotLemmas.{pair_fits, same_slot, members_differ, members_disjoint, pair_apart}
 
 -- a row of two extents that keep it
 pub both_have_then : (a b : SetState) (one other : Place) (row : ℕ) (block : List ℕ) → Follows a b → content b one row ≡ content a one row
@@ -31,14 +33,6 @@ pub holds_at : (s : SetState) (g : Geometry) (m : Members) (slot : ℕ) (block :
     → BothHave s (one_of g m slot) (other_of g m slot) (row_of g slot) block → Holds s m slot block
 holds_at s g m slot block same has =
     let P : Geometry → Type 0 = λ g. BothHave s (one_of g m slot) (other_of g m slot) (row_of g slot) block in subst P (sym same) has
-
--- A slot goes on holding its block where reads and writes keep the rows of its pair, whatever disk is lost meanwhile.
-pub holds_kept : (these : Place → Type 0) (a b : SetState) (m : Members) (slot : ℕ) (block : List ℕ) → Follows a b → Keeps these a b
-    → these (one_of a.geometry m slot) → these (other_of a.geometry m slot) → Holds a m slot block → Holds b m slot block
-holds_kept these a b m slot block ab keeps one other has =
-    holds_at b a.geometry m slot block ab.geometry
-    (both_have_then a b (one_of a.geometry m slot) (other_of a.geometry m slot) (row_of a.geometry slot) block ab
-    (keeps.rows (one_of a.geometry m slot) one (row_of a.geometry slot)) (keeps.rows (other_of a.geometry m slot) other (row_of a.geometry slot)) has)
 
 -- a row that one write leaves
 row_kept : (a b : SetState) (place p : Place) (written row : ℕ) → KeepsBut place written a b → (p ≡ place → row ≢ written) → content b p row ≡ content a p row
@@ -200,17 +194,3 @@ slot_written m slot a b c g one other row block first second group hs same is_on
 -- no extent but the slot's pair is written
 pub keeps_other_pairs : (m : Members) (slot : ℕ) (a b : SetState) → KeepsButSlot m slot a b → Keeps (λ p. IsInPair a.geometry m slot p → ⊥) a b
 keeps_other_pairs m slot a b keeps = record { rows = λ p not_in row. keeps.rows p row (λ is. absurd (not_in is)) }
-
--- no extent outside the group is written
-pub keeps_outside : (m : Members) (slot : ℕ) (a b : SetState) → slot < slots_of a.geometry → KeepsButSlot m slot a b
-    → Keeps (λ p. (i : ℕ) → i < 4 → p ≢ member m i) a b
-keeps_outside m slot a b hs keeps =
-    let fits = pair_fits a.geometry slot hs in
-    record {
-      rows = λ p outside row.
-          keeps.rows p row
-          (λ is. absurd (elim is [
-            | inl one ↦ outside (2 * (slot / rows_of a.geometry)) (omega arith) one
-            | inr other ↦ outside (2 * (slot / rows_of a.geometry) + 1) (omega arith) other
-          ]));
-    }

@@ -1,4 +1,5 @@
 pub mod SlotLemmas
 pub mod Holding
-pub mod Losing
+pub mod Frames
 pub mod Rebuilding
+pub mod Standing

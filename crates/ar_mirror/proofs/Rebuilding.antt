@@ -1,4 +1,4 @@
--- What slots hold while an extent is rebuilt, and once it counts as done.
+-- What slots hold while an extent is rebuilt.
 use Rattle.std.proofs.Common.{◌≡◌, ◌⊎◌, inl, inr, ℕ, zero, suc, ◌+◌, ◌*◌, ◌/◌, ◌<◌, true, List, refl, sym, ◌∙◌, ap, subst, arith}
 use Rattle.std.proofs.lemmas.Bool.Decides.{nat_tests}
 use Rattle.ar_disks.specs.declared.address.Place.{Place}
@@ -6,17 +6,16 @@ use Rattle.ar_disks.specs.declared.address.Members.{Members}
 use Rattle.ar_extents.specs.declared.health.Health.{Health}
 use Rattle.ar_extents.specs.declared.health.Health.TheVariants.{Whole, Out, Rebuilding, Broken}
 use Rattle.ar_extents.specs.Health.{is_missing, IsRebuilding, rebuilt_disk, next_extent}
-use Rattle.ar_extents.specs.Set.{SetState, HasExtent, content, IsSound, IsMissing}
-use Rattle.ar_extents.specs.Changes.{with_done}
+use Rattle.ar_extents.specs.Set.{SetState, content, IsSound, IsMissing}
 use Rattle.ar_extents.specs.Follows.{Follows, KeepsBut}
 use Rattle.ar_extents.specs.Access.{next_place}
-use Rattle.ar_extents.proofs.Losses.{missing_lost, lost_not_sound, sound_with_done}
+use Rattle.ar_extents.proofs.Losses.{missing_lost, lost_not_sound}
 use Rattle.ar_mirror.specs.Slots.{one_of, other_of, row_of, slots_of, partner_of}
 use Rattle.ar_disks.specs.Geometry.{rows_of}
 use Rattle.ar_disks.specs.Members.{member}
 use Rattle.ar_mirror.specs.Holds.{Holds}
-use Rattle.ar_mirror.specs.Calls.{IsInPair, AllSlotsHold, IsCopied}
-use Rattle.ar_mirror.proofs.SlotLemmas.{same_place, pair_fits}
+use Rattle.ar_mirror.specs.Calls.{AllSlotsHold, IsCopied}
+use Rattle.ar_mirror.proofs.SlotLemmas.{pair_fits}
 use Rattle.ar_mirror.proofs.Holding.{holds_at}
 
 missing_at_mark : (h : Health) → IsRebuilding h → is_missing h (rebuilt_disk h) (next_extent h) ≡ true
@@ -48,25 +47,6 @@ rebuild_holds a b written is ab keeps = record {
             kept_when_sound a b (other_of a.geometry m slot) written (row_of a.geometry slot) is ab keeps sound ∙ has.other_has (ab.usable (other_of a.geometry m slot) sound);
       });
 }
-
-done_has : (s : SetState) (p : Place) (row : ℕ) (block : List ℕ) → HasExtent s p → (IsSound s p → content s p row ≡ block)
-    → (p ≡ next_place s → content s p row ≡ block) → IsSound (with_done s) p → content (with_done s) p row ≡ block
-unfolding content
-done_has s p row block there has rebuilt sound =
-    elim (same_place p (next_place s)) [
-      | inl same ↦ rebuilt same
-      | inr ne ↦ has (sound_with_done s p there.extent ne sound)
-    ]
-
--- Once the extent counts as done, a slot holds its block where the extent isn't in its pair, or has the block by now.
-pub holds_with_done : (s : SetState) (m : Members) (slot : ℕ) (block : List ℕ) → HasExtent s (one_of s.geometry m slot) → HasExtent s (other_of s.geometry m slot)
-    → (IsInPair s.geometry m slot (next_place s) → content s (next_place s) (row_of s.geometry slot) ≡ block) → Holds s m slot block → Holds (with_done s) m slot block
-holds_with_done s m slot block one other rebuilt has =
-    let P : Place → Type 0 = λ x. content s x (row_of s.geometry slot) ≡ block in
-    record {
-      one_has = λ sound. done_has s (one_of s.geometry m slot) (row_of s.geometry slot) block one has.one_has (λ same. subst P (sym same) (rebuilt (inl (sym same)))) sound;
-      other_has = λ sound. done_has s (other_of s.geometry m slot) (row_of s.geometry slot) block other has.other_has (λ same. subst P (sym same) (rebuilt (inr (sym same)))) sound;
-    }
 
 partner_of_one : (pair : ℕ) → pair < 2 → partner_of (2 * pair) ≡ 2 * pair + 1
 partner_of_one zero lt = refl

@@ -1,5 +1,5 @@
 -- Places, and which slots share a row of them.
-use Rattle.std.proofs.Common.{◌≡◌, ◌≢◌, ◌⊎◌, inl, inr, ℕ, zero, suc, ◌+◌, ◌*◌, ◌/◌, ◌<◌, ◌≤◌, sym, ◌∙◌, ap, arith}
+use Rattle.std.proofs.Common.{◌≡◌, ◌≢◌, inl, inr, ℕ, zero, suc, ◌+◌, ◌*◌, ◌/◌, ◌<◌, ◌≤◌, sym, ap, arith}
 use Rattle.std.proofs.lemmas.Bool.Decides.{eqb_tells}
 use Rattle.ar_disks.specs.declared.geometry.Geometry.{Geometry}
 use Rattle.ar_disks.specs.declared.geometry.Geometry.TheVariants.{Paper, Small}
@@ -8,24 +8,6 @@ use Rattle.ar_disks.specs.declared.address.Members.{Members}
 use Rattle.ar_disks.specs.Geometry.{rows_of}
 use Rattle.ar_disks.specs.Members.{member, AreApart, AreDisjoint}
 use Rattle.ar_mirror.specs.Slots.{slots_of, row_of, one_of, other_of, partner_of}
-
--- an extent is told by its two numbers
-pub place_is : (p q : Place) → p.disk ≡ q.disk → p.extent ≡ q.extent → p ≡ q
-place_is p q disk extent =
-    ap (λ (n : ℕ). let there : Place = record { disk = n; extent = p.extent } in there) disk
-    ∙ ap (λ (n : ℕ). let there : Place = record { disk = q.disk; extent = n } in there) extent
-
--- two extents are the same one or not
-pub same_place : (p q : Place) → (p ≡ q) ⊎ (p ≢ q)
-same_place p q =
-    elim (eqb_tells p.disk q.disk) [
-      | inr d ↦ inr (λ same. d.1 (ap (λ (x : Place). x.disk) same))
-      | inl d ↦
-          elim (eqb_tells p.extent q.extent) [
-            | inr e ↦ inr (λ same. e.1 (ap (λ (x : Place). x.extent) same))
-            | inl e ↦ inl (place_is p q d.1 e.1)
-          ]
-    ]
 
 -- a group has two pairs
 pub pair_fits : (g : Geometry) (slot : ℕ) → slot < slots_of g → slot / rows_of g < 2

@@ -4,23 +4,15 @@ use Rattle.ar_disks.specs.declared.geometry.Geometry.{Geometry}
 use Rattle.ar_disks.specs.declared.address.Place.{Place}
 use Rattle.ar_disks.specs.declared.address.Members.{Members}
 use Rattle.ar_disks.specs.Members.{AreDisjoint}
-use Rattle.ar_extents.specs.declared.health.Health.{Health}
-use Rattle.ar_extents.specs.declared.health.Health.TheVariants.{Whole, Out, Rebuilding, Broken as AllBroken}
+use Rattle.ar_extents.specs.declared.health.Health.TheVariants.{Broken as AllBroken}
+use Rattle.ar_extents.specs.declared.outcome.Outcome.{Outcome}
+use Rattle.ar_extents.specs.declared.outcome.Outcome.TheVariants.{Done, Broken}
+use Rattle.ar_extents.specs.declared.outcome.RowOutcome.{RowOutcome}
+use Rattle.ar_extents.specs.declared.outcome.RowOutcome.TheVariants.{Done as RowDone, GivenUp, Broken as RowBroken}
 use Rattle.ar_extents.specs.Set.{SetState, disk_in, content, IsSound, IsLost}
 use Rattle.ar_extents.specs.Access.{next_place, IsGivenUp}
-use Rattle.ar_mirror.specs.declared.answers.Outcome.{Outcome}
-use Rattle.ar_mirror.specs.declared.answers.Outcome.TheVariants.{Done, Broken}
-use Rattle.ar_mirror.specs.declared.answers.Rebuilt.{Rebuilt}
-use Rattle.ar_mirror.specs.declared.answers.Rebuilt.TheVariants.{Done as RowDone, GivenUp, Broken as RowBroken}
 use Rattle.ar_mirror.specs.Slots.{one_of, other_of, row_of, slots_of}
 use Rattle.ar_mirror.specs.Holds.{Holds}
-
--- what a call answers where it leaves this health: only a broken set keeps it from being done
-abbrev pub outcome_of : Health → Outcome
-outcome_of Whole = Done
-outcome_of (Out x) = Done
-outcome_of (Rebuilding x done) = Done
-outcome_of AllBroken = Broken
 
 -- the bytes are the block that the slot held, read from the first member of its pair that is still sound
 pub record IsGiven (old new : SetState) (m : Members) (slot : ℕ) (bytes : List ℕ) : Type 0 where
@@ -64,7 +56,7 @@ pub record IsCopied (old new : SetState) (partner : Place) (row : ℕ) : Type 0 
   pub health : new.health ≡ old.health
 
 -- what the answer of a rebuilt row says
-abbrev pub Rebuilds : SetState → SetState → Place → ℕ → Rebuilt → Type 0
+abbrev pub Rebuilds : SetState → SetState → Place → ℕ → RowOutcome → Type 0
 Rebuilds old new partner row RowDone = IsCopied old new partner row
 Rebuilds old new partner row GivenUp = IsGivenUp old new
 Rebuilds old new partner row RowBroken = new.health ≡ AllBroken

@@ -1,10 +1,9 @@
 -- What a slot of a mirrored group holds.
-use Rattle.std.specs.Prelude.{◌≡◌, ℕ, List, slice_set}
+use Rattle.std.specs.Prelude.{◌≡◌, ℕ, List, if◌then◌else◌}
 use Rattle.ar_disks.specs.declared.address.Place.{Place}
 use Rattle.ar_disks.specs.declared.address.Members.{Members}
-use Rattle.ar_disks.specs.Disk.{DiskState}
+use Rattle.ar_extents.specs.Health.{is_lost}
 use Rattle.ar_extents.specs.Set.{SetState, content, IsSound}
-use Rattle.ar_extents.specs.Changes.{failed}
 use Rattle.ar_mirror.specs.Slots.{one_of, other_of, row_of}
 
 -- each of two extents that is sound has this block in a row
@@ -16,6 +15,10 @@ pub record BothHave (s : SetState) (one other : Place) (row : ℕ) (block : List
 abbrev pub Holds : SetState → Members → ℕ → List ℕ → Type 0
 Holds s m slot block = BothHave s (one_of s.geometry m slot) (other_of s.geometry m slot) (row_of s.geometry slot) block
 
--- the set once a disk is lost, and anything may stand on it
-abbrev pub with_loss : SetState → ℕ → DiskState → SetState
-with_loss s d disk = failed (record s { disks = slice_set s.disks d disk }) d
+-- the content of the first of two extents where that one is used, else of the other
+abbrev pub content_of_pair : SetState → Place → Place → ℕ → List ℕ
+content_of_pair s one other row = if is_lost s.health one.disk one.extent then content s other row else content s one row
+
+-- the block that stands in a slot: the content of its first member where that one is used, else of the other
+abbrev pub standing : SetState → Members → ℕ → List ℕ
+standing s m slot = content_of_pair s (one_of s.geometry m slot) (other_of s.geometry m slot) (row_of s.geometry slot)

@@ -5,5 +5,6 @@ pub mod Calls
 pub use Rattle.ar_extents.specs.Set
 pub use Rattle.ar_extents.specs.Follows
 pub use Rattle.ar_extents.specs.Access
+pub use Rattle.ar_extents.specs.Groups
 pub use Rattle.ar_disks.specs.Geometry
 pub use Rattle.ar_disks.specs.Members

@@ -1,12 +1,11 @@
 -- Where the slots of a mirrored group lie. Members 0 and 1 are a pair, and so are 2 and 3. The slots are the rows of the first
 -- pair in order, then those of the second.
-use Rattle.std.specs.Prelude.{ℕ, zero, suc, ◌+◌, ◌*◌, ◌/◌, ◌%◌, ◌<◌}
+use Rattle.std.specs.Prelude.{ℕ, zero, suc, ◌+◌, ◌*◌, ◌/◌, ◌%◌}
 use Rattle.ar_disks.specs.declared.geometry.Geometry.{Geometry}
 use Rattle.ar_disks.specs.declared.address.Place.{Place}
 use Rattle.ar_disks.specs.declared.address.Members.{Members}
 use Rattle.ar_disks.specs.Geometry.{rows_of}
-use Rattle.ar_disks.specs.Members.{member, AreApart}
-use Rattle.ar_extents.specs.Set.{SetState, HasExtent}
+use Rattle.ar_disks.specs.Members.{member}
 
 -- how many slots a mirrored group has
 abbrev pub slots_of : Geometry → ℕ
@@ -29,8 +28,3 @@ partner_of zero = 1
 partner_of (suc zero) = 0
 partner_of (suc (suc zero)) = 3
 partner_of (suc (suc (suc n))) = 2
-
--- the four extents exist, on four different disks
-pub record IsGroup (s : SetState) (m : Members) : Type 0 where
-  pub extents : (i : ℕ) → i < 4 → HasExtent s (member m i)
-  pub apart : AreApart m

@@ -1,7 +1,6 @@
 //! Mirrored groups over a disk set: each slot is the same row of two extents on different disks.
 #![tactic(auto)]
 
-mod answers;
 mod laws;
 mod pair;
 mod rebuild;
@@ -9,7 +8,7 @@ mod slot;
 #[cfg(test)]
 mod tests;
 
-pub use answers::{Outcome, Rebuilt};
+pub use ar_extents::{Outcome, RowOutcome};
 pub use laws::mirrored_slots_survive_a_loss;
 pub use rebuild::rebuild_row;
 pub use slot::{get, put};

@@ -6,13 +6,13 @@ ghost use Rattle.ar_extents.specs.Health.{IsRebuilding};
 ghost use Rattle.ar_extents.specs.Follows.{Follows, KeepsBut};
 ghost use Rattle.ar_extents.specs.Access.{next_place};
 ghost use Rattle.ar_extents.specs.Set.{HasExtent};
-ghost use Rattle.ar_mirror.specs.Slots.{IsGroup, partner_of};
+ghost use Rattle.ar_extents.specs.Groups.{IsGroup};
+ghost use Rattle.ar_mirror.specs.Slots.{partner_of};
 ghost use Rattle.ar_mirror.specs.Calls.{Rebuilds, AllSlotsHold};
 
-use crate::Rebuilt;
 use crate::pair::partner;
 use ar_disks::{Block, Disk, Members, Place, Scratch};
-use ar_extents::{DiskSet, Got, PutNew};
+use ar_extents::{DiskSet, Got, PutNew, RowOutcome};
 
 /// Copies a row to the member at a position, 0 to 3, from the other member of its pair. The member has to be the extent that
 /// is rebuilt next: the lowest that isn't done of the disk that is being rebuilt. `GivenUp` says that this disk faulted: it
@@ -23,7 +23,7 @@ pub fn rebuild_row<D: Disk>(
     position: u8,
     row: u16,
     scratch: &mut Scratch,
-) -> Rebuilt
+) -> RowOutcome
     requires group { IsGroup set.old members.now }
     requires position { position < 4 }
     requires row { row < rows_of set.old.geometry }
@@ -42,7 +42,7 @@ pub fn rebuild_row<D: Disk>(
 }
 
 // Copies a row from an extent of another disk to the one that is rebuilt next, by way of a block.
-fn copy_row<D: Disk>(set: &mut DiskSet<D>, from: Place, row: u16, block: &mut Block) -> Rebuilt
+fn copy_row<D: Disk>(set: &mut DiskSet<D>, from: Place, row: u16, block: &mut Block) -> RowOutcome
     requires from { HasExtent set.old from }
     requires apart { (next_place set.old).disk ≢ from.disk }
     requires row { row < rows_of set.old.geometry }
@@ -56,10 +56,10 @@ fn copy_row<D: Disk>(set: &mut DiskSet<D>, from: Place, row: u16, block: &mut Bl
 {
     match set.get(from, row, block) {
         Got::Read => match set.put_new(row, block) {
-            PutNew::Written => Rebuilt::Done,
-            PutNew::GivenUp => Rebuilt::GivenUp,
+            PutNew::Written => RowOutcome::Done,
+            PutNew::GivenUp => RowOutcome::GivenUp,
         },
         // One disk is down already, so a fault of another one breaks the set.
-        Got::Missing | Got::Broken => Rebuilt::Broken,
+        Got::Missing | Got::Broken => RowOutcome::Broken,
     }
 }

@@ -2,14 +2,14 @@
 ghost use Rattle.std.specs.Prelude.{◌≡◌, ◌<◌, length};
 ghost use Rattle.ar_disks.specs.Geometry.{block_len_of};
 ghost use Rattle.ar_extents.specs.Follows.{Follows, Keeps, Anywhere};
-ghost use Rattle.ar_mirror.specs.Slots.{slots_of, IsGroup};
+ghost use Rattle.ar_extents.specs.Groups.{IsGroup, outcome_of};
+ghost use Rattle.ar_mirror.specs.Slots.{slots_of};
 ghost use Rattle.ar_mirror.specs.Holds.{Holds};
-ghost use Rattle.ar_mirror.specs.Calls.{outcome_of, Gives, KeepsButSlot, OtherSlotsHold, OtherGroupsHold, TouchesPair};
+ghost use Rattle.ar_mirror.specs.Calls.{Gives, KeepsButSlot, OtherSlotsHold, OtherGroupsHold, TouchesPair};
 
-use crate::Outcome;
 use crate::pair::pair_of;
 use ar_disks::{Block, Disk, Members};
-use ar_extents::{DiskSet, Got, Put};
+use ar_extents::{DiskSet, Got, Outcome, Put};
 
 /// Reads a slot, below twice the rows of an extent, into `into`, a block of the set's length. It reads the first member of
 /// the slot's pair that isn't missing and, where that one faults, the other. After `Broken` any bytes may stand in `into`.

@@ -1,9 +1,9 @@
 // Where slots lie, and what is read and written while disks are lost, with values worked by hand.
 ghost use Rattle.std.specs.Prelude.{All, map, IfOk};
 ghost use Rattle.ar_extents.specs.Set.{CanCount};
-ghost use Rattle.ar_mirror.specs.Slots.{IsGroup};
+ghost use Rattle.ar_extents.specs.Groups.{IsGroup};
 
-use crate::{Outcome, Rebuilt, get, put, rebuild_row};
+use crate::{Outcome, RowOutcome, get, put, rebuild_row};
 use ar_disks::{Block, FuseDisk, Geometry, MemDisk, Members, Place, Scratch};
 use ar_extents::{DiskSet, Got, Health};
 use std::alloc::{AllocError, Global};
@@ -106,7 +106,7 @@ fn rebuild(
     set: &mut DiskSet<FuseDisk>,
     position: u8,
     row: u16,
-) -> Result<Rebuilt, Fail> {
+) -> Result<RowOutcome, Fail> {
     let mut scratch = Scratch::new(alloc, set.geometry())?;
     let members = members_of(set);
     assert!(rt; position < 4);
@@ -309,8 +309,8 @@ fn a_rebuilt_member_stands_in_for_its_partner(rt: HostRuntime) -> Result<(), Fai
     let alloc = rt.alloc();
     let mut block = filled(&rt, alloc, Geometry::SMALL, 0)?;
     let mut set = replaced(&rt, alloc, WHOLE, WHOLE)?;
-    assert_eq!(rt; rebuild(&rt, alloc, &mut set, 1, 0)?, Rebuilt::Done);
-    assert_eq!(rt; rebuild(&rt, alloc, &mut set, 1, 1)?, Rebuilt::Done);
+    assert_eq!(rt; rebuild(&rt, alloc, &mut set, 1, 0)?, RowOutcome::Done);
+    assert_eq!(rt; rebuild(&rt, alloc, &mut set, 1, 1)?, RowOutcome::Done);
     assert_eq!(rt; mark(&rt, &mut set), Health::Rebuilding(1, 1));
     assert_eq!(rt; mark(&rt, &mut set), Health::Whole);
     assert_eq!(rt; set.fail(0), Ok(()));
@@ -325,14 +325,14 @@ fn a_rebuilt_member_stands_in_for_its_partner(rt: HostRuntime) -> Result<(), Fai
 fn faults_while_a_row_is_rebuilt(rt: HostRuntime) -> Result<(), Fail> {
     let alloc = rt.alloc();
     let mut set = replaced(&rt, alloc, WHOLE, 1)?;
-    assert_eq!(rt; rebuild(&rt, alloc, &mut set, 1, 0)?, Rebuilt::Done);
-    assert_eq!(rt; rebuild(&rt, alloc, &mut set, 1, 1)?, Rebuilt::GivenUp);
+    assert_eq!(rt; rebuild(&rt, alloc, &mut set, 1, 0)?, RowOutcome::Done);
+    assert_eq!(rt; rebuild(&rt, alloc, &mut set, 1, 1)?, RowOutcome::GivenUp);
     assert_eq!(rt; set.health(), Health::Out(1));
 
     // Disk 0 passes the two writes of `replaced` and one read.
     let mut set = replaced(&rt, alloc, 3, WHOLE)?;
-    assert_eq!(rt; rebuild(&rt, alloc, &mut set, 1, 0)?, Rebuilt::Done);
-    assert_eq!(rt; rebuild(&rt, alloc, &mut set, 1, 1)?, Rebuilt::Broken);
+    assert_eq!(rt; rebuild(&rt, alloc, &mut set, 1, 0)?, RowOutcome::Done);
+    assert_eq!(rt; rebuild(&rt, alloc, &mut set, 1, 1)?, RowOutcome::Broken);
     assert_eq!(rt; set.health(), Health::Broken);
     Ok(())
 }

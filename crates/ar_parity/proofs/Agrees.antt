@@ -1,20 +1,19 @@
 -- Rows that agree, and what reads and writes leave of them.
-use Rattle.std.proofs.Common.{◌≡◌, ◌≢◌, ℕ, ◌<◌, List, refl, sym, ◌∙◌, ap, subst}
-use Rattle.ar_disks.specs.declared.address.Place.{Place}
+use Rattle.std.proofs.Common.{◌≡◌, ◌≢◌, ℕ, ◌<◌, List, sym, ◌∙◌, ap, subst}
 use Rattle.ar_disks.specs.declared.address.Members.{Members}
 use Rattle.ar_disks.specs.declared.geometry.Geometry.{Geometry}
 use Rattle.ar_disks.specs.Block.{xor}
 use Rattle.ar_disks.specs.Geometry.{block_len_of}
-use Rattle.ar_disks.specs.Members.{member, AreDisjoint}
+use Rattle.ar_disks.specs.Members.{member}
 use Rattle.ar_extents.specs.declared.health.Health.TheVariants.{Broken as AllBroken}
 use Rattle.ar_extents.specs.Set.{SetState, content, IsLost}
 use Rattle.ar_extents.specs.Follows.{Follows, Keeps, Anywhere}
 use Rattle.ar_extents.proofs.Losses.{lost_not_sound, broken_lost}
-use Rattle.ar_parity.specs.declared.outcome.Outcome.{Outcome}
-use Rattle.ar_parity.specs.declared.outcome.Outcome.TheVariants.{Done, Broken}
-use Rattle.ar_parity.specs.Row.{Blocks, block, AddUp, row_of}
+use Rattle.ar_extents.specs.declared.outcome.Outcome.{Outcome}
+use Rattle.ar_extents.specs.declared.outcome.Outcome.TheVariants.{Done, Broken}
+use Rattle.ar_parity.specs.Row.{Blocks, block, AddUp}
 use Rattle.ar_parity.specs.Others.{low_other, high_other}
-use Rattle.ar_parity.specs.Group.{Stands, RowAgrees, Holds, IsMember, IsOutside, KeepsButRow}
+use Rattle.ar_parity.specs.Group.{Stands, RowAgrees, KeepsButRow}
 use Rattle.ar_parity.specs.Call.{OnDone}
 use Rattle.ar_parity.proofs.Sums.{sum_of_others, back_from_sum}
 
@@ -52,16 +51,6 @@ agrees_read a b m row blocks ab keeps agrees = agrees_kept a b m row blocks ab (
 pub broken_agrees : (s : SetState) (m : Members) (row : ℕ) (blocks : Blocks) → s.health ≡ AllBroken
     → AddUp (block_len_of s.geometry) blocks → RowAgrees s m row blocks
 broken_agrees s m row blocks is up = record { add_up = up; stand = λ i lt. broken_stands s m row i (block blocks i) is }
-
--- where the members' contents stay, a slot holds what it held
-pub holds_kept : (a b : SetState) (m : Members) (slot : ℕ) (bytes : List ℕ) → Follows a b → Keeps (IsMember m) a b
-    → Holds a m slot bytes → Holds b m slot bytes
-holds_kept a b m slot bytes ab keeps holds = record {
-  blocks = holds.blocks;
-  agrees = agrees_kept a b m (row_of slot) holds.blocks ab
-      (λ i lt. keeps.rows (member m i) (record { position = i; below = lt; is = refl }) (row_of slot)) holds.agrees;
-  here = holds.here;
-}
 
 -- two of the blocks beside a lost one, read in turn and added
 two_sum : (s t : SetState) (m : Members) (row lost beside low high : ℕ) (x y : List ℕ) → lost < 4 → beside < 4 → beside ≢ lost
@@ -108,14 +97,3 @@ three_sum_done Broken s t m row lost third x y lt st keeps first second = tt
 pub other_row_agrees : (a b : SetState) (m : Members) (row r : ℕ) (blocks : Blocks) → Follows a b → KeepsButRow m row a b → r ≢ row
     → RowAgrees a m r blocks → RowAgrees b m r blocks
 other_row_agrees a b m row r blocks ab keeps ne agrees = agrees_kept a b m r blocks ab (λ i lt. keeps.other_rows (member m i) r ne) agrees
-
--- where what is outside of a group stays, the members of a group without a common extent keep theirs
-pub disjoint_keeps : (a b : SetState) (m n : Members) → AreDisjoint m n → Keeps (IsOutside m) a b → Keeps (IsMember n) a b
-disjoint_keeps a b m n apart keeps = record {
-  rows = λ place is row.
-      keeps.rows place
-      (λ i lt e.
-      let same = sym e ∙ is.is in
-      apart i is.position lt is.below (ap (λ (p : Place). p.disk) same) (ap (λ (p : Place). p.extent) same))
-      row;
-}

@@ -2,4 +2,6 @@ pub mod Sums
 pub mod Agrees
 pub mod Updates
 pub mod SlotLemmas
-pub mod OneBlock
+pub mod Frames
+pub mod Standing
+pub mod Outcomes

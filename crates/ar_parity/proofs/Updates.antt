@@ -1,5 +1,5 @@
 -- What a put leaves of a row.
-use Rattle.std.proofs.Common.{◌≡◌, ◌≢◌, ◌⊎◌, inl, inr, ℕ, zero, suc, ◌+◌, ◌<◌, below_more, List, length, refl, sym, ◌∙◌, ap, subst, arith}
+use Rattle.std.proofs.Common.{◌≡◌, ◌≢◌, inl, inr, ℕ, zero, suc, ◌+◌, ◌<◌, below_more, List, length, refl, sym, ◌∙◌, ap, subst, arith}
 use Rattle.std.proofs.lemmas.Bool.Decides.{eqb_tells}
 use Rattle.ar_disks.specs.declared.address.Place.{Place}
 use Rattle.ar_disks.specs.declared.address.Members.{Members}
@@ -12,9 +12,11 @@ use Rattle.ar_extents.specs.Set.{SetState, content, IsLost, IsMissing}
 use Rattle.ar_extents.specs.Follows.{Follows, Keeps, KeepsBut, Anywhere}
 use Rattle.ar_extents.specs.Access.{IsRead}
 use Rattle.ar_extents.proofs.Follows.{follows_then, keeps_refl}
+use Rattle.ar_extents.proofs.GroupLemmas.{same_place}
 use Rattle.ar_extents.proofs.Losses.{missing_lost, stays_lost}
+use Rattle.ar_extents.specs.Groups.{IsOutside}
 use Rattle.ar_parity.specs.Row.{Blocks, block, changed, parity_position, zero_blocks}
-use Rattle.ar_parity.specs.Group.{Stands, RowAgrees, KeepsButRow, IsOutside}
+use Rattle.ar_parity.specs.Group.{Stands, RowAgrees, KeepsButRow}
 use Rattle.ar_parity.specs.Call.{Changes}
 use Rattle.ar_parity.proofs.Sums.{changed-data, changed-parity, changed-other, changed-sum, zeros_add_up}
 use Rattle.ar_parity.proofs.Agrees.{lost_stands, stands_kept, add_up_then, agrees_kept, agrees_read, broken_agrees}
@@ -25,26 +27,9 @@ pub kept_beside : (a b : SetState) (m : Members) (row i k : ℕ) → AreApart m 
 kept_beside a b m row i k apart li lk ne keeps r =
     keeps.other_places.rows (member m k) (λ e. apart k i lk li ne (ap (λ (p : Place). p.disk) e)) r
 
-same_place : (p q : Place) → p.disk ≡ q.disk → p.extent ≡ q.extent → p ≡ q
-same_place p q disk extent =
-    let P : ℕ → Type 0 = λ d. let there : Place = record { disk = d; extent = q.extent } in p ≡ there in
-    let Q : ℕ → Type 0 = λ e. let there : Place = record { disk = p.disk; extent = e } in p ≡ there in
-    subst P disk (subst Q extent refl)
-
-same_or_not : (p q : Place) → (p ≡ q) ⊎ (p ≢ q)
-same_or_not p q =
-    elim (eqb_tells p.disk q.disk) [
-      | inr d ↦ inr (λ e. d.1 (ap (λ (x : Place). x.disk) e))
-      | inl d ↦
-          elim (eqb_tells p.extent q.extent) [
-            | inr x ↦ inr (λ e. x.1 (ap (λ (y : Place). y.extent) e))
-            | inl x ↦ inl (same_place p q d.1 x.1)
-          ]
-    ]
-
 other_row_kept : (a b : SetState) (place p : Place) (row r : ℕ) → KeepsBut place row a b → r ≢ row → content b p r ≡ content a p r
 other_row_kept a b place p row r keeps ne =
-    elim (same_or_not p place) [
+    elim (same_place p place) [
       | inl e ↦ subst (λ (x : Place). content b x r ≡ content a x r) (sym e) (keeps.other_rows r ne)
       | inr e ↦ keeps.other_places.rows p e r
     ]

@@ -2,14 +2,13 @@
 use Rattle.std.specs.Prelude.{◌≡◌, ◌≢◌, ℕ, List}
 use Rattle.ar_disks.specs.declared.address.Members.{Members}
 use Rattle.ar_disks.specs.Members.{member}
-use Rattle.ar_extents.specs.declared.health.Health.TheVariants.{Out, Broken as AllBroken}
-use Rattle.ar_extents.specs.Health.{rebuilt_disk}
+use Rattle.ar_extents.specs.declared.health.Health.TheVariants.{Broken as AllBroken}
 use Rattle.ar_extents.specs.Set.{SetState, content}
-use Rattle.ar_extents.specs.Follows.{Faulted}
-use Rattle.ar_parity.specs.declared.outcome.Outcome.{Outcome}
-use Rattle.ar_parity.specs.declared.outcome.Outcome.TheVariants.{Done, Broken}
-use Rattle.ar_parity.specs.declared.outcome.RowOutcome.{RowOutcome}
-use Rattle.ar_parity.specs.declared.outcome.RowOutcome.TheVariants.{Done as RowDone, GivenUp, Broken as RowBroken}
+use Rattle.ar_extents.specs.Access.{IsGivenUp}
+use Rattle.ar_extents.specs.declared.outcome.Outcome.{Outcome}
+use Rattle.ar_extents.specs.declared.outcome.Outcome.TheVariants.{Done, Broken}
+use Rattle.ar_extents.specs.declared.outcome.RowOutcome.{RowOutcome}
+use Rattle.ar_extents.specs.declared.outcome.RowOutcome.TheVariants.{Done as RowDone, GivenUp, Broken as RowBroken}
 use Rattle.ar_parity.specs.Row.{Blocks, block, changed, parity_position}
 use Rattle.ar_parity.specs.Group.{RowAgrees}
 
@@ -31,11 +30,6 @@ pub record Changes (old new : SetState) (m : Members) (row position : ℕ) (byte
 pub record IsRebuilt (old new : SetState) (m : Members) (position row : ℕ) : Type 0 where
   pub agrees : (blocks : Blocks) → RowAgrees old m row blocks → content new (member m position) row ≡ block blocks position
   pub health : new.health ≡ old.health
-
--- the disk that was rebuilt has faulted, and is out
-pub record IsGivenUp (old new : SetState) : Type 0 where
-  pub faulted : Faulted old new (rebuilt_disk old.health)
-  pub out : new.health ≡ Out (rebuilt_disk old.health)
 
 -- what the rebuild of a row answers
 abbrev pub Rebuilds : SetState → SetState → Members → ℕ → ℕ → RowOutcome → Type 0

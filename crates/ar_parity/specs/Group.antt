@@ -1,19 +1,15 @@
 -- What a group with parity holds.
-use Rattle.std.specs.Prelude.{◌≡◌, ◌≢◌, ℕ, ◌<◌, List, slice_set}
+use Rattle.std.specs.Prelude.{◌≡◌, ◌≢◌, ℕ, zero, suc, ◌<◌, List, if◌then◌else◌}
 use Rattle.ar_disks.specs.declared.address.Place.{Place}
 use Rattle.ar_disks.specs.declared.address.Members.{Members}
-use Rattle.ar_disks.specs.Disk.{DiskState}
+use Rattle.ar_disks.specs.Block.{xor}
 use Rattle.ar_disks.specs.Geometry.{block_len_of}
-use Rattle.ar_disks.specs.Members.{member, AreApart}
-use Rattle.ar_extents.specs.Health.{after_fault}
-use Rattle.ar_extents.specs.Set.{SetState, HasExtent, content, IsSound}
+use Rattle.ar_disks.specs.Members.{member}
+use Rattle.ar_extents.specs.Health.{is_lost}
+use Rattle.ar_extents.specs.Set.{SetState, content, IsSound}
 use Rattle.ar_extents.specs.Follows.{Keeps}
+use Rattle.ar_extents.specs.Groups.{IsOutside}
 use Rattle.ar_parity.specs.Row.{Blocks, block, AddUp, row_of, data_position}
-
--- the members exist and stand on four different disks
-pub record IsGroup (s : SetState) (m : Members) : Type 0 where
-  pub there : (i : ℕ) → i < 4 → HasExtent s (member m i)
-  pub apart : AreApart m
 
 -- a member that can be used has these bytes in a row
 pub record Stands (s : SetState) (m : Members) (row i : ℕ) (bytes : List ℕ) : Type 0 where
@@ -30,21 +26,23 @@ pub record Holds (s : SetState) (m : Members) (slot : ℕ) (bytes : List ℕ) : 
   pub agrees : RowAgrees s m (row_of slot) blocks
   pub here : block blocks (data_position slot) ≡ bytes
 
--- an extent is a member of the group
-pub record IsMember (m : Members) (place : Place) : Type 0 where
-  pub position : ℕ
-  pub below : position < 4
-  pub is : place ≡ member m position
-
--- an extent is no member of the group
-abbrev pub IsOutside : Members → Place → Type 0
-IsOutside m place = (i : ℕ) → i < 4 → place ≢ member m i
-
 -- nothing but one row of the group may have other content
 pub record KeepsButRow (m : Members) (row : ℕ) (old new : SetState) : Type 0 where
   pub other_rows : (place : Place) (r : ℕ) → r ≢ row → content new place r ≡ content old place r
   pub other_places : Keeps (IsOutside m) old new
 
--- a disk is lost, and its contents are anything
-abbrev pub without_disk : SetState → ℕ → DiskState → SetState
-without_disk s d disk = record s { disks = slice_set s.disks d disk; health = after_fault s.health d }
+-- the sum of the contents of a row's three members beside a position, in order of position
+abbrev pub sum_beside : SetState → Members → ℕ → ℕ → List ℕ
+sum_beside s m row zero = xor (xor (content s m.second row) (content s m.third row)) (content s m.fourth row)
+sum_beside s m row (suc zero) = xor (xor (content s m.first row) (content s m.third row)) (content s m.fourth row)
+sum_beside s m row (suc (suc zero)) = xor (xor (content s m.first row) (content s m.second row)) (content s m.fourth row)
+sum_beside s m row (suc (suc (suc n))) = xor (xor (content s m.first row) (content s m.second row)) (content s m.third row)
+
+-- the block that stands at a position of a row: the member's content where it is used, else the sum of the three others
+abbrev pub standing_at : SetState → Members → ℕ → ℕ → List ℕ
+standing_at s m row i =
+    if is_lost s.health (member m i).disk (member m i).extent then sum_beside s m row i else content s (member m i) row
+
+-- the block that stands in a slot: the content of its member where that one is used, else the sum of its row's three others
+abbrev pub standing : SetState → Members → ℕ → List ℕ
+standing s m slot = standing_at s m (row_of slot) (data_position slot)

@@ -7,6 +7,7 @@ pub use Rattle.ar_extents.specs.Health
 pub use Rattle.ar_extents.specs.Set
 pub use Rattle.ar_extents.specs.Follows
 pub use Rattle.ar_extents.specs.Access
+pub use Rattle.ar_extents.specs.Groups
 pub use Rattle.ar_disks.specs.Block
 pub use Rattle.ar_disks.specs.Disk
 pub use Rattle.ar_disks.specs.Geometry

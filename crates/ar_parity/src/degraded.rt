@@ -5,15 +5,15 @@ ghost use Rattle.ar_disks.specs.Geometry.{rows_of, block_len_of};
 ghost use Rattle.ar_disks.specs.Members.{member};
 ghost use Rattle.ar_extents.specs.Set.{IsLost};
 ghost use Rattle.ar_extents.specs.Follows.{Follows, Keeps, Anywhere};
+ghost use Rattle.ar_extents.specs.Groups.{IsGroup};
 ghost use Rattle.ar_parity.specs.Row.{Blocks, block};
-ghost use Rattle.ar_parity.specs.Group.{IsGroup, RowAgrees};
+ghost use Rattle.ar_parity.specs.Group.{RowAgrees};
 ghost use Rattle.ar_parity.specs.Call.{Tells, OnDone};
 
-use crate::Outcome;
 use crate::slots::{another, highest_beside, lowest_beside};
 use crate::steps::{add_beside, read_beside};
 use ar_disks::{Block, Disk, Members};
-use ar_extents::DiskSet;
+use ar_extents::{DiskSet, Outcome};
 
 // Adds the two blocks of a row that are neither the lost one nor the one beside it.
 pub fn sum_of_two<D: Disk>(

@@ -3,17 +3,17 @@ ghost use Rattle.std.specs.Prelude.{◌≡◌, ◌≢◌, ℕ, ◌*◌, ◌<◌,
 ghost use Rattle.ar_disks.specs.Block.{zeros};
 ghost use Rattle.ar_disks.specs.Geometry.{rows_of, block_len_of};
 ghost use Rattle.ar_extents.specs.Follows.{Follows, Keeps, Anywhere};
+ghost use Rattle.ar_extents.specs.Groups.{IsGroup, IsOutside, outcome_of};
 ghost use Rattle.ar_parity.specs.Row.{row_of, data_position, zero_blocks};
-ghost use Rattle.ar_parity.specs.Group.{IsGroup, RowAgrees, Holds, IsOutside, KeepsButRow};
-ghost use Rattle.ar_parity.specs.Call.{Tells, OnDone, Changes};
+ghost use Rattle.ar_parity.specs.Group.{RowAgrees, Holds, KeepsButRow};
+ghost use Rattle.ar_parity.specs.Call.{OnDone, Changes};
 
-use crate::Outcome;
 use crate::degraded::sum_of_three;
 use crate::slots::{data_at, row_of_slot};
 use crate::update::change;
 use crate::zero::zero_row;
 use ar_disks::{Block, Disk, Members, Scratch};
-use ar_extents::{DiskSet, Got};
+use ar_extents::{DiskSet, Got, Outcome};
 
 /// Writes zeros to every row of the members that aren't missing, whatever stood there: every slot holds zeros then.
 ///
@@ -21,7 +21,7 @@ use ar_extents::{DiskSet, Got};
 pub fn open_zero<D: Disk>(set: &mut DiskSet<D>, members: &Members, scratch: &mut Scratch) -> Outcome
     requires group { IsGroup set.old members.now }
     requires scratch { scratch.old.geometry ≡ set.old.geometry }
-    ensures answer { Tells set.new result }
+    ensures outcome { result ≡ outcome_of set.new.health }
     ensures slots { (slot : ℕ) → slot < 3 * rows_of set.old.geometry
         → Holds set.new members.now slot (zeros (block_len_of set.old.geometry)) }
     ensures rows { (row : ℕ) → row < rows_of set.old.geometry
@@ -29,7 +29,7 @@ pub fn open_zero<D: Disk>(set: &mut DiskSet<D>, members: &Members, scratch: &mut
     ensures keeps { Keeps (IsOutside members.now) set.old set.new }
     ensures follows { Follows set.old set.new }
     ensures loose { set.new.loose ≡ set.old.loose }
-    ensures geometry { scratch.new.geometry ≡ scratch.old.geometry }
+    ensures scratch { scratch.new.geometry ≡ scratch.old.geometry }
 {
     let zero = &mut scratch.first;
     zero.zero();
@@ -56,13 +56,13 @@ pub fn get<D: Disk>(
     requires slot { slot < 3 * rows_of set.old.geometry }
     requires whole { length into.old ≡ block_len_of set.old.geometry }
     requires scratch { scratch.old.geometry ≡ set.old.geometry }
-    ensures answer { Tells set.new result }
-    ensures block { OnDone result ((b : List ℕ) → Holds set.old members.now slot b → into.new ≡ b) }
+    ensures outcome { result ≡ outcome_of set.new.health }
+    ensures gives { OnDone result ((b : List ℕ) → Holds set.old members.now slot b → into.new ≡ b) }
     ensures keeps { Keeps Anywhere set.old set.new }
     ensures follows { Follows set.old set.new }
     ensures loose { set.new.loose ≡ set.old.loose }
     ensures len { length into.new ≡ length into.old }
-    ensures geometry { scratch.new.geometry ≡ scratch.old.geometry }
+    ensures scratch { scratch.new.geometry ≡ scratch.old.geometry }
 {
     let row = row_of_slot(slot);
     let position = data_at(slot);
@@ -88,14 +88,14 @@ pub fn put<D: Disk>(
     requires slot { slot < 3 * rows_of set.old.geometry }
     requires whole { length from.now ≡ block_len_of set.old.geometry }
     requires scratch { scratch.old.geometry ≡ set.old.geometry }
-    ensures answer { Tells set.new result }
+    ensures outcome { result ≡ outcome_of set.new.health }
     ensures row { Changes set.old set.new members.now (row_of slot) (data_position slot) from.now }
-    ensures slot { (b : List ℕ) → Holds set.old members.now slot b → Holds set.new members.now slot from.now }
-    ensures others { (k : ℕ) → k ≢ slot → (b : List ℕ) → Holds set.old members.now k b → Holds set.new members.now k b }
+    ensures holds { (b : List ℕ) → Holds set.old members.now slot b → Holds set.new members.now slot from.now }
+    ensures slots { (k : ℕ) → k ≢ slot → (b : List ℕ) → Holds set.old members.now k b → Holds set.new members.now k b }
     ensures keeps { KeepsButRow members.now (row_of slot) set.old set.new }
     ensures follows { Follows set.old set.new }
     ensures loose { set.new.loose ≡ set.old.loose }
-    ensures geometry { scratch.new.geometry ≡ scratch.old.geometry }
+    ensures scratch { scratch.new.geometry ≡ scratch.old.geometry }
 {
     change(
         set,

@@ -4,7 +4,6 @@
 mod degraded;
 mod group;
 mod laws;
-mod outcome;
 mod rebuild;
 mod slots;
 mod steps;
@@ -13,7 +12,7 @@ mod tests;
 mod update;
 mod zero;
 
+pub use ar_extents::{Outcome, RowOutcome};
 pub use group::{get, open_zero, put};
 pub use laws::redundancy;
-pub use outcome::{Outcome, RowOutcome};
 pub use rebuild::rebuild_row;

@@ -5,14 +5,14 @@ ghost use Rattle.ar_disks.specs.Members.{member};
 ghost use Rattle.ar_extents.specs.Health.{IsRebuilding};
 ghost use Rattle.ar_extents.specs.Access.{next_place};
 ghost use Rattle.ar_extents.specs.Follows.{Follows, KeepsBut};
+ghost use Rattle.ar_extents.specs.Groups.{IsGroup};
 ghost use Rattle.ar_parity.specs.Row.{Blocks};
-ghost use Rattle.ar_parity.specs.Group.{IsGroup, RowAgrees};
+ghost use Rattle.ar_parity.specs.Group.{RowAgrees};
 ghost use Rattle.ar_parity.specs.Call.{Rebuilds};
 
 use crate::degraded::sum_of_three;
-use crate::{Outcome, RowOutcome};
 use ar_disks::{Disk, Members, Scratch};
-use ar_extents::{DiskSet, PutNew};
+use ar_extents::{DiskSet, Outcome, PutNew, RowOutcome};
 
 /// Writes the sum of a row's three other blocks to the member at a position, which is the lowest extent that isn't done of
 /// the disk that is rebuilt.
@@ -37,7 +37,7 @@ pub fn rebuild_row<D: Disk>(
     ensures keeps { KeepsBut (member members.now position) row set.old set.new }
     ensures follows { Follows set.old set.new }
     ensures loose { set.new.loose ≡ set.old.loose }
-    ensures geometry { scratch.new.geometry ≡ scratch.old.geometry }
+    ensures scratch { scratch.new.geometry ≡ scratch.old.geometry }
 {
     match sum_of_three(
         set,

@@ -5,12 +5,12 @@ ghost use Rattle.ar_disks.specs.Geometry.{rows_of, block_len_of};
 ghost use Rattle.ar_disks.specs.Members.{member};
 ghost use Rattle.ar_extents.specs.Set.{IsLost};
 ghost use Rattle.ar_extents.specs.Follows.{Follows, Keeps, KeepsBut, Anywhere};
-ghost use Rattle.ar_parity.specs.Group.{IsGroup, Stands};
+ghost use Rattle.ar_extents.specs.Groups.{IsGroup};
+ghost use Rattle.ar_parity.specs.Group.{Stands};
 ghost use Rattle.ar_parity.specs.Call.{Tells, OnDone};
 
-use crate::Outcome;
 use ar_disks::{Block, Disk, Members};
-use ar_extents::{DiskSet, Got, Put};
+use ar_extents::{DiskSet, Got, Outcome, Put};
 
 // Writes a row of a member, unless it is missing.
 pub fn write<D: Disk>(

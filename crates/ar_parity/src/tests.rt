@@ -2,7 +2,7 @@
 ghost use Rattle.std.specs.Prelude.{◌≡◌, All, map, IfOk, length};
 ghost use Rattle.ar_disks.specs.Geometry.{block_len_of};
 ghost use Rattle.ar_extents.specs.Set.{CanCount};
-ghost use Rattle.ar_parity.specs.Group.{IsGroup};
+ghost use Rattle.ar_extents.specs.Groups.{IsGroup};
 
 use crate::{Outcome, RowOutcome, get, open_zero, put, rebuild_row};
 use ar_disks::{Block, FuseDisk, Geometry, MemDisk, Members, Place, Scratch};

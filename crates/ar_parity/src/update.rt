@@ -4,16 +4,16 @@ ghost use Rattle.ar_disks.specs.Geometry.{rows_of, block_len_of};
 ghost use Rattle.ar_disks.specs.Members.{member};
 ghost use Rattle.ar_extents.specs.Set.{IsLost, content};
 ghost use Rattle.ar_extents.specs.Follows.{Follows};
+ghost use Rattle.ar_extents.specs.Groups.{IsGroup};
 ghost use Rattle.ar_parity.specs.Row.{Blocks, block, changed, parity_position};
-ghost use Rattle.ar_parity.specs.Group.{IsGroup, Stands, RowAgrees, KeepsButRow};
+ghost use Rattle.ar_parity.specs.Group.{Stands, RowAgrees, KeepsButRow};
 ghost use Rattle.ar_parity.specs.Call.{Tells, Changes};
 
-use crate::Outcome;
 use crate::degraded::sum_of_two;
 use crate::slots::parity_at;
 use crate::steps::write;
 use ar_disks::{Block, Disk, Members, Scratch};
-use ar_extents::{DiskSet, Got};
+use ar_extents::{DiskSet, Got, Outcome};
 
 // Writes a block and the parity of its row, each unless its member is missing.
 fn write_both<D: Disk>(
@@ -142,7 +142,7 @@ pub fn change<D: Disk>(
     ensures keeps { KeepsButRow members.now row set.old set.new }
     ensures follows { Follows set.old set.new }
     ensures loose { set.new.loose ≡ set.old.loose }
-    ensures geometry { scratch.new.geometry ≡ scratch.old.geometry }
+    ensures scratch { scratch.new.geometry ≡ scratch.old.geometry }
 {
     let sum = &mut scratch.second;
     match set.get(members.at(position), row, &mut scratch.first) {

@@ -3,14 +3,14 @@ ghost use Rattle.std.specs.Prelude.{◌≡◌, ◌<◌, length};
 ghost use Rattle.ar_disks.specs.Block.{zeros};
 ghost use Rattle.ar_disks.specs.Geometry.{rows_of, block_len_of};
 ghost use Rattle.ar_extents.specs.Follows.{Follows};
+ghost use Rattle.ar_extents.specs.Groups.{IsGroup};
 ghost use Rattle.ar_parity.specs.Row.{zero_blocks};
-ghost use Rattle.ar_parity.specs.Group.{IsGroup, RowAgrees, KeepsButRow};
+ghost use Rattle.ar_parity.specs.Group.{RowAgrees, KeepsButRow};
 ghost use Rattle.ar_parity.specs.Call.{Tells};
 
-use crate::Outcome;
 use crate::steps::write;
 use ar_disks::{Block, Disk, Members};
-use ar_extents::DiskSet;
+use ar_extents::{DiskSet, Outcome};
 
 // Writes zeros to a row of each member, unless it is missing.
 pub fn zero_row<D: Disk>(set: &mut DiskSet<D>, members: &Members, row: u16, zero: &Block) -> Outcome

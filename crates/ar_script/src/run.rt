@@ -1,6 +1,7 @@
 // Runs a script.
-ghost use Rattle.std.specs.Prelude.{◌≡◌, ◌≢◌, ◌*◌, ◌≤◌, IfOk, IfErr, replicate};
+ghost use Rattle.std.specs.Prelude.{◌≡◌, ◌≢◌, ◌*◌, ◌≤◌, IfOk, IfErr, OnOk, replicate};
 ghost use Rattle.ar_disks.specs.Geometry.{extent_len_of};
+ghost use Rattle.ar_core.specs.Start.{IsStarted};
 ghost use Rattle.ar_disks.specs.Memory.{sound_disk};
 ghost use Rattle.ar_script.specs.Lines.{IsNumbered};
 ghost use Rattle.ar_script.specs.Orders.{event_in, shown_in};
@@ -56,7 +57,10 @@ pub fn run_script<R: Read + Drop, W: Write + Drop>(
 
 // An array on disks that are filled with one byte.
 fn start(alloc: Global, setup: Setup) -> Result<Array<MemDisk>, Fault>
-    ensures { IfErr result (λ fault. fault ≡ Fault.Start) }
+    ensures refused { IfErr result (λ fault. fault ≡ Fault.Start) }
+    ensures cache { OnOk result (setup.cache ≡ 0) }
+    ensures started { IfOk result (IsStarted
+        (replicate setup.disks (sound_disk setup.geometry setup.extents (replicate (setup.extents * extent_len_of setup.geometry) 0xEE)))) }
 {
     if setup.cache != 0 {
         return Err(Fault::Start);

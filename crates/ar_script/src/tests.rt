@@ -1,6 +1,10 @@
 // Scripts and what they are answered with.
+use crate::order::{Data, Order, Shown, order_in};
+use crate::text::write_outcome;
 use crate::{Fault, FaultKind, Setup, run_script};
-use ar_disks::Geometry;
+use ar_core::{Outcome, Refusal};
+use ar_disks::{Addr, Geometry, Host};
+use ar_scsi::{Reply, Sense};
 use std::alloc::Global;
 use std::io;
 use std::io::{Read, Write};
@@ -86,6 +90,8 @@ fn data_of_the_wrong_length(rt: HostRuntime) -> Result<(), Fail> {
             ("make 0 0 4", "ok"),
             ("cdb 0 0 2A000000000000000200 512 AA", "check 0B/4B/00"),
             ("read 0 0 0 2", "good 1024x00"),
+            ("cdb 0 0 2A000000000000000200 1024 BB", "good"),
+            ("read 0 0 0 2", "good 1024xBB"),
             ("cdb 0 0 2A000000000000000000", "good"),
             ("cdb 0 0 2a200000000000000000", "check 05/24/00"),
         ],
@@ -103,6 +109,7 @@ fn sixteen_byte_commands(rt: HostRuntime) -> Result<(), Fail> {
             ("read 0 0 2 1", "good 512xAA"),
             ("read16 0 0 4 0", "good"),
             ("read16 0 0 4294967296 0", "check 05/21/00"),
+            ("write16 0 0 4294967296 0 AA", "check 05/21/00"),
             ("cdb 0 0 8800FFFFFFFFFFFFFFFF000000010000", "check 05/21/00"),
             ("cdb 0 0 88000000000000000000000100000000", "check 05/24/00"),
             ("cdb 0 0 88000000000000000000000000020004", "check 05/24/00"),
@@ -131,6 +138,66 @@ fn refusals_and_forced_writes(rt: HostRuntime) -> Result<(), Fail> {
             ("read 3 0 0 4", "good 1024xA1 512x00 512xB2"),
         ],
     )
+}
+
+// FORCE UNIT ACCESS changes no answer while there is no cache, so that only the block shows it.
+#[test]
+fn blocks_of_forced_writes(rt: HostRuntime) -> Result<(), Fail> {
+    let Some(host) = Host::new(3) else {
+        return Err(Fail::new("a host has this number"));
+    };
+    for (line, cdb) in [
+        (
+            "write 3 7 258 2 a1 fua",
+            [0x2A, 8, 0, 0, 1, 2, 0, 0, 2, 0, 0, 0, 0, 0, 0, 0],
+        ),
+        (
+            "write 3 7 258 2 a1",
+            [0x2A, 0, 0, 0, 1, 2, 0, 0, 2, 0, 0, 0, 0, 0, 0, 0],
+        ),
+        (
+            "write16 3 7 4294967298 2 a1 fua",
+            [0x8A, 8, 0, 0, 0, 1, 0, 0, 0, 2, 0, 0, 0, 2, 0, 0],
+        ),
+        (
+            "write16 3 7 4294967298 2 a1",
+            [0x8A, 0, 0, 0, 0, 1, 0, 0, 0, 2, 0, 0, 0, 2, 0, 0],
+        ),
+    ] {
+        let order = Order::Command {
+            addr: Addr { host, lun: 7 },
+            cdb,
+            data: Data {
+                len: 1_024,
+                byte: 0xA1,
+            },
+            shown: Shown::Runs,
+        };
+        assert_eq!(rt; order_in(rt.alloc(), line), Ok(Some(order)), "{line}");
+    }
+    Ok(())
+}
+
+fn text_of(alloc: Global, outcome: &Outcome) -> Result<Vec<u8>, Fail> {
+    let mut text = Vec::new(alloc);
+    write_outcome(&mut text, outcome, Shown::Runs)?;
+    Ok(text)
+}
+
+// A script over disks in memory meets none of these.
+#[test]
+fn texts_of_rare_answers(rt: HostRuntime) -> Result<(), Fail> {
+    let alloc = rt.alloc();
+    let busy = text_of(alloc, &Outcome::Cmd(Reply::busy()))?;
+    assert_eq!(rt; busy.as_slice(), b"busy\n".as_slice());
+    let lost = Reply::check(Sense::INTERNAL_TARGET_FAILURE);
+    let lost = text_of(alloc, &Outcome::Cmd(lost))?;
+    assert_eq!(rt; lost.as_slice(), b"check 04/44/00\n".as_slice());
+    let refused = text_of(alloc, &Outcome::Make(Err(Refusal::NoMemory)))?;
+    assert_eq!(rt; refused.as_slice(), b"refused M4 NoMemory\n".as_slice());
+    let broken = text_of(alloc, &Outcome::Remove(Err(Refusal::Broken)))?;
+    assert_eq!(rt; broken.as_slice(), b"refused M6 Broken\n".as_slice());
+    Ok(())
 }
 
 #[test]
@@ -348,6 +415,25 @@ fn writes_that_fail(rt: HostRuntime) -> Result<(), Fail> {
         assert!(rt; taken.len() <= room);
     }
     Ok(())
+}
+
+// The reader has given the first line alone when its answer is lost.
+#[test]
+fn answers_are_written_before_more_is_read(rt: HostRuntime) {
+    let alloc = rt.alloc();
+    let reader = FailingReader {
+        bytes: b"tur 00 00\nbogus",
+        kind: io::ErrorKind::Other,
+    };
+    let mut taken = Vec::new(alloc);
+    let writer = FailingWriter {
+        taken: &mut taken,
+        room: 0,
+    };
+    assert_eq!(rt;
+        run_script(alloc, reader, writer, SMALL),
+        at(1, FaultKind::WriteFault)
+    );
 }
 
 #[test]

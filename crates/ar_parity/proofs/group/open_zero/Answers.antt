@@ -1,7 +1,7 @@
 use Rattle.std.proofs.Common.{◌∙◌, ap, arith}
 use Rattle.ar_disks.specs.Geometry.{rows_of, block_len_of}
 use Rattle.ar_extents.proofs.Follows.{follows_then, keeps_then}
-use Rattle.ar_parity.specs.Group.{IsOutside}
+use Rattle.ar_extents.specs.Groups.{IsOutside}
 use Rattle.ar_parity.proofs.Updates.{zeros_then}
 use Rattle.ar_parity.proofs.SlotLemmas.{zero_slots}
 use Rattle.ar_parity.proofs.group.open_zero.Goals as goal

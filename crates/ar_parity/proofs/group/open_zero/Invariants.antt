@@ -2,8 +2,9 @@ use Rattle.std.proofs.Common.{◌≡◌, ◌≢◌, ℕ, ◌<◌}
 use Rattle.ar_disks.specs.Geometry.{block_len_of}
 use Rattle.ar_extents.specs.declared.health.Health.TheVariants.{Broken as AllBroken}
 use Rattle.ar_extents.specs.Follows.{Follows, Keeps}
+use Rattle.ar_extents.specs.Groups.{IsOutside}
 use Rattle.ar_parity.specs.Row.{zero_blocks}
-use Rattle.ar_parity.specs.Group.{RowAgrees, IsOutside}
+use Rattle.ar_parity.specs.Group.{RowAgrees}
 use Rattle.ar_parity.proofs.group.open_zero.Given as goal
 
 abbrev pub invariant-loop-row : goal.invariant-loop-row

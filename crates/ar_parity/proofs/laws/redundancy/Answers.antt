@@ -1,4 +1,5 @@
-use Rattle.ar_parity.proofs.OneBlock.{holds_without, holds_one}
+use Rattle.ar_parity.proofs.Frames.{holds_without}
+use Rattle.ar_parity.proofs.Standing.{holds_one}
 use Rattle.ar_parity.proofs.laws.redundancy.Goals as goal
 
 pub returns : goal.returns

@@ -1,0 +1,38 @@
+-- The words that all groups of four extents share, whatever stands in them.
+use Rattle.std.specs.Prelude.{◌≡◌, ◌≢◌, ℕ, ◌<◌, slice_set}
+use Rattle.ar_disks.specs.declared.address.Place.{Place}
+use Rattle.ar_disks.specs.declared.address.Members.{Members}
+use Rattle.ar_disks.specs.Disk.{DiskState}
+use Rattle.ar_disks.specs.Members.{member, AreApart}
+use Rattle.ar_extents.specs.declared.health.Health.{Health}
+use Rattle.ar_extents.specs.declared.health.Health.TheVariants.{Whole, Out, Rebuilding, Broken as AllBroken}
+use Rattle.ar_extents.specs.declared.outcome.Outcome.{Outcome}
+use Rattle.ar_extents.specs.declared.outcome.Outcome.TheVariants.{Done, Broken}
+use Rattle.ar_extents.specs.Health.{after_fault}
+use Rattle.ar_extents.specs.Set.{SetState, HasExtent}
+
+-- the four extents exist, on four different disks
+pub record IsGroup (s : SetState) (m : Members) : Type 0 where
+  pub extents : (i : ℕ) → i < 4 → HasExtent s (member m i)
+  pub apart : AreApart m
+
+-- what a call on a group answers where it leaves this health: only a broken set keeps it from being done
+abbrev pub outcome_of : Health → Outcome
+outcome_of Whole = Done
+outcome_of (Out x) = Done
+outcome_of (Rebuilding x done) = Done
+outcome_of AllBroken = Broken
+
+-- the extent is a member of the group
+pub record IsMember (m : Members) (place : Place) : Type 0 where
+  pub position : ℕ
+  pub below : position < 4
+  pub is : place ≡ member m position
+
+-- the extent is no member of the group
+abbrev pub IsOutside : Members → Place → Type 0
+IsOutside m place = (i : ℕ) → i < 4 → place ≢ member m i
+
+-- the set once a disk is lost, and anything may stand on it
+abbrev pub without_disk : SetState → ℕ → DiskState → SetState
+without_disk s d disk = record s { disks = slice_set s.disks d disk; health = after_fault s.health d }
