@@ -15,26 +15,19 @@ use Rattle.ar_disks.specs.declared.address.Members.{Members}
 use Rattle.ar_book.specs.declared.class.Class.{Class}
 use Rattle.ar_book.specs.declared.class.Class.TheVariants.{Free}
 use Rattle.ar_book.specs.declared.class.Slot.{Slot}
-use Rattle.ar_book.specs.Tables.{GroupState, Tables, no_group, group_in, key_in, class_of, used, slots_of, reserved}
+use Rattle.ar_book.specs.Tables.{GroupState, Tables, no_group, group_in, key_in, key_at, class_of, used, slots_of, reserved}
 use Rattle.ar_book.specs.Changes.{opened, free_group, formed, shifted}
-use Rattle.ar_book.specs.Choices.{same_place, stands_on, IsUnused}
+use Rattle.ar_book.specs.Choices.{same_place, stands_on, IsUnused, AreUnused}
 use Rattle.ar_book.specs.Book.{GroupsStand, IsKept}
-use Rattle.ar_book.proofs.Padding.{nothing, get_none, count_none}
-use Rattle.ar_book.proofs.GroupLemmas.{put_same, put_other, stand_put, disjoint_flips}
+use Rattle.ar_book.proofs.Padding.{nothing, get_replicate, count_none}
+use Rattle.ar_book.proofs.GroupLemmas.{put_keeps, stand_put, disjoint_flips}
 use Rattle.ar_book.proofs.AgreeLemmas.{agree_same}
 
--- a group is put whose slots are those of the one that stood there
-module _ (t : Tables) (n g : ℕ) (x : GroupState) (ok : IsKept t n) (inside : g < length t.groups) (same : x.slots ≡ (group_in t.groups g).slots) where
-  keys : (s : Slot) → key_in (set t.groups g x) s ≡ key_in t.groups s
-  keys s = elim (eqb_tells s.group g) [
-    | inl e ↦
-        ap (λ i. get_or (group_in (set t.groups g x) i).slots s.slot None) e.1
-        ∙ ap (λ y. get_or y.slots s.slot None) (put_same t.groups g x inside)
-        ∙ ap (λ l. get_or l s.slot None) same
-        ∙ sym (ap (λ i. get_or (group_in t.groups i).slots s.slot None) e.1)
-    | inr d ↦ ap (λ y. get_or y.slots s.slot None) (put_other t.groups g x s.group d.1)
-  ]
+-- a group is put whose slots are those of the one that stood there: each slot names what it did
+pub put_keys : (gs : List GroupState) (g : ℕ) (x : GroupState) → x.slots ≡ (group_in gs g).slots → (s : Slot) → key_in (set gs g x) s ≡ key_in gs s
+put_keys gs g x same s = ap (λ l. get_or l s.slot None) (put_keeps (λ y. y.slots) gs g x same s.group)
 
+module _ (t : Tables) (n g : ℕ) (x : GroupState) (ok : IsKept t n) (inside : g < length t.groups) (same : x.slots ≡ (group_in t.groups g).slots) where
   count : sum_by used (set t.groups g x) ≡ sum_by used t.groups
   count =
       let all : sum_by used (set t.groups g x) + used (group_in t.groups g) ≡ sum_by used t.groups + used x = sum_by-set used t.groups g x no_group inside in
@@ -46,7 +39,7 @@ module _ (t : Tables) (n g : ℕ) (x : GroupState) (ok : IsKept t n) (inside : g
     tables = record {
       groups = stand;
       units = ok.tables.units;
-      agree = agree_same t.groups (set t.groups g x) t.units t.units ok.tables.agree keys (λ k. refl) count refl;
+      agree = agree_same t.groups (set t.groups g x) t.units t.units ok.tables.agree (put_keys t.groups g x same) (λ k. refl) count refl;
       room = subst (λ m. reserved t ≤ 3 * rows_of t.geometry * (m - 1)) (sym (length-set t.groups g x)) ok.tables.room;
     };
     total = ok.total;
@@ -154,38 +147,45 @@ module _ (t : Tables) (n g p : ℕ) (x : Place) (ok : IsKept t n) (inside : g < 
       (λ i k e. gs.within (record { group = g; slot = i }) k e)
       still_apart still_disjoint (still_first p))
 
+-- the groups with one more: those that were there, and the new one
+pub formed_group_below : (t : Tables) (m : Members) (i : ℕ) → i < length t.groups → group_in (formed t m).groups i ≡ group_in t.groups i
+formed_group_below t m i h = get_or_append_left t.groups (free_group m (3 * rows_of t.geometry) ∷ []) no_group i h
+
+pub formed_group_last : (t : Tables) (m : Members) (i : ℕ) → length t.groups ≡ i → group_in (formed t m).groups i ≡ free_group m (3 * rows_of t.geometry)
+formed_group_last t m i e = get_or_push t.groups (free_group m (3 * rows_of t.geometry)) no_group i e
+
+pub formed_group_count : (t : Tables) (m : Members) → length (formed t m).groups ≡ length t.groups + 1
+formed_group_count t m = length-append t.groups (free_group m (3 * rows_of t.geometry) ∷ [])
+
+-- each slot names what it did
+pub formed_keys : (t : Tables) (m : Members) (s : Slot) → key_at (formed t m) s ≡ key_at t s
+formed_keys t m s = elim (cases_lt s.group (length t.groups)) [
+  | inl h ↦ ap (λ y. get_or y.slots s.slot None) (formed_group_below t m s.group h)
+  | inr h ↦
+      let past : key_in t.groups s ≡ None = ap (λ y. get_or y.slots s.slot None) (get_or_past t.groups s.group no_group h) in
+      elim (eqb_tells (length t.groups) s.group) [
+        | inl e ↦
+            ap (λ y. get_or y.slots s.slot None) (formed_group_last t m s.group e.1)
+            ∙ get_replicate (3 * rows_of t.geometry) s.slot (nothing Key)
+            ∙ sym past
+        | inr d ↦
+            ap (λ y. get_or y.slots s.slot None) (get_or_past (formed t m).groups s.group no_group (omega (arith, formed_group_count t m, h, d.1)))
+            ∙ sym past
+      ]
+]
+
 -- one group more
 module _ (t : Tables) (n : ℕ) (m : Members) (ok : IsKept t n) (apart : AreApart m)
     (fresh : (i : ℕ) → i < length t.groups → AreDisjoint (group_in t.groups i).members m)
     (disk : m.first.disk < 2 ^ 8) (extent : m.first.extent < 2 ^ 16) where
-  new : GroupState
-  new = free_group m (3 * rows_of t.geometry)
-
-  more : List GroupState
-  more = t.groups ++ free_group m (3 * rows_of t.geometry) ∷ []
-
   low : (i : ℕ) → i < length t.groups → group_in (t.groups ++ free_group m (3 * rows_of t.geometry) ∷ []) i ≡ group_in t.groups i
-  low i h = get_or_append_left t.groups (free_group m (3 * rows_of t.geometry) ∷ []) no_group i h
+  low = formed_group_below t m
 
   top : (i : ℕ) → length t.groups ≡ i → group_in (t.groups ++ free_group m (3 * rows_of t.geometry) ∷ []) i ≡ free_group m (3 * rows_of t.geometry)
-  top i e = get_or_push t.groups (free_group m (3 * rows_of t.geometry)) no_group i e
+  top = formed_group_last t m
 
   size : length (t.groups ++ free_group m (3 * rows_of t.geometry) ∷ []) ≡ length t.groups + 1
-  size = length-append t.groups (free_group m (3 * rows_of t.geometry) ∷ [])
-
-  formed_keys : (s : Slot) → key_in (t.groups ++ free_group m (3 * rows_of t.geometry) ∷ []) s ≡ key_in t.groups s
-  formed_keys s = elim (cases_lt s.group (length t.groups)) [
-    | inl h ↦ ap (λ y. get_or y.slots s.slot None) (low s.group h)
-    | inr h ↦ elim (eqb_tells (length t.groups) s.group) [
-      | inl e ↦
-          ap (λ y. get_or y.slots s.slot None) (top s.group e.1)
-          ∙ get_none {X = Key} (3 * rows_of t.geometry) s.slot
-          ∙ sym (ap (λ y. get_or y.slots s.slot None) (get_or_past t.groups s.group no_group h))
-      | inr d ↦
-          ap (λ y. get_or y.slots s.slot None) (get_or_past (t.groups ++ free_group m (3 * rows_of t.geometry) ∷ []) s.group no_group (omega (arith, size, h, d.1)))
-          ∙ sym (ap (λ y. get_or y.slots s.slot None) (get_or_past t.groups s.group no_group h))
-    ]
-  ]
+  size = formed_group_count t m
 
   -- whatever holds of each group and of the new one holds of all
   each : (P : GroupState → Type 0) → ((i : ℕ) → i < length t.groups → P (group_in t.groups i)) → P (free_group m (3 * rows_of t.geometry)) → (i : ℕ) → i < length t.groups + 1 → P (group_in (t.groups ++ free_group m (3 * rows_of t.geometry) ∷ []) i)
@@ -201,7 +201,7 @@ module _ (t : Tables) (n : ℕ) (m : Members) (ok : IsKept t n) (apart : AreApar
       record {
         long = λ i h. each (λ y. length y.slots ≡ 3 * rows_of t.geometry) gs.long (length-replicate (3 * rows_of t.geometry) (nothing Key)) i (omega (arith, size, h));
         within = λ s k e.
-            let f : key_in t.groups s ≡ Some k = sym (formed_keys s) ∙ e in
+            let f : key_in t.groups s ≡ Some k = sym (formed_keys t m s) ∙ e in
             elim (cases_lt s.group (length t.groups)) [
               | inl h ↦ subst (λ y. s.slot < slots_of t.geometry y.class) (sym (low s.group h)) (gs.within s k f)
               | inr h ↦ absurd (none-some k (sym (ap (λ y. get_or y.slots s.slot None) (get_or_past t.groups s.group no_group h)) ∙ f))
@@ -232,7 +232,7 @@ module _ (t : Tables) (n : ℕ) (m : Members) (ok : IsKept t n) (apart : AreApar
         tables = record {
           groups = formed_stand;
           units = ok.tables.units;
-          agree = agree_same t.groups all t.units t.units ok.tables.agree formed_keys (λ k. refl) (omega arith) refl;
+          agree = agree_same t.groups all t.units t.units ok.tables.agree (formed_keys t m) (λ k. refl) (omega arith) refl;
           room = more_room (rows_of t.geometry) (length t.groups) (length all) (reserved t) size ok.tables.room;
         };
         total = ok.total;
@@ -243,13 +243,13 @@ module _ (t : Tables) (n : ℕ) (m : Members) (ok : IsKept t n) (apart : AreApar
           let le : a - 1 ≤ b - 1 = omega arith in
           omega (arith, mul-le-mul_left (3 * e) le)
 
--- a group none of whose extents is in use shares none with a group that is there
-pub four_unused : (t : Tables) (m : Members) → IsUnused t m.first → IsUnused t m.second → IsUnused t m.third → IsUnused t m.fourth
-    → (i : ℕ) → i < length t.groups → AreDisjoint (group_in t.groups i).members m
-four_unused t m a b c d i h j k hj hk e = not_member (group_in t.groups i).members (member m k) (by k) j e
-  where
-    by : (k : ℕ) → stands_on (group_in t.groups i).members (member m k) ≡ false
-    by zero = a i h
-    by (suc zero) = b i h
-    by (suc (suc zero)) = c i h
-    by (suc (suc (suc k))) = d i h
+-- four extents that are in no group are members of none
+pub unused_disjoint : (t : Tables) (m : Members) → AreUnused t m → (i : ℕ) → i < length t.groups → AreDisjoint (group_in t.groups i).members m
+unused_disjoint t m unused i h j k hj hk e = not_member (group_in t.groups i).members (member m k) (unused k hk i h) j e
+
+-- four extents are in no group where none of them is
+pub four_unused : (t : Tables) (m : Members) → IsUnused t m.first → IsUnused t m.second → IsUnused t m.third → IsUnused t m.fourth → AreUnused t m
+four_unused t m a b c d zero h = a
+four_unused t m a b c d (suc zero) h = b
+four_unused t m a b c d (suc (suc zero)) h = c
+four_unused t m a b c d (suc (suc (suc k))) h = d

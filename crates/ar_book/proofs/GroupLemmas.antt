@@ -1,6 +1,6 @@
 -- What a change of one group leaves in the list of groups.
-use Rattle.std.proofs.Common.{◌≡◌, ◌≢◌, ℕ, suc, ◌+◌, ◌-◌, ◌*◌, ◌^◌, ◌<◌, ◌≤◌, Bool, true, false, cond, eqb, if◌then◌else◌, Option, None, Some, is_some, List, [], ◌∷◌, length, get_or, set, map, All, sum_by, count_by, refl, sym, ap, subst, ◌∙◌, inl, inr, arith, get_or-set_same, get_or-set_other}
-use Rattle.std.proofs.lemmas.List.{get_or_past}
+use Rattle.std.proofs.Common.{◌≡◌, ◌≢◌, ℕ, suc, ◌+◌, ◌-◌, ◌*◌, ◌^◌, ◌<◌, ◌≤◌, ◌⊎◌, Bool, true, false, cond, eqb, if◌then◌else◌, Option, None, Some, is_some, List, [], ◌∷◌, length, get_or, set, map, All, sum_by, count_by, refl, sym, ap, subst, ◌∙◌, inl, inr, arith, get_or-set_same, get_or-set_other, eq-eqb}
+use Rattle.std.proofs.lemmas.List.{get_or_past, set_past}
 use Rattle.std.proofs.lemmas.List.Sums.{sum_by-set, sum_by-cons, get_or-le-sum_by}
 use Rattle.std.proofs.lemmas.Option.{none-some}
 use Rattle.std.proofs.lemmas.Bool.{cases_lt, eqb-true}
@@ -21,7 +21,7 @@ use Rattle.ar_book.specs.declared.class.Slot.{Slot}
 use Rattle.ar_book.specs.declared.class.Class.{Class}
 use Rattle.ar_book.specs.declared.class.Class.TheVariants.{Free, Mirrored, Parity}
 use Rattle.ar_disks.specs.declared.geometry.Geometry.TheVariants.{Paper, Small}
-use Rattle.ar_book.specs.Tables.{GroupState, no_group, group_in, key_in, used, slots_of, is_free}
+use Rattle.ar_book.specs.Tables.{GroupState, no_group, group_in, key_in, level_of, level_in, used, slots_of, is_free}
 use Rattle.ar_book.specs.Changes.{with_key, without_key, freed, named, vacated}
 use Rattle.ar_book.specs.Book.{GroupsStand}
 use Rattle.ar_book.proofs.Keys.{make_slot}
@@ -48,6 +48,24 @@ put_same gs g x h = get_or-set_same gs g x no_group h
 -- the others stay
 pub put_other : (gs : List GroupState) (g : ℕ) (x : GroupState) (i : ℕ) → i ≢ g → group_in (set gs g x) i ≡ group_in gs i
 put_other gs g x i ne = get_or-set_other gs g i x no_group ne
+
+-- what holds between a group and the one that is put in its place, and between each group and itself, holds for all before and after
+pub put_relates : (R : GroupState → GroupState → Type 0) → ((y : GroupState) → R y y) → (gs : List GroupState) (g : ℕ) (x : GroupState)
+    → R (group_in gs g) x → (i : ℕ) → R (group_in gs i) (group_in (set gs g x) i)
+put_relates R same gs g x h i = elim (cases_lt g (length gs)) [
+  | inl inside ↦ elim (eqb_tells i g) [
+    | inl e ↦
+        subst (λ j. R (group_in gs j) (group_in (set gs g x) j)) (sym e.1)
+        (subst (λ y. R (group_in gs g) y) (sym (put_same gs g x inside)) h)
+    | inr n ↦ subst (λ y. R (group_in gs i) y) (sym (put_other gs g x i n.1)) (same (group_in gs i))
+  ]
+  | inr past ↦ subst (λ l. R (group_in gs i) (group_in l i)) (sym (set_past gs g x past)) (same (group_in gs i))
+]
+
+-- what the group that is put has as the former one stays in all
+pub put_keeps : {A : Type 0} (f : GroupState → A) (gs : List GroupState) (g : ℕ) (x : GroupState) → f x ≡ f (group_in gs g)
+    → (i : ℕ) → f (group_in (set gs g x) i) ≡ f (group_in gs i)
+put_keeps f gs g x e i = put_relates (λ a b. f b ≡ f a) (λ y. refl) gs g x e i
 
 -- one slot of one group is another, and no other slot
 module _ (gs : List GroupState) (s : Slot) (x : GroupState) (o : Option Key) (inside : s.group < length gs) (is : x.slots ≡ set (group_in gs s.group).slots s.slot o) where
@@ -147,18 +165,87 @@ freed_slots x = by (eqb (used x) 0)
     by true = refl
     by false = refl
 
+-- a group of which a slot names a block has a count above 0
+pub named_used : (x : GroupState) (i : ℕ) (k : Key) → get_or x.slots i None ≡ Some k → used x ≢ 0
+named_used x i k e z = elim (cases_lt i (length x.slots)) [
+  | inl h ↦
+      let le : cond {A = ℕ} (is_some (get_or x.slots i None)) 1 0 ≤ used x = get_or-le-sum_by (λ o. cond (is_some o) 1 0) x.slots i None h in
+      let one : cond {A = ℕ} (is_some (get_or x.slots i None)) 1 0 ≡ 1 = ap (λ (o : Option Key). cond {A = ℕ} (is_some o) 1 0) e in
+      absurd (omega arith)
+  | inr h ↦ absurd (none-some k (sym (get_or_past x.slots i None h) ∙ e))
+]
+
+-- where that count is 0 each slot is empty
+pub unused_empty : (x : GroupState) → used x ≡ 0 → (i : ℕ) → get_or x.slots i None ≡ None
+unused_empty x z i = by (get_or x.slots i None) refl
+  where
+    by : (o : Option Key) → get_or x.slots i None ≡ o → get_or x.slots i None ≡ None
+    by None e = e
+    by (Some k) e = absurd (named_used x i k e z)
+
+-- and it is 0 where each slot is
+pub empty_unused : (ks : List (Option Key)) → ((i : ℕ) → get_or ks i None ≡ None) → count_by is_some ks ≡ 0
+empty_unused [] empty = refl
+empty_unused (x ∷ ks) empty =
+    let head : count_by is_some (x ∷ ks) ≡ cond {A = ℕ} (is_some x) 1 0 + count_by is_some ks = sum_by-cons (λ (o : Option Key). cond {A = ℕ} (is_some o) 1 0) x ks in
+    let none : cond {A = ℕ} (is_some x) 1 0 ≡ 0 = ap (λ (o : Option Key). cond {A = ℕ} (is_some o) 1 0) (empty 0) in
+    let rest = empty_unused ks (λ i. empty (suc i)) in
+    omega arith
+
+-- the group has this class, or is free and none of its slots names a block
+abbrev pub KeepsClass : Class → GroupState → Type 0
+KeepsClass c x = (x.class ≡ c) ⊎ ((x.class ≡ Free) × ((i : ℕ) → get_or x.slots i None ≡ None))
+
+-- so it has this class where a slot names a block
+pub class_kept : (c : Class) (x : GroupState) (i : ℕ) (k : Key) → KeepsClass c x → get_or x.slots i None ≡ Some k → x.class ≡ c
+class_kept c x i k h e = elim h [ inl same ↦ same | inr free ↦ absurd (none-some k (sym (free.1 i) ∙ e)) ]
+
+-- freeing a group leaves its class where a slot names a block
+pub freed_keeps : (x : GroupState) → KeepsClass x.class (freed x)
+freed_keeps x = elim (eqb_tells (used x) 0) [
+  | inl z ↦
+      inr (
+        ap (λ b. (if b then record x { class = Free } else x).class) z.0,
+        λ i. ap (λ l. get_or l i None) (freed_slots x) ∙ unused_empty x z.1 i,
+      )
+  | inr n ↦ inl (ap (λ b. (if b then record x { class = Free } else x).class) n.0)
+]
+
+-- and makes it free where none does
+pub freed_empty : (x : GroupState) → ((i : ℕ) → get_or x.slots i None ≡ None) → (freed x).class ≡ Free
+freed_empty x empty = ap (λ b. (if b then record x { class = Free } else x).class) (eq-eqb (used x) 0 (empty_unused x.slots empty))
+
 -- and only where no slot names a block
 pub freed_class : (x : GroupState) (i : ℕ) (k : Key) → get_or x.slots i None ≡ Some k → (freed x).class ≡ x.class
-freed_class x i k e = elim (eqb_tells (used x) 0) [ inl z ↦ absurd (none_used z.1) | inr n ↦ ap (λ b. (if b then record x { class = Free } else x).class) n.0 ]
-  where
-    none_used : used x ≡ 0 → ⊥
-    none_used z = elim (cases_lt i (length x.slots)) [
-      | inl h ↦
-          let le : cond {A = ℕ} (is_some (get_or x.slots i None)) 1 0 ≤ used x = get_or-le-sum_by (λ o. cond (is_some o) 1 0) x.slots i None h in
-          let one : cond {A = ℕ} (is_some (get_or x.slots i None)) 1 0 ≡ 1 = ap (λ (o : Option Key). cond {A = ℕ} (is_some o) 1 0) e in
-          omega arith
-      | inr h ↦ absurd (none-some k (sym (get_or_past x.slots i None h) ∙ e))
-    ]
+freed_class x i k e = class_kept x.class (freed x) i k (freed_keeps x) (ap (λ l. get_or l i None) (freed_slots x) ∙ e)
+
+-- as many groups stay, with the members that they had
+pub named_size : (gs : List GroupState) (s : Slot) (k : Key) → length (named gs s k) ≡ length gs
+named_size gs s k = length-set gs s.group (with_key (group_in gs s.group) s.slot k)
+
+pub vacated_size : (gs : List GroupState) (o : Option Slot) → length (vacated gs o) ≡ length gs
+vacated_size gs None = refl
+vacated_size gs (Some s) = length-set gs s.group (without_key (group_in gs s.group) s.slot)
+
+pub named_members : (gs : List GroupState) (s : Slot) (k : Key) (i : ℕ) → (group_in (named gs s k) i).members ≡ (group_in gs i).members
+named_members gs s k i = put_keeps (λ y. y.members) gs s.group (with_key (group_in gs s.group) s.slot k) refl i
+
+pub vacated_members : (gs : List GroupState) (o : Option Slot) (i : ℕ) → (group_in (vacated gs o) i).members ≡ (group_in gs i).members
+vacated_members gs None i = refl
+vacated_members gs (Some s) i =
+    put_keeps (λ y. y.members) gs s.group (without_key (group_in gs s.group) s.slot)
+    (freed_members (record (group_in gs s.group) { slots = set (group_in gs s.group).slots s.slot None })) i
+
+-- naming a block changes no class
+pub named_class : (gs : List GroupState) (s : Slot) (k : Key) (i : ℕ) → (group_in (named gs s k) i).class ≡ (group_in gs i).class
+named_class gs s k i = put_keeps (λ y. y.class) gs s.group (with_key (group_in gs s.group) s.slot k) refl i
+
+-- vacating a slot frees no group of which a slot still names a block
+pub vacated_class : (gs : List GroupState) (o : Option Slot) (i : ℕ) → KeepsClass (group_in gs i).class (group_in (vacated gs o) i)
+vacated_class gs None i = inl refl
+vacated_class gs (Some s) i =
+    put_relates (λ a b. KeepsClass a.class b) (λ y. inl refl) gs s.group (without_key (group_in gs s.group) s.slot)
+    (freed_keeps (record (group_in gs s.group) { slots = set (group_in gs s.group).slots s.slot None })) i
 
 -- a slot that names another block
 module _ (gs : List GroupState) (s : Slot) (k : Key) (inside : s.group < length gs) where
@@ -214,6 +301,15 @@ module _ (gs : List GroupState) (s : Slot) (inside : s.group < length gs) where
       let one : cond {A = ℕ} (is_some (key_in gs s)) 1 0 ≡ 1 = ap (λ (o : Option Key). cond {A = ℕ} (is_some o) 1 0) e in
       omega arith
 
+  -- the group is free where none of its slots names a block any more
+  pub vacated_emptied : ((i : ℕ) → key_in (vacated gs (Some s)) (record { group = s.group; slot = i }) ≡ None) → (group_in (vacated gs (Some s)) s.group).class ≡ Free
+  vacated_emptied empty =
+      let new : GroupState = without_key (group_in gs s.group) s.slot in
+      let here : group_in (vacated gs (Some s)) s.group ≡ new = put_same gs s.group new inside in
+      ap (λ y. y.class) here
+      ∙ freed_empty (record (group_in gs s.group) { slots = set (group_in gs s.group).slots s.slot None })
+      (λ i. sym (ap (λ l. get_or l i None) is) ∙ sym (ap (λ y. get_or y.slots i None) here) ∙ empty i)
+
   pub vacated_shape : (i : ℕ) → length (group_in (vacated gs (Some s)) i).slots ≡ length (group_in gs i).slots
   vacated_shape i = elim (eqb_tells i s.group) [
     | inl e ↦
@@ -249,6 +345,11 @@ module _ (gs : List GroupState) (s : Slot) (inside : s.group < length gs) where
         | inl h ↦ none-some j (sym (ap (λ n. get_or (set (group_in gs s.group).slots s.slot None) n None) q ∙ get_or-set_same (group_in gs s.group).slots s.slot None None h) ∙ f)
         | inr h ↦ none-some j (sym (get_or_past (set (group_in gs s.group).slots s.slot None) i None (omega (arith, length-set (group_in gs s.group).slots s.slot None, q))) ∙ f)
       ]
+
+-- a home stands at the level that it had where its group has its class
+pub level_stays : (gs new : List GroupState) (o : Option Slot) → ((s : Slot) → o ≡ Some s → (group_in new s.group).class ≡ (group_in gs s.group).class) → level_in new o ≡ level_in gs o
+level_stays gs new None class = refl
+level_stays gs new (Some s) class = ap level_of (class s refl)
 
 -- there are no more groups than places for their first members
 code_of : GroupState → ℕ

@@ -2,6 +2,7 @@ pub mod Padding
 pub mod Keys
 pub mod UnitLemmas
 pub mod GroupLemmas
+pub mod FreeGroups
 pub mod AgreeLemmas
 pub mod PlaceLemmas
 pub mod KeptLemmas
@@ -11,3 +12,10 @@ pub mod RefusalLemmas
 pub mod CountLemmas
 pub mod DropLemmas
 pub mod OldestLemmas
+pub mod Homes
+pub mod AfterAssign
+pub mod AfterRelease
+pub mod AfterOpen
+pub mod AfterStamp
+pub mod AfterMake
+pub mod AfterForm

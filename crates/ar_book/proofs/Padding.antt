@@ -10,15 +10,15 @@ nothing X = None
 abbrev pub one_if : {X : Type 0} → Option X → ℕ
 one_if o = cond (is_some o) 1 0
 
-pub get_none : {X : Type 0} (n i : ℕ) → get_or (replicate n (nothing X)) i (nothing X) ≡ nothing X
-get_none zero i = refl
-get_none (suc n) zero = refl
-get_none (suc n) (suc i) = get_none n i
+pub get_replicate : {A : Type 0} (n i : ℕ) (d : A) → get_or (replicate n d) i d ≡ d
+get_replicate zero i d = refl
+get_replicate (suc n) zero d = refl
+get_replicate (suc n) (suc i) d = get_replicate n i d
 
-pub get_padded : {X : Type 0} (xs : List (Option X)) (n i : ℕ) → get_or (xs ++ replicate n (nothing X)) i (nothing X) ≡ get_or xs i (nothing X)
-get_padded [] n i = get_none n i
-get_padded (x ∷ xs) n zero = refl
-get_padded (x ∷ xs) n (suc i) = get_padded xs n i
+pub get_padded : {A : Type 0} (xs : List A) (n i : ℕ) (d : A) → get_or (xs ++ replicate n d) i d ≡ get_or xs i d
+get_padded [] n i d = get_replicate n i d
+get_padded (x ∷ xs) n zero d = refl
+get_padded (x ∷ xs) n (suc i) d = get_padded xs n i d
 
 pub count_none : (X : Type 0) (n : ℕ) → count_by is_some (replicate n (nothing X)) ≡ 0
 count_none X zero = refl

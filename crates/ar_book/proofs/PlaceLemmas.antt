@@ -12,20 +12,15 @@ use Rattle.ar_book.specs.declared.class.Class.{Class}
 use Rattle.ar_book.specs.declared.class.Class.TheVariants.{Free, Mirrored, Parity}
 use Rattle.ar_book.specs.declared.class.Slot.{Slot}
 use Rattle.ar_book.specs.Tables.{GroupState, UnitState, Tables, same_addr, group_in, key_in, unit_in, key_at, home, slots_of, class_of, HasBlock, HasSlot}
-use Rattle.ar_book.specs.Changes.{with_key, without_key, named, vacated, homed, assigned, released}
+use Rattle.ar_book.specs.Changes.{with_key, named, vacated, homed, assigned, released}
 use Rattle.ar_book.specs.Book.{GroupsStand, UnitsStand, IsUnit, Agree, TablesAgree}
-use Rattle.ar_book.proofs.GroupLemmas.{there_group, there_slot, named_same, named_other, named_count, named_stand, vacated_same, vacated_other, vacated_count, vacated_stand}
+use Rattle.ar_book.proofs.GroupLemmas.{there_group, there_slot, named_same, named_other, named_count, named_stand, vacated_size, vacated_same, vacated_other, vacated_count, vacated_stand}
 use Rattle.ar_book.proofs.UnitLemmas.{found_in, has_by_block, units_put, homed_same, homed_other, homed_count, homed_reserved}
 use Rattle.ar_book.proofs.AgreeLemmas.{agree_move}
 
 -- the room stays
 pub room_same : (e n m r q : ℕ) → r ≤ 3 * e * (n - 1) → m ≡ n → q ≡ r → q ≤ 3 * e * (m - 1)
 room_same e n m r q h i j = subst (λ x. x ≤ 3 * e * (m - 1)) (sym j) (subst (λ x. r ≤ 3 * e * (x - 1)) (sym i) h)
-
--- as many groups stay
-pub vacated_size : (gs : List GroupState) (o : Option Slot) → length (vacated gs o) ≡ length gs
-vacated_size gs None = refl
-vacated_size gs (Some s) = length-set gs s.group (without_key (group_in gs s.group) s.slot)
 
 -- each class has slots enough
 pub slots_within : (g : Geometry) (c : Class) → slots_of g c ≤ 3 * rows_of g

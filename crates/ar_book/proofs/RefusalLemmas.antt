@@ -1,10 +1,10 @@
 -- What is known where a making or a growth is not refused.
-use Rattle.std.proofs.Common.{◌≡◌, ◌≢◌, ℕ, ◌<◌, ◌≤◌, ◌+◌, ◌-◌, ◌*◌, ◌^◌, Bool, true, false, not, ◌||◌, nat_lt, nat_le, eqb, if◌then◌else◌, Option, None, Some, is_some, IsSome, Result, Ok, Err, OnOk, length, refl, sym, ◌∙◌, arith, true≢false}
+use Rattle.std.proofs.Common.{◌≡◌, ◌≢◌, ℕ, ◌<◌, ◌≤◌, ◌+◌, ◌-◌, ◌*◌, ◌/◌, ◌%◌, ◌^◌, min, Bool, true, false, not, ◌||◌, nat_lt, nat_le, eqb, if◌then◌else◌, Option, None, Some, is_some, IsSome, Result, Ok, Err, OnOk, length, refl, sym, ◌∙◌, arith, true≢false}
 use Rattle.std.specs.Map.{lookup}
 use Rattle.std.specs.Result.{is_err}
 use Rattle.std.proofs.lemmas.Option.{none-some}
 use Rattle.std.proofs.lemmas.Bool.{or_parts, ltb-false, leb-false, eqb-false}
-use Rattle.ar_disks.specs.Geometry.{rows_of}
+use Rattle.ar_disks.specs.Geometry.{rows_of, sectors_of}
 use Rattle.ar_disks.specs.declared.address.Addr.{Addr}
 use Rattle.ar_disks.specs.declared.geometry.Geometry.{Geometry}
 use Rattle.ar_disks.specs.declared.geometry.Geometry.TheVariants.{Paper, Small}
@@ -67,6 +67,11 @@ pub record CanGrow (t : Tables) (a : Addr) (n : ℕ) : Type 0 where
   pub longer : length (unit_in t.units a).homes ≤ blocks_of t.geometry n
   pub stamps : length (unit_in t.units a).stamps ≡ length (unit_in t.units a).homes
   pub room : reserved t + (blocks_of t.geometry n - length (unit_in t.units a).homes) ≤ 3 * rows_of t.geometry * (length t.groups - 1)
+
+-- rounding up by a quotient and a remainder
+pub blocks_up : (g : Geometry) (n : ℕ) → n / sectors_of g + min 1 (n % sectors_of g) ≡ blocks_of g n
+blocks_up Paper n = omega arith
+blocks_up Small n = omega arith
 
 blocks_grow : (g : Geometry) (m n : ℕ) → m < n → blocks_of g m ≤ blocks_of g n
 blocks_grow Paper m n h = omega arith

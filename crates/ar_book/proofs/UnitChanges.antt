@@ -1,5 +1,5 @@
 -- The book's invariant after a change of one unit, or of which units there are.
-use Rattle.std.proofs.Common.{◌≡◌, ℕ, ◌<◌, ◌≤◌, ◌+◌, ◌-◌, ◌*◌, Bool, true, false, cond, Option, None, Some, is_some, IsSome, List, [], ◌∷◌, ◌++◌, length, get_or, set, replicate, sum_by, All, refl, sym, ap, subst, ◌∙◌, inl, inr, arith, true≢false, length-append}
+use Rattle.std.proofs.Common.{◌≡◌, ℕ, ◌<◌, ◌≤◌, ◌+◌, ◌-◌, ◌*◌, Bool, true, false, cond, Option, None, Some, is_some, IsSome, List, [], ◌∷◌, ◌++◌, length, get_or, set, replicate, sum_by, All, refl, sym, ap, subst, ◌∙◌, arith, true≢false, length-append}
 use Rattle.std.specs.List.{IsDistinct}
 use Rattle.std.specs.Map.{lookup, set_value, keys_of, values_of}
 use Rattle.std.specs.Option.{unwrap_or}
@@ -14,39 +14,18 @@ use Rattle.ar_book.specs.declared.class.Slot.{Slot}
 use Rattle.ar_book.specs.Tables.{UnitState, Tables, no_unit, same_addr, unit_in, home_in, placed, blocks_of, reserved, HasBlock}
 use Rattle.ar_book.specs.Changes.{new_unit, longer, made, grown, unmarked, restamped}
 use Rattle.ar_book.specs.Book.{IsUnit, IsKept}
-use Rattle.ar_book.proofs.Padding.{nothing, get_none, get_padded, count_none, count_padded}
-use Rattle.ar_book.proofs.Keys.{addr_tells}
-use Rattle.ar_book.proofs.UnitLemmas.{has_by_block, unit_same, unit_other, unit_sum, units_put}
+use Rattle.ar_book.proofs.Padding.{nothing, get_replicate, get_padded, count_none, count_padded}
+use Rattle.ar_book.proofs.UnitLemmas.{has_by_block, put_absent, unit_keeps, unit_sum, units_put}
 use Rattle.ar_book.proofs.AgreeLemmas.{agree_same}
 use Rattle.ar_book.proofs.PlaceLemmas.{unit_whole}
-
--- where there is no such unit nothing is put
-pub put_absent : (test : Addr → Bool) (us : List (Addr × UnitState)) (u : UnitState) → lookup test us ≡ None → set_value test us u ≡ us
-put_absent test [] u e = refl
-put_absent test (x ∷ us) u e = by (put_absent test us u) (test x.0) refl
-  where
-    by : (lookup test us ≡ None → set_value test us u ≡ us) → (b : Bool) → test x.0 ≡ b → set_value test (x ∷ us) u ≡ x ∷ us
-    by rest true h = absurd (none-some x.1 (sym e ∙ ap (λ c. cond c (Some x.1) (lookup test us)) h))
-    by rest false h =
-        ap (λ c. cond c ((x.0, u) ∷ us) (x ∷ set_value test us u)) h
-        ∙ ap (λ l. x ∷ l) (rest (sym (ap (λ c. cond c (Some x.1) (lookup test us)) h) ∙ e))
 
 -- a unit is put whose blocks have the homes that they had, and m more blocks without one
 module _ (t : Tables) (n m puts : ℕ) (a : Addr) (u : UnitState) (ok : IsKept t n) (there : IsSome (lookup (same_addr a) t.units)) (whole : IsUnit t.geometry u)
     (homes : (i : ℕ) → get_or u.homes i None ≡ get_or (unit_in t.units a).homes i None) (count : placed u ≡ placed (unit_in t.units a))
     (more : length u.homes ≡ length (unit_in t.units a).homes + m) (room : reserved t + m ≤ 3 * rows_of t.geometry * (length t.groups - 1)) where
-  units : List (Addr × UnitState)
-  units = set_value (same_addr a) t.units u
-
-  same : (k : Key) → home_in (set_value (same_addr a) t.units u) k ≡ home_in t.units k
-  same k = elim (addr_tells a k.addr) [
-    | inl e ↦
-        ap (λ b. get_or (unit_in (set_value (same_addr a) t.units u) b).homes k.rb None) (sym e.1)
-        ∙ ap (λ x. get_or x.homes k.rb None) (unit_same t.units a u there)
-        ∙ homes k.rb
-        ∙ ap (λ b. get_or (unit_in t.units b).homes k.rb None) e.1
-    | inr d ↦ ap (λ x. get_or x.homes k.rb None) (unit_other t.units a u there k.addr d.1)
-  ]
+  -- each block has the home that it had
+  pub put_homes : (k : Key) → home_in (set_value (same_addr a) t.units u) k ≡ home_in t.units k
+  put_homes k = unit_keeps (λ x. get_or x.homes k.rb None) t.units a u (homes k.rb) k.addr
 
   total : reserved (record t { units = set_value (same_addr a) t.units u; puts = puts }) ≡ reserved t + m
   total =
@@ -59,7 +38,7 @@ module _ (t : Tables) (n m puts : ℕ) (a : Addr) (u : UnitState) (ok : IsKept t
     tables = record {
       groups = ok.tables.groups;
       units = units_put t.geometry t.units a u ok.tables.units whole;
-      agree = agree_same t.groups t.groups t.units (set_value (same_addr a) t.units u) ok.tables.agree (λ s. refl) same refl
+      agree = agree_same t.groups t.groups t.units (set_value (same_addr a) t.units u) ok.tables.agree (λ s. refl) put_homes refl
           (let all = unit_sum t.units a u there placed in omega arith);
       room = subst (λ x. x ≤ 3 * rows_of t.geometry * (length t.groups - 1)) (sym total) room;
     };
@@ -110,29 +89,53 @@ grown_kept t n a sectors ok there le some few room =
     let stamps : length (old.stamps ++ replicate more 0) ≡ length old.stamps + more = length-append old.stamps (replicate more 0) ∙ ap (λ x. length old.stamps + x) (length-replicate more 0) in
     put_kept t n more t.puts a (longer t.geometry old sectors) ok there
     (record { some = some; few = few; homes = omega arith; stamps = omega (arith, w.homes, w.stamps) })
-    (λ i. get_padded old.homes more i) (count_padded old.homes more) homes room (n + more) refl
+    (λ i. get_padded old.homes more i None) (count_padded old.homes more) homes room (n + more) refl
 
--- one unit more
+-- the units with one more
 values_push : (us : List (Addr × UnitState)) (a : Addr) (u : UnitState) → values_of (us ++ (a, u) ∷ []) ≡ values_of us ++ u ∷ []
 values_push [] a u = refl
 values_push (x ∷ us) a u = ap (λ l. x.1 ∷ l) (values_push us a u)
 
-homes_of_found : Option UnitState → List (Option Slot)
-homes_of_found o = (unwrap_or o no_unit).homes
+pub keys_push : (us : List (Addr × UnitState)) (a : Addr) (u : UnitState) → keys_of (us ++ (a, u) ∷ []) ≡ keys_of us ++ a ∷ []
+keys_push [] a u = refl
+keys_push (x ∷ us) a u = ap (λ l. x.0 ∷ l) (keys_push us a u)
 
-home_push : (test : Addr → Bool) (us : List (Addr × UnitState)) (a : Addr) (u : UnitState) (i : ℕ) → get_or u.homes i None ≡ nothing Slot
-    → get_or (unwrap_or (lookup test (us ++ (a, u) ∷ [])) no_unit).homes i None ≡ get_or (unwrap_or (lookup test us) no_unit).homes i None
-home_push test [] a u i e = by (test a)
+-- it is found where no other is
+pub push_found : (test : Addr → Bool) (us : List (Addr × UnitState)) (a : Addr) (u : UnitState) → lookup test us ≡ None → lookup test (us ++ (a, u) ∷ []) ≡ cond (test a) (Some u) None
+push_found test [] a u e = refl
+push_found test (x ∷ us) a u e = by (test x.0) (push_found test us a u) e
   where
-    by : (b : Bool) → get_or (unwrap_or (cond b (Some u) None) no_unit).homes i None ≡ nothing Slot
+    by : (b : Bool) → (lookup test us ≡ None → lookup test (us ++ (a, u) ∷ []) ≡ cond (test a) (Some u) None)
+        → cond b (Some x.1) (lookup test us) ≡ None → cond b (Some x.1) (lookup test (us ++ (a, u) ∷ [])) ≡ cond (test a) (Some u) None
+    by true rest h = absurd (none-some x.1 (sym h))
+    by false rest h = rest h
+
+-- and not at another address
+pub push_other : (test : Addr → Bool) (us : List (Addr × UnitState)) (a : Addr) (u : UnitState) → test a ≡ false → lookup test (us ++ (a, u) ∷ []) ≡ lookup test us
+push_other test [] a u e = ap (λ c. cond c (Some u) None) e
+push_other test (x ∷ us) a u e = ap (λ o. cond (test x.0) (Some x.1) o) (push_other test us a u e)
+
+-- what it has as where there is no unit stays in all
+pub push_keeps : {A : Type 0} (f : UnitState → A) (test : Addr → Bool) (us : List (Addr × UnitState)) (a : Addr) (u : UnitState) → f u ≡ f no_unit
+    → f (unwrap_or (lookup test (us ++ (a, u) ∷ [])) no_unit) ≡ f (unwrap_or (lookup test us) no_unit)
+push_keeps f test [] a u e = by (test a)
+  where
+    by : (b : Bool) → f (unwrap_or (cond b (Some u) None) no_unit) ≡ f no_unit
     by true = e
     by false = refl
-home_push test (x ∷ us) a u i e = by (test x.0) (home_push test us a u i e)
+push_keeps f test (x ∷ us) a u e = by (test x.0) (push_keeps f test us a u e)
   where
-    by : (b : Bool) → get_or (unwrap_or (lookup test (us ++ (a, u) ∷ [])) no_unit).homes i None ≡ get_or (unwrap_or (lookup test us) no_unit).homes i None
-        → get_or (unwrap_or (cond b (Some x.1) (lookup test (us ++ (a, u) ∷ []))) no_unit).homes i None ≡ get_or (unwrap_or (cond b (Some x.1) (lookup test us)) no_unit).homes i None
+    by : (b : Bool) → f (unwrap_or (lookup test (us ++ (a, u) ∷ [])) no_unit) ≡ f (unwrap_or (lookup test us) no_unit)
+        → f (unwrap_or (cond b (Some x.1) (lookup test (us ++ (a, u) ∷ []))) no_unit) ≡ f (unwrap_or (cond b (Some x.1) (lookup test us)) no_unit)
     by true h = refl
     by false h = h
+
+-- its blocks are reserved
+pub made_reserved : (t : Tables) (a : Addr) (sectors : ℕ) → reserved (made t a sectors) ≡ reserved t + blocks_of t.geometry sectors
+made_reserved t a sectors =
+    ap (λ l. sum_by (λ x. length x.homes) l) (values_push t.units a (new_unit t.geometry sectors))
+    ∙ sum_by_push (λ x. length x.homes) (values_of t.units) (new_unit t.geometry sectors)
+    ∙ ap (λ x. reserved t + x) (length-replicate (blocks_of t.geometry sectors) (nothing Slot))
 
 module _ (t : Tables) (n : ℕ) (a : Addr) (sectors : ℕ) (ok : IsKept t n) (some : 0 < sectors) (few : sectors ≤ 1048576)
     (room : reserved t + blocks_of t.geometry sectors ≤ 3 * rows_of t.geometry * (length t.groups - 1)) where
@@ -143,12 +146,6 @@ module _ (t : Tables) (n : ℕ) (a : Addr) (sectors : ℕ) (ok : IsKept t n) (so
     homes = length-replicate (blocks_of t.geometry sectors) (nothing Slot);
     stamps = length-replicate (blocks_of t.geometry sectors) 0;
   }
-
-  made_total : reserved (made t a sectors) ≡ reserved t + blocks_of t.geometry sectors
-  made_total =
-      ap (λ l. sum_by (λ x. length x.homes) l) (values_push t.units a (new_unit t.geometry sectors))
-      ∙ sum_by_push (λ x. length x.homes) (values_of t.units) (new_unit t.geometry sectors)
-      ∙ ap (λ x. reserved t + x) (length-replicate (blocks_of t.geometry sectors) (nothing Slot))
 
   made_placed : sum_by placed (values_of (t.units ++ (a, new_unit t.geometry sectors) ∷ [])) ≡ sum_by placed (values_of t.units)
   made_placed =
@@ -165,9 +162,9 @@ module _ (t : Tables) (n : ℕ) (a : Addr) (sectors : ℕ) (ok : IsKept t n) (so
         whole = subst (λ l. All (IsUnit t.geometry) l) (sym (values_push t.units a (new_unit t.geometry sectors))) (All-push (IsUnit t.geometry) (values_of t.units) (new_unit t.geometry sectors) ok.tables.units.whole whole);
       };
       agree = agree_same t.groups t.groups t.units (t.units ++ (a, new_unit t.geometry sectors) ∷ []) ok.tables.agree (λ s. refl)
-          (λ k. home_push (same_addr k.addr) t.units a (new_unit t.geometry sectors) k.rb (get_none {X = Slot} (blocks_of t.geometry sectors) k.rb))
+          (λ k. push_keeps (λ x. get_or x.homes k.rb None) (same_addr k.addr) t.units a (new_unit t.geometry sectors) (get_replicate (blocks_of t.geometry sectors) k.rb (nothing Slot)))
           refl made_placed;
-      room = subst (λ x. x ≤ 3 * rows_of t.geometry * (length t.groups - 1)) (sym made_total) room;
+      room = subst (λ x. x ≤ 3 * rows_of t.geometry * (length t.groups - 1)) (sym (made_reserved t a sectors)) room;
     };
-    total = ap (λ x. x + blocks_of t.geometry sectors) ok.total ∙ sym made_total;
+    total = ap (λ x. x + blocks_of t.geometry sectors) ok.total ∙ sym (made_reserved t a sectors);
   }

@@ -1,9 +1,10 @@
 -- What a change of one unit leaves in the list of units.
-use Rattle.std.proofs.Common.{◌≡◌, ◌≢◌, ℕ, ◌<◌, ◌+◌, cond, Option, None, Some, IsSome, is_some, List, length, get_or, set, sum_by, count_by, refl, sym, ap, subst, ◌∙◌, inl, inr, arith, true≢false, get_or-set_same, get_or-set_other}
+use Rattle.std.proofs.Common.{◌≡◌, ◌≢◌, ℕ, ◌<◌, ◌+◌, Bool, true, false, cond, Option, None, Some, IsSome, is_some, List, [], ◌∷◌, length, get_or, set, sum_by, count_by, refl, sym, ap, subst, ◌∙◌, inl, inr, arith, true≢false, get_or-set_same, get_or-set_other}
 use Rattle.std.specs.List.{IsDistinct}
 use Rattle.std.specs.Map.{lookup, set_value, values_of}
 use Rattle.std.specs.Option.{unwrap_or}
 use Rattle.std.proofs.Math.ListN.{length-set}
+use Rattle.std.proofs.lemmas.Option.{none-some}
 use Rattle.std.proofs.lemmas.List.Sums.{sum_by-set}
 use Rattle.std.proofs.lemmas.Map.{lookup-set_value, keys-set_value}
 use Rattle.std.proofs.lemmas.Map.Entries.{sum_by-set_value}
@@ -33,6 +34,17 @@ has_by_block us a i h = by (lookup (same_addr a) us) h
     by None l = absurd (omega arith)
     by (Some u) l = refl
 
+-- where there is no such unit nothing is put
+pub put_absent : (test : Addr → Bool) (us : List (Addr × UnitState)) (u : UnitState) → lookup test us ≡ None → set_value test us u ≡ us
+put_absent test [] u e = refl
+put_absent test (x ∷ us) u e = by (put_absent test us u) (test x.0) refl
+  where
+    by : (lookup test us ≡ None → set_value test us u ≡ us) → (b : Bool) → test x.0 ≡ b → set_value test (x ∷ us) u ≡ x ∷ us
+    by rest true h = absurd (none-some x.1 (sym e ∙ ap (λ c. cond c (Some x.1) (lookup test us)) h))
+    by rest false h =
+        ap (λ c. cond c ((x.0, u) ∷ us) (x ∷ set_value test us u)) h
+        ∙ ap (λ l. x ∷ l) (rest (sym (ap (λ c. cond c (Some x.1) (lookup test us)) h) ∙ e))
+
 module _ (us : List (Addr × UnitState)) (a : Addr) (u : UnitState) (there : IsSome (lookup (same_addr a) us)) where
   lookup_put : (b : Addr) → lookup (same_addr b) (set_value (same_addr a) us u) ≡ cond (same_addr a b) (Some u) (lookup (same_addr b) us)
   lookup_put b = lookup-set_value addr_laws (same_addr a) (addr_laws.congr a) b u us there
@@ -48,6 +60,24 @@ module _ (us : List (Addr × UnitState)) (a : Addr) (u : UnitState) (there : IsS
   -- a sum over the units
   pub unit_sum : (f : UnitState → ℕ) → sum_by f (values_of (set_value (same_addr a) us u)) + f (unit_in us a) ≡ sum_by f (values_of us) + f u
   unit_sum f = sum_by-set_value f (same_addr a) us (unit_in us a) u (found_in us a there)
+
+-- what the unit that is put has as the former one stays in all
+pub unit_keeps : {A : Type 0} (f : UnitState → A) (us : List (Addr × UnitState)) (a : Addr) (u : UnitState) → f u ≡ f (unit_in us a)
+    → (b : Addr) → f (unit_in (set_value (same_addr a) us u) b) ≡ f (unit_in us b)
+unit_keeps f us a u e b = by (lookup (same_addr a) us) refl
+  where
+    by : (o : Option UnitState) → lookup (same_addr a) us ≡ o → f (unit_in (set_value (same_addr a) us u) b) ≡ f (unit_in us b)
+    by None none = ap (λ l. f (unit_in l b)) (put_absent (same_addr a) us u none)
+    by (Some v) found =
+        let there : IsSome (lookup (same_addr a) us) = ap is_some found in
+        elim (addr_tells a b) [
+          | inl same ↦
+              ap (λ x. f (unit_in (set_value (same_addr a) us u) x)) (sym same.1)
+              ∙ ap f (unit_same us a u there)
+              ∙ e
+              ∙ ap (λ x. f (unit_in us x)) same.1
+          | inr other ↦ ap f (unit_other us a u there b other.1)
+        ]
 
 -- the units stand where the one that was put does
 pub units_put : (geo : Geometry) (us : List (Addr × UnitState)) (a : Addr) (u : UnitState) → UnitsStand geo us → IsUnit geo u → UnitsStand geo (set_value (same_addr a) us u)

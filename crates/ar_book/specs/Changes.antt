@@ -1,5 +1,5 @@
 -- What each call makes of the tables.
-use Rattle.std.specs.Prelude.{ℕ, ◌+◌, ◌-◌, ◌*◌, ◌==◌, min, true, false, if◌then◌else◌, List, [], ◌∷◌, ◌++◌, length, slice_set, replicate, fold, Option, None, Some}
+use Rattle.std.specs.Prelude.{◌≡◌, ℕ, ◌+◌, ◌-◌, ◌*◌, ◌==◌, min, true, false, if◌then◌else◌, List, [], ◌∷◌, ◌++◌, length, slice_set, replicate, fold, Option, None, Some}
 use Rattle.std.specs.Map.{set_value, remove_entry}
 use Rattle.ar_disks.specs.Geometry.{rows_of}
 use Rattle.ar_disks.specs.Members.{with_member}
@@ -43,6 +43,11 @@ homed units k o =
 -- the block moves to the slot, and leaves the one that it had
 abbrev pub assigned : Tables → Key → Slot → Tables
 assigned t k s = record t { groups = vacated (named t.groups s k) (home t k); units = homed t.units k (Some s) }
+
+-- the second tables are the first after a block moved: its former slot names nothing, the new one names it, the group that it left
+-- is free where none of its slots names a block; nothing else differs, stamps neither
+pub record Moved (t : Tables) (key : Key) (to : Slot) (new : Tables) : Type 0 where
+  pub tables : new ≡ assigned t key to
 
 -- the block leaves its slot
 abbrev pub released : Tables → Key → Tables
@@ -100,12 +105,12 @@ free_group m n = record { class = Free; members = m; slots = replicate n None }
 abbrev pub formed : Tables → Members → Tables
 formed t m = record t { groups = t.groups ++ free_group m (3 * rows_of t.geometry) ∷ [] }
 
--- the group has another extent at a member position
-abbrev pub moved : List GroupState → ℕ → ℕ → Place → List GroupState
-moved groups g position place =
+-- the groups, where one has another extent at a member position
+abbrev pub with_place_at : List GroupState → ℕ → ℕ → Place → List GroupState
+with_place_at groups g position place =
     let x = group_in groups g in
     slice_set groups g (record x { members = with_member x.members position place })
 
 -- the group has another extent at a member position
 abbrev pub shifted : Tables → ℕ → ℕ → Place → Tables
-shifted t g position place = record t { groups = moved t.groups g position place }
+shifted t g position place = record t { groups = with_place_at t.groups g position place }

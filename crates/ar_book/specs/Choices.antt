@@ -2,6 +2,7 @@
 use Rattle.std.specs.Prelude.{◌≡◌, ℕ, ◌<◌, ◌≤◌, ◌⊎◌, Bool, false, ◌&&◌, ◌||◌, ◌==◌, List, length, slice_index_or, Option, None, IsSome, IfSome, IsSomeAnd}
 use Rattle.std.specs.List.{position_or_len}
 use Rattle.std.specs.Map.{keys_of}
+use Rattle.ar_disks.specs.Members.{member}
 use Rattle.ar_disks.specs.declared.address.Addr.{Addr}
 use Rattle.ar_disks.specs.declared.address.Key.{Key}
 use Rattle.ar_disks.specs.declared.address.Place.{Place}
@@ -27,6 +28,10 @@ pub record IsHole (t : Tables) (c : Class) (s : Slot) : Type 0 where
 pub record IsHoleOf (t : Tables) (g i : ℕ) : Type 0 where
   pub slot : i < slots_of t.geometry (class_of t g)
   pub empty : slice_index_or (group_in t.groups g).slots i None ≡ None
+
+-- no slot of the group names a block
+abbrev pub IsEmpty : Tables → ℕ → Type 0
+IsEmpty t g = (i : ℕ) → key_at t (record { group = g; slot = i }) ≡ None
 
 -- the group is free, and none with a lower number is
 pub record IsLowestFree (t : Tables) (g : ℕ) : Type 0 where
@@ -88,3 +93,7 @@ stands_on m p = same_place m.first p || same_place m.second p || same_place m.th
 -- the extent is in no group
 abbrev pub IsUnused : Tables → Place → Type 0
 IsUnused t p = (i : ℕ) → i < length t.groups → stands_on (group_in t.groups i).members p ≡ false
+
+-- none of the four extents is in a group
+abbrev pub AreUnused : Tables → Members → Type 0
+AreUnused t m = (j : ℕ) → j < 4 → IsUnused t (member m j)

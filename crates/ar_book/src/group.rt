@@ -68,10 +68,7 @@ impl Group {
     pub(crate) fn is_free(&self) -> bool
         ensures { result ≡ is_free self.now.class }
     {
-        match self.class {
-            Class::Free => true,
-            _ => false,
-        }
+        matches!(self.class, Class::Free)
     }
 
     /// Whether an extent is one of the group's.
@@ -89,11 +86,7 @@ impl Group {
     pub(crate) fn key(&self, slot: u16) -> Option<Key>
         ensures { result ≡ slice_index_or self.now.slots slot None }
     {
-        if (slot as usize) < self.slots.len() {
-            self.slots[slot as usize]
-        } else {
-            None
-        }
+        self.slots.get(slot as usize).copied().flatten()
     }
 
     /// How many slots name a block.

@@ -1,9 +1,9 @@
 // The forming and opening of groups, and a change of one extent.
 ghost use Rattle.std.specs.Prelude.{◌≡◌, ◌≢◌, ℕ, ◌+◌, ◌<◌, ◌≤◌, ◌↔◌, length, IsTrue, IfSome, IfOk, OnErr, IsNone, IsSome, OnSome, IfNone};
-ghost use Rattle.ar_disks.specs.Members.{member, AreApart, AreDisjoint};
+ghost use Rattle.ar_disks.specs.Members.{member, AreApart};
 ghost use Rattle.ar_book.specs.Tables.{group_in, free_groups};
 ghost use Rattle.ar_book.specs.Changes.{opened, formed, shifted};
-ghost use Rattle.ar_book.specs.Choices.{IsLowestFree, IsUnused, stands_on};
+ghost use Rattle.ar_book.specs.Choices.{IsLowestFree, IsEmpty, IsUnused, AreUnused, stands_on};
 
 use crate::tables::{open_class, replace_member};
 use crate::{Book, Class, Group};
@@ -11,10 +11,10 @@ use ar_disks::{Members, Place};
 use std::alloc::AllocError;
 
 impl Book {
-    /// Forms a free group with the next number, which it answers. Without memory nothing changes.
+    /// Forms a free group of four extents that are in no group, with the next number, which it answers. Without memory nothing changes.
     pub fn form_group(&mut self, members: Members) -> Result<u32, AllocError>
         requires apart { AreApart members }
-        requires fresh { (i : ℕ) → i < length self.old.groups → AreDisjoint (group_in self.old.groups i).members members }
+        requires unused { AreUnused self.old members }
         ensures number { IfOk result (λ group. group ≡ length self.old.groups) }
         ensures formed { IfOk result (λ _. self.new ≡ formed self.old members) }
         ensures unchanged { OnErr result (self.new ≡ self.old) }
@@ -27,12 +27,14 @@ impl Book {
         Ok(number)
     }
 
-    /// Opens the lowest free group for a class, and answers its number. Only while at least two groups are free: else None, and nothing
-    /// changes.
+    /// Opens the lowest free group for mirrored blocks or for parity, and answers its number; its slots are all empty. Only while at
+    /// least two groups are free: else None, and nothing changes.
     pub fn open_group(&mut self, class: Class) -> Option<u32>
+        requires { class ≢ Class.Free }
         ensures when { IsSome result ↔ (2 ≤ free_groups self.old) }
         ensures lowest { IfSome result (IsLowestFree self.old) }
         ensures opened { IfSome result (λ group. self.new ≡ opened self.old group class) }
+        ensures empty { IfSome result (IsEmpty self.new) }
         ensures unchanged { IfNone result (self.new ≡ self.old) }
     {
         if self.free_groups() < 2 {
@@ -43,11 +45,14 @@ impl Book {
         Some(group)
     }
 
-    /// Opens the one free group for a class, and answers its number. The caller empties another group at once.
+    /// Opens the one free group for mirrored blocks or for parity, and answers its number; its slots are all empty. The caller empties
+    /// another group at once.
     pub fn open_last(&mut self, class: Class) -> u32
-        requires { free_groups self.old ≡ 1 }
+        requires class { class ≢ Class.Free }
+        requires last { free_groups self.old ≡ 1 }
         ensures lowest { IsLowestFree self.old result }
         ensures opened { self.new ≡ opened self.old result class }
+        ensures empty { IsEmpty self.new result }
     {
         let last = self.lowest_free();
         open_class(&mut self.groups, last, class);

@@ -66,9 +66,8 @@ fn older_in(unit: &UnitTable, groups: &[Group], rb: u32, oldest: Option<u32>) ->
     requires before { IsOldestIn groups.now unit.now rb oldest }
     ensures { IsOldestIn groups.now unit.now (rb + 1) result }
 {
-    match level_in(groups, unit.home(rb)) {
-        Level::Mirrored => {}
-        _ => return oldest,
+    if !matches!(level_in(groups, unit.home(rb)), Level::Mirrored) {
+        return oldest;
     }
     match oldest {
         Some(first) if unit.stamp(first) <= unit.stamp(rb) => oldest,

@@ -58,9 +58,8 @@ impl Book {
         ensures { IsFullMirrored self.now result }
     {
         for number in 0..self.groups() {
-            match self.class(number) {
-                Class::Mirrored => return number,
-                _ => {}
+            if matches!(self.class(number), Class::Mirrored) {
+                return number;
             }
         }
         unreachable!()

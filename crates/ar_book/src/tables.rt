@@ -5,7 +5,7 @@ ghost use Rattle.std.specs.List.{IsDistinct};
 ghost use Rattle.std.specs.Option.{ForSome};
 ghost use Rattle.ar_book.specs.Tables.{is_free, level_in, group_in, key_in, home_in, unit_in, blocks_of, same_addr};
 ghost use Rattle.ar_book.specs.Book.{AreHomes};
-ghost use Rattle.ar_book.specs.Changes.{named, vacated, homed, restamped, new_unit, longer, moved};
+ghost use Rattle.ar_book.specs.Changes.{named, vacated, homed, restamped, new_unit, longer, with_place_at};
 
 use crate::{Class, Group, Level, Slot, UnitTable};
 use ar_disks::{Addr, Geometry, Key, Place};
@@ -23,11 +23,7 @@ pub(crate) fn free_count(groups: &[Group]) -> usize
 pub(crate) fn key_in(groups: &[Group], slot: Slot) -> Option<Key>
     ensures { result ≡ key_in groups.now slot }
 {
-    if (slot.group as usize) < groups.len() {
-        groups[slot.group as usize].key(slot.slot)
-    } else {
-        None
-    }
+    groups.get(slot.group as usize)?.key(slot.slot)
 }
 
 /// The level at which a home stands.
@@ -44,10 +40,9 @@ pub(crate) fn level_in(groups: &[Group], home: Option<Slot>) -> Level
 fn class_in(groups: &[Group], number: u32) -> Class
     ensures { result ≡ (group_in groups.now number).class }
 {
-    if (number as usize) < groups.len() {
-        groups[number as usize].class()
-    } else {
-        Class::Free
+    match groups.get(number as usize) {
+        Some(group) => group.class(),
+        None => Class::Free,
     }
 }
 
@@ -163,7 +158,7 @@ pub(crate) fn take_unit(units: &mut IndexMap<Addr, UnitTable>, addr: Addr) -> Op
 }
 
 /// Clears a unit's mark, if the unit is there.
-#[tactic(auto, using(crate::proofs::UnitChanges::put_absent))]
+#[tactic(auto, using(crate::proofs::UnitLemmas::put_absent))]
 pub(crate) fn clear_mark(units: &mut IndexMap<Addr, UnitTable>, addr: Addr)
     ensures { units.new.entries ≡ set_value (same_addr addr) units.old.entries (record (unit_in units.old.entries addr) { attention = false }) }
 {
@@ -185,7 +180,7 @@ pub(crate) fn open_class(groups: &mut Vec<Group>, number: u32, class: Class)
 pub(crate) fn replace_member(groups: &mut Vec<Group>, number: u32, position: u8, place: Place)
     requires there { number < length groups.old.items }
     requires range { position < 4 }
-    ensures { groups.new.items ≡ moved groups.old.items number position place }
+    ensures { groups.new.items ≡ with_place_at groups.old.items number position place }
 {
     let group = &mut groups[number as usize];
     group.set_member(position, place);

@@ -1,8 +1,7 @@
 // Worked rows, the bounds of each refusal, refused memory, and a plain model beside the book.
-ghost use Rattle.std.specs.Prelude.{◌<◌, ℕ, length, IsTrue};
-ghost use Rattle.ar_disks.specs.Members.{AreApart, AreDisjoint};
-ghost use Rattle.ar_book.specs.Tables.{group_in};
-ghost use Rattle.ar_book.specs.Choices.{IsUnused};
+ghost use Rattle.std.specs.Prelude.{IsTrue};
+ghost use Rattle.ar_disks.specs.Members.{AreApart};
+ghost use Rattle.ar_book.specs.Choices.{IsUnused, AreUnused};
 
 mod plain;
 
@@ -40,13 +39,13 @@ fn are_apart(members: Members) -> bool
     a != b && a != c && a != d && b != c && b != d && c != d
 }
 
-// Forms a group, where its extents are on four disks and in no group.
+// Whether a group is formed, with the next number: its extents have to be on four disks and in no group.
 fn form(book: &mut Book, members: Members) -> Result<bool, AllocError> {
     if !are_apart(members) || !are_unused(book, members) {
         return Ok(false);
     }
-    book.form_group(members)?;
-    Ok(true)
+    let next = book.groups();
+    Ok(book.form_group(members)? == next)
 }
 
 fn is_unused(book: &Book, place: Place) -> bool
@@ -56,7 +55,7 @@ fn is_unused(book: &Book, place: Place) -> bool
 }
 
 fn are_unused(book: &Book, members: Members) -> bool
-    ensures { IsTrue result → ((i : ℕ) → i < length book.now.groups → AreDisjoint (group_in book.now.groups i).members members) }
+    ensures { IsTrue result → AreUnused book.now members }
 {
     if !is_unused(book, members.first) || !is_unused(book, members.second) {
         return false;

@@ -10,11 +10,12 @@ use std::alloc::{AllocError, Global};
 use std::marker::Model;
 
 /// How many blocks so many sectors fill; the last may be filled in part.
+#[tactic(auto, using(crate::proofs::RefusalLemmas::blocks_up))]
 pub(crate) fn blocks_of(geometry: Geometry, sectors: u32) -> u32
     requires { sectors ≤ 1048576 }
     ensures { result ≡ blocks_of geometry sectors }
 {
-    (sectors + (geometry.sectors() - 1)) / geometry.sectors()
+    sectors.div_ceil(geometry.sectors())
 }
 
 /// A unit's table: its length, its blocks' homes and stamps, and the mark that says that it grew.
@@ -92,22 +93,14 @@ impl UnitTable {
     pub(crate) fn home(&self, rb: u32) -> Option<Slot>
         ensures { result ≡ slice_index_or self.now.homes rb None }
     {
-        if (rb as usize) < self.homes.len() {
-            self.homes[rb as usize]
-        } else {
-            None
-        }
+        self.homes.get(rb as usize).copied().flatten()
     }
 
     /// A block's stamp; 0 past the last block.
     pub(crate) fn stamp(&self, rb: u32) -> u64
         ensures { result ≡ slice_index_or self.now.stamps rb 0 }
     {
-        if (rb as usize) < self.stamps.len() {
-            self.stamps[rb as usize]
-        } else {
-            0
-        }
+        self.stamps.get(rb as usize).copied().unwrap_or(0)
     }
 
     /// Gives a block another home, or none.

@@ -1,9 +1,11 @@
 // The making, growth and removal of units.
 ghost use Rattle.std.specs.Prelude.{◌≡◌, ◌≢◌, ◌-◌, ◌≤◌, ◌↔◌, length, nat_lt, IsOk, IsTrue, Some, None, IfErr, OnOk, OnErr, if◌then◌else◌};
 ghost use Rattle.std.specs.Option.{unwrap_or};
+ghost use Rattle.std.specs.Map.{keys_of};
+ghost use Rattle.std.specs.Set.{remove_key};
 ghost use Rattle.ar_disks.specs.declared.address.Key.{Key};
 ghost use Rattle.ar_book.specs.declared.class.Slot.{Slot};
-ghost use Rattle.ar_book.specs.Tables.{key_at, has_unit, room, blocks_of, unit_in};
+ghost use Rattle.ar_book.specs.Tables.{key_at, home, level, stamp_of, has_unit, room, blocks_of, unit_in, same_addr};
 ghost use Rattle.ar_book.specs.Changes.{made, grown, dropped};
 ghost use Rattle.ar_book.specs.Refusals.{make_refusal, grow_refusal};
 
@@ -113,6 +115,10 @@ impl Book {
         ensures dropped { OnOk result (self.new ≡ dropped self.old addr) }
         ensures unchanged { OnErr result (self.new ≡ self.old) }
         ensures others { (s : Slot) (k : Key) → k.addr ≢ addr → key_at self.old s ≡ Some k → key_at self.new s ≡ Some k }
+        ensures homes { (k : Key) → k.addr ≢ addr → home self.new k ≡ home self.old k }
+        ensures levels { (k : Key) → k.addr ≢ addr → level self.new k ≡ level self.old k }
+        ensures stamps { (k : Key) → k.addr ≢ addr → stamp_of self.new k ≡ stamp_of self.old k }
+        ensures order { OnOk result (keys_of self.new.units ≡ remove_key (same_addr addr) (keys_of self.old.units)) }
     {
         let Some(unit) = take_unit(&mut self.units, addr) else {
             return Err(Refusal::Absent);
