@@ -113,6 +113,12 @@ Gives (Flushed key) es old new = (block : List ℕ) × (last_entry es ≡ Some (
 Gives Idle es old new = es ≡ []
 Gives Broken es old new = 0 < length es
 
+-- where a flush destaged an entry, the backing is what one put of that key makes of it
+abbrev pub IsPut : {S : Type 0} → (S → Key → S → Type 0) → Flush → S → S → Type 0
+IsPut puts (Flushed key) old new = puts old key new
+IsPut puts Idle old new = Unit {0}
+IsPut puts Broken old new = Unit {0}
+
 -- whether a flush ended broken
 abbrev pub answer_of : Flush → Stored
 answer_of (Flushed key) = stored.Done

@@ -31,6 +31,9 @@ pub trait Backing {
     /// What it says beside that of a call of `get`.
     ghost reads: { Self → Self → Type 0 };
 
+    /// What it says beside that of a call of `put` that is done, by the key.
+    ghost puts: { Self → Key → Self → Type 0 };
+
     /// Reads the block under a key that it knows. On Broken any bytes may have come.
     fn get(&mut self, key: Key, into: &mut Block) -> Stored
         requires known { IsTrue (knows self.old key) }
@@ -48,6 +51,7 @@ pub trait Backing {
         requires whole { length from.now ≡ block_len_of (geometry self.old) }
         ensures answer { result ≡ stored (is_broken self.new) }
         ensures written { result ≡ Stored.Done → Writes (block_at self.old) (block_at self.new) key from.now }
+        ensures puts { result ≡ Stored.Done → puts self.old key self.new }
         ensures keeps { Keeps geometry knows is_broken follows self.old self.new };
 
     /// A state follows itself.

@@ -44,7 +44,7 @@ impl Model for Cache {
 }
 
 impl Cache {
-    ghost use Rattle.ar_cache.specs.Cache.{CacheState, IsSound, KnowsAll, SameSeen, Sees, Spares, TakesIn, Flushes, Gives, StopsAt};
+    ghost use Rattle.ar_cache.specs.Cache.{CacheState, IsSound, KnowsAll, SameSeen, Sees, Spares, TakesIn, Flushes, Gives, IsPut, StopsAt};
     ghost use Rattle.ar_cache.specs.Cache.{answer_of, cached, seen, with_entries, with_room, without_addr, without_key, without_last, same_addr, turned};
 
     /// A cache without entries, for so many of them (at most 65,536; 0 writes through). It fails where memory is refused.
@@ -147,6 +147,7 @@ impl Cache {
         ensures entries { Flushes result self.old self.new }
         ensures idle { (result ≡ Flush.Idle) ↔ (self.old.entries ≡ []) }
         ensures given { Gives result self.old.entries (B.block_at backing.old) (B.block_at backing.new) }
+        ensures put { IsPut B.puts result backing.old backing.new }
         ensures quiet { result ≡ Flush.Idle → backing.new ≡ backing.old }
         ensures seen { answer_of result ≡ Stored.Done
             → SameSeen self.old (B.block_at backing.old) self.new (B.block_at backing.new) }
@@ -174,6 +175,7 @@ impl Cache {
         ensures given { result ≡ Stored.Done
             → IfSome (cached self.old key)
             (λ block. Writes (B.block_at backing.old) (B.block_at backing.new) key block) }
+        ensures put { result ≡ Stored.Done → IsSome (cached self.old key) → B.puts backing.old key backing.new }
         ensures broken { result ≡ Stored.Broken → self.new ≡ self.old }
         ensures absent { cached self.old key ≡ None
             → (result ≡ Stored.Done) × (backing.new ≡ backing.old) }
@@ -343,6 +345,7 @@ impl Cache {
         requires all_known { KnowsAll (B.knows backing.old) self.now }
         ensures sound { IsSound self.now }
         ensures given { Gives result self.now.entries (B.block_at backing.old) (B.block_at backing.new) }
+        ensures put { IsPut B.puts result backing.old backing.new }
         ensures quiet { result ≡ Flush.Idle → backing.new ≡ backing.old }
         ensures answer { IsHonest (answer_of result) (B.is_broken backing.old) (B.is_broken backing.new) }
         ensures asked { 0 < length self.now.entries → answer_of result ≡ stored (B.is_broken backing.new) }

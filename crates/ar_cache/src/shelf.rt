@@ -114,6 +114,8 @@ impl Backing for Shelf {
 
     ghost reads = { λ _ _. ⊤ };
 
+    ghost puts = { λ _ _ _. ⊤ };
+
     fn get(&mut self, key: Key, into: &mut Block) -> Stored {
         self.gets = self.gets.wrapping_add(1);
         if self.breaks() {

@@ -18,6 +18,11 @@ returns-in_default-clause-asked g c is =
     let miss = subst (λ s. cached s c.args.key ≡ None) c.self.view_is (sym c.in_default.ensures) in
     absurd (false≢true (rw miss at is))
 
+pub returns-in_default-clause-put : goal.returns-in_default-clause-put
+returns-in_default-clause-put g c done is =
+    let miss = subst (λ s. cached s c.args.key ≡ None) c.self.view_is (sym c.in_default.ensures) in
+    absurd (false≢true (rw miss at is))
+
 pub put-requires-clause-known : goal.put-requires-clause-known
 put-requires-clause-known g c =
     let hit = subst (λ s. cached s c.args.key ≡ Some c.in-Some.block.now) c.self.view_is (sym c.in-Some.ensures) in
