@@ -6,3 +6,4 @@ pub mod Losses
 pub mod Access
 pub mod Changes
 pub mod GroupLemmas
+pub mod Outcomes

@@ -1,0 +1,36 @@
+-- What the answer of a call on a group tells of the health that it leaves.
+use Rattle.std.proofs.Common.{◌≡◌, ◌≢◌, Bool, true, false, refl, sym, ap, true≢false}
+use Rattle.ar_extents.specs.declared.health.Health.{Health}
+use Rattle.ar_extents.specs.declared.health.Health.TheVariants.{Whole, Out, Rebuilding, Broken as AllBroken}
+use Rattle.ar_extents.specs.declared.outcome.Outcome.{Outcome}
+use Rattle.ar_extents.specs.declared.outcome.Outcome.TheVariants.{Done, Broken}
+use Rattle.ar_extents.specs.Changes.{is_broken}
+use Rattle.ar_extents.specs.Groups.{outcome_of}
+
+-- whether an answer says that the set is broken
+told : Outcome → Bool
+told Done = false
+told Broken = true
+
+-- a call that is done leaves no broken set
+pub done_sound : (h : Health) → Done ≡ outcome_of h → h ≢ AllBroken
+unfolding told
+done_sound Whole done broken = true≢false (sym (ap is_broken broken))
+done_sound (Out x) done broken = true≢false (sym (ap is_broken broken))
+done_sound (Rebuilding x d) done broken = true≢false (sym (ap is_broken broken))
+done_sound AllBroken done broken = true≢false (sym (ap told done))
+
+-- one that isn't leaves one
+pub broken_is : (h : Health) → Broken ≡ outcome_of h → h ≡ AllBroken
+unfolding told
+broken_is Whole answer = absurd (true≢false (ap told answer))
+broken_is (Out x) answer = absurd (true≢false (ap told answer))
+broken_is (Rebuilding x d) answer = absurd (true≢false (ap told answer))
+broken_is AllBroken answer = refl
+
+-- and on a set that isn't broken a call is done
+pub sound_done : (h : Health) → h ≢ AllBroken → outcome_of h ≡ Done
+sound_done Whole sound = refl
+sound_done (Out x) sound = refl
+sound_done (Rebuilding x d) sound = refl
+sound_done AllBroken sound = absurd (sound refl)
