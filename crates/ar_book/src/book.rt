@@ -1,8 +1,8 @@
 // The book itself, and what it answers of its groups and units.
-ghost use Rattle.std.specs.Prelude.{◌≡◌, ◌<◌, length, [], slice_get, slice_index_or, Some, None, IfSome, IfNone, is_some};
+ghost use Rattle.std.specs.Prelude.{◌≡◌, ◌<◌, length, [], slice_get, Some, None};
 ghost use Rattle.std.specs.Option.{option_map};
 ghost use Rattle.std.specs.Map.{lookup};
-ghost use Rattle.ar_book.specs.Tables.{same_addr, has_unit, unit_in, key_at, home, level, stamp_of, class_of, group_in, used, room, free_groups};
+ghost use Rattle.ar_book.specs.Tables.{same_addr, unit_in, key_at, home, level, stamp_of, class_of, group_in, used, room, free_groups};
 ghost use Rattle.ar_book.specs.Changes.{unmarked};
 ghost use Rattle.ar_book.specs.Book.{TablesAgree};
 

@@ -1,6 +1,5 @@
 // A group of the book.
-ghost use Rattle.std.specs.Prelude.{◌≡◌, ℕ, ◌<◌, ◌≤◌, ◌*◌, length, slice_index_or, Some, None, IfSome, IfNone, IfOk, IsSome};
-ghost use Rattle.ar_disks.specs.Geometry.{rows_of};
+ghost use Rattle.std.specs.Prelude.{◌≡◌, ℕ, ◌<◌, ◌*◌, length, slice_index_or, Some, None, IfSome, IfNone, IfOk, IsSome};
 ghost use Rattle.ar_disks.specs.Members.{with_member};
 ghost use Rattle.ar_book.specs.Tables.{used, slots_of, is_free};
 ghost use Rattle.ar_book.specs.Changes.{with_key, without_key, free_group};

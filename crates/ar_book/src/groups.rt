@@ -1,5 +1,5 @@
 // The forming and opening of groups, and a change of one extent.
-ghost use Rattle.std.specs.Prelude.{◌≡◌, ◌≢◌, ℕ, ◌+◌, ◌<◌, ◌≤◌, ◌↔◌, length, IsTrue, IfSome, IfOk, OnErr, IsNone, IsSome, OnSome, IfNone};
+ghost use Rattle.std.specs.Prelude.{◌≡◌, ◌≢◌, ℕ, ◌<◌, ◌≤◌, ◌↔◌, length, IsTrue, IfSome, IfOk, OnErr, IsSome, IfNone};
 ghost use Rattle.ar_disks.specs.Members.{member, AreApart};
 ghost use Rattle.ar_book.specs.Tables.{group_in, free_groups};
 ghost use Rattle.ar_book.specs.Changes.{opened, formed, shifted};

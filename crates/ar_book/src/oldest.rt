@@ -1,5 +1,5 @@
 // The search for the mirrored block that was written longest ago.
-ghost use Rattle.std.specs.Prelude.{◌≡◌, ◌+◌, ◌<◌, ◌≤◌, length, IfSome, IfNone};
+ghost use Rattle.std.specs.Prelude.{◌+◌, ◌<◌, ◌≤◌, length, IfSome, IfNone};
 ghost use Rattle.ar_disks.specs.declared.address.Key.{Key};
 ghost use Rattle.ar_book.specs.Choices.{IsMirrored, IsNoNewer, IsOldestIn, IsOldestOf};
 

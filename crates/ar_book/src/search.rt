@@ -1,4 +1,4 @@
-// The searches: holes, a full mirrored group, the oldest mirrored block.
+// The searches for a hole and for a full mirrored group.
 ghost use Rattle.std.specs.Prelude.{◌≡◌, ◌<◌, ◌≤◌, ℕ, length, IfSome, IfNone};
 ghost use Rattle.ar_book.specs.declared.class.Slot.{Slot};
 ghost use Rattle.ar_book.specs.Tables.{free_groups};

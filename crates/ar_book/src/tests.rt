@@ -1,6 +1,6 @@
 // Worked rows, the bounds of each refusal, refused memory, and a plain model beside the book.
-ghost use Rattle.std.specs.Prelude.{IsTrue};
-ghost use Rattle.ar_disks.specs.Members.{AreApart};
+ghost use Rattle.std.specs.Prelude.{◌≢◌, ◌<◌, ℕ, IsTrue};
+ghost use Rattle.ar_disks.specs.Members.{member, AreApart};
 ghost use Rattle.ar_book.specs.Choices.{IsUnused, AreUnused};
 
 mod plain;
@@ -238,6 +238,90 @@ fn a_full_book_is_squeezed(rt: HostRuntime) -> Result<(), Fail> {
     assert_eq!(rt; book.level(Key { addr, rb: 17 }), Level::Unplaced);
     assert_eq!(rt; book.hole(Class::Parity), Some(Slot { group: 3, slot: 4 }));
     assert_eq!(rt; book.hole(Class::Mirrored), None);
+    Ok(())
+}
+
+// Whether no member of a group but the one at a position is on an extent's disk.
+fn is_apart(members: Members, position: u8, place: Place) -> bool
+    ensures { IsTrue result → (i : ℕ) → i < 4 → i ≢ position → (member members i).disk ≢ place.disk }
+{
+    (position == 0 || members.first.disk != place.disk)
+        && (position == 1 || members.second.disk != place.disk)
+        && (position == 2 || members.third.disk != place.disk)
+        && (position == 3 || members.fourth.disk != place.disk)
+}
+
+// Whether an extent is put at a member position of a group: it has to be in no group, and on a disk of its own.
+fn set_member(book: &mut Book, group: u32, position: u8, place: Place) -> bool {
+    if group >= book.groups() || position > 3 || !is_unused(book, place) {
+        return false;
+    }
+    if !is_apart(book.members(group), position, place) {
+        return false;
+    }
+    book.set_member(group, position, place);
+    true
+}
+
+fn members_of(book: &Book, group: u32) -> Option<Members> {
+    if group < book.groups() {
+        Some(book.members(group))
+    } else {
+        None
+    }
+}
+
+#[test]
+fn an_extent_of_a_group_is_replaced(rt: HostRuntime) -> Result<(), Fail> {
+    let mut book = Book::new(rt.alloc(), Geometry::SMALL);
+    assert!(rt; form_rows(&mut book, 2)?);
+    let place = Place { disk: 4, extent: 0 };
+    assert_eq!(rt; book.group_at(place), None);
+    assert!(rt; set_member(&mut book, 1, 0, place));
+    assert_eq!(rt; members_of(&book, 0), Some(row(0)));
+    assert_eq!(rt;
+        members_of(&book, 1),
+        Some(Members {
+            first: place,
+            ..row(1)
+        })
+    );
+    assert_eq!(rt; book.group_at(place), Some(1));
+    assert_eq!(rt; book.group_at(Place { disk: 3, extent: 1 }), Some(1));
+    assert_eq!(rt; book.group_at(Place { disk: 0, extent: 1 }), None);
+    // In a group already, and on the disk of another member.
+    assert!(rt; !set_member(&mut book, 0, 1, place));
+    assert!(rt; !set_member(&mut book, 0, 1, Place { disk: 2, extent: 5 }));
+    Ok(())
+}
+
+fn hole_of(book: &Book, group: u32) -> Option<u16> {
+    if group < book.groups() {
+        book.lowest_hole(group)
+    } else {
+        None
+    }
+}
+
+#[test]
+fn holes_of_a_group(rt: HostRuntime) -> Result<(), Fail> {
+    let mut book = Book::new(rt.alloc(), Geometry::SMALL);
+    assert_eq!(rt; book.geometry().sectors(), 2);
+    assert!(rt; form_rows(&mut book, 2)?);
+    let addr = address(0, 0)?;
+    assert_eq!(rt; book.make(addr, 12), Ok(()));
+    assert_eq!(rt; hole_of(&book, 0), None);
+    assert_eq!(rt; book.open_group(Class::Mirrored), Some(0));
+    assert_eq!(rt; hole_of(&book, 0), Some(0));
+    for rb in 0..4 {
+        assert!(rt;
+            place(&mut book, Key { addr, rb }, Class::Mirrored),
+            "block {rb}"
+        );
+    }
+    assert_eq!(rt; hole_of(&book, 0), None);
+    release(&mut book, Key { addr, rb: 2 });
+    assert_eq!(rt; hole_of(&book, 0), Some(2));
     Ok(())
 }
 

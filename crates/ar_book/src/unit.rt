@@ -1,6 +1,5 @@
 // A unit's table.
-ghost use Rattle.std.specs.Prelude.{◌≡◌, ℕ, ◌<◌, ◌≤◌, length, slice_index_or, slice_set, replicate, Some, None, false, IfOk, OnOk, OnErr};
-ghost use Rattle.ar_disks.specs.Geometry.{sectors_of};
+ghost use Rattle.std.specs.Prelude.{◌≡◌, ◌<◌, ◌≤◌, length, slice_index_or, slice_set, None, false, IfOk, OnOk, OnErr};
 ghost use Rattle.ar_book.specs.Tables.{blocks_of};
 ghost use Rattle.ar_book.specs.Changes.{new_unit, longer};
 
