@@ -1,0 +1,16 @@
+pub mod Options
+pub mod Classes
+pub mod Spaces
+pub mod Standing
+pub mod Changes
+pub mod Fills
+pub mod Fields
+pub mod Openings
+pub mod Squeezing
+pub mod Ways
+pub mod UnitChanges
+pub mod Picking
+pub mod Lined
+pub mod Planning
+pub mod Taking
+pub mod Starting

@@ -1,0 +1,133 @@
+-- A free group is opened for parity, with zeros in all of its slots.
+use Rattle.std.proofs.Common.{◌≡◌, ◌≢◌, inl, inr, ℕ, ◌*◌, ◌<◌, List, length, Option, None, Some, IfSome, IfNone, refl, sym, ap, subst, ◌∙◌}
+use Rattle.std.proofs.lemmas.Bool.Decides.{eqb_tells}
+use Rattle.ar_disks.specs.Block.{zeros}
+use Rattle.ar_disks.specs.Geometry.{rows_of, block_len_of}
+use Rattle.ar_disks.specs.Members.{member}
+use Rattle.ar_disks.specs.declared.address.Key.{Key}
+use Rattle.ar_disks.specs.declared.address.Members.{Members}
+use Rattle.ar_disks.proofs.Xor.{length-zeros}
+use Rattle.ar_extents.specs.declared.health.Health.TheVariants.{Broken}
+use Rattle.ar_extents.specs.Set.{SetState}
+use Rattle.ar_extents.specs.Follows.{Follows, Keeps}
+use Rattle.ar_extents.specs.Groups.{IsOutside}
+use Rattle.ar_extents.specs.Loose.{is_loose}
+use Rattle.ar_extents.proofs.Follows.{has_extent_then}
+use Rattle.ar_parity.specs.Group.{Holds as ParityHolds}
+use Rattle.ar_book.specs.declared.class.Class.{Class}
+use Rattle.ar_book.specs.declared.class.Class.TheVariants.{Free, Mirrored, Parity}
+use Rattle.ar_book.specs.declared.class.Slot.{Slot}
+use Rattle.ar_book.specs.Tables.{Tables, group_in, class_of, key_at, home, slots_of, HasSlot}
+use Rattle.ar_book.specs.Changes.{opened}
+use Rattle.ar_book.specs.Choices.{IsLowestFree}
+use Rattle.ar_book.proofs.Homes.{home_key, home_slot, key_slot}
+use Rattle.ar_book.proofs.AfterOpen.{opened_group_count, opened_members, opened_key, opened_class, opened_class_other, opened_agrees}
+use Rattle.ar_store.specs.Store.{StoreState, store_of}
+use Rattle.ar_store.specs.Slots.{ClassHolds, SlotHolds, HoldsBlock, stands, AllStand}
+use Rattle.ar_store.specs.Kept.{IsTaken, IsSpace}
+use Rattle.ar_store.specs.Placing.{StandsBy}
+use Rattle.ar_store.specs.Calls.{IsAccessed}
+use Rattle.ar_store.proofs.Classes.{class_disjoint}
+use Rattle.ar_store.proofs.Spaces.{groups_apart}
+use Rattle.ar_store.proofs.Standing.{stands_held, stands_nowhere, was_sound, holds_same, block_same}
+use Rattle.ar_store.proofs.Changes.{extents_same, named_apart, stands_by_opened, stands_by_refl}
+
+-- All slots of a free group were written with zeros, and the group is opened for parity.
+module _ (a b : SetState) (t : Tables) (g : ℕ) (space : IsSpace (store_of a t)) (inside : g < length t.groups) (free : class_of t g ≡ Free) (access : IsAccessed a b)
+    (keeps : Keeps (IsOutside (group_in t.groups g).members) a b)
+    (zero_slots : (i : ℕ) → i < 3 * rows_of a.geometry → ParityHolds b (group_in t.groups g).members i (zeros (block_len_of a.geometry))) where
+  new : Tables
+  new = opened t g Parity
+
+  -- a slot of another group holds what it held
+  other_holds : (slot : Slot) (block : List ℕ) → slot.group < length t.groups → slot.group ≢ g → SlotHolds (store_of a t) slot block → SlotHolds (store_of b new) slot block
+  unfolding new
+  other_holds slot block there ne holds =
+      holds_same b t (opened t g Parity) slot block (opened_class_other t g Parity slot.group ne) (opened_members t g Parity slot.group)
+      (class_disjoint (class_of t slot.group) a b (group_in t.groups slot.group).members (group_in t.groups g).members slot.slot block access.follows keeps
+      (groups_apart (store_of a t) slot.group g space there inside ne) holds)
+
+  other_held : (slot : Slot) → slot.group < length t.groups → slot.group ≢ g → HoldsBlock (store_of a t) slot → HoldsBlock (store_of b new) slot
+  other_held slot there ne held = record {
+    block = held.block;
+    len = held.len ∙ ap block_len_of (sym access.follows.geometry);
+    holds = other_holds slot held.block there ne held.holds;
+  }
+
+  -- a slot of the group holds the zero block
+  zero_held : (slot : Slot) → slot.group ≡ g → slot.slot < 3 * rows_of b.geometry → HoldsBlock (store_of b new) slot
+  unfolding new
+  zero_held slot is lt =
+      let zero = zeros (block_len_of a.geometry) in
+      record {
+        block = zero;
+        len = length-zeros (block_len_of a.geometry) ∙ ap block_len_of (sym access.follows.geometry);
+        holds =
+            (let P : ℕ → Type 0 = λ n. ClassHolds (class_of (opened t g Parity) n) b (group_in (opened t g Parity).groups n).members slot.slot zero in
+            let Q : Class → Type 0 = λ c. ClassHolds c b (group_in (opened t g Parity).groups g).members slot.slot zero in
+            let R : Members → Type 0 = λ m. ParityHolds b m slot.slot zero in
+            subst P (sym is) (subst Q (sym (opened_class t g Parity inside))
+            (subst R (sym (opened_members t g Parity g)) (zero_slots slot.slot (subst (λ x. slot.slot < 3 * rows_of x) access.follows.geometry lt)))));
+      }
+
+  pub space_zeroed : IsSpace (store_of b (opened t g Parity))
+  unfolding new
+  space_zeroed = record {
+    geometry = space.geometry ∙ sym access.follows.geometry;
+    tables = opened_agrees t g Parity space.tables inside free;
+    extents = λ h i there lt.
+        let taken = extents_same a t (opened t g Parity) space (opened_group_count t g Parity) (opened_members t g Parity) h i there lt in
+        record {
+          there = has_extent_then a b (member (group_in (opened t g Parity).groups h).members i) access.follows taken.there;
+          used = ap (λ l. is_loose (record a { loose = l }) (member (group_in (opened t g Parity).groups h).members i)) access.loose ∙ taken.used;
+        };
+    named = λ slot j names.
+        let before = sym (opened_key t g Parity slot) ∙ names in
+        other_held slot (key_slot t space.tables slot j before).0 (named_apart t g slot j space.tables free before) (space.named slot j before);
+    parity = λ slot there is lt.
+        elim (eqb_tells slot.group g) [
+          | inl same ↦ zero_held slot same.1 lt
+          | inr ne ↦
+              let there_before = subst (λ n. slot.group < n) (opened_group_count t g Parity) there in
+              other_held slot there_before ne.1
+              (space.parity slot there_before (sym (opened_class_other t g Parity slot.group ne.1) ∙ is)
+              (subst (λ x. slot.slot < 3 * rows_of x) access.follows.geometry lt))
+        ];
+  }
+
+  pub stand_zeroed : AllStand (store_of a t) (store_of b (opened t g Parity))
+  unfolding new
+  stand_zeroed = record { blocks = λ sound k. by sound k (home t k) refl }
+    where
+      by : b.health ≢ Broken → (k : Key) (o : Option Slot) → home t k ≡ o → stands (store_of b (opened t g Parity)) k ≡ stands (store_of a t) k
+      by sound k None is =
+          stands_nowhere (store_of b (opened t g Parity)) k is ∙ ap (λ x. zeros (block_len_of x)) access.follows.geometry ∙ sym (stands_nowhere (store_of a t) k is)
+      by sound k (Some slot) is =
+          let key = home_key t space.tables k slot is in
+          let held = space.named slot k key in
+          stands_held (store_of b (opened t g Parity)) k slot held.block space_zeroed sound is
+          (other_holds slot held.block (home_slot t space.tables k slot is).0 (named_apart t g slot k space.tables free key) held.holds)
+          ∙ sym (stands_held (store_of a t) k slot held.block space (was_sound a b access.follows sound) is held.holds)
+
+-- the same, of a group that was found, and under the names that the calls give
+pub record IsZeroed (a b : SetState) (t u : Tables) : Type 0 where
+  pub stand : AllStand (store_of a t) (store_of b u)
+  pub space : IsSpace (store_of b u)
+
+pub zeroed : (a b : SetState) (t u : Tables) (g : ℕ) (m : Members) → IsSpace (store_of a t) → IsLowestFree t g → u ≡ opened t g Parity → m ≡ (group_in u.groups g).members
+    → IsAccessed a b → Keeps (IsOutside m) a b
+    → ((i : ℕ) → i < 3 * rows_of a.geometry → ParityHolds b m i (zeros (block_len_of a.geometry))) → IsZeroed a b t u
+zeroed a b t u g m space lowest is_u is_m access keeps slots =
+    let is : m ≡ (group_in t.groups g).members = is_m ∙ ap (λ (x : Tables). (group_in x.groups g).members) is_u ∙ opened_members t g Parity g in
+    let keeps_t = subst (λ (x : Members). Keeps (IsOutside x) a b) is keeps in
+    let slots_t = subst (λ (x : Members). (i : ℕ) → i < 3 * rows_of a.geometry → ParityHolds b x i (zeros (block_len_of a.geometry))) is slots in
+    subst (λ (x : Tables). IsZeroed a b t x) (sym is_u) (record {
+      stand = stand_zeroed a b t g space lowest.there lowest.free access keeps_t slots_t;
+      space = space_zeroed a b t g space lowest.there lowest.free access keeps_t slots_t;
+    })
+
+-- a group is opened for mirrored blocks, if one may be
+pub opening_stands : (a : SetState) (t u : Tables) (o : Option ℕ) → IsSpace (store_of a t) → IfSome o (IsLowestFree t) → IfSome o (λ g. u ≡ opened t g Mirrored) → IfNone o (u ≡ t)
+    → StandsBy a t u
+opening_stands a t u None space lowest is same = subst (λ (x : Tables). StandsBy a t x) (sym same) (stands_by_refl a t space)
+opening_stands a t u (Some g) space lowest is same = subst (λ (x : Tables). StandsBy a t x) (sym is) (stands_by_opened a t g space lowest.there lowest.free)

@@ -1,0 +1,143 @@
+-- Where a put goes, and what that makes of the tables.
+use Rattle.std.proofs.Common.{◌≡◌, ◌≢◌, ◌⊎◌, inl, inr, ℕ, ◌<◌, ◌≤◌, Option, None, Some, refl, sym, ap, subst, ◌∙◌, true≢false, Bool, true, false, arith}
+use Rattle.std.proofs.lemmas.Option.{none-some}
+use Rattle.ar_disks.specs.declared.address.Key.{Key}
+use Rattle.ar_book.specs.declared.class.Class.{Class}
+use Rattle.ar_book.specs.declared.class.Class.TheVariants.{Free, Mirrored, Parity}
+use Rattle.ar_book.specs.declared.class.Level.{Level}
+use Rattle.ar_book.specs.declared.class.Level.TheVariants.{Unplaced, Mirrored as MirroredLevel, Parity as ParityLevel}
+use Rattle.ar_book.specs.declared.class.Slot.{Slot}
+use Rattle.ar_book.specs.Tables.{Tables, home, level, level_in, level_of, class_of, free_groups, HasBlock}
+use Rattle.ar_book.specs.Book.{TablesAgree}
+use Rattle.ar_book.proofs.Homes.{home_key, home_level, key_class}
+use Rattle.ar_book.specs.Changes.{stamped, opened}
+use Rattle.ar_book.specs.Choices.{IsWaiting, IsUpTo}
+use Rattle.ar_book.proofs.Keys.{make_slot}
+use Rattle.ar_store.specs.declared.way.Way.{Way}
+use Rattle.ar_store.specs.declared.way.Way.TheVariants.{Home, Hole, Broken}
+use Rattle.ar_store.specs.Placing.{HasNoHole, IsLowestHole, LeadsHome, LeadsToHole, Leads, Writes, Puts, IsMirroredHole, HasNoMirroredHole, IsSqueezed, IsVacant, put_in}
+
+-- the level, as a number
+rank : Level → ℕ
+rank Unplaced = 0
+rank MirroredLevel = 1
+rank ParityLevel = 2
+
+parity_not_mirrored : ParityLevel ≢ MirroredLevel
+unfolding rank
+parity_not_mirrored e = let ranks : rank ParityLevel ≡ rank MirroredLevel = ap rank e in absurd (omega arith)
+
+unplaced_not_mirrored : Unplaced ≢ MirroredLevel
+unfolding rank
+unplaced_not_mirrored e = let ranks : rank Unplaced ≡ rank MirroredLevel = ap rank e in absurd (omega arith)
+
+unplaced_not_parity : Unplaced ≢ ParityLevel
+unfolding rank
+unplaced_not_parity e = let ranks : rank Unplaced ≡ rank ParityLevel = ap rank e in absurd (omega arith)
+
+-- a block without a home is at no level
+pub nowhere : (t : Tables) (k : Key) → home t k ≡ None → level t k ≡ Unplaced
+nowhere t k is = ap (λ (o : Option Slot). level_in t.groups o) is
+
+-- a put to a block's home, and one to a hole, go by the steps
+puts_home : (t u new : Tables) (k : Key) (s : Slot) → LeadsHome t k u s → new ≡ stamped u k → Puts t k new
+puts_home t u new k s leads is =
+    let now = is ∙ ap (λ x. stamped x k) leads.same in
+    record {
+      mirrored = λ at. now;
+      mirrored_hole = λ r low hole. absurd (elim leads.when [ inl at ↦ low at | inr rest ↦ rest.1.none r hole.hole ]);
+      opened_group = λ g low none free lowest. absurd (elim leads.when [ inl at ↦ low at | inr rest ↦ (let few = rest.2 in omega arith) ]);
+      parity = λ at none few. now;
+      parity_hole = λ r at none few hole. absurd (elim leads.when [
+        | inl high ↦ unplaced_not_mirrored (sym at ∙ high)
+        | inr rest ↦ unplaced_not_parity (sym at ∙ rest.0)
+      ]);
+      squeezed_group = λ from to at none full few is_from is_to. absurd (elim leads.when [
+        | inl high ↦ unplaced_not_mirrored (sym at ∙ high)
+        | inr rest ↦ unplaced_not_parity (sym at ∙ rest.0)
+      ]);
+    }
+
+puts_hole : (t u new : Tables) (k : Key) (s : Slot) → LeadsToHole t k u s → new ≡ put_in u k s → Puts t k new
+puts_hole t u new k s leads is =
+    let goes : (v : Tables) (r : Slot) → (u ≡ v) × (s ≡ r) → new ≡ put_in v k r = λ v r same. is ∙ ap (λ x. put_in x k s) same.0 ∙ ap (λ x. put_in v k x) same.1 in
+    record {
+      mirrored = λ at. absurd (leads.when at);
+      mirrored_hole = λ r low hole. goes t r (leads.mirrored_hole r hole);
+      opened_group = λ g low none free lowest. goes (opened t g Mirrored) _ (leads.opened_group g none free lowest);
+      parity = λ at none few. absurd (unplaced_not_parity (sym (leads.unplaced none few) ∙ at));
+      parity_hole = λ r at none few hole. goes t r (leads.parity_hole r none few hole);
+      squeezed_group = λ from to at none full few is_from is_to. goes _ _ (leads.squeezed_group from to none full few is_from is_to);
+    }
+
+pub puts_way : (t u new : Tables) (k : Key) (way : Way) → Leads t k u way → Writes u k way new → (way ≡ Broken → ⊥) → Puts t k new
+puts_way t u new k (Home s) leads writes whole = puts_home t u new k s leads writes
+puts_way t u new k (Hole s) leads writes whole = puts_hole t u new k s leads writes
+puts_way t u new k Broken leads writes whole = absurd (whole refl)
+
+-- a hole at the mirrored level, for a block that isn't there
+pub leads_mirrored : (t u : Tables) (k : Key) (s : Slot) → level t k ≢ MirroredLevel → home u k ≡ home t k → IsMirroredHole t u s → LeadsToHole t k u s
+leads_mirrored t u k s low same hole = record {
+  empty = hole.empty;
+  home_same = same;
+  when = low;
+  unplaced = λ none few. absurd (let many = hole.when none in omega arith);
+  mirrored_hole = hole.found;
+  opened_group = hole.made;
+  parity_hole = λ r none few is. absurd (let many = hole.when none in omega arith);
+  squeezed_group = λ from to none full few is_from is_to. absurd (let many = hole.when none in omega arith);
+}
+
+-- of two slots that each come first, one is the other
+first_is : (s r : Slot) → IsUpTo s r → IsUpTo r s → s ≡ r
+first_is s r (inl lt) (inl gt) = absurd (omega arith)
+first_is s r (inl lt) (inr same) = absurd (let is = same.0 in omega arith)
+first_is s r (inr same) (inl gt) = absurd (let is = same.0 in omega arith)
+first_is s r (inr same) (inr other) = make_slot s r same.0 (let le = same.1 in let ge = other.1 in omega arith)
+
+-- a hole at the parity level, for a block without a home
+pub leads_parity : (t u : Tables) (k : Key) (s : Slot) → home t k ≡ None → HasNoMirroredHole t u → IsVacant u s → IsLowestHole t Parity s → LeadsToHole t k u s
+leads_parity t u k s nowhere_k none vacant lowest = record {
+  empty = vacant;
+  home_same = ap (λ x. home x k) none.same;
+  when = λ at. unplaced_not_mirrored (sym (nowhere t k nowhere_k) ∙ at);
+  unplaced = λ n few. nowhere t k nowhere_k;
+  mirrored_hole = λ r hole. absurd (none.none.none r hole.hole);
+  opened_group = λ g n many lowest. absurd (let few = none.few in omega arith);
+  parity_hole = λ r n few is. (none.same, first_is s r (lowest.least r is.hole) (is.least s lowest.hole));
+  squeezed_group = λ from to n full few is_from is_to. absurd (full.none s lowest.hole);
+}
+
+-- the hole that a squeeze leaves, for a block without a home
+pub leads_squeezed : (t u v : Tables) (k : Key) (s : Slot) → home t k ≡ None → home v k ≡ None → HasNoMirroredHole t u → HasNoHole u Parity → IsSqueezed u v s → LeadsToHole t k v s
+leads_squeezed t u v k s nowhere_k still none full hole =
+    let tables = subst (λ (x : Tables). IsSqueezed x v s) none.same hole in
+    let full_t = subst (λ (x : Tables). HasNoHole x Parity) none.same full in
+    record {
+      empty = hole.empty;
+      home_same = still ∙ sym nowhere_k;
+      when = λ at. unplaced_not_mirrored (sym (nowhere t k nowhere_k) ∙ at);
+      unplaced = λ n few. nowhere t k nowhere_k;
+      mirrored_hole = λ r is. absurd (none.none.none r is.hole);
+      opened_group = λ g n many lowest. absurd (let few = none.few in omega arith);
+      parity_hole = λ r n few is. absurd (full_t.none r is.hole);
+      squeezed_group = λ from to n m few is_from is_to. tables.tables from to is_from is_to;
+    }
+
+-- a block waits for a home
+pub waits : (t u : Tables) (k : Key) → u ≡ t → HasBlock t k → home t k ≡ None → IsWaiting u
+waits t u k same block none = subst (λ (x : Tables). IsWaiting x) (sym same) (record { key = k; block = block; unplaced = none })
+
+-- a block with a home stands at a level
+placed : (t : Tables) (k : Key) (s : Slot) → TablesAgree t → home t k ≡ Some s → level t k ≢ Unplaced
+placed t k s ok is nowhere_k =
+    by (class_of t s.group) (key_class t ok s k (home_key t ok k s is)) (sym (home_level t k s is) ∙ nowhere_k)
+  where
+    by : (c : Class) → c ≢ Free → level_of c ≢ Unplaced
+    by Free not e = not refl
+    by Mirrored not e = unplaced_not_mirrored (sym e)
+    by Parity not e = unplaced_not_parity (sym e)
+
+pub placed_mirrored : (t : Tables) (k : Key) (s : Slot) (l : Level) → TablesAgree t → home t k ≡ Some s → l ≡ level t k → (l ≡ MirroredLevel) ⊎ (l ≡ Unplaced)
+    → level t k ≡ MirroredLevel
+placed_mirrored t k s l ok is same at = elim at [ inl high ↦ sym same ∙ high | inr nowhere_k ↦ absurd (placed t k s ok is (sym same ∙ nowhere_k)) ]

@@ -1,0 +1,10 @@
+use Rattle.std.proofs.Common.{◌≡◌, ◌≤◌, length}
+use Rattle.ar_store.proofs.Squeezing.{IsSqueezing}
+use Rattle.ar_store.proofs.squeeze.move_all.Given as goal
+
+abbrev pub invariant-loop-slot : goal.invariant-loop-slot
+invariant-loop-slot g l = record {
+  squeezing : IsSqueezing l.initial.disks l.disks l.initial.book l.book l.from l.to l.slot;
+  whole : length l.block ≡ length l.initial.block;
+  scratch : l.scratch.geometry ≡ l.initial.scratch.geometry;
+}

@@ -1,0 +1,41 @@
+-- What calls answer, and what they leave as it was.
+use Rattle.std.specs.Prelude.{◌≡◌, ℕ, ◌≤◌, ◌<◌}
+use Rattle.ar_extents.specs.Set.{SetState}
+use Rattle.ar_extents.specs.Follows.{Follows}
+use Rattle.ar_extents.specs.declared.health.Health.TheVariants.{Broken as AllBroken}
+use Rattle.ar_book.specs.declared.class.Class.{Class}
+use Rattle.ar_book.specs.Tables.{Tables, free_groups}
+use Rattle.ar_book.specs.Changes.{opened}
+use Rattle.ar_book.specs.Choices.{IsLowestFree}
+use Rattle.ar_store.specs.declared.open.Opening.{Opening}
+use Rattle.ar_store.specs.declared.open.Opening.TheVariants.{Opened, Idle, Broken as NotOpened}
+use Rattle.ar_store.specs.Store.{StoreState}
+use Rattle.ar_extents.specs.declared.outcome.Outcome.{Outcome}
+use Rattle.ar_extents.specs.declared.outcome.Outcome.TheVariants.{Done, Broken}
+
+-- rows were read and written: no disk was lost without a cause, and what is loose stays so
+pub record IsAccessed (old new : SetState) : Type 0 where
+  pub follows : Follows old new
+  pub loose : new.loose ≡ old.loose
+
+-- what is said of a call that is done
+abbrev pub OnDone : Outcome → Type 0 → Type 0
+OnDone Done P = P
+OnDone Broken P = Unit {0}
+
+-- a group was opened: the lowest free one of at least two
+pub record IsOpened (old new : Tables) (class : Class) (group : ℕ) : Type 0 where
+  pub many : 2 ≤ free_groups old
+  pub lowest : IsLowestFree old group
+  pub tables : new ≡ opened old group class
+
+-- none was: the last free group stays free, and nothing has changed
+pub record HasNoneToOpen (old new : StoreState) : Type 0 where
+  pub few : free_groups old.book < 2
+  pub same : new ≡ old
+
+-- what the opening of a group answers
+abbrev pub Opens : StoreState → StoreState → Class → Opening → Type 0
+Opens old new class (Opened group) = IsOpened old.book new.book class group
+Opens old new class Idle = HasNoneToOpen old new
+Opens old new class NotOpened = new.disks.health ≡ AllBroken

@@ -1,0 +1,153 @@
+-- Where a block goes that is put, and what that makes of the tables.
+use Rattle.std.specs.Prelude.{◌≡◌, ◌≢◌, ◌⊎◌, ℕ, zero, suc, ◌<◌, ◌≤◌, length, Option, None, Some, IsSome}
+use Rattle.std.specs.Map.{keys_of}
+use Rattle.ar_disks.specs.declared.address.Addr.{Addr}
+use Rattle.ar_disks.specs.declared.address.Key.{Key}
+use Rattle.ar_book.specs.declared.class.Class.{Class}
+use Rattle.ar_book.specs.declared.class.Class.TheVariants.{Mirrored, Parity}
+use Rattle.ar_book.specs.declared.class.Level.TheVariants.{Unplaced, Mirrored as MirroredLevel, Parity as ParityLevel}
+use Rattle.ar_book.specs.declared.class.Slot.{Slot}
+use Rattle.ar_extents.specs.declared.health.Health.TheVariants.{Broken as AllBroken}
+use Rattle.ar_extents.specs.Set.{SetState}
+use Rattle.ar_store.specs.Store.{StoreState, store_of}
+use Rattle.ar_store.specs.Slots.{stands}
+use Rattle.ar_store.specs.Kept.{IsSpace}
+use Rattle.ar_store.specs.declared.way.Way.{Way}
+use Rattle.ar_store.specs.declared.way.Way.TheVariants.{Home, Hole, Broken}
+use Rattle.ar_book.specs.Tables.{Tables, HasSlot, key_at, home, level, slots_of, class_of, free_groups, unit_in, reserved}
+use Rattle.ar_book.specs.Changes.{assigned, stamped, opened}
+use Rattle.ar_book.specs.Choices.{IsHole, IsUpTo, IsLowestFree, IsFullMirrored}
+
+-- the slot with a number in a group
+abbrev pub slot_at : ℕ → ℕ → Slot
+slot_at group slot = record { group = group; slot = slot }
+
+-- the hole of a class that comes first in slot order
+pub record IsLowestHole (t : Tables) (c : Class) (s : Slot) : Type 0 where
+  pub hole : IsHole t c s
+  pub least : (other : Slot) → IsHole t c other → IsUpTo s other
+
+-- the slot is there, and names no block
+pub record IsVacant (t : Tables) (s : Slot) : Type 0 where
+  pub there : HasSlot t s
+  pub empty : key_at t s ≡ None
+
+-- no group of a class has a hole
+pub record HasNoHole (t : Tables) (c : Class) : Type 0 where
+  pub none : (s : Slot) → IsHole t c s → ⊥
+
+-- the block that a slot named, if it named one, moves to another
+abbrev pub moved_from : Tables → Option Key → Slot → Tables
+moved_from t None to = t
+moved_from t (Some k) to = assigned t k to
+
+-- the first so many blocks of a group stand in the slots with the same numbers of another
+abbrev pub moved_first : Tables → ℕ → ℕ → ℕ → Tables
+moved_first t from to zero = t
+moved_first t from to (suc n) = moved_from (moved_first t from to n) (key_at t (slot_at from n)) (slot_at to n)
+
+-- The squeeze: a free group is opened for parity, and all blocks of a mirrored one move there in slot order. The mirrored
+-- group is free then, and the other has as many holes left as it has slots more.
+abbrev pub squeezed : Tables → ℕ → ℕ → Tables
+squeezed t from to = moved_first (opened t to Parity) from to (slots_of t.geometry Mirrored)
+
+-- a block is written to a slot that was a hole
+abbrev pub put_in : Tables → Key → Slot → Tables
+put_in t k s = stamped (assigned t k s) k
+
+-- What a put makes of the tables, step by step: the first of these that applies.
+pub record Puts (t : Tables) (k : Key) (new : Tables) : Type 0 where
+  -- a block at the mirrored level is written where it is
+  pub mirrored : level t k ≡ MirroredLevel → new ≡ stamped t k
+  -- else it goes to the lowest mirrored hole
+  pub mirrored_hole : (s : Slot) → level t k ≢ MirroredLevel → IsLowestHole t Mirrored s → new ≡ put_in t k s
+  -- or, while two groups are free, to the first slot of the lowest, which is opened for that
+  pub opened_group :
+      (g : ℕ) → level t k ≢ MirroredLevel → HasNoHole t Mirrored → 2 ≤ free_groups t → IsLowestFree t g
+      → new ≡ put_in (opened t g Mirrored) k (slot_at g 0)
+  -- else a block at the parity level is written where it is
+  pub parity : level t k ≡ ParityLevel → HasNoHole t Mirrored → free_groups t < 2 → new ≡ stamped t k
+  -- and one without a home goes to the lowest parity hole
+  pub parity_hole : (s : Slot) → level t k ≡ Unplaced → HasNoHole t Mirrored → free_groups t < 2 → IsLowestHole t Parity s → new ≡ put_in t k s
+  -- or, where there is none, to the first that a squeeze leaves
+  pub squeezed_group :
+      (from to : ℕ) → level t k ≡ Unplaced → HasNoHole t Mirrored → HasNoHole t Parity → free_groups t < 2 → IsFullMirrored t from → IsLowestFree t to
+      → new ≡ put_in (squeezed t from to) k (slot_at to (slots_of t.geometry Mirrored))
+
+-- The units are as they were but for homes and stamps, and so is the room.
+pub record SameUnits (t new : Tables) : Type 0 where
+  pub order : keys_of new.units ≡ keys_of t.units
+  pub sectors : (a : Addr) → (unit_in new.units a).sectors ≡ (unit_in t.units a).sectors
+  pub attention : (a : Addr) → (unit_in new.units a).attention ≡ (unit_in t.units a).attention
+  pub blocks : (a : Addr) → length (unit_in new.units a).homes ≡ length (unit_in t.units a).homes
+  pub groups : length new.groups ≡ length t.groups
+  pub reserved : reserved new ≡ reserved t
+
+-- the home that a block keeps: at the mirrored level, or where there is no room at that level
+pub record LeadsHome (t : Tables) (k : Key) (new : Tables) (s : Slot) : Type 0 where
+  pub same : new ≡ t
+  pub home : home t k ≡ Some s
+  pub when : (level t k ≡ MirroredLevel) ⊎ ((level t k ≡ ParityLevel) × HasNoHole t Mirrored × (free_groups t < 2))
+
+-- a hole that is found or made for a block
+pub record LeadsToHole (t : Tables) (k : Key) (new : Tables) (s : Slot) : Type 0 where
+  pub empty : IsVacant new s
+  pub home_same : home new k ≡ home t k
+  pub when : level t k ≢ MirroredLevel
+  pub unplaced : HasNoHole t Mirrored → free_groups t < 2 → level t k ≡ Unplaced
+  pub mirrored_hole : (r : Slot) → IsLowestHole t Mirrored r → (new ≡ t) × (s ≡ r)
+  pub opened_group : (g : ℕ) → HasNoHole t Mirrored → 2 ≤ free_groups t → IsLowestFree t g → (new ≡ opened t g Mirrored) × (s ≡ slot_at g 0)
+  pub parity_hole : (r : Slot) → HasNoHole t Mirrored → free_groups t < 2 → IsLowestHole t Parity r → (new ≡ t) × (s ≡ r)
+  pub squeezed_group :
+      (from to : ℕ) → HasNoHole t Mirrored → HasNoHole t Parity → free_groups t < 2 → IsFullMirrored t from → IsLowestFree t to
+      → (new ≡ squeezed t from to) × (s ≡ slot_at to (slots_of t.geometry Mirrored))
+
+-- where a block goes that is put; nothing is said once the store is broken
+abbrev pub Leads : Tables → Key → Tables → Way → Type 0
+Leads t k new (Home s) = LeadsHome t k new s
+Leads t k new (Hole s) = LeadsToHole t k new s
+Leads t k new Broken = Unit {0}
+
+-- a hole at the mirrored level that is found, or made while two groups are free
+pub record IsMirroredHole (t new : Tables) (s : Slot) : Type 0 where
+  pub empty : IsVacant new s
+  pub found : (r : Slot) → IsLowestHole t Mirrored r → (new ≡ t) × (s ≡ r)
+  pub made : (g : ℕ) → HasNoHole t Mirrored → 2 ≤ free_groups t → IsLowestFree t g → (new ≡ opened t g Mirrored) × (s ≡ slot_at g 0)
+  pub when : HasNoHole t Mirrored → 2 ≤ free_groups t
+
+-- there is none, and none can be made
+pub record HasNoMirroredHole (t new : Tables) : Type 0 where
+  pub same : new ≡ t
+  pub none : HasNoHole t Mirrored
+  pub few : free_groups t < 2
+
+-- the first hole that a squeeze leaves
+pub record IsSqueezed (t new : Tables) (s : Slot) : Type 0 where
+  pub empty : IsVacant new s
+  pub tables : (from to : ℕ) → IsFullMirrored t from → IsLowestFree t to → (new ≡ squeezed t from to) × (s ≡ slot_at to (slots_of t.geometry Mirrored))
+
+-- all blocks of a full mirrored group can move to an empty one with parity
+pub record CanMove (t : Tables) (from to : ℕ) : Type 0 where
+  pub from_there : from < length t.groups
+  pub to_there : to < length t.groups
+  pub mirrored : class_of t from ≡ Mirrored
+  pub full : (i : ℕ) → i < slots_of t.geometry Mirrored → IsSome (key_at t (slot_at from i))
+  pub opened : class_of t to ≡ Parity
+  pub empty : (i : ℕ) → key_at t (slot_at to i) ≡ None
+
+-- a block can be written where it was found to go; the way is Broken only where the disks are
+abbrev pub IsReadyFor : StoreState → Key → Way → Type 0
+IsReadyFor s k (Home slot) = home s.book k ≡ Some slot
+IsReadyFor s k (Hole slot) = IsVacant s.book slot
+IsReadyFor s k Broken = s.disks.health ≡ AllBroken
+
+-- the tables once it was written there
+abbrev pub Writes : Tables → Key → Way → Tables → Type 0
+Writes t k (Home slot) new = new ≡ stamped t k
+Writes t k (Hole slot) new = new ≡ put_in t k slot
+Writes t k Broken new = Unit {0}
+
+-- the tables changed so that every block stands as it did, on any disks
+pub record StandsBy (disks : SetState) (t new : Tables) : Type 0 where
+  pub space : IsSpace (store_of disks new)
+  pub blocks : (k : Key) → stands (store_of disks new) k ≡ stands (store_of disks t) k

@@ -1,0 +1,85 @@
+-- What the slots of groups hold, and which block stands for a key.
+use Rattle.std.specs.Prelude.{◌≡◌, ◌≢◌, ℕ, ◌<◌, List, length, Option, None, Some}
+use Rattle.ar_disks.specs.Block.{zeros}
+use Rattle.ar_disks.specs.Disk.{DiskState}
+use Rattle.ar_disks.specs.Geometry.{block_len_of}
+use Rattle.ar_disks.specs.declared.address.Key.{Key}
+use Rattle.ar_disks.specs.declared.address.Members.{Members}
+use Rattle.ar_extents.specs.declared.health.Health.TheVariants.{Broken}
+use Rattle.ar_extents.specs.Set.{SetState}
+use Rattle.ar_extents.specs.Groups.{IsOutside, without_disk}
+use Rattle.ar_extents.specs.Follows.{Keeps}
+use Rattle.ar_mirror.specs.Holds.{Holds as MirrorHolds, standing as mirror_standing}
+use Rattle.ar_parity.specs.Group.{Holds as ParityHolds, standing as parity_standing}
+use Rattle.ar_book.specs.declared.class.Class.{Class}
+use Rattle.ar_book.specs.declared.class.Class.TheVariants.{Free, Mirrored, Parity}
+use Rattle.ar_book.specs.declared.class.Slot.{Slot}
+use Rattle.ar_book.specs.Tables.{home, slots_of, HasSlot}
+use Rattle.ar_store.specs.Store.{StoreState, store_of, members_of, class_in}
+
+-- a slot of four extents that are used as a class says holds a block; a free group holds none
+abbrev pub ClassHolds : Class → SetState → Members → ℕ → List ℕ → Type 0
+ClassHolds Free s m i block = ⊥
+ClassHolds Mirrored s m i block = MirrorHolds s m i block
+ClassHolds Parity s m i block = ParityHolds s m i block
+
+-- a slot holds a block
+abbrev pub SlotHolds : StoreState → Slot → List ℕ → Type 0
+SlotHolds s slot block = ClassHolds (class_in s slot.group) s.disks (members_of s slot.group) slot.slot block
+
+-- a slot holds some block, as long as blocks are
+pub record HoldsBlock (s : StoreState) (slot : Slot) : Type 0 where
+  pub block : List ℕ
+  pub len : length block ≡ block_len_of s.disks.geometry
+  pub holds : SlotHolds s slot block
+
+-- the block that a read of a slot gives: it is the one that the slot holds, if it holds any
+abbrev pub standing_in : Class → SetState → Members → ℕ → List ℕ
+standing_in Free s m i = zeros (block_len_of s.geometry)
+standing_in Mirrored s m i = mirror_standing s m i
+standing_in Parity s m i = parity_standing s m i
+
+-- the block at a home: the zero block where there is none
+abbrev pub stands_at : StoreState → Option Slot → List ℕ
+stands_at s None = zeros (block_len_of s.disks.geometry)
+stands_at s (Some slot) = standing_in (class_in s slot.group) s.disks (members_of s slot.group) slot.slot
+
+-- the block that stands for a key on the disks
+unfoldable pub stands : StoreState → Key → List ℕ
+stands s k = stands_at s (home s.book k)
+
+-- every block stands as it did; of a broken store nothing is said
+pub record AllStand (old new : StoreState) : Type 0 where
+  pub blocks : new.disks.health ≢ Broken → (k : Key) → stands new k ≡ stands old k
+
+-- every block but one stands as it did; of a broken store nothing is said
+pub record OthersStand (old new : StoreState) (key : Key) : Type 0 where
+  pub blocks : new.disks.health ≢ Broken → (k : Key) → k ≢ key → stands new k ≡ stands old k
+
+-- a slot can be written: one of a group with parity holds a block, which the row's parity has counted in
+pub record HoldsAny (s : SetState) (m : Members) (i : ℕ) : Type 0 where
+  pub block : List ℕ
+  pub holds : ParityHolds s m i block
+
+abbrev pub IsReady : Class → SetState → Members → ℕ → Type 0
+IsReady Free s m i = Unit {0}
+IsReady Mirrored s m i = Unit {0}
+IsReady Parity s m i = HoldsAny s m i
+
+-- One slot of four extents was written: it holds the block, the others hold what they held, and no other extent was written.
+pub record IsWritten (class : Class) (old new : SetState) (m : Members) (i : ℕ) (block : List ℕ) : Type 0 where
+  pub here : ClassHolds class new m i block
+  pub beside : (k : ℕ) (other : List ℕ) → k < slots_of old.geometry class → k ≢ i → ClassHolds class old m k other → ClassHolds class new m k other
+  pub outside : Keeps (IsOutside m) old new
+
+-- every slot that held a block holds it
+pub record SlotsHold (old new : StoreState) : Type 0 where
+  pub slots : (slot : Slot) (block : List ℕ) → HasSlot old.book slot → SlotHolds old slot block → SlotHolds new slot block
+
+-- every slot but one that held a block holds it
+pub record OtherSlotsHold (old new : StoreState) (written : Slot) : Type 0 where
+  pub slots : (slot : Slot) (block : List ℕ) → HasSlot old.book slot → slot ≢ written → SlotHolds old slot block → SlotHolds new slot block
+
+-- with one disk lost, and anything on it, every block stands as it does now
+pub record SurvivesLossOf (s : StoreState) (d : ℕ) : Type 0 where
+  pub blocks : (disk : DiskState) (k : Key) → stands (store_of (without_disk s.disks d disk) s.book) k ≡ stands s k

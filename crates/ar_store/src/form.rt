@@ -1,0 +1,117 @@
+// Which four disks the next group stands on.
+ghost use Rattle.std.specs.Prelude.{◌+◌, ◌<◌, ◌≤◌, List, ℕ, length, IfSome, IfNone};
+ghost use Rattle.ar_store.specs.Fullest.{IsFullest, ArePicked, AreFour, AreOrdered, AreFourFullest, HasFewCounts};
+
+/// Four disks, in ascending order.
+#[derive(Clone, Copy, Debug, PartialEq, Eq)]
+pub struct FourDisks {
+    pub first: u8,
+    pub second: u8,
+    pub third: u8,
+    pub fourth: u8,
+}
+
+/// The four disks with most loose extents, the lowest numbers on ties, from the number of loose extents of each disk. None where
+/// fewer than four disks have any.
+pub fn four_fullest(counts: &[u16]) -> Option<FourDisks>
+    requires { length counts.now ≤ 255 }
+    ensures found { IfSome result (AreFourFullest counts.now) }
+    ensures none { IfNone result (HasFewCounts counts.now) }
+{
+    let first = fullest(counts, &[])?;
+    let second = fullest(counts, &[first])?;
+    let third = fullest(counts, &[first, second])?;
+    let fourth = fullest(counts, &[first, second, third])?;
+    Some(in_order(first, second, third, fourth))
+}
+
+// The disk with most loose extents, but some disks: the lowest number on ties. None where no other has any.
+fn fullest(counts: &[u16], but: &[u8]) -> Option<u8>
+    requires { length counts.now ≤ 255 }
+    ensures { IsFullest counts.now but.now (length counts.now) result }
+{
+    let mut best = None;
+    for number in 0..counts.len() as u8 {
+        best = fuller(counts, but, best, number);
+    }
+    best
+}
+
+// The next disk, where it has more loose extents than the best of those before it.
+fn fuller(counts: &[u16], but: &[u8], best: Option<u8>, number: u8) -> Option<u8>
+    requires best { IsFullest counts.now but.now number best }
+    requires there { number < length counts.now }
+    ensures { IsFullest counts.now but.now (number + 1) result }
+{
+    if but.contains(&number) || counts[number as usize] == 0 {
+        return best;
+    }
+    let Some(disk) = best else {
+        return Some(number);
+    };
+    if counts[number as usize] > counts[disk as usize] {
+        Some(number)
+    } else {
+        best
+    }
+}
+
+// Four different disks in ascending order.
+fn in_order(first: u8, second: u8, third: u8, fourth: u8) -> FourDisks
+    ensures ordered { AreOrdered result.first result.second result.third result.fourth }
+    ensures picked { (counts : List ℕ) → ArePicked counts first second third fourth → AreFour counts result }
+{
+    let (first, second, third) = three_in_order(first, second, third);
+    fourth_in_order(first, second, third, fourth)
+}
+
+// Three numbers in order.
+fn three_in_order(first: u8, second: u8, third: u8) -> (u8, u8, u8)
+    ensures ordered { (result.0 ≤ result.1) × (result.1 ≤ result.2) }
+    ensures picked { (counts : List ℕ) → (x : ℕ) → ArePicked counts first second third x → ArePicked counts result.0 result.1 result.2 x }
+{
+    if second < first {
+        third_in_order(second, first, third)
+    } else {
+        third_in_order(first, second, third)
+    }
+}
+
+// The third number in its place beside two in order.
+fn third_in_order(first: u8, second: u8, third: u8) -> (u8, u8, u8)
+    requires { first ≤ second }
+    ensures ordered { (result.0 ≤ result.1) × (result.1 ≤ result.2) }
+    ensures picked { (counts : List ℕ) → (x : ℕ) → ArePicked counts first second third x → ArePicked counts result.0 result.1 result.2 x }
+{
+    if third < first {
+        (third, first, second)
+    } else if third < second {
+        (first, third, second)
+    } else {
+        (first, second, third)
+    }
+}
+
+// The fourth number in its place beside three in order.
+fn fourth_in_order(first: u8, second: u8, third: u8, fourth: u8) -> FourDisks
+    requires second { first ≤ second }
+    requires third { second ≤ third }
+    ensures ordered { AreOrdered result.first result.second result.third result.fourth }
+    ensures picked { (counts : List ℕ) → ArePicked counts first second third fourth → AreFour counts result }
+{
+    let (first, second, third, fourth) = if fourth < first {
+        (fourth, first, second, third)
+    } else if fourth < second {
+        (first, fourth, second, third)
+    } else if fourth < third {
+        (first, second, fourth, third)
+    } else {
+        (first, second, third, fourth)
+    };
+    FourDisks {
+        first,
+        second,
+        third,
+        fourth,
+    }
+}

@@ -1,0 +1,21 @@
+//! The store: the blocks of units by key, over the disks and the book of their space. No write is ever refused for room.
+#![tactic(auto)]
+
+mod form;
+mod moves;
+mod open;
+mod slots;
+mod squeeze;
+mod start;
+mod store;
+#[cfg(test)]
+mod tests;
+#[cfg(test)]
+mod tests_start;
+mod units;
+mod way;
+
+pub use ar_extents::Outcome;
+pub use form::{FourDisks, four_fullest};
+pub use open::Opening;
+pub use store::Store;

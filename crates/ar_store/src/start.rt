@@ -1,0 +1,154 @@
+// How a store begins.
+ghost use Rattle.std.specs.Prelude.{◌≡◌, ◌<◌, ◌≤◌, ℕ, All, map, None, length, slice_index, unwrap_or, IfOk, IfErr, OnOk};
+ghost use Rattle.ar_disks.specs.Geometry.{block_len_of};
+ghost use Rattle.ar_extents.specs.declared.refusal.StartFault.TheVariants.{NoMemory};
+ghost use Rattle.ar_extents.specs.Set.{SetState, CanCount};
+ghost use Rattle.ar_extents.specs.Changes.{start_fault, started};
+ghost use Rattle.ar_book.specs.Book.{TablesAgree};
+ghost use Rattle.ar_store.specs.Store.{store_of};
+ghost use Rattle.ar_store.specs.Fullest.{AreFourFullest, one_fewer, four_fewer, next_place, next_members};
+ghost use Rattle.ar_store.specs.Forming.{AreFullest, IsFormed, IsStarted, IsPlanFor, IsAllLoose, without, empty_book, members_list};
+
+use crate::form::{FourDisks, four_fullest};
+use crate::store::Store;
+use ar_book::Book;
+use ar_disks::{Block, Disk, Geometry, Members, Place, Scratch};
+use ar_extents::{DiskSet, StartFault, fault_of};
+use std::alloc::{AllocError, Global};
+
+impl<D: Disk> Store<D> {
+    /// A store of these disks: whole, without a unit, its extents in groups of four disks as `IsStarted` says. Disks that are
+    /// refused, for their number, their shapes or want of memory, are handed back.
+    pub fn start(alloc: Global, disks: Vec<D>) -> Result<Store<D>, (StartFault, Vec<D>)>
+        requires { All CanCount (map D.state disks.items) }
+        ensures taken { OnOk result (start_fault (map D.state disks.items) ≡ None) }
+        ensures started { IfOk result (IsStarted (map D.state disks.items)) }
+        ensures refused { IfErr result (λ back. back.0 ≡ unwrap_or (start_fault (map D.state disks.items)) NoMemory) }
+        ensures handed_back { IfErr result (λ back. back.1 ≡ disks) }
+    {
+        if let Some(fault) = fault_of(&disks) {
+            return Err((fault, disks));
+        }
+        let Ok(plan) = make_plan(alloc, &disks) else {
+            return Err((StartFault::NoMemory, disks));
+        };
+        let mut set = DiskSet::start(alloc, disks)?;
+        take_groups(&mut set, &plan.book);
+        Ok(Store {
+            disks: set,
+            book: plan.book,
+            block: plan.block,
+            scratch: plan.scratch,
+        })
+    }
+}
+
+// All that a store has beside its disks: the book with its groups, and the blocks that calls work in.
+#[derive(Drop)]
+struct Plan {
+    book: Book,
+    block: Block,
+    scratch: Scratch,
+}
+
+// Takes all the memory that a store of these disks needs, but for that of the disk set.
+fn make_plan<D: Disk>(alloc: Global, disks: &[D]) -> Result<Plan, AllocError>
+    requires { start_fault (map D.state disks.now) ≡ None }
+    ensures book { IfOk result (λ plan. IsPlanFor (started (map D.state disks.now)) plan.book) }
+    ensures block { IfOk result (λ plan. length plan.block ≡ block_len_of (started (map D.state disks.now)).geometry) }
+    ensures scratch { IfOk result (λ plan. plan.scratch.geometry ≡ (started (map D.state disks.now)).geometry) }
+{
+    let geometry = disks[0].geometry();
+    let extents = disks[0].extents();
+    Ok(Plan {
+        book: plan_groups(alloc, geometry, disks.len(), extents)?,
+        block: Block::new(alloc, geometry)?,
+        scratch: Scratch::new(alloc, geometry)?,
+    })
+}
+
+// The book of all groups that so many disks form.
+fn plan_groups(
+    alloc: Global,
+    geometry: Geometry,
+    disks: usize,
+    extents: u16,
+) -> Result<Book, AllocError>
+    requires { disks ≤ 255 }
+    ensures { IfOk result (λ book. (s : SetState) → IsAllLoose geometry disks extents s → IsPlanFor s book) }
+{
+    let mut book = Book::new(alloc, geometry);
+    let mut counts = vec![in alloc; extents; disks]?;
+    while let Some(four) = four_fullest(&counts) {
+        let members = next_members(&counts, extents, four);
+        book.form_group(members)?;
+        four_fewer(&mut counts, four);
+    }
+    Ok(book)
+}
+
+// The first loose extents of four disks of which the last extents are loose, so many of each.
+fn next_members(counts: &[u16], extents: u16, four: FourDisks) -> Members
+    requires four { AreFourFullest counts.now four }
+    requires few { (d : ℕ) → slice_index counts.now d ≤ extents }
+    ensures { result ≡ next_members counts.now extents four }
+{
+    Members {
+        first: next_place(counts, extents, four.first),
+        second: next_place(counts, extents, four.second),
+        third: next_place(counts, extents, four.third),
+        fourth: next_place(counts, extents, four.fourth),
+    }
+}
+
+fn next_place(counts: &[u16], extents: u16, disk: u8) -> Place
+    requires there { disk < length counts.now }
+    requires few { slice_index counts.now disk ≤ extents }
+    ensures { result ≡ next_place counts.now extents disk }
+{
+    Place {
+        disk,
+        extent: extents - counts[disk as usize],
+    }
+}
+
+// Counts one loose extent fewer of each of four disks.
+fn four_fewer(counts: &mut Vec<u16>, four: FourDisks)
+    requires { AreFourFullest counts.old.items four }
+    ensures { counts.new.items ≡ four_fewer counts.old.items four }
+{
+    one_fewer(counts, four.first);
+    one_fewer(counts, four.second);
+    one_fewer(counts, four.third);
+    one_fewer(counts, four.fourth);
+}
+
+fn one_fewer(counts: &mut Vec<u16>, disk: u8)
+    requires there { disk < length counts.old.items }
+    requires some { 0 < slice_index counts.old.items disk }
+    ensures { counts.new.items ≡ one_fewer counts.old.items disk }
+{
+    counts[disk as usize] -= 1;
+}
+
+// Takes the extents of a book's groups, which are those that the set forms.
+fn take_groups<D: Disk>(set: &mut DiskSet<D>, book: &Book)
+    requires { IsPlanFor set.old book.now }
+    ensures formed { IsFormed (store_of set.old (empty_book set.old.geometry)) (members_list book.now) (store_of set.new book.now) }
+    ensures sound { TablesAgree book.now }
+{
+    for number in 0..book.groups() {
+        take_members(set, book.members(number));
+    }
+}
+
+// Takes the lowest loose extents of four disks.
+fn take_members<D: Disk>(set: &mut DiskSet<D>, members: Members)
+    requires { AreFullest set.old members }
+    ensures { set.new ≡ without set.old members }
+{
+    set.take(members.first.disk);
+    set.take(members.second.disk);
+    set.take(members.third.disk);
+    set.take(members.fourth.disk);
+}

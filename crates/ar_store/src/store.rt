@@ -1,0 +1,209 @@
+// The store, and its reads and writes by key.
+
+use crate::moves::{move_block, write};
+use crate::open::{open_mirrored, open_spare};
+use crate::slots::read_at;
+use crate::way::find_way;
+use crate::{Opening, Outcome};
+use ar_book::{Book, Class, Slot};
+use ar_disks::{Block, Disk, Key, Scratch};
+use ar_extents::{DiskSet, Health};
+use std::marker::Model;
+
+/// The disks of an array and the book of their space, with the blocks that calls work in. The fields are open to the crates that
+/// move blocks in the background; whoever changes them keeps what `IsKept` says of them.
+#[derive(Drop)]
+pub struct Store<D: Disk> {
+    pub disks: DiskSet<D>,
+    pub book: Book,
+    /// The block that is on its way from one slot to another.
+    pub block: Block,
+    pub scratch: Scratch,
+}
+
+impl<D: Disk> Model for Store<D> {
+    ghost use Rattle.ar_store.specs.Store.{StoreState};
+    ghost use Rattle.ar_store.specs.Kept.{FieldsAgree};
+
+    ghost Value = { StoreState };
+
+    ghost view = { λ s. record { disks = s.disks; book = s.book } };
+
+    ghost invariant = { λ s. FieldsAgree (record { disks = s.disks; book = s.book }) s.block s.scratch.geometry };
+}
+
+impl<D: Disk> Store<D> {
+    ghost use Rattle.std.specs.Prelude.{◌≡◌, ◌≢◌, ℕ, length, None, IsSome};
+    ghost use Rattle.ar_disks.specs.Geometry.{block_len_of};
+    ghost use Rattle.ar_extents.specs.Groups.{outcome_of};
+    ghost use Rattle.ar_book.specs.Tables.{home, HasBlock};
+    ghost use Rattle.ar_book.specs.Changes.{Moved};
+    ghost use Rattle.ar_store.specs.Slots.{stands, AllStand, OthersStand, SurvivesLossOf};
+    ghost use Rattle.ar_store.specs.Kept.{IsKept};
+    ghost use Rattle.ar_store.specs.Placing.{Puts, SameUnits, IsVacant};
+    ghost use Rattle.ar_store.specs.Calls.{IsAccessed, Opens};
+
+    /// The health of the disks, with what the store keeps true.
+    pub fn health(&self) -> Health
+        ensures health { result ≡ self.now.disks.health }
+        ensures kept { IsKept self.now }
+
+        // Redundancy: while the disks are whole, any one of them may go.
+        ensures redundant { result ≡ Health.Whole → (d : ℕ) → SurvivesLossOf self.now d }
+    {
+        self.disks.health()
+    }
+
+    /// Reads the block of a key into `into`, a block of the store's length. A block without a home is read as zeros, and no disk is
+    /// accessed then. After `Broken` any bytes may stand in `into`.
+    pub fn get(&mut self, key: Key, into: &mut Block) -> Outcome
+        requires whole { length into.old ≡ block_len_of self.old.disks.geometry }
+        ensures given { result ≡ Outcome.Done → self.new.disks.health ≢ Health.Broken → into.new ≡ stands self.old key }
+        ensures zeros { home self.old.book key ≡ None → (self.new ≡ self.old) × (result ≡ Outcome.Done) × (into.new ≡ stands self.old key) }
+        ensures outcome { home self.old.book key ≢ None → result ≡ outcome_of self.new.disks.health }
+        ensures stands { AllStand self.old self.new }
+        ensures book { self.new.book ≡ self.old.book }
+        ensures accessed { IsAccessed self.old.disks self.new.disks }
+        ensures len { length into.new ≡ length into.old }
+    {
+        match self.book.home(key) {
+            Some(slot) => read_at(&mut self.disks, &self.book, slot, into, &mut self.scratch),
+            None => {
+                into.zero();
+                Outcome::Done
+            }
+        }
+    }
+
+    /// Writes a block of a unit, from a block of the store's length, and gives it the next stamp. It is never refused for room:
+    /// where it goes, `Puts` says. `Broken` says that the disks are; of a store that was broken before nothing has changed.
+    pub fn put(&mut self, key: Key, from: &Block) -> Outcome
+        requires block { HasBlock self.old.book key }
+        requires whole { length from.now ≡ block_len_of self.old.disks.geometry }
+        ensures outcome { result ≡ outcome_of self.new.disks.health }
+        ensures put { result ≡ Outcome.Done → stands self.new key ≡ from.now }
+        ensures others { OthersStand self.old self.new key }
+        ensures tables { result ≡ Outcome.Done → Puts self.old.book key self.new.book }
+        ensures units { SameUnits self.old.book self.new.book }
+        ensures accessed { IsAccessed self.old.disks self.new.disks }
+        ensures broken { self.old.disks.health ≡ Health.Broken → self.new ≡ self.old }
+    {
+        if let Health::Broken = self.disks.health() {
+            return Outcome::Broken;
+        }
+        let way = find_way(
+            &mut self.disks,
+            &mut self.book,
+            key,
+            &mut self.block,
+            &mut self.scratch,
+        );
+        write(
+            &mut self.disks,
+            &mut self.book,
+            key,
+            way,
+            from,
+            &mut self.scratch,
+        )
+    }
+
+    /// Gives a unit's block that has no home one, by writing zeros: it goes where `put` would put it, and reads as before.
+    pub fn place(&mut self, key: Key) -> Outcome
+        requires block { HasBlock self.old.book key }
+        requires unplaced { home self.old.book key ≡ None }
+        ensures outcome { result ≡ outcome_of self.new.disks.health }
+        ensures placed { result ≡ Outcome.Done → IsSome (home self.new.book key) }
+        ensures tables { result ≡ Outcome.Done → Puts self.old.book key self.new.book }
+        ensures stands { AllStand self.old self.new }
+        ensures units { SameUnits self.old.book self.new.book }
+        ensures accessed { IsAccessed self.old.disks self.new.disks }
+        ensures broken { self.old.disks.health ≡ Health.Broken → self.new ≡ self.old }
+    {
+        if let Health::Broken = self.disks.health() {
+            return Outcome::Broken;
+        }
+        let way = find_way(
+            &mut self.disks,
+            &mut self.book,
+            key,
+            &mut self.block,
+            &mut self.scratch,
+        );
+        self.block.zero();
+        write(
+            &mut self.disks,
+            &mut self.book,
+            key,
+            way,
+            &self.block,
+            &mut self.scratch,
+        )
+    }
+
+    /// Moves a block from its home to a slot that names none. The new slot is written before the old one is left; the stamp stays.
+    /// After `Broken` the block has its old home.
+    pub fn move_rb(&mut self, key: Key, slot: Slot) -> Outcome
+        requires placed { IsSome (home self.old.book key) }
+        requires hole { IsVacant self.old.book slot }
+        ensures outcome { result ≡ outcome_of self.new.disks.health }
+        ensures moved { result ≡ Outcome.Done → Moved self.old.book key slot self.new.book }
+        ensures unmoved { result ≡ Outcome.Broken → self.new.book ≡ self.old.book }
+        ensures stands { AllStand self.old self.new }
+        ensures units { SameUnits self.old.book self.new.book }
+        ensures accessed { IsAccessed self.old.disks self.new.disks }
+    {
+        move_block(
+            &mut self.disks,
+            &mut self.book,
+            key,
+            slot,
+            &mut self.block,
+            &mut self.scratch,
+        )
+    }
+
+    /// Opens the lowest free group for mirrored blocks or for parity, while two are free. A group that is opened for parity is filled
+    /// with zeros.
+    pub fn open_group(&mut self, class: Class) -> Opening
+        requires { class ≢ Class.Free }
+        ensures opens { Opens self.old self.new class result }
+        ensures stands { AllStand self.old self.new }
+        ensures units { SameUnits self.old.book self.new.book }
+        ensures accessed { IsAccessed self.old.disks self.new.disks }
+    {
+        match class {
+            Class::Parity => self.open_parity(),
+            Class::Mirrored | Class::Free => self.open_mirrored(),
+        }
+    }
+
+    // Opens the lowest free group for mirrored blocks, while two are free.
+    fn open_mirrored(&mut self) -> Opening
+        ensures opens { Opens self.old self.new Class.Mirrored result }
+        ensures stands { AllStand self.old self.new }
+        ensures units { SameUnits self.old.book self.new.book }
+        ensures accessed { IsAccessed self.old.disks self.new.disks }
+    {
+        match open_mirrored(&mut self.book) {
+            Some(group) => Opening::Opened(group),
+            None => Opening::Idle,
+        }
+    }
+
+    // Opens the lowest free group for parity, while two are free.
+    fn open_parity(&mut self) -> Opening
+        ensures opens { Opens self.old self.new Class.Parity result }
+        ensures stands { AllStand self.old self.new }
+        ensures units { SameUnits self.old.book self.new.book }
+        ensures accessed { IsAccessed self.old.disks self.new.disks }
+    {
+        let Some(group) = open_spare(&mut self.disks, &mut self.book, &mut self.scratch) else {
+            return Opening::Idle;
+        };
+        match self.disks.health() {
+            Health::Broken => Opening::Broken,
+            _ => Opening::Opened(group),
+        }
+    }
+}

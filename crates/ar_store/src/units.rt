@@ -1,0 +1,68 @@
+// The making, growth and removal of units. No disk is accessed.
+
+use crate::Store;
+use ar_book::Refusal;
+use ar_disks::{Addr, Disk};
+
+impl<D: Disk> Store<D> {
+    ghost use Rattle.std.specs.Prelude.{◌≡◌, ◌≢◌, ◌↔◌, IsOk, IsTrue, None, IfErr, OnOk, OnErr};
+    ghost use Rattle.std.specs.Option.{unwrap_or};
+    ghost use Rattle.ar_disks.specs.Block.{zeros};
+    ghost use Rattle.ar_disks.specs.Geometry.{block_len_of};
+    ghost use Rattle.ar_disks.specs.declared.address.Key.{Key};
+    ghost use Rattle.ar_book.specs.Tables.{has_unit};
+    ghost use Rattle.ar_book.specs.Changes.{made, grown, dropped, unmarked};
+    ghost use Rattle.ar_book.specs.Refusals.{make_refusal, grow_refusal};
+    ghost use Rattle.ar_store.specs.Slots.{stands};
+
+    /// Makes a unit of so many sectors, 1 to 1,048,576, without a home: all its blocks are read as zeros. Refused in this
+    /// order: `BadLun` for a LUN over 7, `Exists`, `Size`, `NoRoom` where its blocks exceed the room, which it carries, and
+    /// `NoMemory`. A refused making changes nothing.
+    pub fn make(&mut self, addr: Addr, sectors: u32) -> Result<(), Refusal>
+        ensures granted { OnOk result (make_refusal self.old.book addr sectors ≡ None) }
+        ensures refused { IfErr result (λ refusal. refusal ≡ unwrap_or (make_refusal self.old.book addr sectors) Refusal.NoMemory) }
+        ensures made { OnOk result (self.new.book ≡ made self.old.book addr sectors) }
+        ensures unchanged { OnErr result (self.new ≡ self.old) }
+        ensures disks { self.new.disks ≡ self.old.disks }
+        ensures stands { (k : Key) → stands self.new k ≡ stands self.old k }
+    {
+        self.book.make(addr, sectors)
+    }
+
+    /// Makes a unit longer, up to 1,048,576 sectors, and sets its mark; the new blocks have no home and are read as zeros.
+    /// Refused in this order: `Absent`, `Size` where the length isn't above the present one or too great, `NoRoom` where the
+    /// added blocks exceed the room, which it carries, and `NoMemory`. A refused growth changes nothing.
+    pub fn grow(&mut self, addr: Addr, sectors: u32) -> Result<(), Refusal>
+        ensures granted { OnOk result (grow_refusal self.old.book addr sectors ≡ None) }
+        ensures refused { IfErr result (λ refusal. refusal ≡ unwrap_or (grow_refusal self.old.book addr sectors) Refusal.NoMemory) }
+        ensures grown { OnOk result (self.new.book ≡ grown self.old.book addr sectors) }
+        ensures unchanged { OnErr result (self.new ≡ self.old) }
+        ensures disks { self.new.disks ≡ self.old.disks }
+        ensures stands { (k : Key) → stands self.new k ≡ stands self.old k }
+    {
+        self.book.grow(addr, sectors)
+    }
+
+    /// Drops a unit: its blocks have no home from then on and are read as zeros, and every other block stands as it did.
+    /// `Absent` exactly where there is no unit; nothing changes then.
+    pub fn drop_unit(&mut self, addr: Addr) -> Result<(), Refusal>
+        ensures absent { IfErr result (λ refusal. refusal ≡ Refusal.Absent) }
+        ensures there { IsOk result ↔ IsTrue (has_unit self.old.book addr) }
+        ensures dropped { OnOk result (self.new.book ≡ dropped self.old.book addr) }
+        ensures unchanged { OnErr result (self.new ≡ self.old) }
+        ensures disks { self.new.disks ≡ self.old.disks }
+        ensures others { (k : Key) → k.addr ≢ addr → stands self.new k ≡ stands self.old k }
+        ensures zeros { (k : Key) → k.addr ≡ addr → stands self.new k ≡ zeros (block_len_of self.old.disks.geometry) }
+    {
+        self.book.drop_unit(addr)
+    }
+
+    /// Clears a unit's mark. Where there is no unit nothing changes.
+    pub fn clear_attention(&mut self, addr: Addr)
+        ensures book { self.new.book ≡ unmarked self.old.book addr }
+        ensures disks { self.new.disks ≡ self.old.disks }
+        ensures stands { (k : Key) → stands self.new k ≡ stands self.old k }
+    {
+        self.book.clear_attention(addr);
+    }
+}
