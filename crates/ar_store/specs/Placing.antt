@@ -55,7 +55,8 @@ squeezed t from to = moved_first (opened t to Parity) from to (slots_of t.geomet
 abbrev pub put_in : Tables → Key → Slot → Tables
 put_in t k s = stamped (assigned t k s) k
 
--- What a put makes of the tables, step by step: the first of these that applies.
+-- What a put makes of the tables, step by step: the first of these that applies. One always does, since with a block without a
+-- home, no hole and one free group there is a full mirrored one (the condition and the answer of the book's `full_mirrored`).
 pub record Puts (t : Tables) (k : Key) (new : Tables) : Type 0 where
   -- a block at the mirrored level is written where it is
   pub mirrored : level t k ≡ MirroredLevel → new ≡ stamped t k

@@ -56,11 +56,12 @@ pub record AllStand (old new : StoreState) : Type 0 where
 pub record OthersStand (old new : StoreState) (key : Key) : Type 0 where
   pub blocks : new.disks.health ≢ Broken → (k : Key) → k ≢ key → stands new k ≡ stands old k
 
--- a slot can be written: one of a group with parity holds a block, which the row's parity has counted in
+-- a slot of four extents with parity holds some block
 pub record HoldsAny (s : SetState) (m : Members) (i : ℕ) : Type 0 where
   pub block : List ℕ
   pub holds : ParityHolds s m i block
 
+-- the slot can be written: with parity it holds a block, which the row's parity counts in
 abbrev pub IsReady : Class → SetState → Members → ℕ → Type 0
 IsReady Free s m i = Unit {0}
 IsReady Mirrored s m i = Unit {0}
