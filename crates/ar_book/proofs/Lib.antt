@@ -19,3 +19,4 @@ pub mod AfterOpen
 pub mod AfterStamp
 pub mod AfterMake
 pub mod AfterForm
+pub mod Presence

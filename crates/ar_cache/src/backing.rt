@@ -28,7 +28,7 @@ pub trait Backing {
     /// What the backing says of any call, from the state before it to the one after.
     ghost follows: { Self → Self → Type 0 };
 
-    /// What it says beside that of a call of `get`.
+    /// What it says beside that of calls of `get`, however many.
     ghost reads: { Self → Self → Type 0 };
 
     /// What it says beside that of a call of `put` that is done, by the key.
@@ -59,4 +59,10 @@ pub trait Backing {
 
     /// What follows a state that follows another follows that one too.
     ghost follows_trans: { (a b c : Self) → follows a b → follows b c → follows a c };
+
+    /// No read reads.
+    ghost reads_refl: { (s : Self) → reads s s };
+
+    /// Reads after reads read.
+    ghost reads_trans: { (a b c : Self) → reads a b → reads b c → reads a c };
 }

@@ -140,4 +140,8 @@ impl Backing for Shelf {
     ghost follows_refl = { λ _. tt };
 
     ghost follows_trans = { λ _ _ _ _ _. tt };
+
+    ghost reads_refl = { λ _. tt };
+
+    ghost reads_trans = { λ _ _ _ _ _. tt };
 }

@@ -1,6 +1,8 @@
 -- Changes of the tables that leave a store what it is.
 use Rattle.std.proofs.Common.{◌≡◌, ◌≢◌, ◌⊎◌, inl, inr, ℕ, ◌*◌, ◌<◌, List, length, Option, None, Some, refl, sym, ap, subst, ◌∙◌, true≢false, Bool, true, false}
 use Rattle.std.proofs.lemmas.Option.{none-some}
+use Rattle.std.specs.List.{list_any}
+use Rattle.std.proofs.lemmas.Map.Made.{is_some-lookup}
 use Rattle.std.proofs.lemmas.Bool.Decides.{eqb_tells}
 use Rattle.ar_disks.specs.declared.address.Key.{Key}
 use Rattle.ar_disks.specs.declared.address.Addr.{Addr}
@@ -13,7 +15,7 @@ use Rattle.ar_extents.specs.Loose.{is_loose}
 use Rattle.ar_book.specs.declared.class.Class.{Class}
 use Rattle.ar_book.specs.declared.class.Class.TheVariants.{Free, Mirrored, Parity}
 use Rattle.ar_book.specs.declared.class.Slot.{Slot}
-use Rattle.ar_book.specs.Tables.{Tables, is_free, group_in, class_of, key_at, home, slots_of, HasBlock, HasSlot, free_groups}
+use Rattle.ar_book.specs.Tables.{Tables, is_free, group_in, class_of, key_at, home, slots_of, has_unit, same_addr, HasBlock, HasSlot, free_groups}
 use Rattle.ar_book.specs.Changes.{assigned, stamped, opened}
 use Rattle.ar_book.specs.Book.{TablesAgree}
 use Rattle.ar_book.proofs.Keys.{slot_tells, key_tells}
@@ -151,6 +153,16 @@ units_then t u v tu uv = record {
 -- a unit's block stays one
 pub block_then : (t u : Tables) (k : Key) → SameUnits t u → HasBlock t k → HasBlock u k
 block_then t u k same block = subst (λ n. k.rb < n) (sym (same.blocks k.addr)) block
+
+-- and was one
+pub block_before : (t u : Tables) (k : Key) → SameUnits t u → HasBlock u k → HasBlock t k
+block_before t u k same block = subst (λ n. k.rb < n) (same.blocks k.addr) block
+
+-- there is a unit where there was one
+pub same_units_there : (t new : Tables) → SameUnits t new → (a : Addr) → has_unit new a ≡ has_unit t a
+same_units_there t new same a =
+    is_some-lookup (same_addr a) new.units ∙ ap (λ (addrs : List Addr). list_any (same_addr a) addrs) same.order
+    ∙ sym (is_some-lookup (same_addr a) t.units)
 
 -- the units stay, but for the home of a block that moves
 pub units_assigned : (t : Tables) (k : Key) (s : Slot) → HasBlock t k → SameUnits t (assigned t k s)

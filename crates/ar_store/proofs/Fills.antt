@@ -6,7 +6,7 @@ use Rattle.ar_disks.specs.Geometry.{block_len_of}
 use Rattle.ar_extents.specs.declared.health.Health.TheVariants.{Broken}
 use Rattle.ar_extents.specs.Set.{SetState}
 use Rattle.ar_extents.specs.Follows.{Follows}
-use Rattle.ar_extents.proofs.Follows.{follows_then}
+use Rattle.ar_extents.proofs.Follows.{follows_refl, follows_then}
 use Rattle.ar_book.specs.declared.class.Class.{Class}
 use Rattle.ar_book.specs.declared.class.Slot.{Slot}
 use Rattle.ar_book.specs.Tables.{Tables, home, HasBlock}
@@ -25,6 +25,10 @@ use Rattle.ar_store.proofs.Changes.{space_moved, others_moved, block_moved}
 pub written_as : (c d : Class) (m n : Members) (a b : SetState) (i : ℕ) (block : List ℕ) → c ≡ d → m ≡ n → IsWritten c a b m i block → IsWritten d a b n i block
 written_as c d m n a b i block class members written =
     subst (λ (x : Members). IsWritten d a b x i block) members (subst (λ (x : Class). IsWritten x a b m i block) class written)
+
+-- no access
+pub accessed_refl : (s : SetState) → IsAccessed s s
+accessed_refl s = record { follows = follows_refl s; loose = refl }
 
 -- accesses one after another
 pub accessed_then : (a b c : SetState) → IsAccessed a b → IsAccessed b c → IsAccessed a c

@@ -2,6 +2,7 @@ pub mod Options
 pub mod Classes
 pub mod Spaces
 pub mod Standing
+pub mod Outages
 pub mod Changes
 pub mod Fills
 pub mod Fields

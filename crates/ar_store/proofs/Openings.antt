@@ -25,8 +25,8 @@ use Rattle.ar_book.proofs.AfterOpen.{opened_group_count, opened_members, opened_
 use Rattle.ar_store.specs.Store.{StoreState, store_of}
 use Rattle.ar_store.specs.Slots.{ClassHolds, SlotHolds, HoldsBlock, stands, AllStand}
 use Rattle.ar_store.specs.Kept.{IsTaken, IsSpace}
-use Rattle.ar_store.specs.Placing.{StandsBy}
-use Rattle.ar_store.specs.Calls.{IsAccessed}
+use Rattle.ar_store.specs.Placing.{slot_at, StandsBy}
+use Rattle.ar_store.specs.Calls.{IsAccessed, HoldsZeros}
 use Rattle.ar_store.proofs.Classes.{class_disjoint}
 use Rattle.ar_store.proofs.Spaces.{groups_apart}
 use Rattle.ar_store.proofs.Standing.{stands_held, stands_nowhere, was_sound, holds_same, block_same}
@@ -55,20 +55,30 @@ module _ (a b : SetState) (t : Tables) (g : ℕ) (space : IsSpace (store_of a t)
   }
 
   -- a slot of the group holds the zero block
-  zero_held : (slot : Slot) → slot.group ≡ g → slot.slot < 3 * rows_of b.geometry → HoldsBlock (store_of b new) slot
+  zero_holds : (slot : Slot) → slot.group ≡ g → slot.slot < 3 * rows_of b.geometry → SlotHolds (store_of b new) slot (zeros (block_len_of a.geometry))
   unfolding new
-  zero_held slot is lt =
+  zero_holds slot is lt =
       let zero = zeros (block_len_of a.geometry) in
-      record {
-        block = zero;
-        len = length-zeros (block_len_of a.geometry) ∙ ap block_len_of (sym access.follows.geometry);
-        holds =
-            (let P : ℕ → Type 0 = λ n. ClassHolds (class_of (opened t g Parity) n) b (group_in (opened t g Parity).groups n).members slot.slot zero in
-            let Q : Class → Type 0 = λ c. ClassHolds c b (group_in (opened t g Parity).groups g).members slot.slot zero in
-            let R : Members → Type 0 = λ m. ParityHolds b m slot.slot zero in
-            subst P (sym is) (subst Q (sym (opened_class t g Parity inside))
-            (subst R (sym (opened_members t g Parity g)) (zero_slots slot.slot (subst (λ x. slot.slot < 3 * rows_of x) access.follows.geometry lt)))));
-      }
+      let P : ℕ → Type 0 = λ n. ClassHolds (class_of (opened t g Parity) n) b (group_in (opened t g Parity).groups n).members slot.slot zero in
+      let Q : Class → Type 0 = λ c. ClassHolds c b (group_in (opened t g Parity).groups g).members slot.slot zero in
+      let R : Members → Type 0 = λ m. ParityHolds b m slot.slot zero in
+      subst P (sym is) (subst Q (sym (opened_class t g Parity inside))
+      (subst R (sym (opened_members t g Parity g)) (zero_slots slot.slot (subst (λ x. slot.slot < 3 * rows_of x) access.follows.geometry lt))))
+
+  zero_held : (slot : Slot) → slot.group ≡ g → slot.slot < 3 * rows_of b.geometry → HoldsBlock (store_of b new) slot
+  zero_held slot is lt = record {
+    block = zeros (block_len_of a.geometry);
+    len = length-zeros (block_len_of a.geometry) ∙ ap block_len_of (sym access.follows.geometry);
+    holds = zero_holds slot is lt;
+  }
+
+  pub zeros_zeroed : HoldsZeros (store_of b (opened t g Parity)) g
+  unfolding new
+  zeros_zeroed = record {
+    slots = λ i lt.
+        subst (λ x. SlotHolds (store_of b (opened t g Parity)) (slot_at g i) (zeros (block_len_of x))) (sym access.follows.geometry)
+        (zero_holds (slot_at g i) refl lt);
+  }
 
   pub space_zeroed : IsSpace (store_of b (opened t g Parity))
   unfolding new
@@ -110,20 +120,22 @@ module _ (a b : SetState) (t : Tables) (g : ℕ) (space : IsSpace (store_of a t)
           ∙ sym (stands_held (store_of a t) k slot held.block space (was_sound a b access.follows sound) is held.holds)
 
 -- the same, of a group that was found, and under the names that the calls give
-pub record IsZeroed (a b : SetState) (t u : Tables) : Type 0 where
+pub record IsZeroed (a b : SetState) (t u : Tables) (g : ℕ) : Type 0 where
   pub stand : AllStand (store_of a t) (store_of b u)
   pub space : IsSpace (store_of b u)
+  pub zeros_in : HoldsZeros (store_of b u) g
 
 pub zeroed : (a b : SetState) (t u : Tables) (g : ℕ) (m : Members) → IsSpace (store_of a t) → IsLowestFree t g → u ≡ opened t g Parity → m ≡ (group_in u.groups g).members
     → IsAccessed a b → Keeps (IsOutside m) a b
-    → ((i : ℕ) → i < 3 * rows_of a.geometry → ParityHolds b m i (zeros (block_len_of a.geometry))) → IsZeroed a b t u
+    → ((i : ℕ) → i < 3 * rows_of a.geometry → ParityHolds b m i (zeros (block_len_of a.geometry))) → IsZeroed a b t u g
 zeroed a b t u g m space lowest is_u is_m access keeps slots =
     let is : m ≡ (group_in t.groups g).members = is_m ∙ ap (λ (x : Tables). (group_in x.groups g).members) is_u ∙ opened_members t g Parity g in
     let keeps_t = subst (λ (x : Members). Keeps (IsOutside x) a b) is keeps in
     let slots_t = subst (λ (x : Members). (i : ℕ) → i < 3 * rows_of a.geometry → ParityHolds b x i (zeros (block_len_of a.geometry))) is slots in
-    subst (λ (x : Tables). IsZeroed a b t x) (sym is_u) (record {
+    subst (λ (x : Tables). IsZeroed a b t x g) (sym is_u) (record {
       stand = stand_zeroed a b t g space lowest.there lowest.free access keeps_t slots_t;
       space = space_zeroed a b t g space lowest.there lowest.free access keeps_t slots_t;
+      zeros_in = zeros_zeroed a b t g space lowest.there lowest.free access keeps_t slots_t;
     })
 
 -- a group is opened for mirrored blocks, if one may be

@@ -1,11 +1,12 @@
 -- Which blocks stand as they did, by what the slots hold.
-use Rattle.std.proofs.Common.{◌≡◌, ◌≢◌, ℕ, ◌<◌, List, Option, None, Some, refl, sym, ap, subst, ◌∙◌, true≢false}
+use Rattle.std.proofs.Common.{◌≡◌, ◌≢◌, ℕ, ◌<◌, List, length, Option, None, Some, refl, sym, ap, subst, ◌∙◌, true≢false}
 use Rattle.std.proofs.lemmas.Option.{none-some, same_Some}
 use Rattle.ar_disks.specs.Block.{zeros}
 use Rattle.ar_disks.specs.Geometry.{block_len_of}
 use Rattle.ar_disks.specs.declared.address.Key.{Key}
 use Rattle.ar_disks.specs.Disk.{DiskState}
 use Rattle.ar_disks.specs.Members.{AreApart}
+use Rattle.ar_disks.proofs.Xor.{length-zeros}
 use Rattle.ar_extents.specs.declared.health.Health.TheVariants.{Whole, Out, Broken}
 use Rattle.ar_extents.specs.Changes.{is_broken}
 use Rattle.ar_extents.specs.Health.{after_fault}
@@ -42,6 +43,16 @@ stands_held s k slot block space sound is holds =
 pub stands_nowhere : (s : StoreState) (k : Key) → home s.book k ≡ None → stands s k ≡ zeros (block_len_of s.disks.geometry)
 unfolding stands
 stands_nowhere s k is = ap (λ (o : Option Slot). stands_at s o) is
+
+-- until the store is broken, the block that stands for a key is as long as blocks are
+pub stands_whole : (s : StoreState) (k : Key) → IsSpace s → s.disks.health ≢ Broken → length (stands s k) ≡ block_len_of s.disks.geometry
+stands_whole s k space sound = by (home s.book k) refl
+  where
+    by : (o : Option Slot) → home s.book k ≡ o → length (stands s k) ≡ block_len_of s.disks.geometry
+    by None is = ap (λ (bytes : List ℕ). length bytes) (stands_nowhere s k is) ∙ length-zeros (block_len_of s.disks.geometry)
+    by (Some slot) is =
+        let held = space.named slot k (home_key s.book space.tables k slot is) in
+        ap (λ (bytes : List ℕ). length bytes) (stands_held s k slot held.block space sound is held.holds) ∙ held.len
 
 -- a set that isn't broken wasn't
 pub was_sound : (a b : SetState) → Follows a b → b.health ≢ Broken → a.health ≢ Broken

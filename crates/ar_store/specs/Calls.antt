@@ -1,5 +1,7 @@
 -- What calls answer, and what they leave as it was.
-use Rattle.std.specs.Prelude.{◌≡◌, ℕ, ◌≤◌, ◌<◌}
+use Rattle.std.specs.Prelude.{◌≡◌, ℕ, ◌*◌, ◌≤◌, ◌<◌}
+use Rattle.ar_disks.specs.Block.{zeros}
+use Rattle.ar_disks.specs.Geometry.{rows_of, block_len_of}
 use Rattle.ar_extents.specs.Set.{SetState}
 use Rattle.ar_extents.specs.Follows.{Follows}
 use Rattle.ar_extents.specs.declared.health.Health.TheVariants.{Broken as AllBroken}
@@ -10,6 +12,8 @@ use Rattle.ar_book.specs.Choices.{IsLowestFree}
 use Rattle.ar_store.specs.declared.open.Opening.{Opening}
 use Rattle.ar_store.specs.declared.open.Opening.TheVariants.{Opened, Idle, Broken as NotOpened}
 use Rattle.ar_store.specs.Store.{StoreState}
+use Rattle.ar_store.specs.Slots.{SlotHolds}
+use Rattle.ar_store.specs.Placing.{slot_at}
 use Rattle.ar_extents.specs.declared.outcome.Outcome.{Outcome}
 use Rattle.ar_extents.specs.declared.outcome.Outcome.TheVariants.{Done, Broken}
 
@@ -33,6 +37,16 @@ pub record IsOpened (old new : Tables) (class : Class) (group : ℕ) : Type 0 wh
 pub record HasNoneToOpen (old new : StoreState) : Type 0 where
   pub few : free_groups old.book < 2
   pub same : new ≡ old
+
+-- each slot of a group with parity holds the zero block
+pub record HoldsZeros (s : StoreState) (group : ℕ) : Type 0 where
+  pub slots : (i : ℕ) → i < 3 * rows_of s.disks.geometry → SlotHolds s (slot_at group i) (zeros (block_len_of s.disks.geometry))
+
+-- what is said of the group that was opened, if one was
+abbrev pub IfOpened : Opening → (ℕ → Type 0) → Type 0
+IfOpened (Opened group) P = P group
+IfOpened Idle P = Unit {0}
+IfOpened NotOpened P = Unit {0}
 
 -- what the opening of a group answers
 abbrev pub Opens : StoreState → StoreState → Class → Opening → Type 0

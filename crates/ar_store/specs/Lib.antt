@@ -13,5 +13,7 @@ pub use Rattle.ar_book.specs.Refusals
 pub use Rattle.ar_extents.specs.Set
 pub use Rattle.ar_extents.specs.Groups
 pub use Rattle.ar_extents.specs.Follows
+pub use Rattle.ar_extents.specs.Access
+pub use Rattle.ar_extents.specs.Changes as SetChanges
 pub use Rattle.ar_disks.specs.Block
 pub use Rattle.ar_disks.specs.Geometry

@@ -1,6 +1,7 @@
 //! The store: the blocks of units by key, over the disks and the book of their space. No write is ever refused for room.
 #![tactic(auto)]
 
+mod disks;
 mod form;
 mod moves;
 mod open;

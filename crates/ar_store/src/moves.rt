@@ -100,6 +100,7 @@ pub(crate) fn write<D: Disk>(
     requires scratch { scratch.old.geometry ≡ disks.old.geometry }
     ensures outcome { result ≡ outcome_of disks.new.health }
     ensures tables { result ≡ Outcome.Done → Writes book.old key way book.new }
+    ensures unwritten { result ≡ Outcome.Broken → book.new ≡ book.old }
     ensures stands { result ≡ Outcome.Done → stands (store_of disks.new book.new) key ≡ from.now }
     ensures others { OthersStand (store_of disks.old book.old) (store_of disks.new book.new) key }
     ensures units { SameUnits book.old book.new }
@@ -131,6 +132,7 @@ fn write_home<D: Disk>(
     requires scratch { scratch.old.geometry ≡ disks.old.geometry }
     ensures outcome { result ≡ outcome_of disks.new.health }
     ensures tables { result ≡ Outcome.Done → book.new ≡ stamped book.old key }
+    ensures unwritten { result ≡ Outcome.Broken → book.new ≡ book.old }
     ensures stands { result ≡ Outcome.Done → stands (store_of disks.new book.new) key ≡ from.now }
     ensures others { OthersStand (store_of disks.old book.old) (store_of disks.new book.new) key }
     ensures units { SameUnits book.old book.new }
@@ -164,6 +166,7 @@ fn write_hole<D: Disk>(
     requires scratch { scratch.old.geometry ≡ disks.old.geometry }
     ensures outcome { result ≡ outcome_of disks.new.health }
     ensures tables { result ≡ Outcome.Done → book.new ≡ put_in book.old key slot }
+    ensures unwritten { result ≡ Outcome.Broken → book.new ≡ book.old }
     ensures stands { result ≡ Outcome.Done → stands (store_of disks.new book.new) key ≡ from.now }
     ensures others { OthersStand (store_of disks.old book.old) (store_of disks.new book.new) key }
     ensures units { SameUnits book.old book.new }

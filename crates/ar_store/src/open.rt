@@ -9,7 +9,7 @@ ghost use Rattle.ar_book.specs.Choices.{IsLowestFree};
 ghost use Rattle.ar_store.specs.Store.{store_of};
 ghost use Rattle.ar_store.specs.Slots.{AllStand};
 ghost use Rattle.ar_store.specs.Kept.{IsSpace};
-ghost use Rattle.ar_store.specs.Calls.{IsAccessed, IsOpened};
+ghost use Rattle.ar_store.specs.Calls.{IsAccessed, IsOpened, HoldsZeros};
 ghost use Rattle.ar_store.specs.Placing.{SameUnits, StandsBy};
 
 use ar_book::{Book, Class};
@@ -52,6 +52,7 @@ pub(crate) fn open_spare<D: Disk>(
     ensures few { IfNone result (free_groups book.old < 2) }
     ensures same_book { IfNone result (book.new ≡ book.old) }
     ensures same_disks { IfNone result (disks.new ≡ disks.old) }
+    ensures zeros { IfSome result (HoldsZeros (store_of disks.new book.new)) }
     ensures units { SameUnits book.old book.new }
     ensures free { 0 < free_groups book.old → 0 < free_groups book.new }
     ensures stands { AllStand (store_of disks.old book.old) (store_of disks.new book.new) }

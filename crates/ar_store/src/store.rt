@@ -33,15 +33,17 @@ impl<D: Disk> Model for Store<D> {
 }
 
 impl<D: Disk> Store<D> {
-    ghost use Rattle.std.specs.Prelude.{◌≡◌, ◌≢◌, ℕ, length, None, IsSome};
+    ghost use Rattle.std.specs.Prelude.{◌≡◌, ◌≢◌, ◌↔◌, ℕ, length, None, IsSome};
+    ghost use Rattle.ar_disks.specs.Block.{zeros};
     ghost use Rattle.ar_disks.specs.Geometry.{block_len_of};
+    ghost use Rattle.ar_disks.specs.declared.address.Key.{Key};
     ghost use Rattle.ar_extents.specs.Groups.{outcome_of};
     ghost use Rattle.ar_book.specs.Tables.{home, HasBlock};
     ghost use Rattle.ar_book.specs.Changes.{Moved};
     ghost use Rattle.ar_store.specs.Slots.{stands, AllStand, OthersStand, SurvivesLossOf};
     ghost use Rattle.ar_store.specs.Kept.{IsKept};
     ghost use Rattle.ar_store.specs.Placing.{Puts, SameUnits, IsVacant};
-    ghost use Rattle.ar_store.specs.Calls.{IsAccessed, Opens};
+    ghost use Rattle.ar_store.specs.Calls.{IsAccessed, Opens, IfOpened, HoldsZeros};
 
     /// The health of the disks, with what the store keeps true.
     pub fn health(&self) -> Health
@@ -50,33 +52,39 @@ impl<D: Disk> Store<D> {
 
         // Redundancy: while the disks are whole, any one of them may go.
         ensures redundant { result ≡ Health.Whole → (d : ℕ) → SurvivesLossOf self.now d }
+
+        // Until the disks are broken, whole blocks stand for all keys.
+        ensures whole { result ≢ Health.Broken → (k : Key) → length (stands self.now k) ≡ block_len_of self.now.disks.geometry }
     {
         self.disks.health()
     }
 
     /// Reads the block of a key into `into`, a block of the store's length. A block without a home is read as zeros, and no disk is
-    /// accessed then. After `Broken` any bytes may stand in `into`.
+    /// accessed then. After `Broken` any bytes may stand in `into`; of a store that was broken before nothing has changed.
     pub fn get(&mut self, key: Key, into: &mut Block) -> Outcome
         requires whole { length into.old ≡ block_len_of self.old.disks.geometry }
         ensures given { result ≡ Outcome.Done → self.new.disks.health ≢ Health.Broken → into.new ≡ stands self.old key }
-        ensures zeros { home self.old.book key ≡ None → (self.new ≡ self.old) × (result ≡ Outcome.Done) × (into.new ≡ stands self.old key) }
+        ensures zeros { home self.old.book key ≡ None → (self.new ≡ self.old) × (result ≡ Outcome.Done) × (into.new ≡ zeros (block_len_of self.old.disks.geometry)) }
         ensures outcome { home self.old.book key ≢ None → result ≡ outcome_of self.new.disks.health }
         ensures stands { AllStand self.old self.new }
         ensures book { self.new.book ≡ self.old.book }
         ensures accessed { IsAccessed self.old.disks self.new.disks }
+        ensures broken { self.old.disks.health ≡ Health.Broken → self.new ≡ self.old }
         ensures len { length into.new ≡ length into.old }
     {
-        match self.book.home(key) {
-            Some(slot) => read_at(&mut self.disks, &self.book, slot, into, &mut self.scratch),
-            None => {
-                into.zero();
-                Outcome::Done
-            }
+        let Some(slot) = self.book.home(key) else {
+            into.zero();
+            return Outcome::Done;
+        };
+        match self.disks.health() {
+            Health::Broken => Outcome::Broken,
+            _ => read_at(&mut self.disks, &self.book, slot, into, &mut self.scratch),
         }
     }
 
     /// Writes a block of a unit, from a block of the store's length, and gives it the next stamp. It is never refused for room:
-    /// where it goes, `Puts` says. `Broken` says that the disks are; of a store that was broken before nothing has changed.
+    /// where it goes, `Puts` says. `Broken` says that the disks are: the block has its old home then, and of a store that was broken
+    /// before nothing has changed.
     pub fn put(&mut self, key: Key, from: &Block) -> Outcome
         requires block { HasBlock self.old.book key }
         requires whole { length from.now ≡ block_len_of self.old.disks.geometry }
@@ -84,6 +92,7 @@ impl<D: Disk> Store<D> {
         ensures put { result ≡ Outcome.Done → stands self.new key ≡ from.now }
         ensures others { OthersStand self.old self.new key }
         ensures tables { result ≡ Outcome.Done → Puts self.old.book key self.new.book }
+        ensures unmoved { result ≡ Outcome.Broken → home self.new.book key ≡ home self.old.book key }
         ensures units { SameUnits self.old.book self.new.book }
         ensures accessed { IsAccessed self.old.disks self.new.disks }
         ensures broken { self.old.disks.health ≡ Health.Broken → self.new ≡ self.old }
@@ -108,7 +117,8 @@ impl<D: Disk> Store<D> {
         )
     }
 
-    /// Gives a unit's block that has no home one, by writing zeros: it goes where `put` would put it, and reads as before.
+    /// Gives a unit's block that has no home one, by writing zeros: it goes where `put` would put it, and reads as before. After
+    /// `Broken` it has none.
     pub fn place(&mut self, key: Key) -> Outcome
         requires block { HasBlock self.old.book key }
         requires unplaced { home self.old.book key ≡ None }
@@ -116,6 +126,7 @@ impl<D: Disk> Store<D> {
         ensures placed { result ≡ Outcome.Done → IsSome (home self.new.book key) }
         ensures tables { result ≡ Outcome.Done → Puts self.old.book key self.new.book }
         ensures stands { AllStand self.old self.new }
+        ensures unmoved { result ≡ Outcome.Broken → home self.new.book key ≡ home self.old.book key }
         ensures units { SameUnits self.old.book self.new.book }
         ensures accessed { IsAccessed self.old.disks self.new.disks }
         ensures broken { self.old.disks.health ≡ Health.Broken → self.new ≡ self.old }
@@ -142,7 +153,7 @@ impl<D: Disk> Store<D> {
     }
 
     /// Moves a block from its home to a slot that names none. The new slot is written before the old one is left; the stamp stays.
-    /// After `Broken` the block has its old home.
+    /// After `Broken` the block has its old home; of a store that was broken before nothing has changed.
     pub fn move_rb(&mut self, key: Key, slot: Slot) -> Outcome
         requires placed { IsSome (home self.old.book key) }
         requires hole { IsVacant self.old.book slot }
@@ -152,7 +163,11 @@ impl<D: Disk> Store<D> {
         ensures stands { AllStand self.old self.new }
         ensures units { SameUnits self.old.book self.new.book }
         ensures accessed { IsAccessed self.old.disks self.new.disks }
+        ensures broken { self.old.disks.health ≡ Health.Broken → self.new ≡ self.old }
     {
+        if let Health::Broken = self.disks.health() {
+            return Outcome::Broken;
+        }
         move_block(
             &mut self.disks,
             &mut self.book,
@@ -164,14 +179,22 @@ impl<D: Disk> Store<D> {
     }
 
     /// Opens the lowest free group for mirrored blocks or for parity, while two are free. A group that is opened for parity is filled
-    /// with zeros.
+    /// with zeros. `Broken` says that the disks are; of a store that was broken before nothing has changed.
     pub fn open_group(&mut self, class: Class) -> Opening
         requires { class ≢ Class.Free }
         ensures opens { Opens self.old self.new class result }
+        ensures answer { (result ≡ Opening.Broken) ↔ (self.new.disks.health ≡ Health.Broken) }
+        ensures mirrored { class ≡ Class.Mirrored → self.new.disks ≡ self.old.disks }
+        ensures parity { class ≡ Class.Parity → IfOpened result (HoldsZeros self.new) }
+        ensures homes { (k : Key) → home self.new.book k ≡ home self.old.book k }
         ensures stands { AllStand self.old self.new }
         ensures units { SameUnits self.old.book self.new.book }
         ensures accessed { IsAccessed self.old.disks self.new.disks }
+        ensures broken { self.old.disks.health ≡ Health.Broken → self.new ≡ self.old }
     {
+        if let Health::Broken = self.disks.health() {
+            return Opening::Broken;
+        }
         match class {
             Class::Parity => self.open_parity(),
             Class::Mirrored | Class::Free => self.open_mirrored(),
@@ -180,7 +203,11 @@ impl<D: Disk> Store<D> {
 
     // Opens the lowest free group for mirrored blocks, while two are free.
     fn open_mirrored(&mut self) -> Opening
+        requires { self.old.disks.health ≢ Health.Broken }
         ensures opens { Opens self.old self.new Class.Mirrored result }
+        ensures answer { result ≢ Opening.Broken }
+        ensures disks { self.new.disks ≡ self.old.disks }
+        ensures homes { (k : Key) → home self.new.book k ≡ home self.old.book k }
         ensures stands { AllStand self.old self.new }
         ensures units { SameUnits self.old.book self.new.book }
         ensures accessed { IsAccessed self.old.disks self.new.disks }
@@ -193,7 +220,11 @@ impl<D: Disk> Store<D> {
 
     // Opens the lowest free group for parity, while two are free.
     fn open_parity(&mut self) -> Opening
+        requires { self.old.disks.health ≢ Health.Broken }
         ensures opens { Opens self.old self.new Class.Parity result }
+        ensures answer { (result ≡ Opening.Broken) ↔ (self.new.disks.health ≡ Health.Broken) }
+        ensures zeros { IfOpened result (HoldsZeros self.new) }
+        ensures homes { (k : Key) → home self.new.book k ≡ home self.old.book k }
         ensures stands { AllStand self.old self.new }
         ensures units { SameUnits self.old.book self.new.book }
         ensures accessed { IsAccessed self.old.disks self.new.disks }

@@ -7,7 +7,7 @@ ghost use Rattle.ar_book.specs.Tables.{HasBlock};
 use crate::{Opening, Outcome, Store};
 use ar_book::{Class, Level, Slot};
 use ar_disks::{Addr, Block, FuseDisk, Geometry, Host, Key, MemDisk, Place};
-use ar_extents::{Got, Health};
+use ar_extents::{DiskRefusal, Got, Health};
 use std::alloc::{AllocError, Global};
 use std::process::Abort;
 use std::test::Fail;
@@ -106,6 +106,22 @@ fn reads(
     Ok(outcome == Outcome::Done && holds(block, byte))
 }
 
+// Reads a row of an extent as it stands on its disk.
+fn read_row(
+    rt: &impl Abort,
+    store: &mut Store<FuseDisk>,
+    place: Place,
+    row: u16,
+    block: &mut Block,
+) -> Got {
+    let geometry = store.disks.geometry();
+    assert!(rt; place.disk < store.disks.count());
+    assert!(rt; place.extent < store.disks.extents());
+    assert!(rt; row < geometry.rows());
+    assert_eq!(rt; block.bytes().len(), geometry.block_len());
+    store.read_place(place, row, block)
+}
+
 // Whether a row of an extent has this byte throughout.
 fn row_has(
     rt: &impl Abort,
@@ -115,12 +131,13 @@ fn row_has(
     block: &mut Block,
     byte: u8,
 ) -> bool {
-    let geometry = store.disks.geometry();
-    assert!(rt; place.disk < store.disks.count());
-    assert!(rt; place.extent < store.disks.extents());
-    assert!(rt; row < geometry.rows());
-    assert_eq!(rt; block.bytes().len(), geometry.block_len());
-    store.disks.get(place, row, block) == Got::Read && holds(block, byte)
+    read_row(rt, store, place, row, block) == Got::Read && holds(block, byte)
+}
+
+// Takes a disk out, and tells the health then.
+fn take_out(store: &mut Store<FuseDisk>, disk: u8) -> Result<Health, DiskRefusal> {
+    store.fail(disk)?;
+    Ok(store.health())
 }
 
 // What a group is used for, and how many of its slots name a block.
@@ -148,6 +165,18 @@ fn drop_unit(store: &mut Store<FuseDisk>) -> Result<bool, Fail> {
 // Makes the unit of so many sectors.
 fn make(store: &mut Store<FuseDisk>, sectors: u32) -> Result<bool, Fail> {
     Ok(store.make(unit()?, sectors).is_ok())
+}
+
+// Makes the unit longer, to so many sectors.
+fn grow(store: &mut Store<FuseDisk>, sectors: u32) -> Result<bool, Fail> {
+    Ok(store.grow(unit()?, sectors).is_ok())
+}
+
+// Whether the unit is marked. The mark is cleared.
+fn was_marked(store: &mut Store<FuseDisk>) -> Result<bool, Fail> {
+    let marked = store.book.attention(unit()?);
+    store.clear_attention(unit()?);
+    Ok(marked)
 }
 
 fn home(store: &Store<FuseDisk>, rb: u32) -> Result<Option<Slot>, Fail> {
@@ -480,6 +509,67 @@ fn open_groups(rt: &impl Abort, alloc: Global, store: &mut Store<FuseDisk>) -> R
 fn groups_are_opened_while_two_are_free(rt: HostRuntime) -> Result<(), Fail> {
     let mut store = store(rt.alloc(), Geometry::SMALL, 3, &[WHOLE; 4])?;
     assert!(rt; open_groups(&rt, rt.alloc(), &mut store)?);
+    Ok(())
+}
+
+// One disk is taken out, and then another: the first leaves every block, the second breaks the store.
+fn take_disks_out(
+    rt: &impl Abort,
+    alloc: Global,
+    store: &mut Store<FuseDisk>,
+) -> Result<bool, Fail> {
+    let mut block = filled(rt, alloc, Geometry::SMALL, 0)?;
+    let first = Place { disk: 0, extent: 0 };
+    let copy = Place { disk: 1, extent: 0 };
+    Ok(
+        make(store, 4)?
+            && write_all(rt, alloc, store, 1, 0xAA)?
+            && take_out(store, 4) == Err(DiskRefusal::NoSuchDisk)
+            && row_has(rt, store, first, 0, &mut block, 0xAA)
+            && row_has(rt, store, first, 1, &mut block, 0xEE)
+            && take_out(store, 0) == Ok(Health::Out(0))
+            && take_out(store, 0) == Ok(Health::Out(0))
+            && read_row(rt, store, first, 0, &mut block) == Got::Missing
+            && row_has(rt, store, copy, 0, &mut block, 0xAA)
+            && reads(rt, store, 0, &mut block, 0xAA)?
+            && take_out(store, 2) == Ok(Health::Broken)
+            && read_row(rt, store, copy, 0, &mut block) == Got::Broken
+            && take_out(store, 3) == Ok(Health::Broken),
+    )
+}
+
+#[test]
+fn disks_are_taken_out(rt: HostRuntime) -> Result<(), Fail> {
+    let mut store = store(rt.alloc(), Geometry::SMALL, 3, &[WHOLE; 4])?;
+    assert!(rt; take_disks_out(&rt, rt.alloc(), &mut store)?);
+    Ok(())
+}
+
+// A unit of two blocks grows within the room, to three and to all that there are.
+fn grow_a_unit(rt: &impl Abort, alloc: Global, store: &mut Store<FuseDisk>) -> Result<bool, Fail> {
+    Ok(
+        make(store, 3)?
+            && room(store) == 16
+            && write_all(rt, alloc, store, 2, 0xAA)?
+            && !grow(store, 3)?
+            && !was_marked(store)?
+            && !grow(store, 37)?
+            && grow(store, 6)?
+            && room(store) == 15
+            && was_marked(store)?
+            && !was_marked(store)?
+            && read_all(rt, alloc, store, 2, 0xAA)?
+            && level(store, 2)? == Level::Unplaced
+            && grow(store, 36)?
+            && room(store) == 0
+            && write_all(rt, alloc, store, 18, 0xBB)?,
+    )
+}
+
+#[test]
+fn a_unit_grows(rt: HostRuntime) -> Result<(), Fail> {
+    let mut store = store(rt.alloc(), Geometry::SMALL, 4, &[WHOLE; 4])?;
+    assert!(rt; grow_a_unit(&rt, rt.alloc(), &mut store)?);
     Ok(())
 }
 

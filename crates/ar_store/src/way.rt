@@ -43,6 +43,7 @@ pub(crate) fn find_way<D: Disk>(
     requires scratch { scratch.old.geometry ≡ disks.old.geometry }
     ensures leads { Leads book.old key book.new result }
     ensures ready { IsReadyFor (store_of disks.new book.new) key result }
+    ensures home { home book.new key ≡ home book.old key }
     ensures free { disks.new.health ≢ Broken → 0 < free_groups book.new }
     ensures units { SameUnits book.old book.new }
     ensures stands { AllStand (store_of disks.old book.old) (store_of disks.new book.new) }
@@ -80,6 +81,7 @@ fn find_new_way<D: Disk>(
     requires scratch { scratch.old.geometry ≡ disks.old.geometry }
     ensures leads { Leads book.old key book.new result }
     ensures ready { IsReadyFor (store_of disks.new book.new) key result }
+    ensures home { home book.new key ≡ home book.old key }
     ensures free { disks.new.health ≢ Broken → 0 < free_groups book.new }
     ensures units { SameUnits book.old book.new }
     ensures stands { AllStand (store_of disks.old book.old) (store_of disks.new book.new) }

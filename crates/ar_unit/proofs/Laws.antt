@@ -209,7 +209,7 @@ broken_obeyed-is sectors attention (Ok (Write lba count fua)) bytes =
     sent_or_not sectors _ attention _ _ (Ok (Write lba count fua)) refl
 
 -- no INQUIRY needs blocks
-inquiry-needs_none : (cdb : List ℕ) → operation_code cdb ≡ 0x12 → needs_blocks (reading cdb) ≡ false
+pub inquiry-needs_none : (cdb : List ℕ) → operation_code cdb ≡ 0x12 → needs_blocks (reading cdb) ≡ false
 unfolding reading
 inquiry-needs_none cdb code =
     rw code (cond_both (inquiry_valid cdb) (Ok (Inquiry (allocation_length cdb))) (Err invalid_field_in_cdb)

@@ -15,3 +15,10 @@ returns-clause-space g c =
     let opening = c.in_ok-group.ensures in
     (zeroed c.args.disks.now c.open_zero.new.set c.args.book.now c.open_group.new.self c.in_ok-group.group c.members-members.result c.requires.space
     opening.lowest opening.opened c.members-members.ensures (record { follows = zero.follows; loose = zero.loose }) zero.keeps zero.slots).space
+
+pub returns-clause-zeros : goal.returns-clause-zeros
+returns-clause-zeros g c =
+    let zero = c.open_zero.ensures in
+    let opening = c.in_ok-group.ensures in
+    (zeroed c.args.disks.now c.open_zero.new.set c.args.book.now c.open_group.new.self c.in_ok-group.group c.members-members.result c.requires.space
+    opening.lowest opening.opened c.members-members.ensures (record { follows = zero.follows; loose = zero.loose }) zero.keeps zero.slots).zeros_in

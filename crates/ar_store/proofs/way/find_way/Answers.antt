@@ -18,6 +18,7 @@ returns-in-Mirrored g c =
     record {
       leads = record { same = refl; home = is; when = inl (placed_mirrored c.args.book.now c.args.key c.in-Some.home c.level.result c.requires.space.tables is c.level.ensures c.in-Mirrored.is) };
       ready = is;
+      home = refl;
       free = λ sound. c.requires.free;
       units = units_refl c.args.book.now;
       stands = record { blocks = λ sound k. refl };

@@ -22,14 +22,14 @@ invariant_of-self g c =
     fields_then a b t t c.self.inside.block c.self.inside.block c.self.inside.scratch.geometry c.read_at.new.scratch.geometry c.self.invariant read.space read.accessed.follows
     (free_then a b t t c.self.invariant.kept.free read.accessed.follows (omega arith)) refl read.geometry
 
-pub returns-in-Some-clause-given : goal.returns-in-Some-clause-given
-returns-in-Some-clause-given g c = λ done sound.
+pub returns-in_default-health-clause-given : goal.returns-in_default-health-clause-given
+returns-in_default-health-clause-given g c = λ done sound.
     let read = c.read_at.ensures in
     given_stands c.args.self.now c.self.inside.disks c.read_at.new.disks c.self.inside.book c.args.key c.in-Some.slot c.read_at.new.into c.self.view_is
     c.self.invariant.kept.space (sym c.home.ensures ∙ c.in-Some.is) read.accessed.follows sound (given_done c.read_at.result _ done read.given)
 
-pub returns-in-Some-clause-stands : goal.returns-in-Some-clause-stands
-returns-in-Some-clause-stands g c =
+pub returns-in_default-health-clause-stands : goal.returns-in_default-health-clause-stands
+returns-in_default-health-clause-stands g c =
     let a = c.self.inside.disks in
     let b = c.read_at.new.disks in
     let t = c.self.inside.book in
@@ -37,14 +37,12 @@ returns-in-Some-clause-stands g c =
     subst (λ (s : StoreState). AllStand s (store_of b t)) c.self.view_is
     (all_stand a b t c.self.invariant.kept.space read.space read.accessed.follows read.slots)
 
-pub returns-in-None-clause-given : goal.returns-in-None-clause-given
-returns-in-None-clause-given g c = λ _ sound.
-    let s = c.args.self.now in
-    let none : home s.book c.args.key ≡ None = ap (λ (x : StoreState). home x.book c.args.key) (sym c.self.view_is) ∙ sym c.home.ensures ∙ c.in-None.is in
-    c.zero.ensures.zero ∙ ap zeros c.requires.whole ∙ sym (stands_nowhere s c.args.key none)
+pub returns-in_default-health-clause-broken : goal.returns-in_default-health-clause-broken
+returns-in_default-health-clause-broken g c = λ is.
+    absurd (c.in_default-health.not-Broken (c.health.ensures.same ∙ ap (λ (s : StoreState). s.disks.health) c.self.view_is ∙ is))
 
-pub returns-in-None-clause-zeros : goal.returns-in-None-clause-zeros
-returns-in-None-clause-zeros g c = λ is.
+pub returns-in_default-clause-given : goal.returns-in_default-clause-given
+returns-in_default-clause-given g c = λ _ sound.
     let s = c.args.self.now in
-    let none : home s.book c.args.key ≡ None = ap (λ (x : StoreState). home x.book c.args.key) (sym c.self.view_is) ∙ sym c.home.ensures ∙ c.in-None.is in
-    (refl, refl, c.zero.ensures.zero ∙ ap zeros c.requires.whole ∙ sym (stands_nowhere s c.args.key none))
+    let none : home s.book c.args.key ≡ None = ap (λ (x : StoreState). home x.book c.args.key) (sym c.self.view_is) ∙ sym c.home.ensures ∙ c.in_default.is in
+    c.zero.ensures.zero ∙ ap zeros c.requires.whole ∙ sym (stands_nowhere s c.args.key none)

@@ -2,7 +2,7 @@ use Rattle.std.proofs.Common.{◌≡◌, ◌≢◌, ◌<◌, ◌≤◌, sym, sub
 use Rattle.ar_disks.specs.Block.{zeros}
 use Rattle.ar_disks.specs.Geometry.{block_len_of}
 use Rattle.ar_extents.specs.declared.health.Health.TheVariants.{Broken}
-use Rattle.ar_book.specs.Tables.{home, HasBlock}
+use Rattle.ar_book.specs.Tables.{Tables, home, HasBlock}
 use Rattle.ar_store.specs.Store.{StoreState, store_of}
 use Rattle.ar_store.specs.Slots.{AllStand}
 use Rattle.ar_store.specs.Placing.{Puts, SameUnits}
@@ -52,6 +52,8 @@ returns g c =
           (placed_stand (store_of a t) (store_of d v) c.args.key c.zero.new.self none zero
           (put_others (store_of a t) (store_of b u) (store_of d v) c.args.key wrote.accessed.follows way.stands wrote.others)
           (λ sound. wrote.stands (wrote.outcome ∙ sound_done d.health sound)));
+      unmoved = λ broke.
+          ap (λ (x : Tables). home x c.args.key) (wrote.unwritten broke) ∙ way.home ∙ ap (λ (s : StoreState). home s.book c.args.key) view;
       units = subst (λ (s : StoreState). SameUnits s.book v) view (units_then t u v way.units wrote.units);
       accessed = subst (λ (s : StoreState). IsAccessed s.disks d) view (accessed_then a b d way.accessed wrote.accessed);
       broken = λ is. absurd (c.in_default.not-Broken (c.health.ensures.same ∙ ap (λ (s : StoreState). s.disks.health) view ∙ is));

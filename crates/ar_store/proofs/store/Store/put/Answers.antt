@@ -1,7 +1,7 @@
 use Rattle.std.proofs.Common.{◌≡◌, ◌≢◌, ◌<◌, ◌≤◌, refl, sym, ap, subst, ◌∙◌, arith}
 use Rattle.ar_extents.specs.declared.health.Health.TheVariants.{Broken}
 use Rattle.ar_disks.specs.Geometry.{block_len_of}
-use Rattle.ar_book.specs.Tables.{Tables, HasBlock, free_groups}
+use Rattle.ar_book.specs.Tables.{Tables, home, HasBlock, free_groups}
 use Rattle.ar_store.specs.Store.{StoreState, store_of}
 use Rattle.ar_store.specs.Slots.{stands, OthersStand}
 use Rattle.ar_store.specs.Placing.{Puts, SameUnits}
@@ -45,6 +45,8 @@ returns g c =
       tables = λ done. subst (λ (s : StoreState). Puts s.book c.args.key v) view
           (puts_way t u v c.args.key c.find_way-way.result way.leads (wrote.tables done)
           (λ broken. way_sound b u d c.args.key c.find_way-way.result way.ready wrote.accessed.follows (done_sound d.health (sym done ∙ wrote.outcome)) broken));
+      unmoved = λ broke.
+          ap (λ (x : Tables). home x c.args.key) (wrote.unwritten broke) ∙ way.home ∙ ap (λ (s : StoreState). home s.book c.args.key) view;
       units = subst (λ (s : StoreState). SameUnits s.book v) view (units_then t u v way.units wrote.units);
       accessed = subst (λ (s : StoreState). IsAccessed s.disks d) view (accessed_then a b d way.accessed wrote.accessed);
       broken = λ is. absurd (c.in_default.not-Broken (c.health.ensures.same ∙ ap (λ (s : StoreState). s.disks.health) view ∙ is));

@@ -1,0 +1,27 @@
+use Rattle.std.proofs.Common.{◌≡◌, refl, sym, ap, subst, ◌∙◌}
+use Rattle.ar_extents.specs.Set.{SetState}
+use Rattle.ar_extents.specs.Changes.{failed}
+use Rattle.ar_store.specs.Store.{StoreState, store_of}
+use Rattle.ar_store.specs.Slots.{AllStand}
+use Rattle.ar_store.specs.Kept.{FieldsAgree}
+use Rattle.ar_store.proofs.Outages.{fields_failed, all_failed, after_failing}
+use Rattle.ar_store.proofs.store.Store.fail.Goals as goal
+
+pub invariant_of-self : goal.invariant_of-self
+invariant_of-self g c =
+    let a = c.self.inside.disks in
+    let t = c.self.inside.book in
+    let call = c.fail.ensures in
+    after_failing c.fail.result (λ (s : SetState). FieldsAgree (store_of s t) c.self.inside.block c.self.inside.scratch.geometry)
+    a c.fail.new.self (failed a c.args.disk) call.failed call.unchanged
+    (fields_failed a t c.args.disk c.self.inside.block c.self.inside.scratch.geometry c.self.invariant)
+    c.self.invariant
+
+pub returns-clause-stands : goal.returns-clause-stands
+returns-clause-stands g c =
+    let a = c.self.inside.disks in
+    let t = c.self.inside.book in
+    let call = c.fail.ensures in
+    subst (λ (s : StoreState). AllStand s (store_of c.fail.new.self t)) c.self.view_is
+    (after_failing c.fail.result (λ (s : SetState). AllStand (store_of a t) (store_of s t)) a c.fail.new.self (failed a c.args.disk)
+    call.failed call.unchanged (all_failed a t c.args.disk c.self.invariant.kept.space) (record { blocks = λ sound k. refl }))
