@@ -1,6 +1,8 @@
-pub mod Commands
+pub mod Causes
+pub mod Commanding
+pub mod Events
+pub mod Images
 pub mod Isolation
-pub mod Makings
-pub mod Pairs
 pub mod Pieces
-pub mod Served
+pub mod Seeing
+pub mod Serving

@@ -1,5 +1,5 @@
 -- Runs of sectors, within a block and over blocks.
-use Rattle.std.proofs.Common.{◌≡◌, ◌≢◌, ◌⊎◌, false, ℕ, zero, suc, ◌+◌, ◌-◌, ◌*◌, ◌/◌, ◌%◌, ◌<◌, ◌≤◌, List, ◌++◌, take, drop, min, refl, sym, ap, ◌∙◌, inl, inr, lit<, mod-lt, arith}
+use Rattle.std.proofs.Common.{◌≡◌, ◌≢◌, ◌⊎◌, Bool, true, false, ℕ, zero, suc, ◌+◌, ◌-◌, ◌*◌, ◌/◌, ◌%◌, ◌<◌, ◌≤◌, List, ◌++◌, take, drop, min, refl, sym, ap, ◌∙◌, inl, inr, lit<, mod-lt, arith}
 use Rattle.std.specs.List.{concat}
 use Rattle.std.proofs.lemmas.Bool.{cases_eq, cases_lt}
 use Rattle.std.proofs.lemmas.Bool.Decides.{nat_tests}
@@ -12,7 +12,11 @@ use Rattle.ar_disks.specs.Block.{sectors_at}
 use Rattle.ar_disks.proofs.Sectors.{sectors_at_is, sectors_at-none, sectors_at-add, sectors_at-sectors_at}
 use Rattle.ar_disks.specs.declared.address.Addr.{Addr}
 use Rattle.ar_disks.specs.declared.address.Key.{Key}
-use Rattle.ar_core.specs.Sectors.{sector_in, sectors_in, key_of, same_key, same_address, address_of}
+use Rattle.ar_cache.specs.Backing.{stored}
+use Rattle.ar_cache.specs.declared.answers.Stored.TheVariants.{Done as Kept}
+use Rattle.ar_core.specs.declared.transfer.Transfer.{Transfer}
+use Rattle.ar_core.specs.declared.transfer.Transfer.TheVariants.{Done, Broken}
+use Rattle.ar_core.specs.Sectors.{sector_in, sectors_in, key_of}
 
 -- sector f of block r
 pub sector_in-place : (g : Geometry) (blocks : ℕ → List ℕ) (r f : ℕ) → f < sectors_of g → sector_in g blocks (r * sectors_of g + f) ≡ sectors_at (blocks r) f 1
@@ -68,6 +72,11 @@ sectors_in-more g blocks lba at part before out piece from within so_far is =
     ∙ ap (λ l. before ++ (done ++ l)) (is ∙ sym (sectors_in-piece g blocks at part within) ∙ ap (λ k. concat (sectors_in g blocks k part)) (sym here))
     ∙ ap (λ l. before ++ l) (sym (sectors_in-add g blocks lba (at - lba) part))
     ∙ ap (λ k. before ++ concat (sectors_in g blocks lba k)) count
+
+-- a part of what is left of a range has some sector
+pub part-some : (g : Geometry) (at left part : ℕ) → part ≡ min (sectors_of g - at % sectors_of g) left → 0 < left → 0 < part
+part-some Paper at left part is some = omega arith
+part-some Small at left part is some = omega arith
 
 -- a part that stops at its block's end
 pub part-within : (g : Geometry) (at left part : ℕ) → part ≡ min (sectors_of g - at % sectors_of g) left → at % sectors_of g + part ≤ sectors_of g
@@ -154,9 +163,17 @@ cut_part bytes first part =
     ap (λ k. take k (drop (first * 512) bytes)) len ∙ ap (λ k. take (512 * part) (drop k bytes)) at ∙ sym (sectors_at_is bytes first part)
 
 -- two blocks of one unit
-pub other_block : (addr : Addr) (q r : ℕ) → q ≢ r → same_key (key_of addr q) (key_of addr r) ≡ false
-other_block addr q r other = grind (arith, nat_tests)
+pub other_block : (addr : Addr) (q r : ℕ) → q ≢ r → key_of addr q ≢ key_of addr r
+other_block addr q r other = λ same. other (ap (λ (k : Key). k.rb) same)
 
 -- blocks of two units
-pub other_unit : (k key : Key) → same_address (address_of k.addr) (address_of key.addr) ≡ false → same_key k key ≡ false
-other_unit k key other = rw other refl
+pub other_unit : (k key : Key) → k.addr ≢ key.addr → k ≢ key
+other_unit k key other = λ same. other (ap (λ (k : Key). k.addr) same)
+
+-- a call that is done has not broken what it was made on
+pub stored_done : (broken : Bool) → stored broken ≡ Kept → broken ≡ false
+stored_done false done = refl
+stored_done true done = let told = done in absurd (cc)
+
+pub done_not_broken : {transfer : Transfer} → transfer ≡ Done → transfer ≢ Broken
+done_not_broken done broken = let told = sym done ∙ broken in cc

@@ -1,67 +1,91 @@
 -- What an array holds, and the units that stand on it.
-use Rattle.std.specs.Prelude.{ℕ, ◌+◌, ◌-◌, ◌/◌, ◌%◌, ◌&&◌, Bool, false, if◌then◌else◌, Option, Some, None, List, slice_index_or}
+use Rattle.std.specs.Prelude.{◌≡◌, ◌⊎◌, ℕ, ◌<◌, ◌≤◌, Bool, false, nat_lt, if◌then◌else◌, List, [], length}
+use Rattle.std.proofs.Common.{inl, inr}
+use Rattle.std.proofs.lemmas.Bool.{cases_lt}
 use Rattle.ar_disks.specs.declared.address.Addr.{Addr}
 use Rattle.ar_disks.specs.declared.address.Key.{Key}
 use Rattle.ar_disks.specs.declared.geometry.Geometry.{Geometry}
-use Rattle.ar_disks.specs.Geometry.{sectors_of, rows_of, block_len_of}
-use Rattle.ar_disks.specs.Block.{zeros}
-use Rattle.ar_disks.specs.Disk.{DiskState, block_at}
+use Rattle.ar_extents.specs.Changes.{is_broken as is_broken_set}
+use Rattle.ar_book.specs.Tables.{Tables, has_unit, unit_in}
+use Rattle.ar_store.specs.Store.{StoreState}
+use Rattle.ar_store.specs.Slots.{stands}
+use Rattle.ar_cache.specs.Cache.{CacheState, KnowsAll, seen, with_entries}
+use Rattle.ar_unit.specs.Sectors.{zero_sector}
 use Rattle.ar_unit.specs.Unit.{UnitState, Absent, Present}
-use Rattle.ar_core.specs.Table.{Table, is_key_of}
-use Rattle.ar_core.specs.Sectors.{Address, address_of, same_address, sectors_in, blocks_of}
+use Rattle.ar_core.specs.Sectors.{Address, sector_in, sectors_in, blocks_of}
 
--- the disks, whether their data are lost, and the unit that they hold
+-- the store, and the cache before it
 pub record ArrayState : Type 0 where
-  pub geometry : Geometry
-  pub extents : ℕ
-  pub first : DiskState
-  pub second : DiskState
-  pub rest : List DiskState
-  pub broken : Bool
-  pub unit : Option Table
+  pub store : StoreState
+  pub cache : CacheState
 
--- how many blocks so many sectors take
-abbrev pub blocks_for : Geometry → ℕ → ℕ
-blocks_for g sectors = (sectors + (sectors_of g - 1)) / sectors_of g
+-- the array has lost its data, for good
+abbrev pub is_broken : ArrayState → Bool
+is_broken s = is_broken_set s.store.disks.health
 
--- block i stands at extent i / E, row i mod E, E being the rows of an extent
-abbrev pub block_on : Geometry → DiskState → ℕ → List ℕ
-block_on g disk i = block_at disk (i / rows_of g) (i % rows_of g)
+-- the geometry of its blocks
+abbrev pub geometry_of : ArrayState → Geometry
+geometry_of s = s.store.disks.geometry
 
--- the block of a key: what the first disk holds where it was ever written, else zeros
-abbrev pub block_in : Geometry → DiskState → Option Table → Key → List ℕ
-block_in g disk None key = zeros (block_len_of g)
-block_in g disk (Some unit) key =
-    if is_key_of unit key && slice_index_or unit.written key.rb false
-    then block_on g disk key.rb
-    else zeros (block_len_of g)
+-- the array with these tables
+abbrev pub with_book : ArrayState → Tables → ArrayState
+with_book s t = record s { store = record s.store { book = t } }
 
-unfoldable pub block_of : ArrayState → Key → List ℕ
-block_of s key = block_in s.geometry s.first s.unit key
+-- the block that is seen under a key: the cached one, else the one that stands on the disks
+unfoldable pub seen_at : ArrayState → Key → List ℕ
+seen_at s key = seen s.cache (stands s.store) key
 
--- the unit has this block
-abbrev pub has_key : Option Table → Key → Bool
-has_key None key = false
-has_key (Some unit) key = is_key_of unit key
+-- the key is of a unit's block
+abbrev pub knows_in : StoreState → Key → Bool
+knows_in s key = nat_lt key.rb (length (unit_in s.book.units key.addr).homes)
 
--- the unit has this address
-abbrev pub is_at : Option Table → Addr → Bool
-is_at None addr = false
-is_at (Some unit) addr = same_address (address_of unit.addr) (address_of addr)
+-- how many sectors the unit at an address has
+abbrev pub length_at : Tables → Addr → ℕ
+length_at t addr = (unit_in t.units addr).sectors
 
--- the unit's own address and its length, where it has this address
-abbrev pub found_in : Option Table → Addr → Option (Addr × ℕ)
-found_in None addr = None
-found_in (Some unit) addr = if same_address (address_of unit.addr) (address_of addr) then Some (unit.addr, unit.sectors) else None
+-- whether it has to tell that it has grown
+abbrev pub mark_at : Tables → Addr → Bool
+mark_at t addr = (unit_in t.units addr).attention
 
--- the sectors of a unit of this length
-abbrev pub unit_sectors : ArrayState → Addr → ℕ → List (List ℕ)
-unit_sectors s addr sectors = sectors_in s.geometry (blocks_of (block_of s) addr) 0 sectors
+-- its sectors, where its blocks are these
+abbrev pub sectors_by : StoreState → (Key → List ℕ) → Addr → List (List ℕ)
+sectors_by s block_at addr = sectors_in s.disks.geometry (blocks_of block_at addr) 0 (length_at s.book addr)
 
-abbrev pub image_of : ArrayState → Option Table → Address → UnitState
-image_of s None a = Absent
-image_of s (Some unit) a = if same_address (address_of unit.addr) a then Present (unit_sectors s unit.addr unit.sectors) false else Absent
+-- the unit that the tables say is there, where its blocks are these
+abbrev pub unit_by : StoreState → (Key → List ℕ) → Addr → UnitState
+unit_by s block_at addr = if has_unit s.book addr then Present (sectors_by s block_at addr) (mark_at s.book addr) else Absent
 
--- the unit at an address, as its host sees it: absent, or its sectors
-unfoldable pub image : ArrayState → Address → UnitState
-image s a = image_of s s.unit a
+-- the sectors of a unit as its host sees them
+abbrev pub unit_sectors : ArrayState → Addr → List (List ℕ)
+unit_sectors s addr = sectors_by s.store (seen_at s) addr
+
+-- the unit at a host's LUN as that host sees it: absent, or its sectors and its mark
+abbrev pub image_at : ArrayState → Addr → UnitState
+image_at s addr = unit_by s.store (seen_at s) addr
+
+-- the same from the disks alone
+abbrev pub image_on_disks : StoreState → Addr → UnitState
+image_on_disks s addr = unit_by s (stands s) addr
+
+-- a pair of numbers that is no host's address has no unit
+abbrev pub at_numbers : (Addr → UnitState) → (number lun : ℕ) → (number < 4) ⊎ (4 ≤ number) → UnitState
+at_numbers units number lun (inl is) = units (record { host = record { number = number; in_range = is }; lun = lun })
+at_numbers units number lun (inr not) = Absent
+
+unfoldable pub at_address : (Addr → UnitState) → Address → UnitState
+at_address units a = at_numbers units a.0 a.1 (cases_lt a.0 4)
+
+-- the unit at an address, as its host sees it
+abbrev pub image : ArrayState → Address → UnitState
+image s a = at_address (image_at s) a
+
+-- the cache has blocks of the store's shape, of units alone
+pub record IsJoined (s : ArrayState) : Type 0 where
+  pub geometry : s.cache.geometry ≡ geometry_of s
+  pub known : KnowsAll (knows_in s.store) s.cache
+
+-- What every array keeps: past the end of each unit, and everywhere where there is none, sectors are zeros. So a unit that
+-- is made or grows shows none of what stood there before. Of a broken array nothing is said.
+pub record IsPadded (s : ArrayState) : Type 0 where
+  pub zeros : is_broken s ≡ false → (addr : Addr) (i : ℕ) → length_at s.store.book addr ≤ i
+      → sector_in (geometry_of s) (blocks_of (seen_at s) addr) i ≡ zero_sector

@@ -1,8 +1,20 @@
 pub mod Array
-pub mod Pair
+pub mod Causes
+pub mod Laws
 pub mod Run
 pub mod Sectors
 pub mod Served
 pub mod Start
 pub mod Step
-pub mod Table
+pub mod Views
+-- the words of lower crates that clauses of this crate cite
+pub use Rattle.ar_store.specs.Store
+pub use Rattle.ar_store.specs.Slots
+pub use Rattle.ar_store.specs.Placing
+pub use Rattle.ar_store.specs.Kept
+pub use Rattle.ar_cache.specs.Cache
+pub use Rattle.ar_book.specs.Tables
+pub use Rattle.ar_book.specs.Changes
+pub use Rattle.ar_extents.specs.Set
+pub use Rattle.ar_extents.specs.Follows
+pub use Rattle.ar_unit.specs.Unit

@@ -17,10 +17,6 @@ address_of addr = (addr.host.number, addr.lun)
 abbrev pub same_address : Address → Address → Bool
 same_address a b = (a.0 == b.0) && (a.1 == b.1)
 
--- the keys name one block
-abbrev pub same_key : Key → Key → Bool
-same_key k key = same_address (address_of k.addr) (address_of key.addr) && (k.rb == key.rb)
-
 -- the key of a unit's block
 abbrev pub key_of : Addr → ℕ → Key
 key_of addr rb = record { addr = addr; rb = rb }

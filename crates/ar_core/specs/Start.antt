@@ -1,15 +1,14 @@
 -- How an array begins.
-use Rattle.std.specs.Prelude.{◌≡◌, false, None, List, drop}
+use Rattle.std.specs.Prelude.{◌≡◌, ℕ, List, []}
 use Rattle.ar_disks.specs.Disk.{DiskState}
-use Rattle.ar_extents.specs.Set.{disk_in}
-use Rattle.ar_core.specs.Array.{ArrayState}
+use Rattle.ar_extents.specs.declared.health.Health.TheVariants.{Whole}
+use Rattle.ar_store.specs.Forming as store
+use Rattle.ar_core.specs.Array.{ArrayState, geometry_of}
 
--- the array has these disks, in their order, no unit, and its data are not lost
-pub record IsStarted (disks : List DiskState) (s : ArrayState) : Type 0 where
-  pub geometry : s.geometry ≡ (disk_in disks 0).geometry
-  pub extents : s.extents ≡ (disk_in disks 0).extents
-  pub first : s.first ≡ disk_in disks 0
-  pub second : s.second ≡ disk_in disks 1
-  pub rest : s.rest ≡ drop 2 disks
-  pub sound : s.broken ≡ false
-  pub no_unit : s.unit ≡ None
+-- the array has these disks, whole, in groups that are all free, no unit, and an empty cache of so many blocks
+pub record IsStarted (disks : List DiskState) (capacity : ℕ) (s : ArrayState) : Type 0 where
+  pub formed : store.IsStarted disks s.store
+  pub disks_same : s.store.disks.disks ≡ disks
+  pub whole : s.store.disks.health ≡ Whole
+  pub no_unit : s.store.book.units ≡ []
+  pub cache : s.cache ≡ record { geometry = geometry_of s; capacity = capacity; entries = [] }

@@ -1,16 +1,20 @@
-//! The array: units of four hosts, each a plain list of sectors to its own host. It holds one unit at a time today.
+//! The array: units of four hosts, each a plain list of sectors to its own host, whatever happens to all others.
 #![tactic(auto)]
 
 mod array;
+mod behind;
 mod blocks;
+mod commands;
 mod event;
-mod pair;
 mod reply;
 #[cfg(test)]
 mod tests;
 mod transfer;
-mod unit;
+mod views;
 
-pub use ar_extents::StartFault;
+pub use ar_book::{Class, Refusal as UnitRefusal, Slot};
+pub use ar_cache::{CAPACITY_LIMIT, Flush, Stored};
+pub use ar_extents::{DiskRefusal, Health, StartFault};
 pub use array::Array;
 pub use event::{Event, Outcome, Refusal};
+pub use views::{GroupUse, HomeOf, LevelOf, Shown};

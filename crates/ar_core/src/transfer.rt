@@ -4,9 +4,11 @@ ghost use Rattle.std.specs.List.{concat};
 ghost use Rattle.ar_disks.specs.declared.address.Key.{Key};
 ghost use Rattle.ar_disks.specs.Geometry.{sectors_of, block_len_of};
 ghost use Rattle.ar_disks.specs.Block.{sectors_at};
-ghost use Rattle.ar_core.specs.Sectors.{sector_in, sectors_in, key_of, blocks_of, same_key, same_address, address_of};
+ghost use Rattle.ar_cache.specs.Backing.{stored, Keeps, SameBlocks};
+ghost use Rattle.ar_core.specs.Sectors.{sector_in, sectors_in, key_of, blocks_of};
 
-use crate::blocks::{Blocks, Stored};
+use crate::Stored;
+use ar_cache::Backing;
 use ar_disks::{Addr, Block, Geometry, Key, SECTOR_LEN};
 
 /// How a READ ended.
@@ -18,7 +20,7 @@ pub enum Transfer {
 }
 
 // Appends sectors of one block to `out`.
-fn read_part<B: Blocks>(
+fn read_part<B: Backing>(
     blocks: &mut B,
     key: Key,
     first: usize,
@@ -31,11 +33,10 @@ fn read_part<B: Blocks>(
     requires within { first + count ≤ sectors_of (B.geometry blocks.old) }
     ensures done { result ≡ Transfer.Done → out.new.items ≡ out.old.items ++ sectors_at (B.block_at blocks.old key) first count }
     ensures broken { result ≡ Transfer.Broken → IsTrue (B.is_broken blocks.new) }
-    ensures sound { result ≢ Transfer.Broken → B.is_broken blocks.new ≡ B.is_broken blocks.old }
-    ensures blocks { (k : Key) → B.block_at blocks.new k ≡ B.block_at blocks.old k }
-    ensures known { (k : Key) → B.knows blocks.new k ≡ B.knows blocks.old k }
-    ensures geometry { B.geometry blocks.new ≡ B.geometry blocks.old }
-    ensures follows { B.follows blocks.old blocks.new }
+    ensures sound { result ≢ Transfer.Broken → B.is_broken blocks.new ≡ false }
+    ensures blocks { result ≢ Transfer.Broken → SameBlocks (B.block_at blocks.old) (B.block_at blocks.new) }
+    ensures keeps { Keeps B.geometry B.knows B.is_broken B.follows blocks.old blocks.new }
+    ensures reads { B.reads blocks.old blocks.new }
     ensures len { length block.new ≡ length block.old }
 {
     match blocks.get(key, block) {
@@ -48,7 +49,7 @@ fn read_part<B: Blocks>(
 }
 
 /// Appends `count` sectors of a unit from number `lba` on to `out`, which has room for them. NoMemory says that it hadn't.
-pub fn read_sectors<B: Blocks>(
+pub fn read_sectors<B: Backing>(
     blocks: &mut B,
     geometry: Geometry,
     addr: Addr,
@@ -57,6 +58,7 @@ pub fn read_sectors<B: Blocks>(
     block: &mut Block,
     out: &mut Vec<u8>,
 ) -> Transfer
+    requires sound { B.is_broken blocks.old ≡ false }
     requires shape { geometry ≡ B.geometry blocks.old }
     requires whole { length block.old ≡ block_len_of geometry }
     requires known { (rb : ℕ) → rb * sectors_of geometry < lba + count → IsTrue (B.knows blocks.old (key_of addr rb)) }
@@ -64,11 +66,10 @@ pub fn read_sectors<B: Blocks>(
     ensures done { result ≡ Transfer.Done → out.new.items ≡ out.old.items
         ++ concat (sectors_in geometry (blocks_of (B.block_at blocks.old) addr) lba count) }
     ensures broken { result ≡ Transfer.Broken → IsTrue (B.is_broken blocks.new) }
-    ensures sound { result ≢ Transfer.Broken → B.is_broken blocks.new ≡ B.is_broken blocks.old }
-    ensures blocks { (k : Key) → B.block_at blocks.new k ≡ B.block_at blocks.old k }
-    ensures known { (k : Key) → B.knows blocks.new k ≡ B.knows blocks.old k }
-    ensures geometry { B.geometry blocks.new ≡ B.geometry blocks.old }
-    ensures follows { B.follows blocks.old blocks.new }
+    ensures sound { result ≢ Transfer.Broken → B.is_broken blocks.new ≡ false }
+    ensures blocks { result ≢ Transfer.Broken → SameBlocks (B.block_at blocks.old) (B.block_at blocks.new) }
+    ensures keeps { Keeps B.geometry B.knows B.is_broken B.follows blocks.old blocks.new }
+    ensures reads { B.reads blocks.old blocks.new }
     ensures len { length block.new ≡ length block.old }
 {
     let sectors = geometry.sectors();
@@ -90,7 +91,7 @@ pub fn read_sectors<B: Blocks>(
 }
 
 // Puts sectors of one block. A block that is covered in part is read first.
-fn write_part<B: Blocks>(
+fn write_part<B: Backing>(
     blocks: &mut B,
     geometry: Geometry,
     key: Key,
@@ -108,12 +109,9 @@ fn write_part<B: Blocks>(
         → sectors_at (B.block_at blocks.new key) i 1 ≡ sectors_at bytes.now (i - first) 1 }
     ensures outside { result ≡ Stored.Done → (i : ℕ) → (i < first) ⊎ (first + count ≤ i) → i < sectors_of geometry
         → sectors_at (B.block_at blocks.new key) i 1 ≡ sectors_at (B.block_at blocks.old key) i 1 }
-    ensures others { result ≡ Stored.Done → (k : Key) → same_key k key ≡ false → B.block_at blocks.new k ≡ B.block_at blocks.old k }
-    ensures sound { result ≡ Stored.Done → B.is_broken blocks.new ≡ B.is_broken blocks.old }
-    ensures broken { result ≡ Stored.Broken → IsTrue (B.is_broken blocks.new) }
-    ensures known { (k : Key) → B.knows blocks.new k ≡ B.knows blocks.old k }
-    ensures geometry { B.geometry blocks.new ≡ B.geometry blocks.old }
-    ensures follows { B.follows blocks.old blocks.new }
+    ensures others { result ≡ Stored.Done → (k : Key) → k ≢ key → B.block_at blocks.new k ≡ B.block_at blocks.old k }
+    ensures answer { result ≡ stored (B.is_broken blocks.new) }
+    ensures keeps { Keeps B.geometry B.knows B.is_broken B.follows blocks.old blocks.new }
     ensures len { length block.new ≡ length block.old }
 {
     if bytes.len() == geometry.block_len() {
@@ -128,7 +126,7 @@ fn write_part<B: Blocks>(
 }
 
 /// Puts the bytes of `count` sectors in place of those of a unit from number `lba` on, block by block in ascending order.
-pub fn write_sectors<B: Blocks>(
+pub fn write_sectors<B: Backing>(
     blocks: &mut B,
     geometry: Geometry,
     addr: Addr,
@@ -137,6 +135,7 @@ pub fn write_sectors<B: Blocks>(
     bytes: &[u8],
     block: &mut Block,
 ) -> Stored
+    requires sound { B.is_broken blocks.old ≡ false }
     requires shape { geometry ≡ B.geometry blocks.old }
     requires whole { length block.old ≡ block_len_of geometry }
     requires known { (rb : ℕ) → rb * sectors_of geometry < lba + count → IsTrue (B.knows blocks.old (key_of addr rb)) }
@@ -146,12 +145,10 @@ pub fn write_sectors<B: Blocks>(
         → sector_in geometry (blocks_of (B.block_at blocks.new) addr) i ≡ sectors_at bytes.now (i - lba) 1 }
     ensures outside { result ≡ Stored.Done → (i : ℕ) → (i < lba) ⊎ (lba + count ≤ i)
         → sector_in geometry (blocks_of (B.block_at blocks.new) addr) i ≡ sector_in geometry (blocks_of (B.block_at blocks.old) addr) i }
-    ensures other_units { result ≡ Stored.Done → (k : Key) → same_address (address_of k.addr) (address_of addr) ≡ false → B.block_at blocks.new k ≡ B.block_at blocks.old k }
-    ensures sound { result ≡ Stored.Done → B.is_broken blocks.new ≡ B.is_broken blocks.old }
-    ensures broken { result ≡ Stored.Broken → IsTrue (B.is_broken blocks.new) }
-    ensures known { (k : Key) → B.knows blocks.new k ≡ B.knows blocks.old k }
-    ensures geometry { B.geometry blocks.new ≡ B.geometry blocks.old }
-    ensures follows { B.follows blocks.old blocks.new }
+    ensures others { result ≡ Stored.Done → (k : Key) → k.addr ≢ addr → B.block_at blocks.new k ≡ B.block_at blocks.old k }
+    ensures nothing { count ≡ 0 → blocks.new ≡ blocks.old }
+    ensures answer { result ≡ stored (B.is_broken blocks.new) }
+    ensures keeps { Keeps B.geometry B.knows B.is_broken B.follows blocks.old blocks.new }
     ensures len { length block.new ≡ length block.old }
 {
     let sectors = geometry.sectors();

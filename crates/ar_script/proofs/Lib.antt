@@ -1,3 +1,5 @@
+pub mod AnswerLemmas
 pub mod BlockLemmas
 pub mod LineLemmas
+pub mod StartLemmas
 pub mod WordLemmas

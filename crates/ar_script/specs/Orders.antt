@@ -1,20 +1,64 @@
--- What an array is asked for, and how its answer is printed.
-use Rattle.std.specs.Prelude.{replicate}
+-- What an array is asked for, how its answer is printed, and what answering leaves of it.
+use Rattle.std.specs.Prelude.{◌≡◌, false, Result, Err, replicate}
+use Rattle.ar_disks.specs.declared.address.Addr.{Addr}
 use Rattle.ar_core.specs.declared.event.Event.{Event}
-use Rattle.ar_core.specs.declared.event.Event.TheVariants.{Make, Remove, Cmd}
+use Rattle.ar_core.specs.declared.event.Event.TheVariants.{Make, Grow, Remove, Cmd, Flush, DiskOut}
+use Rattle.ar_core.specs.declared.event.Outcome.{Outcome}
+use Rattle.ar_core.specs.Array.{ArrayState, is_broken, image_at}
+use Rattle.ar_core.specs.Causes.{Follows}
+use Rattle.ar_core.specs.Served.{SamePlaces}
+use Rattle.ar_core.specs.Step.{Steps}
+use Rattle.ar_script.specs.declared.fault.FaultKind.{FaultKind}
+use Rattle.ar_script.specs.declared.fault.FaultKind.TheVariants.{NoMemory}
+use Rattle.ar_script.specs.declared.order.Action.{Action}
+use Rattle.ar_script.specs.declared.order.Action.TheVariants as actions
+use Rattle.ar_script.specs.declared.order.Notation.{Notation}
+use Rattle.ar_script.specs.declared.order.Notation.TheVariants.{Bytes}
 use Rattle.ar_script.specs.declared.order.Order.{Order}
-use Rattle.ar_script.specs.declared.order.Order.TheVariants.{Make as MakeOrder, Remove as RemoveOrder, Command as CommandOrder}
-use Rattle.ar_script.specs.declared.order.Shown.{Shown}
-use Rattle.ar_script.specs.declared.order.Shown.TheVariants.{Bytes}
+use Rattle.ar_script.specs.declared.order.Order.TheVariants.{Act, Ask}
+use Rattle.ar_script.specs.declared.order.Question.{Question}
+use Rattle.ar_script.specs.declared.order.Question.TheVariants.{Levels, Home, Groups, Room, Health, Block}
 
--- the event that an order is: data are copies of one byte
-abbrev pub event_in : Order → Event
-event_in (MakeOrder addr sectors) = Make addr sectors
-event_in (RemoveOrder addr) = Remove addr
-event_in (CommandOrder addr cdb d shown) = Cmd addr.host addr.lun cdb (replicate d.len d.byte)
+-- the event that an action is: data are copies of one byte
+abbrev pub event_in : Action → Event
+event_in (actions.Make addr sectors) = Make addr sectors
+event_in (actions.Grow addr sectors) = Grow addr sectors
+event_in (actions.Remove addr) = Remove addr
+event_in (actions.Command addr cdb d notation) = Cmd addr.host addr.lun cdb (replicate d.len d.byte)
+event_in actions.Flush = Flush
+event_in (actions.DiskOut disk) = DiskOut disk
 
 -- how the bytes of the answer are printed
-abbrev pub shown_in : Order → Shown
-shown_in (MakeOrder addr sectors) = Bytes
-shown_in (RemoveOrder addr) = Bytes
-shown_in (CommandOrder addr cdb d shown) = shown
+abbrev pub notation_in : Action → Notation
+notation_in (actions.Make addr sectors) = Bytes
+notation_in (actions.Grow addr sectors) = Bytes
+notation_in (actions.Remove addr) = Bytes
+notation_in (actions.Command addr cdb d notation) = notation
+notation_in actions.Flush = Bytes
+notation_in (actions.DiskOut disk) = Bytes
+
+-- Reading a row leaves the tables, the cache and each unit as they were. It may meet a fault of the row's disk.
+pub record ReadsRow (old new : ArrayState) : Type 0 where
+  pub places : SamePlaces old new
+  pub follows : Follows old new
+  pub images : is_broken new ≡ false → (addr : Addr) → image_at new addr ≡ image_at old addr
+
+-- what being asked leaves of an array: itself, where no disk is read for it
+abbrev pub Looks : Question → ArrayState → ArrayState → Type 0
+Looks (Levels addr) old new = new ≡ old
+Looks (Home addr rb) old new = new ≡ old
+Looks Groups old new = new ≡ old
+Looks Room old new = new ≡ old
+Looks Health old new = new ≡ old
+Looks (Block disk extent row) old new = ReadsRow old new
+
+-- the array has met one event, the one that the action is
+pub record Acts (action : Action) (old new : ArrayState) : Type 0 where
+  pub outcome : Outcome
+  pub steps : Steps old (event_in action) outcome new
+
+-- What an order leaves of an array, whether the answer was written or not. An action for which memory was refused isn't done.
+abbrev pub Leaves : Order → ArrayState → Result (Unit {0}) FaultKind → ArrayState → Type 0
+Leaves (Ask question) old result new = Looks question old new
+Leaves (Act action) old (Err NoMemory) new = new ≡ old
+Leaves (Act action) old result new = Acts action old new

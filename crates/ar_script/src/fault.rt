@@ -33,7 +33,7 @@ pub enum FaultKind {
 /// Why a script ended before its last line.
 #[derive(Clone, Copy, Debug, PartialEq, Eq, Error)]
 pub enum Fault {
-    /// The array could not be started, or there was no memory for its disks. No line was read.
+    /// The array could not be started, or there was no memory for its disks or for a row of them. No line was read.
     #[error("start fault")]
     Start,
     /// What went wrong at a line, by its number from 1.

@@ -1,15 +1,18 @@
 // Scripts and what they are answered with.
-use crate::order::{Data, Order, Shown, order_in};
-use crate::text::write_outcome;
+use crate::order::{Action, Data, Notation, Order, Question};
+use crate::parse::order_in;
+use crate::text::{write_health, write_outcome};
 use crate::{Fault, FaultKind, Setup, run_script};
-use ar_core::{Outcome, Refusal};
+use ar_core::{Health, Outcome, Refusal, UnitRefusal};
 use ar_disks::{Addr, Geometry, Host};
-use ar_scsi::{Reply, Sense};
+use ar_scsi::Reply;
 use std::alloc::Global;
-use std::io;
 use std::io::{Read, Write};
 use std::process::Abort;
 use std::test::Fail;
+use std::{io, str};
+
+mod views;
 
 const SMALL: Setup = Setup {
     geometry: Geometry::SMALL,
@@ -19,14 +22,27 @@ const SMALL: Setup = Setup {
 };
 
 // What a script is answered with, and how it ends.
-fn answers(alloc: Global, script: &[u8]) -> Result<(Vec<u8>, Result<(), Fault>), Fail> {
+fn answers(
+    alloc: Global,
+    setup: Setup,
+    script: &[u8],
+) -> Result<(Vec<u8>, Result<(), Fault>), Fail> {
     let mut out = Vec::new(alloc);
-    let done = run_script(alloc, script, &mut out, SMALL);
+    let done = run_script(alloc, script, &mut out, setup);
     Ok((out, done))
 }
 
 // Runs a script of these lines, each with the line that answers it or nothing where none does.
 fn assert_rows<R: Abort + AllocGlobal>(rt: &R, rows: &[(&str, &str)]) -> Result<(), Fail> {
+    assert_rows_on(rt, SMALL, rows)
+}
+
+// The same on another array. An answer may have several lines.
+fn assert_rows_on<R: Abort + AllocGlobal>(
+    rt: &R,
+    setup: Setup,
+    rows: &[(&str, &str)],
+) -> Result<(), Fail> {
     let mut script = Vec::new(rt.alloc());
     let mut wanted = Vec::new(rt.alloc());
     for (line, answer) in rows {
@@ -35,9 +51,9 @@ fn assert_rows<R: Abort + AllocGlobal>(rt: &R, rows: &[(&str, &str)]) -> Result<
             writeln!(wanted, "{answer}")?;
         }
     }
-    let (out, done) = answers(rt.alloc(), script.as_slice())?;
+    let (out, done) = answers(rt.alloc(), setup, script.as_slice())?;
     assert_eq!(rt; done, Ok(()));
-    assert_eq!(rt; out.as_slice(), wanted.as_slice());
+    assert_eq!(rt; str::from_utf8(&out)?, str::from_utf8(&wanted)?);
     Ok(())
 }
 
@@ -140,39 +156,74 @@ fn refusals_and_forced_writes(rt: HostRuntime) -> Result<(), Fail> {
     )
 }
 
-// FORCE UNIT ACCESS changes no answer while there is no cache, so that only the block shows it.
+// The last host, and its last address.
+fn last_address() -> Result<Addr, Fail> {
+    match Host::new(3) {
+        Some(host) => Ok(Addr { host, lun: 255 }),
+        None => Err(Fail::new("a host has this number")),
+    }
+}
+
+// Without a cache FORCE UNIT ACCESS changes no answer, so that only the command block shows it.
 #[test]
 fn blocks_of_forced_writes(rt: HostRuntime) -> Result<(), Fail> {
-    let Some(host) = Host::new(3) else {
-        return Err(Fail::new("a host has this number"));
-    };
+    let addr = last_address()?;
     for (line, cdb) in [
         (
-            "write 3 7 258 2 a1 fua",
+            "write 3 255 258 2 a1 fua",
             [0x2A, 8, 0, 0, 1, 2, 0, 0, 2, 0, 0, 0, 0, 0, 0, 0],
         ),
         (
-            "write 3 7 258 2 a1",
+            "write 3 255 258 2 a1",
             [0x2A, 0, 0, 0, 1, 2, 0, 0, 2, 0, 0, 0, 0, 0, 0, 0],
         ),
         (
-            "write16 3 7 4294967298 2 a1 fua",
+            "write16 3 255 4294967298 2 a1 fua",
             [0x8A, 8, 0, 0, 0, 1, 0, 0, 0, 2, 0, 0, 0, 2, 0, 0],
         ),
         (
-            "write16 3 7 4294967298 2 a1",
+            "write16 3 255 4294967298 2 a1",
             [0x8A, 0, 0, 0, 0, 1, 0, 0, 0, 2, 0, 0, 0, 2, 0, 0],
         ),
     ] {
-        let order = Order::Command {
-            addr: Addr { host, lun: 7 },
+        let order = Order::Act(Action::Command {
+            addr,
             cdb,
             data: Data {
                 len: 1_024,
                 byte: 0xA1,
             },
-            shown: Shown::Runs,
-        };
+            notation: Notation::Runs,
+        });
+        assert_eq!(rt; order_in(rt.alloc(), line), Ok(Some(order)), "{line}");
+    }
+    Ok(())
+}
+
+// Each argument in its place, and no other event or question.
+#[test]
+fn orders_without_a_command(rt: HostRuntime) -> Result<(), Fail> {
+    let addr = last_address()?;
+    for (line, order) in [
+        ("make 3 255 7", Order::Act(Action::Make(addr, 7))),
+        ("grow 3 255 7", Order::Act(Action::Grow(addr, 7))),
+        ("drop 3 255", Order::Act(Action::Remove(addr))),
+        ("flush", Order::Act(Action::Flush)),
+        ("out 255", Order::Act(Action::DiskOut(255))),
+        ("levels 3 255", Order::Ask(Question::Levels(addr))),
+        ("home 3 255 7", Order::Ask(Question::Home(addr, 7))),
+        ("groups", Order::Ask(Question::Groups)),
+        ("room", Order::Ask(Question::Room)),
+        ("health", Order::Ask(Question::Health)),
+        (
+            "block 11 1023 15",
+            Order::Ask(Question::Block {
+                disk: 11,
+                extent: 1_023,
+                row: 15,
+            }),
+        ),
+    ] {
         assert_eq!(rt; order_in(rt.alloc(), line), Ok(Some(order)), "{line}");
     }
     Ok(())
@@ -180,23 +231,24 @@ fn blocks_of_forced_writes(rt: HostRuntime) -> Result<(), Fail> {
 
 fn text_of(alloc: Global, outcome: &Outcome) -> Result<Vec<u8>, Fail> {
     let mut text = Vec::new(alloc);
-    write_outcome(&mut text, outcome, Shown::Runs)?;
+    write_outcome(&mut text, outcome, Notation::Runs)?;
     Ok(text)
 }
 
-// A script over disks in memory meets none of these.
+// A script meets none of these while there is memory, and no disk is replaced.
 #[test]
 fn texts_of_rare_answers(rt: HostRuntime) -> Result<(), Fail> {
     let alloc = rt.alloc();
     let busy = text_of(alloc, &Outcome::Cmd(Reply::busy()))?;
     assert_eq!(rt; busy.as_slice(), b"busy\n".as_slice());
-    let lost = Reply::check(Sense::INTERNAL_TARGET_FAILURE);
-    let lost = text_of(alloc, &Outcome::Cmd(lost))?;
-    assert_eq!(rt; lost.as_slice(), b"check 04/44/00\n".as_slice());
-    let refused = text_of(alloc, &Outcome::Make(Err(Refusal::NoMemory)))?;
-    assert_eq!(rt; refused.as_slice(), b"refused M4 NoMemory\n".as_slice());
-    let broken = text_of(alloc, &Outcome::Remove(Err(Refusal::Broken)))?;
-    assert_eq!(rt; broken.as_slice(), b"refused M6 Broken\n".as_slice());
+    let no_memory = Refusal::Unit(UnitRefusal::NoMemory);
+    for outcome in [Outcome::Make(Err(no_memory)), Outcome::Grow(Err(no_memory))] {
+        let refused = text_of(alloc, &outcome)?;
+        assert_eq!(rt; refused.as_slice(), b"refused M4 NoMemory\n".as_slice());
+    }
+    let mut rebuilding = Vec::new(alloc);
+    write_health(&mut rebuilding, Health::Rebuilding(11, 1_023))?;
+    assert_eq!(rt; rebuilding.as_slice(), b"rebuilding 11 1023\n".as_slice());
     Ok(())
 }
 
@@ -208,6 +260,9 @@ fn bad_lines(rt: HostRuntime) -> Result<(), Fail> {
         "make",
         "make 0 0",
         "make 0 0 4 4",
+        "grow",
+        "grow 0 0",
+        "grow 0 0 4 4",
         "drop 0",
         "tur 0 0 0",
         "inquiry 0 0",
@@ -221,6 +276,19 @@ fn bad_lines(rt: HostRuntime) -> Result<(), Fail> {
         "cdb 0 0",
         "cdb 0 0 00 1",
         "cdb 0 0 00 1 00 fua",
+        "flush 0",
+        "out",
+        "out 0 0",
+        "levels",
+        "levels 0",
+        "levels 0 0 0",
+        "home 0 0",
+        "home 0 0 0 0",
+        "groups 0",
+        "room 0",
+        "health 0",
+        "block 0 0",
+        "block 0 0 0 0",
         // Numbers: no digits, other characters, eleven digits, and out of range.
         "tur x 0",
         "tur +0 0",
@@ -237,6 +305,24 @@ fn bad_lines(rt: HostRuntime) -> Result<(), Fail> {
         "read16 0 0 10000000000 0",
         "read16 0 0 0 65536",
         "cdb 0 0 00 65536 00",
+        "grow 4 0 4",
+        "grow 0 256 4",
+        "grow 0 0 4294967296",
+        "grow 0 0 -1",
+        "grow 0 0 0x4",
+        "out 256",
+        "out x",
+        "out 00000000000",
+        "levels 4 0",
+        "levels 0 256",
+        "home 4 0 0",
+        "home 0 256 0",
+        "home 0 0 4294967296",
+        "home 0 0 none",
+        "block 256 0 0",
+        "block 0 65536 0",
+        "block 0 0 65536",
+        "block 0 0 +1",
         // Bytes, and the word after them.
         "write 0 0 0 1 A",
         "write 0 0 0 1 AAA",
@@ -258,12 +344,21 @@ fn bad_lines(rt: HostRuntime) -> Result<(), Fail> {
         let mut script = b"tur 0 0\n".to_vec(alloc)?;
         script.extend_from_slice(line.as_bytes())?;
         script.extend_from_slice(b"\ntur 0 0\n")?;
-        let (out, done) = answers(alloc, script.as_slice())?;
+        let (out, done) = answers(alloc, SMALL, script.as_slice())?;
         assert_eq!(rt; done, at(2, FaultKind::BadArgument), "{line}");
         assert_eq!(rt; out.as_slice(), b"check 05/25/00\n".as_slice(), "{line}");
     }
-    for line in ["bogus", "bogus 0", "Tur 0 0", "turn 0 0", "levels 0 0", "+"] {
-        let (_, done) = answers(alloc, line.as_bytes())?;
+    for line in [
+        "bogus",
+        "bogus 0",
+        "Tur 0 0",
+        "turn 0 0",
+        "FLUSH",
+        "group",
+        "blocks 0 0 0",
+        "+",
+    ] {
+        let (_, done) = answers(alloc, SMALL, line.as_bytes())?;
         assert_eq!(rt; done, at(1, FaultKind::UnknownWord), "{line}");
     }
     Ok(())
@@ -278,6 +373,13 @@ fn greatest_numbers(rt: HostRuntime) -> Result<(), Fail> {
             ("read 0 0 4294967295 65535", "check 05/21/00"),
             ("read16 0 0 9999999999 65535", "check 05/21/00"),
             ("tur 3 255", "check 05/25/00"),
+            ("grow 0 0 4294967295", "refused M2 Size"),
+            ("grow 3 255 4294967295", "refused M5 Absent"),
+            ("home 0 0 4294967295", "outside"),
+            ("home 3 255 4294967295", "refused M5 Absent"),
+            ("levels 3 255", "refused M5 Absent"),
+            ("out 255", "refused E4 NoSuchDisk"),
+            ("block 255 65535 65535", "outside"),
             (
                 "inquiry 0000000000 0 65535",
                 "good 00 00 05 02 1F 00 00 00 41 55 54 4F 52 41 49 44 54 57 4F 20 4C 45 56 45 4C 20 41 52 52 41 59 20 30 30 30 31",
@@ -326,7 +428,7 @@ fn long_lines_and_bad_characters(rt: HostRuntime) -> Result<(), Fail> {
         ),
     ] {
         let script = padded(alloc, byte, len, end)?;
-        let (_, done) = answers(alloc, script.as_slice())?;
+        let (_, done) = answers(alloc, SMALL, script.as_slice())?;
         assert_eq!(rt; done, wanted, "{len} of {byte}");
     }
     Ok(())
@@ -451,7 +553,14 @@ fn arrays_that_do_not_start(rt: HostRuntime) {
             extents: 1025,
             ..SMALL
         },
-        Setup { cache: 1, ..SMALL },
+        Setup {
+            cache: 65_537,
+            ..SMALL
+        },
+        Setup {
+            cache: u32::MAX,
+            ..SMALL
+        },
     ] {
         let mut out = Vec::new(alloc);
         assert_eq!(rt;
@@ -460,6 +569,25 @@ fn arrays_that_do_not_start(rt: HostRuntime) {
         );
         assert!(rt; out.is_empty());
     }
+}
+
+#[test]
+fn caches_of_each_size(rt: HostRuntime) -> Result<(), Fail> {
+    for (cache, first, second) in [(0, "M-", "MM"), (1, "--", "M-"), (65_536, "--", "--")] {
+        assert_rows_on(
+            &rt,
+            Setup { cache, ..SMALL },
+            &[
+                ("make 0 0 4", "ok"),
+                ("write 0 0 0 2 AA", "good"),
+                ("levels 0 0", first),
+                ("write 0 0 2 2 BB", "good"),
+                ("levels 0 0", second),
+                ("read 0 0 0 4", "good 1024xAA 1024xBB"),
+            ],
+        )?;
+    }
+    Ok(())
 }
 
 #[test]

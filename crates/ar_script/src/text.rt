@@ -1,62 +1,182 @@
 // Answers as text.
-use crate::order::Shown;
-use ar_core::{Outcome, Refusal};
+use crate::order::Notation;
+use ar_core::{
+    Array, Class, Flush, GroupUse, Health, HomeOf, LevelOf, Outcome, Refusal, Shown, UnitRefusal,
+};
+use ar_disks::{Addr, Disk};
 use ar_scsi::{Reply, Status};
 use std::io;
 use std::io::Write;
 
+/// What is answered where there is no unit to look at.
+const NO_UNIT: Refusal = Refusal::Unit(UnitRefusal::Absent);
+
 /// Writes the answer to an event, as a line.
-pub fn write_outcome<W: Write>(out: &mut W, outcome: &Outcome, shown: Shown) -> io::Result<()> {
+pub fn write_outcome<W: Write>(
+    out: &mut W,
+    outcome: &Outcome,
+    notation: Notation,
+) -> io::Result<()> {
     match outcome {
-        Outcome::Make(done) => write_done(out, done),
-        Outcome::Remove(done) => write_done(out, done),
-        Outcome::Cmd(reply) => write_reply(out, reply, shown),
+        Outcome::Make(done)
+        | Outcome::Grow(done)
+        | Outcome::Remove(done)
+        | Outcome::DiskOut(done) => write_done(out, *done),
+        Outcome::Cmd(reply) => write_reply(out, reply, notation),
+        Outcome::Flush(flush) => write_flush(out, *flush),
     }
 }
 
-fn write_done<W: Write>(out: &mut W, done: &Result<(), Refusal>) -> io::Result<()> {
+fn write_done<W: Write>(out: &mut W, done: Result<(), Refusal>) -> io::Result<()> {
     match done {
         Ok(()) => writeln!(out, "ok"),
         Err(refusal) => writeln!(out, "refused {refusal}"),
     }
 }
 
-fn write_reply<W: Write>(out: &mut W, reply: &Reply, shown: Shown) -> io::Result<()> {
+fn write_reply<W: Write>(out: &mut W, reply: &Reply, notation: Notation) -> io::Result<()> {
     match (reply.status, reply.sense) {
         (Status::CheckCondition, Some(sense)) => {
             let (key, asc, ascq) = (sense[2] & 0x0F, sense[12], sense[13]);
             writeln!(out, "check {key:02X}/{asc:02X}/{ascq:02X}")
         }
         (Status::Busy, _) => writeln!(out, "busy"),
-        _ => write_good(out, reply.payload.as_slice(), shown),
+        _ => write_good(out, reply.payload.as_slice(), notation),
     }
 }
 
 // Writes `good` and the bytes that came with it.
-fn write_good<W: Write>(out: &mut W, bytes: &[u8], shown: Shown) -> io::Result<()> {
+fn write_good<W: Write>(out: &mut W, bytes: &[u8], notation: Notation) -> io::Result<()> {
     write!(out, "good")?;
-    match shown {
-        Shown::Bytes => write_bytes(out, bytes)?,
-        Shown::Runs => write_runs(out, bytes)?,
+    if !bytes.is_empty() {
+        write!(out, " ")?;
+    }
+    match notation {
+        Notation::Bytes => write_bytes(out, bytes)?,
+        Notation::Runs => write_runs(out, bytes)?,
     }
     writeln!(out)
 }
 
-// Writes each byte, with a space before it.
-fn write_bytes<W: Write>(out: &mut W, bytes: &[u8]) -> io::Result<()> {
-    for byte in bytes {
-        write!(out, " {byte:02X}")?;
+fn write_flush<W: Write>(out: &mut W, flush: Flush) -> io::Result<()> {
+    match flush {
+        Flush::Flushed(key) => {
+            let (host, lun, rb) = (key.addr.host.number(), key.addr.lun, key.rb);
+            writeln!(out, "flushed {host} {lun} {rb}")
+        }
+        Flush::Idle => writeln!(out, "idle"),
+        Flush::Broken => writeln!(out, "broken"),
+    }
+}
+
+/// Writes the level of each block of a unit, as one line with a character for each.
+pub fn write_levels<W: Write, D: Disk>(
+    out: &mut W,
+    array: &Array<D>,
+    addr: Addr,
+) -> io::Result<()> {
+    if let LevelOf::Absent = array.level(addr, 0) {
+        return write_done(out, Err(NO_UNIT));
+    }
+    for rb in 0..u32::MAX {
+        let Some(mark) = level_mark(array.level(addr, rb)) else {
+            break;
+        };
+        write!(out, "{mark}")?;
+    }
+    writeln!(out)
+}
+
+// The character for the level of a block that there is.
+fn level_mark(level: LevelOf) -> Option<char> {
+    match level {
+        LevelOf::Absent | LevelOf::Outside => None,
+        LevelOf::Unplaced => Some('-'),
+        LevelOf::Mirrored => Some('M'),
+        LevelOf::Parity => Some('P'),
+    }
+}
+
+/// Writes where a block of a unit stands, as a line.
+pub fn write_home<W: Write>(out: &mut W, home: HomeOf) -> io::Result<()> {
+    match home {
+        HomeOf::Absent => write_done(out, Err(NO_UNIT)),
+        HomeOf::Outside => writeln!(out, "outside"),
+        HomeOf::Unplaced => writeln!(out, "home none"),
+        HomeOf::At(place) => {
+            let (group, slot) = (place.group, place.slot);
+            writeln!(out, "home {group} {slot}")
+        }
+    }
+}
+
+/// Writes what groups are used for, as a line for each.
+pub fn write_groups<W: Write>(out: &mut W, groups: &[GroupUse]) -> io::Result<()> {
+    for (number, group) in groups.iter().enumerate() {
+        let class = class_name(group.class);
+        let blocks = group.blocks;
+        writeln!(out, "group {number} {class} {blocks}")?;
     }
     Ok(())
 }
 
-// Writes the longest runs of equal bytes, with a space before each.
+fn class_name(class: Class) -> &'static str {
+    match class {
+        Class::Free => "free",
+        Class::Mirrored => "mirrored",
+        Class::Parity => "parity",
+    }
+}
+
+/// Writes which disk is down, if any, as a line.
+pub fn write_health<W: Write>(out: &mut W, health: Health) -> io::Result<()> {
+    match health {
+        Health::Whole => writeln!(out, "whole"),
+        Health::Out(disk) => writeln!(out, "out {disk}"),
+        Health::Rebuilding(disk, done) => writeln!(out, "rebuilding {disk} {done}"),
+        Health::Broken => writeln!(out, "broken"),
+    }
+}
+
+/// Writes the bytes of a row, where they were shown, as a line.
+pub fn write_row<W: Write>(out: &mut W, shown: Shown, bytes: &[u8]) -> io::Result<()> {
+    match shown {
+        Shown::Outside => writeln!(out, "outside"),
+        Shown::Broken => writeln!(out, "broken"),
+        Shown::Missing => writeln!(out, "missing"),
+        Shown::Bytes => {
+            write_runs(out, bytes)?;
+            writeln!(out)
+        }
+    }
+}
+
+// Writes each byte, with a space between two.
+fn write_bytes<W: Write>(out: &mut W, bytes: &[u8]) -> io::Result<()> {
+    for (place, byte) in bytes.iter().enumerate() {
+        write_gap(out, place)?;
+        write!(out, "{byte:02X}")?;
+    }
+    Ok(())
+}
+
+// Writes the longest runs of equal bytes, with a space between two.
 fn write_runs<W: Write>(out: &mut W, bytes: &[u8]) -> io::Result<()> {
-    for run in bytes.chunk_by(|one, other| one == other) {
+    let runs = bytes.chunk_by(|one, other| one == other);
+    for (place, run) in runs.enumerate() {
         if let Some(byte) = run.first() {
             let count = run.len();
-            write!(out, " {count}x{byte:02X}")?;
+            write_gap(out, place)?;
+            write!(out, "{count}x{byte:02X}")?;
         }
+    }
+    Ok(())
+}
+
+// Writes the space that parts a word from the one before it.
+fn write_gap<W: Write>(out: &mut W, place: usize) -> io::Result<()> {
+    if place > 0 {
+        write!(out, " ")?;
     }
     Ok(())
 }

@@ -60,7 +60,7 @@ fn run_command<'a>(alloc: Global) -> Result<Command<'a>, ParseError> {
         .default_value("4");
     let cache = Arg::new(alloc, "cache")
         .long("cache")
-        .value_parser(value_parser!(u32).range(0..=0))
+        .value_parser(value_parser!(u32).range(0..=65_536))
         .default_value("0");
     let command = Command::new(alloc, "run")
         .arg(geometry)?
@@ -126,14 +126,18 @@ mod tests {
             "--extents=1024",
             "--geometry=paper",
             "--disks=12",
+            "--cache=65536",
         ];
         let setup = Setup {
             geometry: Geometry::PAPER,
             disks: 12,
             extents: 1024,
-            cache: 0,
+            cache: 65_536,
         };
         assert_eq!(rt; setup_in(alloc, highest.as_slice()), Ok(setup));
+        let cached = ["autoraid", "run", "--cache", "1"];
+        let setup = Setup { cache: 1, ..SMALL };
+        assert_eq!(rt; setup_in(alloc, cached.as_slice()), Ok(setup));
     }
 
     #[test]
@@ -161,7 +165,10 @@ mod tests {
             &["autoraid", "run", "--extents", "0"],
             &["autoraid", "run", "--extents", "1025"],
             &["autoraid", "run", "--extents", "65540"],
-            &["autoraid", "run", "--cache", "1"],
+            &["autoraid", "run", "--cache", "65537"],
+            &["autoraid", "run", "--cache", "-1"],
+            &["autoraid", "run", "--cache", "4294967296"],
+            &["autoraid", "run", "--cache", "0", "--cache", "0"],
             &["autoraid", "run", "--geometry", "big"],
             &["autoraid", "run", "--geometry", "SMALL"],
             &["autoraid", "run", "--port", "1"],

@@ -8,7 +8,7 @@ use Rattle.ar_core.proofs.transfer.write_part.Goals.{then-bytes-block_len, else-
 pub returns-clause-inside : goal.returns-clause-inside
 returns-clause-inside g c = λ done i low high.
     let len : block_len_of c.args.geometry ≡ 512 * sectors_of c.args.geometry = block_len-sectors c.args.geometry in
-    ap (λ (b : List ℕ). sectors_at b i 1) (c.put.ensures.put done) ∙
+    ap (λ (b : List ℕ). sectors_at b i 1) ((c.put.ensures.written done).written) ∙
     elim c.if-bytes-block_len.branch [
       | then-bytes-block_len w ↦
           (let same : i ≡ i - c.args.first = omega (arith, c.requires.sectors, c.requires.within, c.block_len.ensures) in
@@ -22,7 +22,7 @@ returns-clause-inside g c = λ done i low high.
 pub returns-clause-outside : goal.returns-clause-outside
 returns-clause-outside g c = λ done i apart exists.
     let len : block_len_of c.args.geometry ≡ 512 * sectors_of c.args.geometry = block_len-sectors c.args.geometry in
-    ap (λ (b : List ℕ). sectors_at b i 1) (c.put.ensures.put done) ∙
+    ap (λ (b : List ℕ). sectors_at b i 1) ((c.put.ensures.written done).written) ∙
     elim c.if-bytes-block_len.branch [
       | then-bytes-block_len w ↦ absurd (omega (arith, apart, c.requires.sectors, c.requires.within, c.block_len.ensures))
       | else-bytes-block_len+in-Done w ↦
@@ -31,5 +31,5 @@ returns-clause-outside g c = λ done i apart exists.
           elim apart [ inl before ↦ inl (omega arith) | inr after ↦ inr (omega (arith, c.requires.sectors)) ] in
           ap (λ (b : List ℕ). sectors_at b i 1) (w.block-is ∙ w.set_sectors.ensures.sectors)
           ∙ sectors_at-with_sectors_outside w.get.new.into c.args.bytes.now c.args.first i far (omega (arith, c.requires.sectors, c.requires.within))
-          ∙ ap (λ (b : List ℕ). sectors_at b i 1) (w.get.ensures.got w.in-Done.is))
+          ∙ ap (λ (b : List ℕ). sectors_at b i 1) (w.get.ensures.content w.in-Done.is))
     ]

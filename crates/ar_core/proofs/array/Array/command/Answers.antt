@@ -1,21 +1,36 @@
-use Rattle.std.proofs.Common.{sym, subst, ap, ◌∙◌}
-use Rattle.ar_core.specs.Sectors.{address_of}
-use Rattle.ar_core.specs.Array.{ArrayState, is_at}
-use Rattle.ar_core.specs.Served.{IsFound}
-use Rattle.ar_core.proofs.Commands.{commands_served, commands_absent}
+use Rattle.std.proofs.Common.{◌≡◌, true, false, Bool, ◌&&◌, not, refl, sym, subst, ap, ◌∙◌}
+use Rattle.std.specs.Prelude.{◌==◌}
+use Rattle.ar_scsi.specs.Field.{operation_code}
+use Rattle.ar_book.specs.Tables.{has_unit}
+use Rattle.ar_core.specs.Array.{ArrayState, mark_at}
+use Rattle.ar_core.specs.Served.{IsUnit}
+use Rattle.ar_core.proofs.Commanding.{tells, commands_served, commands_told, commands_absent}
 use Rattle.ar_core.proofs.array.Array.command.Goals as goal
+use Rattle.ar_core.proofs.array.Array.command.Goals.{else-mark-via-then-mark+else-not-is_inquiry, else-mark-via-else-mark}
 
-pub serve-requires-clause-unit : goal.serve-requires-clause-unit
-serve-requires-clause-unit g c =
-    let found = subst (λ (s : ArrayState). IsFound s (address_of c.args.addr) c.in-Some.own c.in-Some.sectors) c.self.view_is c.in-Some.ensures in
-    found.unit
-
-pub returns-in-Some : goal.returns-in-Some
-returns-in-Some g c =
-    commands_served c.args.self.now c.serve.new.self (address_of c.args.addr) c.in-Some.own c.in-Some.sectors c.args.cdb.now c.args.bytes.now c.serve.result
-    (subst (λ (s : ArrayState). IsFound s (address_of c.args.addr) c.in-Some.own c.in-Some.sectors) c.self.view_is c.in-Some.ensures) c.serve.ensures
-
-pub returns-in-None : goal.returns-in-None
-returns-in-None g c =
+pub returns-in_default : goal.returns-in_default
+returns-in_default g c =
     commands_absent c.args.self.now c.args.addr c.args.cdb.now c.args.bytes.now c.absent.result
-    (sym (ap (λ (s : ArrayState). is_at s.unit c.args.addr) c.self.view_is) ∙ c.in-None.ensures) c.absent.ensures
+    (ap (λ (s : ArrayState). has_unit s.store.book c.args.addr) (sym c.self.view_is) ∙ c.in_default.ensures) c.absent.ensures
+
+pub returns-then-not-is_inquiry : goal.returns-then-not-is_inquiry
+returns-then-not-is_inquiry g c =
+    let unit = subst (λ (s : ArrayState). IsUnit s c.args.addr c.in-Some.sectors) c.self.view_is c.in-Some.ensures in
+    let mark : mark_at c.args.self.now.store.book c.args.addr ≡ true = ap (λ (s : ArrayState). mark_at s.store.book c.args.addr) (sym c.self.view_is) ∙ sym c.mark.ensures ∙ c.if-mark.true in
+    let other : (operation_code c.args.cdb.now == 0x12) ≡ false = sym c.is_inquiry.ensures ∙ c.if-not-is_inquiry.true in
+    commands_told c.args.self.now c.tell_growth.new.self c.args.addr c.in-Some.sectors c.args.cdb.now c.args.bytes.now c.tell_growth.result unit
+    (ap (λ (b : Bool). b && not (operation_code c.args.cdb.now == 0x12)) mark ∙ ap not other)
+    c.tell_growth.ensures.told c.tell_growth.ensures.cleared c.tell_growth.ensures.seen
+
+pub returns : goal.returns
+returns g c =
+    let unit = subst (λ (s : ArrayState). IsUnit s c.args.addr c.in-Some.sectors) c.self.view_is c.in-Some.ensures in
+    let marked : mark_at c.args.self.now.store.book c.args.addr ≡ c.mark.result = ap (λ (s : ArrayState). mark_at s.store.book c.args.addr) (sym c.self.view_is) ∙ sym c.mark.ensures in
+    let quiet : tells c.args.self.now c.args.addr c.args.cdb.now ≡ false =
+    elim c.else-mark.branch [
+      | else-mark-via-then-mark+else-not-is_inquiry w ↦
+          ap (λ (b : Bool). b && not (operation_code c.args.cdb.now == 0x12)) (marked ∙ w.if-mark.true) ∙ ap not (sym w.is_inquiry.ensures ∙ w.if-not-is_inquiry.false)
+      | else-mark-via-else-mark w ↦ ap (λ (b : Bool). b && not (operation_code c.args.cdb.now == 0x12)) (marked ∙ w.if-mark.false)
+    ] in
+    commands_served c.args.self.now c.serve.new.self c.args.addr c.in-Some.sectors c.args.cdb.now c.args.bytes.now c.serve.result unit quiet
+    c.serve.ensures.serves c.serve.ensures.settles

@@ -1,0 +1,391 @@
+-- What commands do to the sectors of the unit.
+use Rattle.std.proofs.Common.{◌≡◌, ◌≢◌, ◌⊎◌, ℕ, zero, suc, ◌+◌, ◌-◌, ◌*◌, ◌/◌, ◌%◌, ◌<◌, ◌≤◌, Bool, true, false, IsTrue, nat_lt, Option, List, [], ◌∷◌, ◌++◌, length, take, drop, map, Result, Ok, Err, refl, sym, ap, subst, ◌∙◌, inl, inr, arith}
+use Rattle.std.specs.Prelude.{◌==◌}
+use Rattle.std.specs.List.{range_with_len, concat}
+use Rattle.std.proofs.lemmas.List.{drop-drop, length-append}
+use Rattle.std.proofs.lemmas.List.FromFn.{take-map-range_with_len}
+use Rattle.std.proofs.lemmas.Bool.Decides.{nat_tests}
+use Rattle.ar_disks.specs.declared.address.Addr.{Addr}
+use Rattle.ar_disks.specs.declared.address.Key.{Key}
+use Rattle.ar_disks.specs.declared.geometry.Geometry.{Geometry}
+use Rattle.ar_disks.specs.declared.geometry.Geometry.TheVariants.{Paper, Small}
+use Rattle.ar_disks.specs.Geometry.{sectors_of, block_len_of}
+use Rattle.ar_disks.specs.Block.{sectors_at}
+use Rattle.ar_disks.proofs.Sectors.{sectors_at_is, length-sectors_at}
+use Rattle.ar_scsi.specs.declared.command.Command.{Command}
+use Rattle.ar_scsi.specs.declared.command.Command.TheVariants.{Write}
+use Rattle.ar_scsi.specs.declared.reply.Reply.{Reply}
+use Rattle.ar_scsi.specs.declared.reply.Status.TheVariants.{Good, CheckCondition, Busy}
+use Rattle.ar_scsi.specs.declared.sense.Sense.{Sense}
+use Rattle.ar_scsi.specs.Reply.{good, check, busy}
+use Rattle.ar_scsi.specs.Sense.{internal_target_failure, logical_block_address_out_of_range, data_phase_error}
+use Rattle.ar_unit.specs.Sectors.{cut, written, joined}
+use Rattle.ar_unit.specs.Unit.{Present, Answered, leaving, read_reply, write_answer, IsGiven}
+use Rattle.ar_book.specs.Tables.{unit_in, blocks_of as blocks_for}
+use Rattle.ar_cache.specs.Backing.{stored}
+use Rattle.ar_core.specs.Sectors.{sector_in, sectors_in, blocks_of, key_of}
+use Rattle.ar_core.specs.Array.{ArrayState, is_broken, geometry_of, seen_at, knows_in, length_at, mark_at, unit_sectors, IsPadded}
+use Rattle.ar_core.specs.Causes.{Follows}
+use Rattle.ar_core.specs.Laws.{follows_refl, places_refl}
+use Rattle.ar_core.specs.Served.{IsUnit, Serves, Settles, SamePlaces, SameSeen, Writes, present_at, sectors_read}
+use Rattle.ar_core.specs.Step.{is_write, IsForced}
+use Rattle.ar_core.specs.declared.transfer.Transfer.{Transfer}
+use Rattle.ar_core.specs.declared.transfer.Transfer.TheVariants.{Done, Broken, NoMemory}
+use Rattle.ar_cache.specs.declared.answers.Stored.{Stored}
+use Rattle.ar_cache.specs.declared.answers.Stored.TheVariants.{Done as Kept, Broken as Lost}
+use Rattle.ar_book.proofs.Keys.{addr_tells}
+use Rattle.ar_core.proofs.Images.{length-unit_sectors, map-range-same, map-range-add, present_same, sector_same}
+
+-- what is left of a range
+pub drop-map-range : {X : Type 0} (f : ℕ → X) (a k m : ℕ) → drop k (map f (range_with_len a (k + m))) ≡ map f (range_with_len (a + k) m)
+drop-map-range f a zero m =
+    let none : 0 + m ≡ m = omega arith in
+    let here : a ≡ a + 0 = omega arith in
+    ap (λ n. map f (range_with_len a n)) none ∙ ap (λ n. map f (range_with_len n m)) here
+drop-map-range f a (suc k) m =
+    let count : suc k + m ≡ suc (k + m) = omega arith in
+    let next : a + 1 + k ≡ a + suc k = omega arith in
+    ap (λ n. drop (suc k) (map f (range_with_len a n))) count ∙ drop-map-range f (a + 1) k m ∙ ap (λ n. map f (range_with_len n m)) next
+
+-- bytes cut into sectors
+pub cut-range : (f : ℕ → List ℕ) (bytes : List ℕ) (a n : ℕ) → ((i : ℕ) → a ≤ i → i < a + n → f i ≡ sectors_at bytes (i - a) 1) → map f (range_with_len a n) ≡ cut 512 n bytes
+cut-range f bytes a zero is = refl
+cut-range f bytes a (suc n) is =
+    let here : a - a ≡ 0 = omega arith in
+    ap (λ x. x ∷ map f (range_with_len (a + 1) n)) (is a (omega arith) (omega arith) ∙ ap (λ k. sectors_at bytes k 1) here ∙ sectors_at_is bytes 0 1)
+    ∙ ap (λ xs. take 512 bytes ∷ xs)
+    (cut-range f (drop 512 bytes) (a + 1) n
+    (λ i low high.
+    (let later : 512 * (i - a) ≡ 512 + 512 * (i - (a + 1)) = omega arith in
+    is i (omega arith) (omega arith)
+    ∙ sectors_at_is bytes (i - a) 1
+    ∙ ap (λ l. take 512 l) (ap (λ k. drop k bytes) later ∙ sym (drop-drop (512 * (i - (a + 1))) 512 bytes))
+    ∙ sym (sectors_at_is (drop 512 bytes) (i - (a + 1)) 1))))
+
+-- some sectors of the unit, as a READ returns them
+pub read_range : (s : ArrayState) (addr : Addr) (lba count : ℕ) → lba + count ≤ length_at s.store.book addr
+    → joined (take count (drop lba (unit_sectors s addr))) ≡ sectors_read s addr lba count
+read_range s addr lba count within =
+    let f : ℕ → List ℕ = sector_in (geometry_of s) (blocks_of (seen_at s) addr) in
+    let n : ℕ = length_at s.store.book addr in
+    let whole : n ≡ lba + (n - lba) = omega arith in
+    let at : 0 + lba ≡ lba = omega arith in
+    ap (λ k. concat (take count (drop lba (map f (range_with_len 0 k))))) whole
+    ∙ ap (λ l. concat (take count l)) (drop-map-range f 0 lba (n - lba) ∙ ap (λ k. map f (range_with_len k (n - lba))) at)
+    ∙ ap concat (take-map-range_with_len f lba (n - lba) count (omega arith))
+
+-- the unit's sectors after a WRITE
+pub written_range : (old new : ℕ → List ℕ) (n lba count : ℕ) (bytes : List ℕ) → lba + count ≤ n
+    → ((i : ℕ) → lba ≤ i → i < lba + count → new i ≡ sectors_at bytes (i - lba) 1) → ((i : ℕ) → (i < lba) ⊎ (lba + count ≤ i) → new i ≡ old i)
+    → map new (range_with_len 0 n) ≡ written (map old (range_with_len 0 n)) lba count bytes
+written_range old new n lba count bytes within inside outside =
+    let rest : ℕ = n - (lba + count) in
+    let whole : n ≡ lba + count + rest = omega arith in
+    let at : 0 + lba ≡ lba = omega arith in
+    let behind : 0 + (lba + count) ≡ lba + count = omega arith in
+    let front : take lba (map old (range_with_len 0 n)) ≡ map old (range_with_len 0 lba) = take-map-range_with_len old 0 n lba (omega arith) in
+    let back : drop (lba + count) (map old (range_with_len 0 n)) ≡ map old (range_with_len (lba + count) rest) =
+    ap (λ k. drop (lba + count) (map old (range_with_len 0 k))) whole ∙ drop-map-range old 0 (lba + count) rest ∙ ap (λ k. map old (range_with_len k rest)) behind in
+    ap (λ k. map new (range_with_len 0 k)) whole
+    ∙ map-range-add new 0 (lba + count) rest
+    ∙ ap (λ l. l ++ map new (range_with_len (0 + (lba + count)) rest)) (map-range-add new 0 lba count)
+    ∙ ap (λ k. (map new (range_with_len 0 lba) ++ map new (range_with_len (0 + lba) count)) ++ map new (range_with_len k rest)) behind
+    ∙ ap (λ k. (map new (range_with_len 0 lba) ++ map new (range_with_len k count)) ++ map new (range_with_len (lba + count) rest)) at
+    ∙ ap (λ l. (l ++ map new (range_with_len lba count)) ++ map new (range_with_len (lba + count) rest))
+    (map-range-same new old 0 lba (λ i low high. outside i (inl (omega arith))) ∙ sym front)
+    ∙ ap (λ l. (take lba (map old (range_with_len 0 n)) ++ l) ++ map new (range_with_len (lba + count) rest)) (cut-range new bytes lba count inside)
+    ∙ ap (λ l. (take lba (map old (range_with_len 0 n)) ++ cut 512 count bytes) ++ l)
+    (map-range-same new old (lba + count) rest (λ i low high. outside i (inr low)) ∙ sym back)
+
+-- a reply that isn't BUSY is given
+pub given_same : (reply : Reply) → reply.status ≢ Busy → IsGiven reply reply
+given_same reply served = record { answered = λ _. refl; refused = λ busy. absurd (served busy); memory = λ busy. absurd (served busy) }
+
+pub given_check : (sense : Sense) → IsGiven (check sense) (check sense)
+given_check sense = given_same (check sense) (λ busy. cc)
+
+pub given_good : IsGiven (good []) (good [])
+given_good = given_same (good []) (λ busy. cc)
+
+-- BUSY stands in place of a reply with bytes
+pub given_busy : (payload : List ℕ) → payload ≢ [] → IsGiven (good payload) busy
+given_busy payload some = record { answered = λ served. absurd (served refl); refused = λ _. refl; memory = λ _. some }
+
+busy_good : (reply : Reply) → reply ≡ good [] → reply.status ≡ Busy → ⊥
+busy_good reply told busy = let status = sym (ap (λ (r : Reply). r.status) told) ∙ busy in cc
+
+-- an answer that left the array as it was
+pub serves_quiet : (s : ArrayState) (addr : Addr) (table otherwise reply : Reply)
+    → (is_broken s ≡ false → IsGiven table reply) → (IsTrue (is_broken s) → IsGiven otherwise reply)
+    → Serves s addr (leaving (present_at s addr) table) otherwise reply s
+serves_quiet s addr table otherwise reply sound broken = record {
+  follows = follows_refl s;
+  sound = λ now. record { given = sound now; left = λ _. refl; unchanged = λ _. refl };
+  others = λ now k _. refl;
+  broken = broken;
+}
+
+-- a check that leaves the array as it was
+pub serves_check : (s : ArrayState) (addr : Addr) (sense : Sense) (reply : Reply) → reply ≡ check sense
+    → Serves s addr (leaving (present_at s addr) (check sense)) (check sense) reply s
+serves_check s addr sense reply is =
+    let given : IsGiven (check sense) reply = subst (λ (r : Reply). IsGiven (check sense) r) (sym is) (given_check sense) in
+    serves_quiet s addr (check sense) (check sense) reply (λ _. given) (λ _. given)
+
+-- a broken array's answer
+pub serves_broken : (s : ArrayState) (addr : Addr) (table : Answered) (reply : Reply) → IsTrue (is_broken s) → reply ≡ check internal_target_failure
+    → Serves s addr table (check internal_target_failure) reply s
+serves_broken s addr table reply lost is = record {
+  follows = follows_refl s;
+  sound = λ now. absurd (cc);
+  others = λ now. absurd (cc);
+  broken = λ _. subst (λ (r : Reply). IsGiven (check internal_target_failure) r) (sym is) (given_check internal_target_failure);
+}
+
+pub read_past : (sectors : List (List ℕ)) (n lba count : ℕ) → length sectors ≡ n → nat_lt n (lba + count) ≡ true → read_reply sectors lba count ≡ check logical_block_address_out_of_range
+read_past sectors n lba count len past = rw (len, past) refl
+
+pub read_within : (s : ArrayState) (addr : Addr) (n lba count : ℕ) → length_at s.store.book addr ≡ n → nat_lt n (lba + count) ≡ false → lba + count ≤ n
+    → read_reply (unit_sectors s addr) lba count ≡ good (sectors_read s addr lba count)
+read_within s addr n lba count len within fits =
+    rw (length-unit_sectors s addr ∙ len, within) (ap good (read_range s addr lba count (omega arith)))
+
+pub write_past : (sectors : List (List ℕ)) (mark : Bool) (n lba count : ℕ) (bytes : List ℕ) → length sectors ≡ n → nat_lt n (lba + count) ≡ true
+    → write_answer sectors mark lba count bytes ≡ leaving (Present sectors mark) (check logical_block_address_out_of_range)
+write_past sectors mark n lba count bytes len past = rw (len, past) refl
+
+pub write_wrong : (sectors : List (List ℕ)) (mark : Bool) (n lba count : ℕ) (bytes : List ℕ) → length sectors ≡ n → nat_lt n (lba + count) ≡ false → length bytes == count * 512 ≡ false
+    → write_answer sectors mark lba count bytes ≡ leaving (Present sectors mark) (check data_phase_error)
+write_wrong sectors mark n lba count bytes len within wrong = rw (len, within, wrong) refl
+
+pub write_within : (sectors : List (List ℕ)) (mark : Bool) (n lba count : ℕ) (bytes : List ℕ) → length sectors ≡ n → nat_lt n (lba + count) ≡ false → length bytes == count * 512 ≡ true
+    → write_answer sectors mark lba count bytes ≡ leaving (Present (written sectors lba count bytes) mark) (good [])
+write_within sectors mark n lba count bytes len within right = rw (len, within, right) refl
+
+first_fits : (g : Geometry) (lba len : ℕ) → len ≡ block_len_of g → 512 * (lba % sectors_of g + 1) ≤ len
+first_fits Paper lba len whole = omega arith
+first_fits Small lba len whole = omega arith
+
+-- while the data are there, some sectors have some bytes
+pub sectors_read-some : (s : ArrayState) (addr : Addr) (lba count : ℕ) → ((k : Key) → length (seen_at s k) ≡ block_len_of (geometry_of s)) → 0 < count → sectors_read s addr lba count ≢ []
+unfolding sector_in
+sectors_read-some s addr lba zero whole some = absurd (omega arith)
+sectors_read-some s addr lba (suc count) whole some = λ none.
+    let block : List ℕ = seen_at s (key_of addr (lba / sectors_of (geometry_of s))) in
+    let len : length (sectors_at block (lba % sectors_of (geometry_of s)) 1) ≡ 512 =
+    length-sectors_at block (lba % sectors_of (geometry_of s)) 1 (first_fits (geometry_of s) lba (length block) (whole (key_of addr (lba / sectors_of (geometry_of s))))) in
+    let parts : length (sectors_at block (lba % sectors_of (geometry_of s)) 1 ++ concat (sectors_in (geometry_of s) (blocks_of (seen_at s) addr) (lba + 1) count)) ≡ 0 = ap length none in
+    omega (arith, length-append (sectors_at block (lba % sectors_of (geometry_of s)) 1) (concat (sectors_in (geometry_of s) (blocks_of (seen_at s) addr) (lba + 1) count)))
+
+-- a unit that was read is as it was
+unit_read : (old new : ArrayState) (addr : Addr) → Follows old new → SameSeen old new → present_at new addr ≡ present_at old addr
+unit_read old new addr follows seen =
+    present_same old new addr (follows.store.units.sectors addr) (follows.store.units.attention addr) follows.store.accessed.follows.geometry (λ k _. seen.same k)
+
+-- what an answer says of the array
+pub kept_sound : (broken : Bool) → Kept ≡ stored broken → broken ≡ false
+kept_sound false is = refl
+kept_sound true is = absurd (cc)
+
+pub lost_broken : (broken : Bool) → Lost ≡ stored broken → broken ≡ true
+lost_broken true is = refl
+lost_broken false is = absurd (cc)
+
+-- how a READ ends
+pub serves_read : (old new : ArrayState) (addr : Addr) (lba count : ℕ) (transfer : Transfer) (out : List ℕ) (reply : Reply)
+    → Follows old new → SamePlaces old new → (transfer ≢ Broken → SameSeen old new) → sectors_read old addr lba count ≢ []
+    → (transfer ≢ Broken → is_broken new ≡ false) → (transfer ≡ Broken → IsTrue (is_broken new))
+    → (transfer ≡ Done → out ≡ sectors_read old addr lba count)
+    → (transfer ≡ Done → IsGiven (good out) reply) → (transfer ≡ Broken → reply ≡ check internal_target_failure) → (transfer ≡ NoMemory → reply ≡ busy)
+    → Serves old addr (leaving (present_at old addr) (good (sectors_read old addr lba count))) (check internal_target_failure) reply new
+serves_read old new addr lba count Broken out reply follows places blocks some sound broken bytes done lost refused = record {
+  follows = follows;
+  sound = λ now. (let gone = broken refl in absurd (cc));
+  others = λ now. (let gone = broken refl in absurd (cc));
+  broken = λ now. subst (λ (r : Reply). IsGiven (check internal_target_failure) r) (sym (lost refl)) (given_check internal_target_failure);
+}
+serves_read old new addr lba count Done out reply follows places blocks some sound broken bytes done lost refused =
+    let seen : SameSeen old new = blocks (λ e. cc) in
+    let same = unit_read old new addr follows seen in
+    record {
+      follows = follows;
+      sound = λ now. record {
+        given = subst (λ (b : List ℕ). IsGiven (good b) reply) (bytes refl) (done refl);
+        left = λ _. same;
+        unchanged = λ _. same;
+      };
+      others = λ now k _. seen.same k;
+      broken = λ now. (let still = sound (λ e. cc) in absurd (cc));
+    }
+serves_read old new addr lba count NoMemory out reply follows places blocks some sound broken bytes done lost refused =
+    let seen : SameSeen old new = blocks (λ e. cc) in
+    let same = unit_read old new addr follows seen in
+    record {
+      follows = follows;
+      sound = λ now. record {
+        given = subst (λ (r : Reply). IsGiven (good (sectors_read old addr lba count)) r) (sym (refused refl)) (given_busy (sectors_read old addr lba count) some);
+        left = λ _. same;
+        unchanged = λ _. same;
+      };
+      others = λ now k _. seen.same k;
+      broken = λ now. (let still = sound (λ e. cc) in absurd (cc));
+    }
+
+-- how a WRITE ends
+pub serves_write : (old new : ArrayState) (addr : Addr) (lba count : ℕ) (bytes : List ℕ) (answer : Stored) (reply : Reply)
+    → Follows old new → lba + count ≤ length_at old.store.book addr → answer ≡ stored (is_broken new)
+    → (answer ≡ Kept → Writes old addr lba count bytes new)
+    → (answer ≡ Kept → reply ≡ good []) → (answer ≡ Lost → reply ≡ check internal_target_failure)
+    → Serves old addr (leaving (Present (written (unit_sectors old addr) lba count bytes) (mark_at old.store.book addr)) (good [])) (check internal_target_failure) reply new
+serves_write old new addr lba count bytes Kept reply follows within answer writes done lost =
+    let w : Writes old addr lba count bytes new = writes refl in
+    let sound : is_broken new ≡ false = kept_sound (is_broken new) answer in
+    let sectors : unit_sectors new addr ≡ written (unit_sectors old addr) lba count bytes =
+    ap (λ (g : Geometry). map (sector_in g (blocks_of (seen_at new) addr)) (range_with_len 0 (length_at new.store.book addr))) follows.store.accessed.follows.geometry
+    ∙ ap (λ n. map (sector_in (geometry_of old) (blocks_of (seen_at new) addr)) (range_with_len 0 n)) (follows.store.units.sectors addr)
+    ∙ written_range (sector_in (geometry_of old) (blocks_of (seen_at old) addr)) (sector_in (geometry_of old) (blocks_of (seen_at new) addr)) (length_at old.store.book addr) lba count bytes within w.inside w.outside in
+    record {
+      follows = follows;
+      sound = λ now. record {
+        given = subst (λ (r : Reply). IsGiven (good []) r) (sym (done refl)) given_good;
+        left = λ _. ap (λ l. Present l (mark_at new.store.book addr)) sectors ∙ ap (λ m. Present (written (unit_sectors old addr) lba count bytes) m) (follows.store.units.attention addr);
+        unchanged = λ busy. (let told = done refl in absurd (busy_good reply told busy));
+      };
+      others = λ now k other. w.others k other;
+      broken = λ now. absurd (cc);
+    }
+serves_write old new addr lba count bytes Lost reply follows within answer writes done lost =
+    let gone : is_broken new ≡ true = lost_broken (is_broken new) answer in
+    record {
+      follows = follows;
+      sound = λ now. absurd (cc);
+      others = λ now. absurd (cc);
+      broken = λ now. subst (λ (r : Reply). IsGiven (check internal_target_failure) r) (sym (lost refl)) (given_check internal_target_failure);
+    }
+
+pub same_false : (a b : ℕ) → a ≢ b → a == b ≡ false
+same_false a b other = grind (arith, nat_tests)
+
+pub same_true : (a b : ℕ) → a ≡ b → a == b ≡ true
+same_true a b same = grind (arith, nat_tests)
+
+pub not_below : (a b : ℕ) → nat_lt a b ≡ false → b ≤ a
+not_below a b test = grind (arith, nat_tests)
+
+-- a command that left everything where it was
+pub settles_quiet : (old new : ArrayState) (addr : Addr) (command : Result Command Sense) (reply : Reply) → SamePlaces old new
+    → ((lba count : ℕ) → command ≡ Ok (Write lba count true) → reply.status ≡ Good → IsForced new addr lba count) → Settles old addr command reply new
+settles_quiet old new addr command reply same forced = record { reads = λ _. same; refused = λ _ _. same; lost = λ _. same; busy = λ _. same; nothing = λ _ _ _. same; forced = forced }
+
+-- no WRITE was asked for
+pub settles_read : (old new : ArrayState) (addr : Addr) (command : Result Command Sense) (reply : Reply) → is_write command ≡ false → SamePlaces old new → Settles old addr command reply new
+settles_read old new addr command reply other same =
+    settles_quiet old new addr command reply same (λ lba count is good. (let test = sym (ap is_write is) ∙ other in absurd (cc)))
+
+-- a WRITE was refused
+pub settles_check : (s : ArrayState) (addr : Addr) (command : Result Command Sense) (sense : Sense) (reply : Reply) → reply ≡ check sense → Settles s addr command reply s
+settles_check s addr command sense reply is =
+    settles_quiet s s addr command reply (places_refl s) (λ lba count _ good. (let status = sym (ap (λ (r : Reply). r.status) is) ∙ good in absurd (cc)))
+
+-- a block that has some of the unit's sectors is the unit's
+block_counted : (g : Geometry) (rb n : ℕ) → rb * sectors_of g < n → rb < blocks_for g n
+block_counted Paper rb n within = omega arith
+block_counted Small rb n within = omega arith
+
+below : (a b : ℕ) → a < b → nat_lt a b ≡ true
+below a b lt = grind (arith, nat_tests)
+
+pub key_known : (s : ArrayState) (addr : Addr) (n rb : ℕ) → IsUnit s addr n → rb * sectors_of (geometry_of s) < n → knows_in s.store (key_of addr rb) ≡ true
+key_known s addr n rb unit within =
+    let counted : rb < blocks_for (geometry_of s) n = block_counted (geometry_of s) rb n within in
+    below rb (length (unit_in s.store.book.units addr).homes) (omega (arith, unit.blocks))
+
+-- a transfer's sectors, in the array's own geometry
+pub range_written : (old new : ArrayState) (addr : Addr) (lba count : ℕ) (bytes : List ℕ) (g : Geometry) → g ≡ geometry_of old
+    → ((i : ℕ) → lba ≤ i → i < lba + count → sector_in g (blocks_of (seen_at new) addr) i ≡ sectors_at bytes (i - lba) 1)
+    → ((i : ℕ) → (i < lba) ⊎ (lba + count ≤ i) → sector_in g (blocks_of (seen_at new) addr) i ≡ sector_in g (blocks_of (seen_at old) addr) i)
+    → ((k : Key) → k.addr ≢ addr → seen_at new k ≡ seen_at old k) → Writes old addr lba count bytes new
+range_written old new addr lba count bytes g shape inside outside others = record {
+  inside = λ i low high. ap (λ (h : Geometry). sector_in h (blocks_of (seen_at new) addr) i) (sym shape) ∙ inside i low high;
+  outside = λ i apart.
+      ap (λ (h : Geometry). sector_in h (blocks_of (seen_at new) addr) i) (sym shape)
+      ∙ outside i apart
+      ∙ ap (λ (h : Geometry). sector_in h (blocks_of (seen_at old) addr) i) shape;
+  others = others;
+}
+
+-- what was not written past the unit's end is zeros still
+pub padded_written : (old new : ArrayState) (addr : Addr) (n lba count : ℕ) (bytes : List ℕ) (answer : Stored) → IsPadded old → IsUnit old addr n → lba + count ≤ n
+    → is_broken old ≡ false → Follows old new → answer ≡ stored (is_broken new) → (answer ≡ Kept → Writes old addr lba count bytes new) → IsPadded new
+padded_written old new addr n lba count bytes answer padded unit within sound follows told writes = record {
+  zeros = λ now b i past.
+      (let w : Writes old addr lba count bytes new = writes (told ∙ ap stored now) in
+      let shape : geometry_of new ≡ geometry_of old = follows.store.accessed.follows.geometry in
+      let same : length_at new.store.book b ≡ length_at old.store.book b = follows.store.units.sectors b in
+      elim (addr_tells b addr) [
+        | inl one ↦
+            (let len : length_at old.store.book b ≡ n = ap (length_at old.store.book) one.1 ∙ unit.sectors_same in
+            ap (λ (g : Geometry). sector_in g (blocks_of (seen_at new) b) i) shape
+            ∙ ap (λ (x : Addr). sector_in (geometry_of old) (blocks_of (seen_at new) x) i) one.1
+            ∙ w.outside i (inr (omega arith))
+            ∙ ap (λ (x : Addr). sector_in (geometry_of old) (blocks_of (seen_at old) x) i) (sym one.1)
+            ∙ padded.zeros sound b i (omega arith))
+        | inr two ↦
+            sector_same old new b i shape (λ k at. w.others k (λ e. two.1 (sym at ∙ e)))
+            ∙ padded.zeros sound b i (omega arith)
+      ]);
+}
+
+-- writes that were then forced are the same writes
+pub writes_then : (old mid new : ArrayState) (addr : Addr) (lba count : ℕ) (bytes : List ℕ) → Writes old addr lba count bytes mid → SameSeen mid new → Writes old addr lba count bytes new
+unfolding sector_in
+writes_then old mid new addr lba count bytes w seen = record {
+  inside = λ i low high. same i ∙ w.inside i low high;
+  outside = λ i apart. same i ∙ w.outside i apart;
+  others = λ k other. seen.same k ∙ w.others k other;
+}
+  where
+    same : (i : ℕ) → sector_in (geometry_of old) (blocks_of (seen_at new) addr) i ≡ sector_in (geometry_of old) (blocks_of (seen_at mid) addr) i
+    same i = ap (λ b. sectors_at b (i % sectors_of (geometry_of old)) 1) (seen.same (key_of addr (i / sectors_of (geometry_of old))))
+
+-- a transfer ends broken only on a broken array
+pub transfer_sound : (transfer : Transfer) (broken : Bool) → (transfer ≡ Broken → IsTrue broken) → broken ≡ false → transfer ≢ Broken
+transfer_sound transfer broken lost now is = let gone = lost is in cc
+
+abbrev write_of : ℕ → ℕ → Bool → Result Command Sense
+write_of lba count fua = Ok (Write lba count fua)
+
+forced_same : (addr : Addr) (lba count l n : ℕ) (new : ArrayState) (fua : Bool) → write_of lba count fua ≡ write_of l n true → (IsTrue fua → IsForced new addr lba count) → IsForced new addr l n
+forced_same addr lba count l n new fua is forced =
+    let first : lba ≡ l = cc in
+    let many : count ≡ n = cc in
+    let set : fua ≡ true = cc in
+    subst (λ k. IsForced new addr l k) many (subst (λ k. IsForced new addr k count) first (forced set))
+
+-- a WRITE of no sectors leaves everything where it was
+unwritten_same : (old new : ArrayState) (lba count l : ℕ) (fua f : Bool) → write_of lba count fua ≡ write_of l 0 f → (count ≡ 0 → new ≡ old) → SamePlaces old new
+unwritten_same old new lba count l fua f is none =
+    let zero : count ≡ 0 = cc in
+    let same : new ≡ old = none zero in
+    record { tables = ap (λ (s : ArrayState). s.store.book) same; cache = ap (λ (s : ArrayState). s.cache) same }
+
+-- a WRITE that was not refused
+pub settles_write : (old new : ArrayState) (addr : Addr) (lba count : ℕ) (fua : Bool) (answer : Stored) (reply : Reply) → is_broken old ≡ false
+    → (answer ≡ Kept → reply ≡ good []) → (answer ≡ Lost → reply ≡ check internal_target_failure) → (answer ≡ Kept → IsTrue fua → IsForced new addr lba count)
+    → (count ≡ 0 → new ≡ old) → Settles old addr (Ok (Write lba count fua)) reply new
+settles_write old new addr lba count fua Kept reply sound done lost forced none = record {
+  reads = λ other. absurd (cc);
+  refused = λ status _. (let told = sym (ap (λ (r : Reply). r.status) (done refl)) ∙ status in absurd (cc));
+  lost = λ gone. absurd (cc);
+  busy = λ status. (let told = sym (ap (λ (r : Reply). r.status) (done refl)) ∙ status in absurd (cc));
+  nothing = λ l f is. unwritten_same old new lba count l fua f is none;
+  forced = λ l n is good. forced_same addr lba count l n new fua is (forced refl);
+}
+settles_write old new addr lba count fua Lost reply sound done lost forced none = record {
+  reads = λ other. absurd (cc);
+  refused = λ _ other. absurd (other (lost refl));
+  lost = λ gone. absurd (cc);
+  busy = λ status. (let told = sym (ap (λ (r : Reply). r.status) (lost refl)) ∙ status in absurd (cc));
+  nothing = λ l f is. unwritten_same old new lba count l fua f is none;
+  forced = λ l n is good. (let told = sym (ap (λ (r : Reply). r.status) (lost refl)) ∙ good in absurd (cc));
+}

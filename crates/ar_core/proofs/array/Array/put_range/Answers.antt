@@ -1,0 +1,36 @@
+use Rattle.std.proofs.Common.{◌≡◌, ◌<◌, ◌*◌, ◌+◌, ℕ, subst, sym, ap, ◌∙◌, arith}
+use Rattle.ar_disks.specs.declared.geometry.Geometry.{Geometry}
+use Rattle.ar_disks.specs.Geometry.{sectors_of, block_len_of}
+use Rattle.ar_core.specs.Array.{ArrayState, is_broken, geometry_of}
+use Rattle.ar_core.specs.Causes.{Follows}
+use Rattle.ar_core.specs.Served.{IsUnit, Writes}
+use Rattle.ar_core.proofs.Serving.{key_known, padded_written, range_written}
+use Rattle.ar_core.proofs.array.Array.put_range.Goals as goal
+
+pub write_sectors-requires-clause-known : goal.write_sectors-requires-clause-known
+write_sectors-requires-clause-known g c = λ rb within.
+    let unit = subst (λ (s : ArrayState). IsUnit s c.args.addr c.args.sectors) (sym c.self.view_is) c.requires.unit in
+    let below : rb * sectors_of (geometry_of c.self.inside.blocks) < c.args.lba + c.args.count =
+    subst (λ (h : Geometry). rb * sectors_of h < c.args.lba + c.args.count) c.geometry-geometry.ensures within in
+    key_known c.self.inside.blocks c.args.addr c.args.sectors rb unit (omega (arith, below, c.requires.within))
+
+pub invariant_of-self : goal.invariant_of-self
+invariant_of-self g c =
+    let unit = subst (λ (s : ArrayState). IsUnit s c.args.addr c.args.sectors) (sym c.self.view_is) c.requires.unit in
+    let follows : Follows c.self.inside.blocks c.write_sectors.new.blocks = c.write_sectors.ensures.keeps.joined in (
+      padded_written c.self.inside.blocks c.write_sectors.new.blocks c.args.addr c.args.sectors c.args.lba c.args.count c.args.bytes.now c.write_sectors.result c.self.invariant.0 unit c.requires.within
+          (ap is_broken c.self.view_is ∙ c.requires.sound) follows c.write_sectors.ensures.answer
+          (λ done.
+          range_written c.self.inside.blocks c.write_sectors.new.blocks c.args.addr c.args.lba c.args.count c.args.bytes.now c.geometry-geometry.result c.geometry-geometry.ensures
+          (c.write_sectors.ensures.inside done) (c.write_sectors.ensures.outside done) (c.write_sectors.ensures.others done)),
+      c.write_sectors.ensures.len ∙ c.self.invariant.1 ∙ ap block_len_of (sym follows.store.accessed.follows.geometry),
+    )
+
+pub returns-clause-nothing : goal.returns-clause-nothing
+returns-clause-nothing g c = λ none. c.write_sectors.ensures.nothing none ∙ c.self.view_is
+
+pub returns-clause-writes : goal.returns-clause-writes
+returns-clause-writes g c = λ done.
+    subst (λ (s : ArrayState). Writes s c.args.addr c.args.lba c.args.count c.args.bytes.now c.write_sectors.new.blocks) c.self.view_is
+    (range_written c.self.inside.blocks c.write_sectors.new.blocks c.args.addr c.args.lba c.args.count c.args.bytes.now c.geometry-geometry.result c.geometry-geometry.ensures
+    (c.write_sectors.ensures.inside done) (c.write_sectors.ensures.outside done) (c.write_sectors.ensures.others done))

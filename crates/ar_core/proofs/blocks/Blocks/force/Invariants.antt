@@ -1,0 +1,19 @@
+use Rattle.std.proofs.Common.{◌≡◌, ℕ, ◌+◌, ◌-◌, ◌<◌, ◌≤◌, false, None}
+use Rattle.ar_cache.specs.Cache.{cached}
+use Rattle.ar_core.specs.Sectors.{key_of}
+use Rattle.ar_core.specs.Array.{is_broken}
+use Rattle.ar_core.specs.Causes.{Follows}
+use Rattle.ar_core.specs.Served.{SameSeen}
+use Rattle.ar_core.proofs.blocks.Blocks.force.Given as goal
+
+-- the blocks so far are on the disks, and none is seen to have changed
+abbrev pub invariant-loop-rb : goal.invariant-loop-rb
+invariant-loop-rb g l = record {
+  sound : is_broken l.self ≡ false;
+  forced : (k : ℕ) → l.first ≤ k → k < l.rb → cached l.self.cache (key_of l.addr k) ≡ None;
+  seen : SameSeen l.fn.self l.self;
+  follows : Follows l.fn.self l.self;
+}
+
+abbrev pub decreases-loop-rb : goal.decreases-loop-rb
+decreases-loop-rb g l = l.last + 1 - l.rb

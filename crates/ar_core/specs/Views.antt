@@ -1,0 +1,60 @@
+-- What an array shows of its tables and its disks.
+use Rattle.std.specs.Prelude.{◌≡◌, ◌≢◌, ◌↔◌, ℕ, ◌<◌, nat_le, not, if◌then◌else◌, Option, Some, None, List, length, map}
+use Rattle.ar_disks.specs.declared.address.Addr.{Addr}
+use Rattle.ar_disks.specs.declared.address.Place.{Place}
+use Rattle.ar_disks.specs.Geometry.{rows_of}
+use Rattle.ar_extents.specs.declared.answers.Got.{Got}
+use Rattle.ar_extents.specs.declared.answers.Got.TheVariants.{Read, Missing as ReadMissing, Broken as ReadBroken}
+use Rattle.ar_extents.specs.Set.{SetState, HasExtent}
+use Rattle.ar_extents.specs.Access.{Gets}
+use Rattle.ar_book.specs.declared.class.Level.{Level}
+use Rattle.ar_book.specs.declared.class.Level.TheVariants.{Unplaced as NowherePlaced, Mirrored as AtMirrored, Parity as AtParity}
+use Rattle.ar_book.specs.declared.class.Slot.{Slot}
+use Rattle.ar_book.specs.Tables.{GroupState, Tables, has_unit, unit_in, home, level, used}
+use Rattle.ar_core.specs.declared.views.LevelOf.{LevelOf}
+use Rattle.ar_core.specs.declared.views.LevelOf.TheVariants as levels
+use Rattle.ar_core.specs.declared.views.HomeOf.{HomeOf}
+use Rattle.ar_core.specs.declared.views.HomeOf.TheVariants as homes
+use Rattle.ar_core.specs.declared.views.GroupUse.{GroupUse}
+use Rattle.ar_core.specs.declared.views.Shown.{Shown}
+use Rattle.ar_core.specs.declared.views.Shown.TheVariants.{Outside, Broken, Missing, Bytes}
+use Rattle.ar_core.specs.Sectors.{key_of}
+
+-- a level, as it is shown
+abbrev pub level_shown : Level → LevelOf
+level_shown NowherePlaced = levels.Unplaced
+level_shown AtMirrored = levels.Mirrored
+level_shown AtParity = levels.Parity
+
+-- the level of a unit's block, where there is one
+abbrev pub level_of : Tables → Addr → ℕ → LevelOf
+level_of t addr rb =
+    if not (has_unit t addr) then levels.Absent else
+    if nat_le (length (unit_in t.units addr).homes) rb then levels.Outside else level_shown (level t (key_of addr rb))
+
+-- a home, as it is shown
+abbrev pub home_shown : Option Slot → HomeOf
+home_shown None = homes.Unplaced
+home_shown (Some slot) = homes.At slot
+
+-- the home of a unit's block, where there is one
+abbrev pub home_of : Tables → Addr → ℕ → HomeOf
+home_of t addr rb =
+    if not (has_unit t addr) then homes.Absent else
+    if nat_le (length (unit_in t.units addr).homes) rb then homes.Outside else home_shown (home t (key_of addr rb))
+
+-- what a group is used for, and how many blocks stand in it
+abbrev pub use_of : GroupState → GroupUse
+use_of g = record { class = g.class; blocks = used g }
+
+-- a row of an extent that there is
+pub record HasRow (s : SetState) (place : Place) (row : ℕ) : Type 0 where
+  pub extent : HasExtent s place
+  pub below : row < rows_of s.geometry
+
+-- what is shown of a row: that there is none, and nothing was read; or what reading it met
+abbrev pub Shows : SetState → SetState → Place → ℕ → List ℕ → Shown → Type 0
+Shows old new place row bytes Outside = (HasRow old place row → ⊥) × (new ≡ old)
+Shows old new place row bytes Broken = HasRow old place row × Gets old new place row bytes ReadBroken
+Shows old new place row bytes Missing = HasRow old place row × Gets old new place row bytes ReadMissing
+Shows old new place row bytes Bytes = HasRow old place row × Gets old new place row bytes Read

@@ -1,0 +1,302 @@
+// The array: what a command to a unit does.
+ghost use Rattle.std.specs.Prelude.{◌≡◌, ◌≢◌, ◌+◌, ◌-◌, ◌*◌, ◌/◌, ◌≤◌, ◌<◌, ◌==◌, ℕ, not, false, true, IsTrue, Bool, None, Ok, nat_lt, if◌then◌else◌, length, List, []};
+ghost use Rattle.ar_disks.specs.declared.address.Key.{Key};
+ghost use Rattle.ar_disks.specs.Geometry.{block_len_of, sectors_of};
+ghost use Rattle.ar_scsi.specs.Reading.{reading};
+ghost use Rattle.ar_scsi.specs.Reply.{good, check, busy};
+ghost use Rattle.ar_scsi.specs.Sense.{internal_target_failure, logical_block_address_out_of_range, data_phase_error, capacity_data_has_changed};
+ghost use Rattle.ar_unit.specs.Unit.{obeyed, IsGiven, leaving, read_reply, write_answer, Present};
+ghost use Rattle.ar_unit.specs.Broken.{broken_obeyed};
+ghost use Rattle.ar_unit.specs.Sectors.{written};
+ghost use Rattle.ar_cache.specs.Backing.{stored};
+ghost use Rattle.ar_cache.specs.Cache.{cached};
+ghost use Rattle.ar_core.specs.Array.{is_broken, geometry_of, seen_at, unit_sectors, mark_at, with_book};
+ghost use Rattle.ar_core.specs.Sectors.{key_of};
+ghost use Rattle.ar_core.specs.Served.{IsUnit, Serves, Settles, SamePlaces, SameSeen, Commands, Writes, present_at, sectors_read};
+ghost use Rattle.ar_core.specs.Causes.{Follows};
+ghost use Rattle.ar_core.specs.Step.{IsForced};
+ghost use Rattle.ar_book.specs.Changes.{unmarked};
+
+use crate::reply::{absent, capacity, inquiry, is_past_end};
+use crate::transfer::{Transfer, read_sectors, write_sectors};
+use crate::{Array, Stored};
+use ar_disks::{Addr, Disk};
+use ar_scsi::{Command, Reply, Sense, decode, is_inquiry};
+use bytes::Bytes;
+use std::alloc::Global;
+
+impl<D: Disk> Array<D> {
+    // Answers a command to an address.
+    pub(crate) fn command(
+        &mut self,
+        alloc: Global,
+        addr: Addr,
+        cdb: &[u8; 16],
+        bytes: &[u8],
+    ) -> Reply
+        ensures { Commands self.old addr cdb.now bytes.now result self.new }
+    {
+        let Some(sectors) = self.blocks.sectors(addr) else {
+            return absent(alloc, cdb);
+        };
+        if self.blocks.mark(addr) && !is_inquiry(cdb) {
+            return self.tell_growth(addr);
+        }
+        self.serve(alloc, addr, sectors, cdb, bytes)
+    }
+
+    // Tells that the unit has grown, once.
+    fn tell_growth(&mut self, addr: Addr) -> Reply
+        ensures told { result ≡ check capacity_data_has_changed }
+        ensures cleared { self.new ≡ with_book self.old (unmarked self.old.store.book addr) }
+        ensures seen { SameSeen self.old self.new }
+    {
+        self.blocks.clear_mark(addr);
+        Reply::check(Sense::CAPACITY_DATA_HAS_CHANGED)
+    }
+
+    // Answers a command to the unit that is there.
+    fn serve(
+        &mut self,
+        alloc: Global,
+        addr: Addr,
+        sectors: u32,
+        cdb: &[u8; 16],
+        bytes: &[u8],
+    ) -> Reply
+        requires { IsUnit self.old addr sectors }
+        ensures serves { Serves self.old addr
+            (obeyed (unit_sectors self.old addr) (mark_at self.old.store.book addr) (reading cdb.now) bytes.now)
+            (broken_obeyed sectors (reading cdb.now) (length bytes.now)) result self.new }
+        ensures settles { Settles self.old addr (reading cdb.now) result self.new }
+    {
+        match decode(cdb) {
+            Err(sense) => Reply::check(sense),
+            Ok(command) => self.obey(alloc, addr, sectors, command, bytes),
+        }
+    }
+
+    // Does what a command with valid fields asks.
+    fn obey(
+        &mut self,
+        alloc: Global,
+        addr: Addr,
+        sectors: u32,
+        command: Command,
+        bytes: &[u8],
+    ) -> Reply
+        requires { IsUnit self.old addr sectors }
+        ensures serves { Serves self.old addr
+            (obeyed (unit_sectors self.old addr) (mark_at self.old.store.book addr) (Ok command) bytes.now)
+            (broken_obeyed sectors (Ok command) (length bytes.now)) result self.new }
+        ensures settles { Settles self.old addr (Ok command) result self.new }
+    {
+        match command {
+            Command::TestReady => self.test_ready(addr),
+            Command::Inquiry { allocation_length } => inquiry(alloc, true, allocation_length),
+            Command::Capacity => capacity(alloc, sectors),
+            Command::Read { lba, count } => self.read(alloc, addr, sectors, lba, count),
+            Command::Write { lba, count, fua } => {
+                self.write(addr, sectors, lba, count, fua, bytes)
+            }
+        }
+    }
+
+    // TEST UNIT READY: GOOD while the data are there.
+    fn test_ready(&self, addr: Addr) -> Reply
+        ensures { Serves self.now addr (leaving (present_at self.now addr) (good []))
+            (check internal_target_failure) result self.now }
+    {
+        if self.blocks.is_broken() {
+            Reply::check(Sense::INTERNAL_TARGET_FAILURE)
+        } else {
+            Reply::good(Bytes::new())
+        }
+    }
+
+    // Does what a READ with valid fields asks.
+    fn read(&mut self, alloc: Global, addr: Addr, sectors: u32, lba: u64, count: u16) -> Reply
+        requires { IsUnit self.old addr sectors }
+        ensures serves { Serves self.old addr
+            (leaving (present_at self.old addr) (read_reply (unit_sectors self.old addr) lba count))
+            (if nat_lt sectors (lba + count) then check logical_block_address_out_of_range else check internal_target_failure)
+            result self.new }
+        ensures places { SamePlaces self.old self.new }
+    {
+        if is_past_end(sectors, lba, count) {
+            return Reply::check(Sense::LOGICAL_BLOCK_ADDRESS_OUT_OF_RANGE);
+        }
+        if self.blocks.is_broken() {
+            return Reply::check(Sense::INTERNAL_TARGET_FAILURE);
+        }
+        self.read_range(alloc, addr, sectors, lba as u32, u32::from(count))
+    }
+
+    // Returns sectors that the unit has.
+    fn read_range(&mut self, alloc: Global, addr: Addr, sectors: u32, lba: u32, count: u32) -> Reply
+        requires unit { IsUnit self.old addr sectors }
+        requires within { lba + count ≤ sectors }
+        requires few { count < 65536 }
+        requires sound { is_broken self.old ≡ false }
+        requires blocks { (k : Key) → length (seen_at self.old k) ≡ block_len_of (geometry_of self.old) }
+        ensures serves { Serves self.old addr
+            (leaving (present_at self.old addr) (good (sectors_read self.old addr lba count)))
+            (check internal_target_failure) result self.new }
+        ensures places { SamePlaces self.old self.new }
+    {
+        if count == 0 {
+            return Reply::good(Bytes::new());
+        }
+        let geometry = self.blocks.geometry();
+        let Ok(mut out) = Vec::with_capacity(alloc, count as usize * 512) else {
+            return Reply::busy();
+        };
+        let transfer = read_sectors(
+            &mut self.blocks,
+            geometry,
+            addr,
+            lba,
+            count,
+            &mut self.block,
+            &mut out,
+        );
+        reply_to_read(transfer, out)
+    }
+
+    // Does what a WRITE with valid fields asks.
+    fn write(
+        &mut self,
+        addr: Addr,
+        sectors: u32,
+        lba: u64,
+        count: u16,
+        fua: bool,
+        bytes: &[u8],
+    ) -> Reply
+        requires { IsUnit self.old addr sectors }
+        ensures serves { Serves self.old addr
+            (write_answer (unit_sectors self.old addr) (mark_at self.old.store.book addr) lba count bytes.now)
+            (if nat_lt sectors (lba + count) then check logical_block_address_out_of_range
+            else (if not (length bytes.now == count * 512) then check data_phase_error else check internal_target_failure))
+            result self.new }
+        ensures settles { Settles self.old addr (Ok (Command.Write lba count fua)) result self.new }
+    {
+        if is_past_end(sectors, lba, count) {
+            return Reply::check(Sense::LOGICAL_BLOCK_ADDRESS_OUT_OF_RANGE);
+        }
+        if bytes.len() != usize::from(count) * 512 {
+            return Reply::check(Sense::DATA_PHASE_ERROR);
+        }
+        if self.blocks.is_broken() {
+            return Reply::check(Sense::INTERNAL_TARGET_FAILURE);
+        }
+        let stored = self.write_range(addr, sectors, lba as u32, u32::from(count), fua, bytes);
+        reply_to_write(stored)
+    }
+
+    // Puts bytes in place of sectors that the unit has, all of them first, and then, for FORCE UNIT ACCESS, writes their blocks to
+    // the disks.
+    fn write_range(
+        &mut self,
+        addr: Addr,
+        sectors: u32,
+        lba: u32,
+        count: u32,
+        fua: bool,
+        bytes: &[u8],
+    ) -> Stored
+        requires unit { IsUnit self.old addr sectors }
+        requires within { lba + count ≤ sectors }
+        requires whole { length bytes.now ≡ count * 512 }
+        requires sound { is_broken self.old ≡ false }
+        ensures answer { result ≡ stored (is_broken self.new) }
+        ensures writes { result ≡ Stored.Done → Writes self.old addr lba count bytes.now self.new }
+        ensures forced { result ≡ Stored.Done → IsTrue fua → IsForced self.new addr lba count }
+        ensures nothing { count ≡ 0 → self.new ≡ self.old }
+        ensures follows { Follows self.old self.new }
+    {
+        match self.put_range(addr, sectors, lba, count, bytes) {
+            Stored::Done if fua => self.force_range(addr, sectors, lba, count),
+            answer => answer,
+        }
+    }
+
+    // Puts bytes in place of sectors that the unit has.
+    fn put_range(&mut self, addr: Addr, sectors: u32, lba: u32, count: u32, bytes: &[u8]) -> Stored
+        requires unit { IsUnit self.old addr sectors }
+        requires within { lba + count ≤ sectors }
+        requires whole { length bytes.now ≡ count * 512 }
+        requires sound { is_broken self.old ≡ false }
+        ensures answer { result ≡ stored (is_broken self.new) }
+        ensures writes { result ≡ Stored.Done → Writes self.old addr lba count bytes.now self.new }
+        ensures nothing { count ≡ 0 → self.new ≡ self.old }
+        ensures follows { Follows self.old self.new }
+    {
+        let geometry = self.blocks.geometry();
+        write_sectors(
+            &mut self.blocks,
+            geometry,
+            addr,
+            lba,
+            count,
+            bytes,
+            &mut self.block,
+        )
+    }
+
+    // Writes the blocks of sectors that the unit has to the disks, where they are cached.
+    fn force_range(&mut self, addr: Addr, sectors: u32, lba: u32, count: u32) -> Stored
+        requires unit { IsUnit self.old addr sectors }
+        requires within { lba + count ≤ sectors }
+        requires sound { is_broken self.old ≡ false }
+        ensures answer { result ≡ stored (is_broken self.new) }
+        ensures forced { result ≡ Stored.Done → IsForced self.new addr lba count }
+        ensures seen { result ≡ Stored.Done → SameSeen self.old self.new }
+        ensures nothing { count ≡ 0 → self.new ≡ self.old }
+        ensures follows { Follows self.old self.new }
+    {
+        if count == 0 {
+            return Stored::Done;
+        }
+        let sectors_of_a_block = self.blocks.geometry().sectors();
+        let first = lba / sectors_of_a_block;
+        let last = (lba + count - 1) / sectors_of_a_block;
+        self.blocks.force(addr, first, last)
+    }
+}
+
+// The reply to a READ whose transfer ended so, with these bytes.
+fn reply_to_read(transfer: Transfer, bytes: Vec<u8>) -> Reply
+    requires { transfer ≡ Transfer.Done → bytes.items ≢ [] }
+    ensures done { transfer ≡ Transfer.Done → IsGiven (good bytes.items) result }
+    ensures broken { transfer ≡ Transfer.Broken → result ≡ check internal_target_failure }
+    ensures memory { transfer ≡ Transfer.NoMemory → result ≡ busy }
+{
+    match transfer {
+        Transfer::Done => good_with(bytes),
+        Transfer::Broken => Reply::check(Sense::INTERNAL_TARGET_FAILURE),
+        Transfer::NoMemory => Reply::busy(),
+    }
+}
+
+// The reply to a WRITE whose transfer ended so.
+fn reply_to_write(stored: Stored) -> Reply
+    ensures done { stored ≡ Stored.Done → result ≡ good [] }
+    ensures broken { stored ≡ Stored.Broken → result ≡ check internal_target_failure }
+{
+    match stored {
+        Stored::Done => Reply::good(Bytes::new()),
+        Stored::Broken => Reply::check(Sense::INTERNAL_TARGET_FAILURE),
+    }
+}
+
+// GOOD with these bytes, or BUSY where there is no memory to share them.
+fn good_with(bytes: Vec<u8>) -> Reply
+    requires { bytes.items ≢ [] }
+    ensures { IsGiven (good bytes.items) result }
+{
+    match Bytes::from_vec(bytes) {
+        Ok(payload) => Reply::good(payload),
+        Err(_) => Reply::busy(),
+    }
+}

@@ -1,0 +1,19 @@
+use Rattle.std.proofs.Common.{◌≡◌, IfErr, sym, subst, rules}
+use Rattle.std.proofs.lemmas.Result.{IfOk-at_ok}
+use Rattle.ar_script.specs.declared.fault.FaultKind.TheVariants.{WriteFault}
+use Rattle.ar_script.specs.declared.order.Order.{Order}
+use Rattle.ar_script.specs.Orders.{Acts, Leaves}
+use Rattle.ar_script.proofs.AnswerLemmas.{ok_before, acted}
+use Rattle.ar_script.proofs.runner.Runner.answer.Goals as goal
+
+pub returns-in_ok-outcome-in-Act-clause-leaves : goal.returns-in_ok-outcome-in-Act-clause-leaves
+returns-in_ok-outcome-in-Act-clause-leaves g c =
+    let old = c.args.self.now in
+    let new = c.act.new.self in
+    let result = c.map_err-in-Act.result in
+    let outcome = c.in_ok-outcome-in-Act.outcome in
+    let done = ok_before c.act.result c.map_err.result outcome _ c.map_err.ensures.cases c.in_ok-outcome-in-Act.was in
+    let acts : Acts c.in-Act.action old new = record { outcome = outcome; steps = IfOk-at_ok _ done c.act.ensures.done } in
+    let unwritten : IfErr result (λ kind. kind ≡ WriteFault) = search rules in
+    let P : Order → Type 0 = λ order. Leaves order old result new in
+    subst P (sym c.in-Act.is) (acted c.in-Act.action old new result unwritten acts)

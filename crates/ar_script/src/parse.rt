@@ -1,0 +1,252 @@
+// The words of a line, read as what they ask for.
+ghost use Rattle.std.specs.Prelude.{◌≢◌, IfErr};
+
+use crate::order::{Action, Data, Notation, Order, Question};
+use crate::{FaultKind, blocks, words};
+use ar_disks::{Addr, Host};
+use std::alloc::Global;
+
+const NO_DATA: Data = Data { len: 0, byte: 0 };
+
+/// Reads a line, of which an empty one and one that begins with `#` ask for nothing.
+pub fn order_in(alloc: Global, line: &str) -> Result<Option<Order>, FaultKind>
+    ensures { IfErr result (λ kind. kind ≢ FaultKind.TooManyLines) }
+{
+    if line.is_empty() || line.starts_with('#') {
+        return Ok(None);
+    }
+    let words = words::split_words(alloc, line).map_err(|_| FaultKind::NoMemory)?;
+    if words.iter().any(|word| word.is_empty()) {
+        return Err(FaultKind::BadArgument);
+    }
+    match words.split_first() {
+        Some((name, arguments)) => order_of(name, arguments).map(Some),
+        None => Ok(None),
+    }
+}
+
+// Reads the arguments as those of the order that has this name.
+fn order_of(name: &str, arguments: &[&str]) -> Result<Order, FaultKind>
+    ensures { IfErr result (λ kind. kind ≢ FaultKind.TooManyLines) }
+{
+    let order = match name {
+        "make" => make(arguments),
+        "grow" => grow(arguments),
+        "drop" => remove(arguments),
+        "tur" => test_unit_ready(arguments),
+        "inquiry" => inquiry(arguments),
+        "capacity" => capacity(arguments),
+        "read" => read(arguments),
+        "write" => write(arguments),
+        "read16" => read_16(arguments),
+        "write16" => write_16(arguments),
+        "cdb" => command_block(arguments),
+        "flush" => alone(arguments, Order::Act(Action::Flush)),
+        "out" => disk_out(arguments),
+        "levels" => levels(arguments),
+        "home" => home(arguments),
+        "groups" => alone(arguments, Order::Ask(Question::Groups)),
+        "room" => alone(arguments, Order::Ask(Question::Room)),
+        "health" => alone(arguments, Order::Ask(Question::Health)),
+        "block" => block(arguments),
+        _ => return Err(FaultKind::UnknownWord),
+    };
+    order.ok_or(FaultKind::BadArgument)
+}
+
+fn make(arguments: &[&str]) -> Option<Order> {
+    let (addr, sectors) = unit_and_number(arguments)?;
+    Some(Order::Act(Action::Make(addr, sectors)))
+}
+
+fn grow(arguments: &[&str]) -> Option<Order> {
+    let (addr, sectors) = unit_and_number(arguments)?;
+    Some(Order::Act(Action::Grow(addr, sectors)))
+}
+
+fn remove(arguments: &[&str]) -> Option<Order> {
+    let addr = unit(arguments)?;
+    Some(Order::Act(Action::Remove(addr)))
+}
+
+fn test_unit_ready(arguments: &[&str]) -> Option<Order> {
+    let addr = unit(arguments)?;
+    Some(command(addr, blocks::test_unit_ready()))
+}
+
+fn inquiry(arguments: &[&str]) -> Option<Order> {
+    let [host, lun, len] = arguments else {
+        return None;
+    };
+    let addr = address(host, lun)?;
+    Some(command(addr, blocks::inquiry(number_16(len)?)))
+}
+
+fn capacity(arguments: &[&str]) -> Option<Order> {
+    let addr = unit(arguments)?;
+    Some(command(addr, blocks::read_capacity()))
+}
+
+fn read(arguments: &[&str]) -> Option<Order> {
+    let [host, lun, lba, count] = arguments else {
+        return None;
+    };
+    let addr = address(host, lun)?;
+    let cdb = blocks::read_10(number_32(lba)?, number_16(count)?);
+    Some(reading(addr, cdb))
+}
+
+fn read_16(arguments: &[&str]) -> Option<Order> {
+    let [host, lun, lba, count] = arguments else {
+        return None;
+    };
+    let addr = address(host, lun)?;
+    let cdb = blocks::read_16(words::number(lba)?, number_16(count)?);
+    Some(reading(addr, cdb))
+}
+
+fn write(arguments: &[&str]) -> Option<Order> {
+    let (fua, arguments) = force_unit_access(arguments);
+    let [host, lun, lba, count, byte] = arguments else {
+        return None;
+    };
+    let addr = address(host, lun)?;
+    let count = number_16(count)?;
+    let cdb = blocks::write_10(number_32(lba)?, count, fua);
+    Some(writing(addr, cdb, count, words::byte(byte)?))
+}
+
+fn write_16(arguments: &[&str]) -> Option<Order> {
+    let (fua, arguments) = force_unit_access(arguments);
+    let [host, lun, lba, count, byte] = arguments else {
+        return None;
+    };
+    let addr = address(host, lun)?;
+    let count = number_16(count)?;
+    let cdb = blocks::write_16(words::number(lba)?, count, fua);
+    Some(writing(addr, cdb, count, words::byte(byte)?))
+}
+
+fn command_block(arguments: &[&str]) -> Option<Order> {
+    match arguments {
+        [host, lun, block] => Some(command(address(host, lun)?, words::block(block)?)),
+        [host, lun, block, count, byte] => Some(Order::Act(Action::Command {
+            addr: address(host, lun)?,
+            cdb: words::block(block)?,
+            data: Data {
+                len: u32::from(number_16(count)?),
+                byte: words::byte(byte)?,
+            },
+            notation: Notation::Bytes,
+        })),
+        _ => None,
+    }
+}
+
+fn disk_out(arguments: &[&str]) -> Option<Order> {
+    let [disk] = arguments else {
+        return None;
+    };
+    Some(Order::Act(Action::DiskOut(number_8(disk)?)))
+}
+
+fn levels(arguments: &[&str]) -> Option<Order> {
+    let addr = unit(arguments)?;
+    Some(Order::Ask(Question::Levels(addr)))
+}
+
+fn home(arguments: &[&str]) -> Option<Order> {
+    let (addr, rb) = unit_and_number(arguments)?;
+    Some(Order::Ask(Question::Home(addr, rb)))
+}
+
+fn block(arguments: &[&str]) -> Option<Order> {
+    let [disk, extent, row] = arguments else {
+        return None;
+    };
+    Some(Order::Ask(Question::Block {
+        disk: number_8(disk)?,
+        extent: number_16(extent)?,
+        row: number_16(row)?,
+    }))
+}
+
+// An order whose name stands alone.
+fn alone(arguments: &[&str], order: Order) -> Option<Order> {
+    arguments.is_empty().then_some(order)
+}
+
+// Whether the last of the arguments asks for FORCE UNIT ACCESS, and the others.
+fn force_unit_access<'a, 'b>(arguments: &'a [&'b str]) -> (bool, &'a [&'b str]) {
+    match arguments {
+        [others @ .., "fua"] => (true, others),
+        _ => (false, arguments),
+    }
+}
+
+// A command without data, whose bytes are printed one by one.
+fn command(addr: Addr, cdb: [u8; 16]) -> Order {
+    Order::Act(Action::Command {
+        addr,
+        cdb,
+        data: NO_DATA,
+        notation: Notation::Bytes,
+    })
+}
+
+// A command that returns sectors.
+fn reading(addr: Addr, cdb: [u8; 16]) -> Order {
+    Order::Act(Action::Command {
+        addr,
+        cdb,
+        data: NO_DATA,
+        notation: Notation::Runs,
+    })
+}
+
+// A command that takes so many sectors, each byte the same.
+fn writing(addr: Addr, cdb: [u8; 16], count: u16, byte: u8) -> Order {
+    Order::Act(Action::Command {
+        addr,
+        cdb,
+        data: Data {
+            len: u32::from(count) * 512,
+            byte,
+        },
+        notation: Notation::Runs,
+    })
+}
+
+// A unit's address, and nothing more.
+fn unit(arguments: &[&str]) -> Option<Addr> {
+    let [host, lun] = arguments else {
+        return None;
+    };
+    address(host, lun)
+}
+
+// A unit's address and a number.
+fn unit_and_number(arguments: &[&str]) -> Option<(Addr, u32)> {
+    let [host, lun, number] = arguments else {
+        return None;
+    };
+    Some((address(host, lun)?, number_32(number)?))
+}
+
+fn address(host: &str, lun: &str) -> Option<Addr> {
+    let host = Host::new(number_8(host)?)?;
+    let lun = number_8(lun)?;
+    Some(Addr { host, lun })
+}
+
+fn number_8(word: &str) -> Option<u8> {
+    u8::try_from(words::number(word)?).ok()
+}
+
+fn number_16(word: &str) -> Option<u16> {
+    u16::try_from(words::number(word)?).ok()
+}
+
+fn number_32(word: &str) -> Option<u32> {
+    u32::try_from(words::number(word)?).ok()
+}

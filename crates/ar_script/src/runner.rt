@@ -1,0 +1,159 @@
+// What a script runs on: an array, and how it answers an order.
+ghost use Rattle.std.specs.Prelude.{◌≡◌, ◌≢◌, ◌≤◌, IfOk, IfErr, OnOk, OnErr, replicate};
+ghost use Rattle.ar_core.specs.Start.{IsStarted};
+ghost use Rattle.ar_core.specs.Step.{Steps};
+ghost use Rattle.ar_script.specs.Orders.{event_in, Looks, Leaves};
+ghost use Rattle.ar_script.specs.Setups.{disks_of};
+
+use crate::order::{Action, Data, Order, Question};
+use crate::text::{write_groups, write_health, write_home, write_levels, write_outcome, write_row};
+use crate::{Fault, FaultKind, Setup};
+use ar_core::{Array, CAPACITY_LIMIT, Event, Outcome};
+use ar_disks::{Block, MemDisk};
+use bytes::Bytes;
+use std::alloc::{AllocError, Global};
+use std::io::Write;
+use std::marker::Model;
+
+/// What stands in every byte of a new disk.
+const NEW_BYTE: u8 = 0xEE;
+
+/// An array on disks in memory, and a block into which their rows are read. Contracts see it as the array.
+#[derive(Drop)]
+pub struct Runner {
+    array: Array<MemDisk>,
+    row: Block,
+}
+
+impl Model for Runner {
+    ghost use Rattle.std.specs.Prelude.{◌≡◌, length};
+    ghost use Rattle.ar_disks.specs.Geometry.{block_len_of};
+    ghost use Rattle.ar_core.specs.Array.{ArrayState, geometry_of};
+
+    ghost Value = { ArrayState };
+
+    ghost view = { λ r. r.array };
+
+    ghost invariant = { λ r. length r.row ≡ block_len_of (geometry_of r.array) };
+}
+
+impl Runner {
+    /// A new array on new disks. A cache of more than 65,536 blocks is refused, as are disks of which no array can be made.
+    pub fn start(alloc: Global, setup: Setup) -> Result<Runner, Fault>
+        ensures refused { IfErr result (λ fault. fault ≡ Fault.Start) }
+        ensures few { OnOk result (setup.cache ≤ CAPACITY_LIMIT) }
+        ensures started { IfOk result (IsStarted (disks_of setup) setup.cache) }
+    {
+        if setup.cache > CAPACITY_LIMIT {
+            return Err(Fault::Start);
+        }
+        let row = Block::new(alloc, setup.geometry).map_err(|_| Fault::Start)?;
+        let disks = new_disks(alloc, setup).map_err(|_| Fault::Start)?;
+        let array = Array::start(alloc, disks, setup.cache).map_err(|_| Fault::Start)?;
+        Ok(Runner { array, row })
+    }
+
+    /// Does or shows what a line asks for, and writes the answer.
+    pub fn answer<W: Write>(
+        &mut self,
+        alloc: Global,
+        order: Order,
+        out: &mut W,
+    ) -> Result<(), FaultKind>
+        ensures few { IfErr result (λ kind. kind ≢ FaultKind.TooManyLines) }
+        ensures leaves { Leaves order self.old result self.new }
+    {
+        match order {
+            Order::Act(action) => {
+                let outcome = self.act(alloc, action).map_err(|_| FaultKind::NoMemory)?;
+                write_outcome(out, &outcome, action.notation()).map_err(|_| FaultKind::WriteFault)
+            }
+            Order::Ask(question) => self.show(alloc, question, out),
+        }
+    }
+
+    // Does one action. Where memory for its data is refused, it is not done.
+    fn act(&mut self, alloc: Global, action: Action) -> Result<Outcome, AllocError>
+        ensures done { IfOk result (λ outcome. Steps self.old (event_in action) outcome self.new) }
+        ensures refused { OnErr result (self.new ≡ self.old) }
+    {
+        let event = event_of(alloc, action)?;
+        Ok(self.array.step(alloc, event))
+    }
+
+    // Writes what is asked.
+    fn show<W: Write>(
+        &mut self,
+        alloc: Global,
+        question: Question,
+        out: &mut W,
+    ) -> Result<(), FaultKind>
+        ensures few { IfErr result (λ kind. kind ≢ FaultKind.TooManyLines) }
+        ensures looks { Looks question self.old self.new }
+    {
+        let written = match question {
+            Question::Levels(addr) => write_levels(out, &self.array, addr),
+            Question::Home(addr, rb) => write_home(out, self.array.home_of(addr, rb)),
+            Question::Groups => {
+                let groups = self.array.groups(alloc).map_err(|_| FaultKind::NoMemory)?;
+                write_groups(out, &groups)
+            }
+            Question::Room => {
+                let room = self.array.free_room();
+                writeln!(out, "room {room}")
+            }
+            Question::Health => write_health(out, self.array.health()),
+            Question::Block { disk, extent, row } => {
+                let shown = self.array.block_at(disk, extent, row, &mut self.row);
+                write_row(out, shown, self.row.bytes())
+            }
+        };
+        written.map_err(|_| FaultKind::WriteFault)
+    }
+}
+
+// Disks that are filled with one byte.
+fn new_disks(alloc: Global, setup: Setup) -> Result<Vec<MemDisk>, AllocError>
+    ensures { IfOk result (λ disks. disks.items ≡ disks_of setup) }
+{
+    let mut disks = Vec::new(alloc);
+    for _ in 0..setup.disks {
+        let disk = MemDisk::filled(alloc, setup.geometry, setup.extents, NEW_BYTE)?;
+        disks.push(disk)?;
+    }
+    Ok(disks)
+}
+
+// The event that an action is.
+fn event_of(alloc: Global, action: Action) -> Result<Event, AllocError>
+    ensures { IfOk result (λ event. event ≡ event_in action) }
+{
+    match action {
+        Action::Make(addr, sectors) => Ok(Event::Make(addr, sectors)),
+        Action::Grow(addr, sectors) => Ok(Event::Grow(addr, sectors)),
+        Action::Remove(addr) => Ok(Event::Remove(addr)),
+        Action::Command {
+            addr,
+            cdb,
+            data,
+            ..
+        } => Ok(Event::Cmd {
+            host: addr.host,
+            lun: addr.lun,
+            cdb,
+            payload: payload(alloc, data)?,
+        }),
+        Action::Flush => Ok(Event::Flush),
+        Action::DiskOut(disk) => Ok(Event::DiskOut(disk)),
+    }
+}
+
+fn payload(alloc: Global, data: Data) -> Result<Bytes, AllocError>
+    ensures { IfOk result (λ bytes. bytes ≡ replicate «data».len «data».byte) }
+{
+    if data.len == 0 {
+        return Ok(Bytes::new());
+    }
+    let bytes = vec![in alloc; data.byte; data.len as usize]?;
+    Ok(Bytes::from_vec(bytes)?)
+}
