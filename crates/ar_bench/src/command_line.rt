@@ -1,0 +1,152 @@
+// What the words of a command line ask for.
+use crate::workload::Workload;
+use clap::error::ErrorKind;
+use clap::{Arg, ArgAction, ArgMatches, Command, Error as ParseError, value_parser};
+use std::alloc::Global;
+use std::convert::AsStr;
+use thiserror::Error;
+
+/// What is to be measured.
+#[derive(Clone, Copy, Debug, PartialEq, Eq)]
+pub struct Options {
+    /// One workload, or all.
+    pub workload: Option<Workload>,
+    /// For how many seconds each workload runs.
+    pub seconds: u32,
+    pub seed: u64,
+    /// Whether each workload is told on standard error when it begins.
+    pub shows_progress: bool,
+    /// Whether nothing is timed, and a digest of what is read back is printed.
+    pub is_check: bool,
+}
+
+/// Why a command line asks for nothing that the program does.
+#[derive(Clone, Copy, Debug, PartialEq, Eq, Error)]
+pub enum CommandLineFault {
+    /// The words are not options and their values. A call for help is no command either.
+    #[error("bad command line: ar_bench [--workload NAME] [--seconds 1..600] [--seed N] [--progress] [--check]")]
+    Bad,
+    /// There is no workload of this name.
+    #[error("no such workload: fill overwrite overwrite-cached small-write read small-read parity-read parity-write degraded-read degraded-write many-groups")]
+    Workload,
+    /// Memory was refused.
+    #[error("no memory")]
+    NoMemory,
+}
+
+/// The options among all words of the command line, the program's name first.
+pub fn options_in<S: AsStr>(alloc: Global, words: &[S]) -> Result<Options, CommandLineFault> {
+    let matches = matches_of(alloc, words).map_err(|error| fault_of(&error))?;
+    let workload = match matches.get_str("workload") {
+        Some(name) => Some(Workload::of_name(name).ok_or(CommandLineFault::Workload)?),
+        None => None,
+    };
+    options_of(&matches, workload).ok_or(CommandLineFault::Bad)
+}
+
+fn fault_of(error: &ParseError) -> CommandLineFault {
+    match error.kind() {
+        ErrorKind::OutOfMemory => CommandLineFault::NoMemory,
+        _ => CommandLineFault::Bad,
+    }
+}
+
+fn matches_of<'a, S: AsStr>(alloc: Global, words: &'a [S]) -> Result<ArgMatches<'a>, ParseError> {
+    let seconds = Arg::new(alloc, "seconds")
+        .long("seconds")
+        .value_parser(value_parser!(u32).range(1..=600))
+        .default_value("2");
+    let seed = Arg::new(alloc, "seed")
+        .long("seed")
+        .value_parser(value_parser!(u64))
+        .default_value("1");
+    let progress = Arg::new(alloc, "progress")
+        .long("progress")
+        .action(ArgAction::SetTrue);
+    let check = Arg::new(alloc, "check")
+        .long("check")
+        .action(ArgAction::SetTrue);
+    let command = Command::new(alloc, "ar_bench")
+        .arg(Arg::new(alloc, "workload").long("workload"))?
+        .arg(seconds)?
+        .arg(seed)?
+        .arg(progress)?
+        .arg(check)?;
+    command.try_get_matches_from(words)
+}
+
+fn options_of(matches: &ArgMatches<'_>, workload: Option<Workload>) -> Option<Options> {
+    Some(Options {
+        workload,
+        seconds: matches.get_one("seconds")?,
+        seed: matches.get_one("seed")?,
+        shows_progress: matches.get_flag("progress"),
+        is_check: matches.get_flag("check"),
+    })
+}
+
+#[cfg(test)]
+mod tests {
+    use super::*;
+
+    const PLAIN: Options = Options {
+        workload: None,
+        seconds: 2,
+        seed: 1,
+        shows_progress: false,
+        is_check: false,
+    };
+
+    #[test]
+    fn command_lines_that_run(rt: HostRuntime) {
+        let alloc = rt.alloc();
+        assert_eq!(rt; options_in(alloc, ["ar_bench"].as_slice()), Ok(PLAIN));
+        let all = [
+            "ar_bench",
+            "--workload",
+            "parity-read",
+            "--seconds=600",
+            "--seed",
+            "18446744073709551615",
+            "--progress",
+            "--check",
+        ];
+        let options = Options {
+            workload: Some(Workload::ParityRead),
+            seconds: 600,
+            seed: u64::MAX,
+            shows_progress: true,
+            is_check: true,
+        };
+        assert_eq!(rt; options_in(alloc, all.as_slice()), Ok(options));
+    }
+
+    #[test]
+    fn command_lines_that_are_refused(rt: HostRuntime) {
+        let alloc = rt.alloc();
+        for words in [
+            &["ar_bench", "fill"][..],
+            &["ar_bench", "--help"],
+            &["ar_bench", "--workload"],
+            &["ar_bench", "--seconds", "0"],
+            &["ar_bench", "--seconds", "601"],
+            &["ar_bench", "--seconds", "two"],
+            &["ar_bench", "--seconds", "1", "--seconds", "1"],
+            &["ar_bench", "--seed", "-1"],
+            &["ar_bench", "--seed", "18446744073709551616"],
+            &["ar_bench", "--check", "1"],
+            &["ar_bench", "--geometry", "small"],
+        ] {
+            assert_eq!(rt;
+                options_in(alloc, words),
+                Err(CommandLineFault::Bad),
+                "{words:?}"
+            );
+        }
+        for name in ["", "Fill", "fills", "overwrite cached"] {
+            let words = ["ar_bench", "--workload", name];
+            let fault = Err(CommandLineFault::Workload);
+            assert_eq!(rt; options_in(alloc, words.as_slice()), fault, "{name:?}");
+        }
+    }
+}
