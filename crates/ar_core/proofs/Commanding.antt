@@ -31,13 +31,17 @@ use Rattle.ar_book.proofs.AfterMake.{unmarked_sectors}
 use Rattle.ar_book.proofs.Keys.{addr_tells}
 use Rattle.ar_book.proofs.Presence.{unmarked_there}
 use Rattle.ar_book.proofs.UnitLemmas.{unit_same, unit_other}
+use Rattle.ar_extents.specs.Follows.{Keeps, Anywhere}
 use Rattle.ar_store.specs.Calls.{IsAccessed}
+use Rattle.ar_store.specs.Placing.{SameUnits}
+use Rattle.ar_store.proofs.Changes.{units_refl}
 use Rattle.ar_store.proofs.Fills.{accessed_refl}
 use Rattle.ar_core.specs.declared.event.Event.{Event}
 use Rattle.ar_core.specs.declared.event.Event.TheVariants.{Cmd as CmdEvent}
 use Rattle.ar_core.specs.declared.event.Outcome.TheVariants.{Cmd as CmdOutcome}
 use Rattle.ar_core.specs.Sectors.{address_of, same_address, sectors_in, blocks_of}
 use Rattle.ar_core.specs.Array.{ArrayState, is_broken, geometry_of, with_book, seen_at, length_at, mark_at, unit_sectors, image_at, image}
+use Rattle.ar_core.specs.Laws.{reads_refl}
 use Rattle.ar_core.specs.Served.{IsUnit, Serves, Settles, SamePlaces, SameSeen, Commands, present_at}
 use Rattle.ar_core.specs.Step.{Steps, Obeys, IsQuiet, addr_in, told, is_busy, entry_at}
 use Rattle.ar_core.proofs.Causes.{cause_accessed}
@@ -128,7 +132,7 @@ commands_served old new addr n cdb bytes reply unit quiet serves settles =
     let shape = shape_present old addr unit.there in
     let still : shape_of (image_at new addr) ≡ shape_of (image_at old addr) = shape_same old new addr same in
     let kept : SamePlaces old new → IsQuiet old addr cdb new =
-    λ places. record { tables = places.tables ∙ sym (ap (λ b. cond b (unmarked old.store.book addr) old.store.book) quiet); cache = places.cache } in
+    λ places. record { tables = places.reads.tables ∙ sym (ap (λ b. cond b (unmarked old.store.book addr) old.store.book) quiet); cache = places.cache; rows = places.reads.rows } in
     let sound : is_broken new ≡ false → IsServed (image_at old addr) (answer (image_at old addr) cdb bytes) reply (image_at new addr) =
     λ now.
     subst (λ (u : UnitState). IsServed u (answer u cdb bytes) reply (image_at new addr)) (sym before)
@@ -138,6 +142,7 @@ commands_served old new addr n cdb bytes reply unit quiet serves settles =
       obeys = record {
         sound = sound;
         failure = failure_told (is_broken new) (image_at old addr) cdb bytes reply (image_at new addr) sound;
+        units = subst (λ (t : Tables). SameUnits t new.store.book) (sym (ap (λ b. cond b (unmarked old.store.book addr) old.store.book) quiet)) serves.follows.store.units;
         broken = λ lost.
             subst (λ (s : Shape). IsGiven (broken_answer s cdb (length bytes)) reply) (sym shape)
             (subst (λ (r : Reply). IsGiven r reply) (sym (broken_quiet (length_at old.store.book addr) mark cdb (length bytes) quiet))
@@ -205,7 +210,7 @@ commands_told old new addr n cdb bytes reply unit tells is cleared seen =
     let later : image_at new addr ≡ Present (unit_sectors old addr) false =
     image_present new addr there ∙ ap (λ m. Present (unit_sectors new addr) m) gone ∙ ap (λ (l : List (List ℕ)). Present l false) (sectors_after old new addr len shape seen) in
     let before : image_at old addr ≡ present_at old addr = image_present old addr unit.there in
-    let quiet : IsQuiet old addr cdb new = record { tables = tables ∙ sym (ap (λ b. cond b (unmarked old.store.book addr) old.store.book) tells); cache = cache } in
+    let quiet : IsQuiet old addr cdb new = record { tables = tables ∙ sym (ap (λ b. cond b (unmarked old.store.book addr) old.store.book) tells); cache = cache; rows = subst (λ (s : ArrayState). Keeps Anywhere old.store.disks s.store.disks) (sym cleared) (reads_refl old.store).rows } in
     let other_unit : (b : Addr) → b ≢ addr → SameUnit old.store.book new.store.book b =
     λ b other. subst (λ (t : Tables). SameUnit old.store.book t b) (sym tables) (record {
       there = unmarked_there old.store.book addr b;
@@ -225,6 +230,7 @@ commands_told old new addr n cdb bytes reply unit tells is cleared seen =
       obeys = record {
         sound = sound;
         failure = failure_told (is_broken new) (image_at old addr) cdb bytes reply (image_at new addr) sound;
+        units = subst (λ (t : Tables). SameUnits (told old.store.book addr cdb) t) (sym quiet.tables) (units_refl (told old.store.book addr cdb));
         broken = λ lost.
             subst (λ (s : Shape). IsGiven (broken_answer s cdb (length bytes)) reply) (sym (shape_present old addr unit.there))
             (subst (λ (r : Reply). IsGiven r reply) (sym (broken_told (length_at old.store.book addr) mark cdb (length bytes) tells)) (given_is reply capacity_data_has_changed is));
@@ -277,7 +283,7 @@ pub commands_absent : (s : ArrayState) (addr : Addr) (cdb bytes : List ℕ) (rep
 unfolding answer broken_answer
 commands_absent s addr cdb bytes reply none given =
     let nothing : image_at s addr ≡ Absent = image_absent s addr none in
-    let quiet : IsQuiet s addr cdb s = record { tables = sym (ap (λ m. cond (m && not (operation_code cdb == 0x12)) (unmarked s.store.book addr) s.store.book) (absent_mark s.store.book addr none)); cache = refl } in
+    let quiet : IsQuiet s addr cdb s = record { tables = sym (ap (λ m. cond (m && not (operation_code cdb == 0x12)) (unmarked s.store.book addr) s.store.book) (absent_mark s.store.book addr none)); cache = refl; rows = (reads_refl s.store).rows } in
     let sound : is_broken s ≡ false → IsServed (image_at s addr) (answer (image_at s addr) cdb bytes) reply (image_at s addr) =
     λ now.
     subst (λ (u : UnitState). IsServed u (answer u cdb bytes) reply u) (sym nothing)
@@ -286,6 +292,7 @@ commands_absent s addr cdb bytes reply none given =
       obeys = record {
         sound = sound;
         failure = failure_told (is_broken s) (image_at s addr) cdb bytes reply (image_at s addr) sound;
+        units = subst (λ (t : Tables). SameUnits (told s.store.book addr cdb) t) (sym quiet.tables) (units_refl (told s.store.book addr cdb));
         broken = λ lost. subst (λ (u : UnitState). IsGiven (broken_answer (shape_of u) cdb (length bytes)) reply) (sym nothing) given;
         reads = λ _. quiet;
         refused = λ _ _. quiet;

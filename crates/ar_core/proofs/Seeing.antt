@@ -172,14 +172,16 @@ pub flushed_one : {S : Type 0} (store : S → StoreState) (answer : Flush) (s n 
     → Flushes answer c d → ((answer ≡ flushes.Idle) ↔ (c.entries ≡ [])) → Gives answer c.entries (stands (store s)) (stands (store n))
     → IsPut (λ (o : S) (key : Key) (m : S). Puts (store o).book key (store m).book) answer s n → (answer ≡ flushes.Idle → n ≡ s)
     → IsHonest (answer_of answer) (is_broken_set (store s).disks.health) (is_broken_set (store n).disks.health)
+    → SameUnits (store s).book (store n).book
     → FlushesOne (record { store = store s; cache = c }) answer (record { store = store n; cache = d })
-flushed_one {S} store answer s n c d sound entries idle given put quiet honest =
+flushed_one {S} store answer s n c d sound entries idle given put quiet honest units =
     let new : ArrayState = record { store = store n; cache = d } in
     let kept = flush_idle answer c d entries in
     record {
       entries = entries;
       given = λ _. given;
       put = flush_put store answer s n put;
+      units = units;
       idle = λ is.
           ap (λ (m : S). let made : ArrayState = record { store = store m; cache = d } in made) (quiet is)
           ∙ ap (λ (e : CacheState). let made : ArrayState = record { store = store s; cache = e } in made) (kept is);

@@ -23,11 +23,12 @@ use Rattle.ar_unit.specs.Sectors.{cut, written, joined}
 use Rattle.ar_unit.specs.Unit.{Present, Answered, leaving, read_reply, write_answer, IsGiven}
 use Rattle.ar_book.specs.Tables.{unit_in, blocks_of as blocks_for}
 use Rattle.ar_cache.specs.Backing.{stored}
+use Rattle.ar_cache.specs.Cache.{CacheState, cached}
 use Rattle.ar_core.specs.Sectors.{sector_in, sectors_in, blocks_of, key_of}
 use Rattle.ar_core.specs.Array.{ArrayState, is_broken, geometry_of, seen_at, knows_in, length_at, mark_at, unit_sectors, IsPadded}
 use Rattle.ar_core.specs.Causes.{Follows}
 use Rattle.ar_core.specs.Laws.{follows_refl, places_refl}
-use Rattle.ar_core.specs.Served.{IsUnit, Serves, Settles, SamePlaces, SameSeen, Writes, present_at, sectors_read}
+use Rattle.ar_core.specs.Served.{IsUnit, Serves, Settles, SamePlaces, SameSeen, Writes, IsSpared, present_at, sectors_read}
 use Rattle.ar_core.specs.Step.{is_write, IsForced}
 use Rattle.ar_core.specs.declared.transfer.Transfer.{Transfer}
 use Rattle.ar_core.specs.declared.transfer.Transfer.TheVariants.{Done, Broken, NoMemory}
@@ -367,7 +368,7 @@ unwritten_same : (old new : ArrayState) (lba count l : ℕ) (fua f : Bool) → w
 unwritten_same old new lba count l fua f is none =
     let zero : count ≡ 0 = cc in
     let same : new ≡ old = none zero in
-    record { tables = ap (λ (s : ArrayState). s.store.book) same; cache = ap (λ (s : ArrayState). s.cache) same }
+    subst (SamePlaces old) (sym same) (places_refl old)
 
 -- a WRITE that was not refused
 pub settles_write : (old new : ArrayState) (addr : Addr) (lba count : ℕ) (fua : Bool) (answer : Stored) (reply : Reply) → is_broken old ≡ false
@@ -388,4 +389,19 @@ settles_write old new addr lba count fua Lost reply sound done lost forced none 
   busy = λ status. (let told = sym (ap (λ (r : Reply). r.status) (lost refl)) ∙ status in absurd (cc));
   nothing = λ l f is. unwritten_same old new lba count l fua f is none;
   forced = λ l n is good. (let told = sym (ap (λ (r : Reply). r.status) (lost refl)) ∙ good in absurd (cc));
+}
+
+-- of the blocks that are forced in turn, one more may have left the cache
+pub spared_then : (a b c : CacheState) (addr : Addr) (first rb : ℕ) → IsSpared a b addr first rb → first ≤ rb → ((k : Key) → k ≢ key_of addr rb → cached c k ≡ cached b k)
+    → IsSpared a c addr first (rb + 1)
+spared_then a b c addr first rb so after next = record {
+  others = λ k outside.
+      elim outside [
+        | inl other ↦ next k (λ is. other (ap (λ (x : Key). x.addr) is)) ∙ so.others k (inl other)
+        | inr rest ↦
+            elim rest [
+              | inl below ↦ next k (λ is. (let same = ap (λ (x : Key). x.rb) is in omega arith)) ∙ so.others k (inr (inl below))
+              | inr behind ↦ next k (λ is. (let same = ap (λ (x : Key). x.rb) is in omega arith)) ∙ so.others k (inr (inr (omega arith)))
+            ]
+      ];
 }

@@ -3,7 +3,7 @@ use Rattle.std.specs.Prelude.{◌≡◌, ◌≢◌, ◌⊎◌, ℕ, ◌≤◌, L
 use Rattle.ar_extents.specs.declared.health.Health.TheVariants.{Whole, Out, Rebuilding, Broken}
 use Rattle.ar_extents.specs.Health.{IsDown}
 use Rattle.ar_extents.specs.Set.{SetState, faults_of}
-use Rattle.ar_extents.specs.Follows.{Faulted, IsHit}
+use Rattle.ar_extents.specs.Follows.{Faulted, IsHit, Keeps, Anywhere}
 use Rattle.ar_store.specs.Store.{StoreState}
 use Rattle.ar_store.specs.Placing.{SameUnits}
 use Rattle.ar_store.specs.Calls.{IsAccessed}
@@ -16,7 +16,12 @@ pub record StoreFollows (old new : StoreState) : Type 0 where
   pub units : SameUnits old.book new.book
   pub accessed : IsAccessed old.disks new.disks
 
--- and of an array: the cache is as large
+-- and what reads alone leave: its tables, and every row of every disk
+pub record StoreReads (old new : StoreState) : Type 0 where
+  pub tables : new.book ≡ old.book
+  pub rows : Keeps Anywhere old.disks new.disks
+
+-- what both leave of an array: the cache is as large
 pub record Follows (old new : ArrayState) : Type 0 where
   pub store : StoreFollows old.store new.store
   pub geometry : new.cache.geometry ≡ old.cache.geometry

@@ -4,7 +4,7 @@ use Rattle.ar_store.specs.Store.{StoreState}
 use Rattle.ar_store.proofs.Changes.{units_refl, units_then}
 use Rattle.ar_store.proofs.Fills.{accessed_refl, accessed_then}
 use Rattle.ar_core.specs.Array.{ArrayState}
-use Rattle.ar_core.specs.Causes.{StoreFollows, Follows}
+use Rattle.ar_core.specs.Causes.{StoreFollows, StoreReads, Follows}
 use Rattle.ar_core.specs.Served.{SamePlaces}
 
 pub store_refl : (s : StoreState) → StoreFollows s s
@@ -14,6 +14,15 @@ pub store_then : (a b c : StoreState) → StoreFollows a b → StoreFollows b c 
 store_then a b c p q = record {
   units = units_then a.book b.book c.book p.units q.units;
   accessed = accessed_then a.disks b.disks c.disks p.accessed q.accessed;
+}
+
+pub reads_refl : (s : StoreState) → StoreReads s s
+reads_refl s = record { tables = refl; rows = record { rows = λ place these row. refl } }
+
+pub reads_then : (a b c : StoreState) → StoreReads a b → StoreReads b c → StoreReads a c
+reads_then a b c p q = record {
+  tables = q.tables ∙ p.tables;
+  rows = record { rows = λ place these row. q.rows.rows place these row ∙ p.rows.rows place these row };
 }
 
 pub follows_refl : (s : ArrayState) → Follows s s
@@ -27,7 +36,7 @@ follows_then a b c p q = record {
 }
 
 pub places_refl : (s : ArrayState) → SamePlaces s s
-places_refl s = record { tables = refl; cache = refl }
+places_refl s = record { reads = reads_refl s.store; cache = refl }
 
 pub places_then : (a b c : ArrayState) → SamePlaces a b → SamePlaces b c → SamePlaces a c
-places_then a b c p q = record { tables = q.tables ∙ p.tables; cache = q.cache ∙ p.cache }
+places_then a b c p q = record { reads = reads_then a.store b.store c.store p.reads q.reads; cache = q.cache ∙ p.cache }

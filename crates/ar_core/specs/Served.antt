@@ -12,13 +12,13 @@ use Rattle.ar_scsi.specs.declared.reply.Status.TheVariants.{Good, CheckCondition
 use Rattle.ar_scsi.specs.declared.sense.Sense.{Sense}
 use Rattle.ar_scsi.specs.Reply.{check}
 use Rattle.ar_scsi.specs.Sense.{internal_target_failure}
-use Rattle.ar_cache.specs.Cache.{cached}
+use Rattle.ar_cache.specs.Cache.{CacheState, cached}
 use Rattle.ar_book.specs.Tables.{has_unit, unit_in, blocks_of as blocks_for}
 use Rattle.ar_unit.specs.Unit.{UnitState, Present, Answered, Cmd, Entry, unit_run, IsGiven, IsServed}
 use Rattle.ar_unit.specs.Broken.{Shape, shape_of}
 use Rattle.ar_core.specs.Sectors.{sector_in, sectors_in, blocks_of, key_of}
 use Rattle.ar_core.specs.Array.{ArrayState, is_broken, geometry_of, seen_at, length_at, mark_at, unit_sectors, image_at}
-use Rattle.ar_core.specs.Causes.{Follows}
+use Rattle.ar_core.specs.Causes.{Follows, StoreReads}
 use Rattle.ar_store.specs.Calls.{IsAccessed}
 use Rattle.ar_core.specs.Step.{Obeys, IsForced, is_write, is_busy}
 
@@ -38,9 +38,9 @@ pub record IsUnit (s : ArrayState) (addr : Addr) (sectors : ℕ) : Type 0 where
 abbrev pub present_at : ArrayState → Addr → UnitState
 present_at s addr = Present (unit_sectors s addr) (mark_at s.store.book addr)
 
--- every block is seen as it was, and stands where it stood
+-- every block is seen as it was, and stands where it stood; no row of any disk was written
 pub record SamePlaces (old new : ArrayState) : Type 0 where
-  pub tables : new.store.book ≡ old.store.book
+  pub reads : StoreReads old.store new.store
   pub cache : new.cache ≡ old.cache
 
 -- The unit was served as the table says, by its sectors before the command, and is left with the table's, and no other unit's
@@ -70,6 +70,10 @@ pub record Writes (old : ArrayState) (addr : Addr) (lba count : ℕ) (bytes : Li
 -- no block is seen to change
 pub record SameSeen (old new : ArrayState) : Type 0 where
   pub same : (k : Key) → seen_at new k ≡ seen_at old k
+
+-- the cache has for each key the block that it had, but for those of a unit's blocks from one number to before another
+pub record IsSpared (old new : CacheState) (addr : Addr) (first end : ℕ) : Type 0 where
+  pub others : (k : Key) → (k.addr ≢ addr) ⊎ ((k.rb < first) ⊎ (end ≤ k.rb)) → cached new k ≡ cached old k
 
 -- What a command does to the array: its unit obeys, and each unit, its own too, is what the command makes of it.
 pub record Commands (old : ArrayState) (addr : Addr) (cdb bytes : List ℕ) (reply : Reply) (new : ArrayState) : Type 0 where

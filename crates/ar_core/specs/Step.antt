@@ -16,13 +16,14 @@ use Rattle.ar_scsi.specs.Reply.{check}
 use Rattle.ar_scsi.specs.Sense.{internal_target_failure}
 use Rattle.ar_extents.specs.declared.refusal.DiskRefusal.{DiskRefusal}
 use Rattle.ar_extents.specs.Changes.{failed, fail_refusal}
+use Rattle.ar_extents.specs.Follows.{Keeps, Anywhere}
 use Rattle.ar_book.specs.declared.refusal.Refusal.TheVariants.{NoMemory, Absent as NoUnit}
 use Rattle.ar_book.specs.Tables.{Tables, has_unit}
 use Rattle.ar_book.specs.Changes.{made, grown, dropped, unmarked}
 use Rattle.ar_book.specs.Refusals as book
 use Rattle.ar_store.specs.Store.{StoreState}
 use Rattle.ar_store.specs.Slots.{stands}
-use Rattle.ar_store.specs.Placing.{Puts}
+use Rattle.ar_store.specs.Placing.{Puts, SameUnits}
 use Rattle.ar_cache.specs.declared.answers.Flush.{Flush}
 use Rattle.ar_cache.specs.declared.answers.Flush.TheVariants.{Idle, Broken as NotFlushed}
 use Rattle.ar_cache.specs.Cache.{cached, with_entries, without_addr, Flushes, Gives, IsPut}
@@ -122,6 +123,8 @@ pub record FlushesOne (old : ArrayState) (answer : Flush) (new : ArrayState) : T
   pub put : IsPut (λ (o : StoreState) (key : Key) (n : StoreState). Puts o.book key n.book) answer old.store new.store
   pub idle : answer ≡ Idle → new ≡ old
   pub on_disks : answer ≡ Idle → (addr : Addr) → image_at new addr ≡ image_on_disks new.store addr
+  -- whatever is answered, no unit has changed but for homes and stamps, nor has the room
+  pub units : SameUnits old.store.book new.store.book
   pub broken : (answer ≡ NotFlushed) ↔ IsTrue (is_broken new)
   pub unchanged : IsTrue (is_broken old) → new ≡ old
 
@@ -145,10 +148,11 @@ is_write other = false
 abbrev pub told : Tables → Addr → List ℕ → Tables
 told t addr cdb = if mark_at t addr && not (operation_code cdb == 0x12) then unmarked t addr else t
 
--- no home and no cache entry has changed; a mark that was told is cleared
+-- no home, no cache entry and no row of any disk has changed; a mark that was told is cleared
 pub record IsQuiet (old : ArrayState) (addr : Addr) (cdb : List ℕ) (new : ArrayState) : Type 0 where
   pub tables : new.store.book ≡ told old.store.book addr cdb
   pub cache : new.cache ≡ old.cache
+  pub rows : Keeps Anywhere old.store.disks new.store.disks
 
 -- none of the blocks of these sectors is in the cache
 pub record IsForced (s : ArrayState) (addr : Addr) (lba count : ℕ) : Type 0 where
@@ -161,6 +165,8 @@ pub record Obeys (old : ArrayState) (addr : Addr) (cdb bytes : List ℕ) (reply 
   pub broken : IsTrue (is_broken new) → IsGiven (broken_answer (shape_of (image_at old addr)) cdb (length bytes)) reply
   -- HARDWARE ERROR, INTERNAL TARGET FAILURE is answered only by an array that has lost its data
   pub failure : reply ≡ check internal_target_failure → IsTrue (is_broken new)
+  -- whatever is answered, no unit has changed but for homes, stamps and the mark that was told, nor has the room
+  pub units : SameUnits (told old.store.book addr cdb) new.store.book
   -- no other command than a WRITE places or caches a block, nor does a WRITE that is refused, or finds the array broken
   pub reads : is_write (reading cdb) ≡ false → IsQuiet old addr cdb new
   pub refused : reply.status ≡ CheckCondition → reply ≢ check internal_target_failure → IsQuiet old addr cdb new

@@ -6,7 +6,8 @@ use Rattle.ar_disks.specs.Geometry.{rows_of}
 use Rattle.ar_extents.specs.declared.answers.Got.{Got}
 use Rattle.ar_extents.specs.declared.answers.Got.TheVariants.{Read, Missing as ReadMissing, Broken as ReadBroken}
 use Rattle.ar_extents.specs.Set.{SetState, HasExtent}
-use Rattle.ar_extents.specs.Access.{Gets}
+use Rattle.ar_extents.specs.Access.{Accesses, Gets, is_read}
+use Rattle.ar_extents.specs.Follows.{Keeps, Anywhere}
 use Rattle.ar_book.specs.declared.class.Level.{Level}
 use Rattle.ar_book.specs.declared.class.Level.TheVariants.{Unplaced as NowherePlaced, Mirrored as AtMirrored, Parity as AtParity}
 use Rattle.ar_book.specs.declared.class.Slot.{Slot}
@@ -52,9 +53,17 @@ pub record HasRow (s : SetState) (place : Place) (row : ℕ) : Type 0 where
   pub extent : HasExtent s place
   pub below : row < rows_of s.geometry
 
+-- a row of an extent was read, with this answer: its disk alone was accessed, none where the extent is lost, and every row of every
+-- disk has the content that it had
+pub record IsShown (old new : SetState) (place : Place) (row : ℕ) (bytes : List ℕ) (got : Got) : Type 0 where
+  pub there : HasRow old place row
+  pub answer : Gets old new place row bytes got
+  pub access : Accesses old new place (is_read got)
+  pub keeps : Keeps Anywhere old new
+
 -- what is shown of a row: that there is none, and nothing was read; or what reading it met
 abbrev pub Shows : SetState → SetState → Place → ℕ → List ℕ → Shown → Type 0
 Shows old new place row bytes Outside = (HasRow old place row → ⊥) × (new ≡ old)
-Shows old new place row bytes Broken = HasRow old place row × Gets old new place row bytes ReadBroken
-Shows old new place row bytes Missing = HasRow old place row × Gets old new place row bytes ReadMissing
-Shows old new place row bytes Bytes = HasRow old place row × Gets old new place row bytes Read
+Shows old new place row bytes Broken = IsShown old new place row bytes ReadBroken
+Shows old new place row bytes Missing = IsShown old new place row bytes ReadMissing
+Shows old new place row bytes Bytes = IsShown old new place row bytes Read

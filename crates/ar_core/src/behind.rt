@@ -4,8 +4,8 @@ ghost use Rattle.ar_extents.specs.Changes.{is_broken as is_broken_set};
 ghost use Rattle.ar_store.specs.Slots.{stands};
 ghost use Rattle.ar_store.specs.Placing.{Puts};
 ghost use Rattle.ar_core.specs.Array.{knows_in};
-ghost use Rattle.ar_core.specs.Causes.{StoreFollows};
-ghost use Rattle.ar_core.specs.Laws.{store_refl, store_then};
+ghost use Rattle.ar_core.specs.Causes.{StoreFollows, StoreReads};
+ghost use Rattle.ar_core.specs.Laws.{store_refl, store_then, reads_refl, reads_then};
 
 use ar_cache::{Backing, Stored};
 use ar_disks::{Block, Disk, Key};
@@ -19,9 +19,6 @@ pub struct Behind<D: Disk> {
 }
 
 impl<D: Disk> Backing for Behind<D> {
-    ghost use Rattle.std.specs.Prelude.{◌≡◌, refl};
-    ghost use Rattle.std.proofs.Common.{◌∙◌};
-
     ghost block_at = { λ b. stands b.store };
 
     ghost knows = { λ b. knows_in b.store };
@@ -32,7 +29,7 @@ impl<D: Disk> Backing for Behind<D> {
 
     ghost follows = { λ old new. StoreFollows old.store new.store };
 
-    ghost reads = { λ old new. new.store.book ≡ old.store.book };
+    ghost reads = { λ old new. StoreReads old.store new.store };
 
     ghost puts = { λ old key new. Puts old.store.book key new.store.book };
 
@@ -51,9 +48,9 @@ impl<D: Disk> Backing for Behind<D> {
 
     ghost follows_trans = { λ a b c first later. store_then a.store b.store c.store first later };
 
-    ghost reads_refl = { λ s. refl };
+    ghost reads_refl = { λ s. reads_refl s.store };
 
-    ghost reads_trans = { λ a b c first later. later ∙ first };
+    ghost reads_trans = { λ a b c first later. reads_then a.store b.store c.store first later };
 }
 
 // A store's answer, as a cache hears it.

@@ -1,10 +1,11 @@
 // The blocks of all units: a write-back cache over the store.
-ghost use Rattle.std.specs.Prelude.{◌≡◌, ◌≢◌, ◌≤◌, ◌<◌, ℕ, All, map, None, false, IsTrue, IfOk, IfErr, OnOk, OnErr, MatchOption, length, unwrap_or, []};
+ghost use Rattle.std.specs.Prelude.{◌≡◌, ◌≢◌, ◌≤◌, ◌<◌, ◌+◌, ℕ, All, map, None, false, IsTrue, IfOk, IfErr, OnOk, OnErr, MatchOption, length, unwrap_or, []};
 ghost use Rattle.ar_disks.specs.declared.address.Key.{Key};
 ghost use Rattle.ar_disks.specs.Block.{zeros};
 ghost use Rattle.ar_disks.specs.Geometry.{block_len_of, rows_of};
 ghost use Rattle.ar_extents.specs.Set.{HasExtent};
-ghost use Rattle.ar_extents.specs.Access.{Gets};
+ghost use Rattle.ar_extents.specs.Access.{Accesses, Gets, is_read};
+ghost use Rattle.ar_extents.specs.Follows.{Keeps, Anywhere};
 ghost use Rattle.ar_book.specs.Tables.{has_unit};
 ghost use Rattle.ar_cache.specs.Cache.{cached, with_entries};
 ghost use Rattle.ar_cache.specs.Backing.{stored, SameBlocks};
@@ -178,7 +179,7 @@ impl<D: Disk> Blocks<D> {
     ghost use Rattle.ar_book.specs.Changes.{unmarked};
     ghost use Rattle.ar_book.specs.Book.{TablesAgree};
     ghost use Rattle.ar_core.specs.Array.{with_book};
-    ghost use Rattle.ar_core.specs.Served.{SameSeen, SamePlaces};
+    ghost use Rattle.ar_core.specs.Served.{SameSeen, SamePlaces, IsSpared};
     ghost use Rattle.ar_core.specs.Step.{Makes, Grows, Removes, FlushesOne, TakesOut};
 
     /// Makes a unit, its sectors all zero.
@@ -264,12 +265,13 @@ impl<D: Disk> Blocks<D> {
         self.cache.flush_key(key, &mut self.behind)
     }
 
-    /// Gives the blocks `first` to `last` of a unit to the disks, those that are cached, in ascending order.
+    /// Gives the blocks `first` to `last` of a unit to the disks, those that are cached, in ascending order, and no other.
     pub fn force(&mut self, addr: Addr, first: u32, last: u32) -> Stored
         requires sound { is_broken self.old ≡ false }
         requires few { last ≤ 1048576 }
         ensures answer { result ≡ stored (is_broken self.new) }
         ensures forced { result ≡ Stored.Done → (rb : ℕ) → first ≤ rb → rb ≤ last → cached self.new.cache (key_of addr rb) ≡ None }
+        ensures spared { result ≡ Stored.Done → IsSpared self.old.cache self.new.cache addr first (last + 1) }
         ensures seen { result ≡ Stored.Done → SameSeen self.old self.new }
         ensures follows { Follows self.old self.new }
     {
@@ -297,6 +299,8 @@ impl<D: Disk> Blocks<D> {
         requires row { row < rows_of (geometry_of self.old) }
         requires whole { length into.old ≡ block_len_of (geometry_of self.old) }
         ensures answer { Gets self.old.store.disks self.new.store.disks place row into.new result }
+        ensures access { Accesses self.old.store.disks self.new.store.disks place (is_read result) }
+        ensures keeps { Keeps Anywhere self.old.store.disks self.new.store.disks }
         ensures places { SamePlaces self.old self.new }
         ensures seen { is_broken self.new ≡ false → SameSeen self.old self.new }
         ensures follows { Follows self.old self.new }

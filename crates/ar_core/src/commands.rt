@@ -12,7 +12,7 @@ ghost use Rattle.ar_cache.specs.Backing.{stored};
 ghost use Rattle.ar_cache.specs.Cache.{cached};
 ghost use Rattle.ar_core.specs.Array.{is_broken, geometry_of, seen_at, unit_sectors, mark_at, with_book};
 ghost use Rattle.ar_core.specs.Sectors.{key_of};
-ghost use Rattle.ar_core.specs.Served.{IsUnit, Serves, Settles, SamePlaces, SameSeen, Commands, Writes, present_at, sectors_read};
+ghost use Rattle.ar_core.specs.Served.{IsUnit, Serves, Settles, SamePlaces, SameSeen, IsSpared, Commands, Writes, present_at, sectors_read};
 ghost use Rattle.ar_core.specs.Causes.{Follows};
 ghost use Rattle.ar_core.specs.Step.{IsForced};
 ghost use Rattle.ar_book.specs.Changes.{unmarked};
@@ -251,6 +251,8 @@ impl<D: Disk> Array<D> {
         requires sound { is_broken self.old ≡ false }
         ensures answer { result ≡ stored (is_broken self.new) }
         ensures forced { result ≡ Stored.Done → IsForced self.new addr lba count }
+        ensures spared { result ≡ Stored.Done → 0 < count → IsSpared self.old.cache self.new.cache addr
+            (lba / sectors_of (geometry_of self.old)) ((lba + count - 1) / sectors_of (geometry_of self.old) + 1) }
         ensures seen { result ≡ Stored.Done → SameSeen self.old self.new }
         ensures nothing { count ≡ 0 → self.new ≡ self.old }
         ensures follows { Follows self.old self.new }

@@ -40,29 +40,34 @@ fn unit(number: u8) -> Addr
     }
 }
 
-// A SMALL disk, filled with EE.
-fn disk(alloc: Global, extents: u16) -> Result<FuseDisk, AllocError>
+// A disk filled with EE.
+fn disk(alloc: Global, geometry: Geometry, extents: u16) -> Result<FuseDisk, AllocError>
     ensures { IfOk result (λ disk. CanCount disk.disk) }
 {
-    let disk = MemDisk::filled(alloc, Geometry::SMALL, extents, 0xEE)?;
+    let disk = MemDisk::filled(alloc, geometry, extents, 0xEE)?;
     Ok(FuseDisk::new(disk, WHOLE))
 }
 
-fn disks(alloc: Global, count: u8, extents: u16) -> Result<Vec<FuseDisk>, AllocError>
+fn disks(
+    alloc: Global,
+    geometry: Geometry,
+    count: u8,
+    extents: u16,
+) -> Result<Vec<FuseDisk>, AllocError>
     ensures { IfOk result (λ disks. All CanCount (map (λ disk. disk.disk) disks.items)) }
 {
     let mut disks = Vec::new(alloc);
     for _ in 0..count {
-        disks.push(disk(alloc, extents)?)?;
+        disks.push(disk(alloc, geometry, extents)?)?;
     }
     Ok(disks)
 }
 
-// An array of four disks of so many extents, with a cache of so many blocks.
+// An array of four SMALL disks of so many extents, with a cache of so many blocks.
 fn array(alloc: Global, extents: u16, cache: u32) -> Result<Array<FuseDisk>, Fail>
     requires { cache ≤ 65536 }
 {
-    match Array::start(alloc, disks(alloc, 4, extents)?, cache) {
+    match Array::start(alloc, disks(alloc, Geometry::SMALL, 4, extents)?, cache) {
         Ok(array) => Ok(array),
         Err((fault, _)) => Err(Fail::new(fault)),
     }
@@ -438,7 +443,7 @@ fn starts_are_refused(rt: HostRuntime) -> Result<(), Fail> {
         (4, 0, StartFault::WrongSize),
         (4, 1_025, StartFault::WrongSize),
     ] {
-        match Array::start(alloc, disks(alloc, count, extents)?, 0) {
+        match Array::start(alloc, disks(alloc, Geometry::SMALL, count, extents)?, 0) {
             Ok(_array) => assert!(rt; false, "{count} disks of {extents} extents"),
             Err((met, back)) => {
                 assert_eq!(rt; met, fault, "{count} disks of {extents} extents");
@@ -446,6 +451,34 @@ fn starts_are_refused(rt: HostRuntime) -> Result<(), Fail> {
             }
         }
     }
+    Ok(())
+}
+
+// The most disks that there may be, and the largest cache.
+#[test]
+fn the_widest_array_starts(rt: HostRuntime) -> Result<(), Fail> {
+    let alloc = rt.alloc();
+    match Array::start(alloc, disks(alloc, Geometry::SMALL, 12, 4)?, 65_536) {
+        Ok(array) => assert_eq!(rt; array.free_room(), 66),
+        Err((fault, _)) => return Err(Fail::new(fault)),
+    }
+    Ok(())
+}
+
+// A READ of the most sectors that one can ask for gives them all.
+#[test]
+fn the_longest_read_is_done(rt: HostRuntime) -> Result<(), Fail> {
+    let alloc = rt.alloc();
+    let mut array = match Array::start(alloc, disks(alloc, Geometry::PAPER, 4, 12)?, 0) {
+        Ok(array) => array,
+        Err((fault, _)) => return Err(Fail::new(fault)),
+    };
+    let made = step(alloc, &mut array, Event::Make(unit(0), 65_535));
+    assert_eq!(rt; made, Outcome::Make(Ok(())));
+    let cdb = [0x28, 0, 0, 0, 0, 0, 0, 0xFF, 0xFF, 0, 0, 0, 0, 0, 0, 0];
+    let read = step(alloc, &mut array, command(0, cdb, Bytes::new()));
+    let zeros = vec![in alloc; 0u8; 65_535 * 512]?;
+    assert!(rt; is_good(&read, &zeros));
     Ok(())
 }
 

@@ -82,6 +82,7 @@ pub(crate) fn read_at<D: Disk>(
     ensures outcome { result ≡ outcome_of disks.new.health }
     ensures given { OnDone result ((block : List ℕ) → SlotHolds (store_of disks.old book.now) slot block → into.new ≡ block) }
     ensures slots { SlotsHold (store_of disks.old book.now) (store_of disks.new book.now) }
+    ensures keeps { Keeps Anywhere disks.old disks.new }
     ensures space { IsSpace (store_of disks.new book.now) }
     ensures accessed { IsAccessed disks.old disks.new }
     ensures len { length into.new ≡ length into.old }

@@ -38,6 +38,7 @@ impl<D: Disk> Store<D> {
     ghost use Rattle.ar_disks.specs.Geometry.{block_len_of};
     ghost use Rattle.ar_disks.specs.declared.address.Key.{Key};
     ghost use Rattle.ar_extents.specs.Groups.{outcome_of};
+    ghost use Rattle.ar_extents.specs.Follows.{Keeps, Anywhere};
     ghost use Rattle.ar_book.specs.Tables.{home, HasBlock};
     ghost use Rattle.ar_book.specs.Changes.{Moved};
     ghost use Rattle.ar_store.specs.Slots.{stands, AllStand, OthersStand, SurvivesLossOf};
@@ -60,13 +61,15 @@ impl<D: Disk> Store<D> {
     }
 
     /// Reads the block of a key into `into`, a block of the store's length. A block without a home is read as zeros, and no disk is
-    /// accessed then. After `Broken` any bytes may stand in `into`; of a store that was broken before nothing has changed.
+    /// accessed then. No row of any disk changes. After `Broken` any bytes may stand in `into`; of a store that was broken before
+    /// nothing has changed.
     pub fn get(&mut self, key: Key, into: &mut Block) -> Outcome
         requires whole { length into.old ≡ block_len_of self.old.disks.geometry }
         ensures given { result ≡ Outcome.Done → self.new.disks.health ≢ Health.Broken → into.new ≡ stands self.old key }
         ensures zeros { home self.old.book key ≡ None → (self.new ≡ self.old) × (result ≡ Outcome.Done) × (into.new ≡ zeros (block_len_of self.old.disks.geometry)) }
         ensures outcome { home self.old.book key ≢ None → result ≡ outcome_of self.new.disks.health }
         ensures stands { AllStand self.old self.new }
+        ensures keeps { Keeps Anywhere self.old.disks self.new.disks }
         ensures book { self.new.book ≡ self.old.book }
         ensures accessed { IsAccessed self.old.disks self.new.disks }
         ensures broken { self.old.disks.health ≡ Health.Broken → self.new ≡ self.old }

@@ -110,6 +110,20 @@ fn extents_that_no_four_disks_have_stay_loose(rt: HostRuntime) -> Result<(), Fai
     Ok(())
 }
 
+// The most disks that there may be, and the most extents.
+#[test]
+fn the_largest_stores_begin(rt: HostRuntime) -> Result<(), Fail> {
+    let alloc = rt.alloc();
+    let widest = begin(&rt, alloc, 12, 1)?;
+    assert_eq!(rt; widest.book.groups(), 3);
+    check_group(&rt, &widest, 2, four([(8, 0), (9, 0), (10, 0), (11, 0)]));
+    let longest = begin(&rt, alloc, 4, 1_024)?;
+    assert_eq!(rt; longest.book.groups(), 1_024);
+    let last = four([(0, 1_023), (1, 1_023), (2, 1_023), (3, 1_023)]);
+    check_group(&rt, &longest, 1_023, last);
+    Ok(())
+}
+
 #[test]
 fn disks_that_make_no_store_are_handed_back(rt: HostRuntime) -> Result<(), Fail> {
     let alloc = rt.alloc();

@@ -30,5 +30,5 @@ returns g c =
       keeps =
           keeps_store (λ (b : Behind g.row.D.Denot). b.store) c.args.self.now (record { store = new })
           (record { units = units_same old.book new.book got.book; accessed = got.accessed });
-      reads = got.book;
+      reads = record { tables = got.book; rows = got.keeps };
     }

@@ -3,14 +3,17 @@ use Rattle.ar_cache.specs.Cache.{cached}
 use Rattle.ar_core.specs.Sectors.{key_of}
 use Rattle.ar_core.specs.Array.{is_broken}
 use Rattle.ar_core.specs.Causes.{Follows}
-use Rattle.ar_core.specs.Served.{SameSeen}
+use Rattle.ar_core.specs.Served.{SameSeen, IsSpared}
 use Rattle.ar_core.proofs.blocks.Blocks.force.Given as goal
 
--- the blocks so far are on the disks, and none is seen to have changed
+-- the blocks so far are on the disks, and none is seen to have changed; no other has left the cache
 abbrev pub invariant-loop-rb : goal.invariant-loop-rb
 invariant-loop-rb g l = record {
   sound : is_broken l.self ≡ false;
   forced : (k : ℕ) → l.first ≤ k → k < l.rb → cached l.self.cache (key_of l.addr k) ≡ None;
+  ordered : l.first ≤ l.rb;
+  spared : IsSpared l.fn.self.cache l.self.cache l.addr l.first l.rb;
+  within : l.first < l.rb → l.rb ≤ l.last + 1;
   seen : SameSeen l.fn.self l.self;
   follows : Follows l.fn.self l.self;
 }
