@@ -1,11 +1,12 @@
 -- What calls answered, once their errors were replaced.
-use Rattle.std.proofs.Common.{◌≡◌, ◌∙◌, sym, subst, Result, Ok, Err, MatchResult, IsErrAnd, IfErr}
+use Rattle.std.proofs.Common.{◌≡◌, ◌∙◌, sym, subst, refl, Option, Result, Ok, Err, MatchResult, IsErrAnd, IfErr}
 use Rattle.ar_core.specs.Array.{ArrayState}
 use Rattle.ar_script.specs.declared.fault.FaultKind.{FaultKind}
 use Rattle.ar_script.specs.declared.fault.FaultKind.TheVariants.{WriteFault}
 use Rattle.ar_script.specs.declared.order.Action.{Action}
+use Rattle.ar_script.specs.declared.order.Order.{Order}
 use Rattle.ar_script.specs.declared.order.Order.TheVariants.{Act}
-use Rattle.ar_script.specs.Orders.{Acts, Leaves}
+use Rattle.ar_script.specs.Orders.{Acts, Leaves, Meets}
 
 -- a result whose error was replaced, and that is Ok, was Ok before
 pub ok_before : {T E F : Type 0} (r : Result T E) (s : Result T F) (x : T) (Q : E → F → Type 0)
@@ -19,3 +20,9 @@ pub acted : (action : Action) (old new : ArrayState) (r : Result (Unit {0}) Faul
 acted action old new (Ok done) h acts = acts
 acted action old new (Err kind) h acts =
     let P : FaultKind → Type 0 = λ k. Leaves (Act action) old (Err k) new in subst P (sym h) acts
+
+-- a line that can't be read leaves the array as it was
+pub unread : (s : ArrayState) (read : Result (Option Order) FaultKind) (r : Result (Unit {0}) FaultKind) (kind : FaultKind)
+    → read ≡ Err kind → r ≡ Err kind → Meets read s r s
+unread s read r kind was is =
+    let P : Result (Option Order) FaultKind → Type 0 = λ x. Meets x s r s in subst P (sym was) (is, refl)

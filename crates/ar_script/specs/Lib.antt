@@ -1,4 +1,5 @@
 pub mod Blocks
+pub mod Forms
 pub mod Lines
 pub mod Orders
 pub mod Setups

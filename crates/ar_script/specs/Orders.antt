@@ -1,15 +1,19 @@
 -- What an array is asked for, how its answer is printed, and what answering leaves of it.
-use Rattle.std.specs.Prelude.{◌≡◌, false, Result, Err, replicate}
+use Rattle.std.specs.Prelude.{◌≡◌, ◌⊎◌, ℕ, false, List, Option, Some, None, Result, Ok, Err, replicate}
 use Rattle.ar_disks.specs.declared.address.Addr.{Addr}
+use Rattle.ar_disks.specs.declared.address.Place.{Place}
 use Rattle.ar_core.specs.declared.event.Event.{Event}
 use Rattle.ar_core.specs.declared.event.Event.TheVariants.{Make, Grow, Remove, Cmd, Flush, DiskOut}
 use Rattle.ar_core.specs.declared.event.Outcome.{Outcome}
+use Rattle.ar_core.specs.declared.views.Shown.{Shown}
+use Rattle.ar_core.specs.Views.{Shows}
 use Rattle.ar_core.specs.Array.{ArrayState, is_broken, image_at}
 use Rattle.ar_core.specs.Causes.{Follows}
 use Rattle.ar_core.specs.Served.{SamePlaces}
 use Rattle.ar_core.specs.Step.{Steps}
 use Rattle.ar_script.specs.declared.fault.FaultKind.{FaultKind}
-use Rattle.ar_script.specs.declared.fault.FaultKind.TheVariants.{NoMemory}
+use Rattle.ar_script.specs.declared.fault.FaultKind.TheVariants.{NoMemory, WriteFault}
+use Rattle.ar_script.specs.Forms.{ReadsLine}
 use Rattle.ar_script.specs.declared.order.Action.{Action}
 use Rattle.ar_script.specs.declared.order.Action.TheVariants as actions
 use Rattle.ar_script.specs.declared.order.Notation.{Notation}
@@ -37,8 +41,12 @@ notation_in (actions.Command addr cdb d notation) = notation
 notation_in actions.Flush = Bytes
 notation_in (actions.DiskOut disk) = Bytes
 
--- Reading a row leaves the tables, the cache and each unit as they were. It may meet a fault of the row's disk.
-pub record ReadsRow (old new : ArrayState) : Type 0 where
+-- Reading a row shows what stands there, or why it can't, and leaves the tables, the cache and each unit as they were. It may meet a
+-- fault of the row's disk.
+pub record ReadsRow (place : Place) (row : ℕ) (old new : ArrayState) : Type 0 where
+  pub bytes : List ℕ
+  pub shown : Shown
+  pub shows : Shows old.store.disks new.store.disks place row bytes shown
   pub places : SamePlaces old new
   pub follows : Follows old new
   pub images : is_broken new ≡ false → (addr : Addr) → image_at new addr ≡ image_at old addr
@@ -50,7 +58,7 @@ Looks (Home addr rb) old new = new ≡ old
 Looks Groups old new = new ≡ old
 Looks Room old new = new ≡ old
 Looks Health old new = new ≡ old
-Looks (Block disk extent row) old new = ReadsRow old new
+Looks (Block disk extent row) old new = ReadsRow (record { disk = disk; extent = extent }) row old new
 
 -- the array has met one event, the one that the action is
 pub record Acts (action : Action) (old new : ArrayState) : Type 0 where
@@ -62,3 +70,17 @@ abbrev pub Leaves : Order → ArrayState → Result (Unit {0}) FaultKind → Arr
 Leaves (Ask question) old result new = Looks question old new
 Leaves (Act action) old (Err NoMemory) new = new ≡ old
 Leaves (Act action) old result new = Acts action old new
+
+-- an order fails for want of memory, or because its answer can't be written
+abbrev pub IsLost : FaultKind → Type 0
+IsLost kind = (kind ≡ NoMemory) ⊎ (kind ≡ WriteFault)
+
+-- what a line leaves that was read so: the array as it was, where the line asks for nothing or can't be read
+abbrev pub Meets : Result (Option Order) FaultKind → ArrayState → Result (Unit {0}) FaultKind → ArrayState → Type 0
+Meets (Ok None) old result new = (result ≡ Ok tt) × (new ≡ old)
+Meets (Ok (Some order)) old result new = Leaves order old result new
+Meets (Err kind) old result new = (result ≡ Err kind) × (new ≡ old)
+
+-- what a line leaves of an array
+abbrev pub MeetsLine : List ℕ → ArrayState → Result (Unit {0}) FaultKind → ArrayState → Type 0
+MeetsLine line old result new = (read : Result (Option Order) FaultKind) × ReadsLine line read × Meets read old result new

@@ -1,7 +1,8 @@
 // The lines of a script, read in large pieces.
-ghost use Rattle.std.specs.Prelude.{◌≡◌, ◌≢◌, ◌-◌, ◌≤◌, ◌++◌, IsTrue, None, OnOk, IfErr, OnErr, unwrap_or, vec_len};
+ghost use Rattle.std.specs.Prelude.{◌≡◌, ◌+◌, if◌then◌else◌, IfOk, ◌≢◌, ◌==◌, ◌&&◌, not, true, false, length, ◌-◌, ◌≤◌, ◌++◌, IsTrue, None, OnOk, IfErr, OnErr, unwrap_or, vec_len};
 ghost use Rattle.std.specs.List.{list_all};
-ghost use Rattle.ar_script.specs.Lines.{is_printable, IsLine, IsNumbered, part_fault};
+ghost use Rattle.std.specs.Io.Buffered.{reader_buffer};
+ghost use Rattle.ar_script.specs.Lines.{is_printable, IsLine, IsNumbered, IsReached, IsOfLine, part_fault};
 
 use crate::{Fault, FaultKind};
 use std::alloc::Global;
@@ -27,7 +28,9 @@ pub struct Lines<R: Read + Drop> {
 
 impl<R: Read + Drop> Lines<R> {
     /// No line is read yet. It fails where memory is refused.
-    pub fn new(alloc: Global, reader: R) -> io::Result<Lines<R>> {
+    pub fn new(alloc: Global, reader: R) -> io::Result<Lines<R>>
+        ensures { IfOk result (λ lines. lines.number ≡ 0) }
+    {
         let line = Vec::with_capacity(alloc, LINE_MAX)?;
         let source = BufReader::new(alloc, reader)?;
         Ok(Lines {
@@ -40,19 +43,26 @@ impl<R: Read + Drop> Lines<R> {
 
     /// How many lines were begun.
     pub fn number(&self) -> u32
-        ensures { result ≤ 1000000 }
+        ensures number { result ≡ self.now.number }
+        ensures few { result ≤ 1000000 }
     {
         self.number
     }
 
     /// Nothing more of what was read is left, so that the next line has to be waited for.
-    pub fn is_drained(&self) -> bool {
+    pub fn is_drained(&self) -> bool
+        ensures { result ≡ (not self.now.is_at_end && (length (reader_buffer self.now.source) == 0)) }
+    {
         !self.is_at_end && self.source.buffer().is_empty()
     }
 
     /// Goes on to the next line, or says that there is none.
     pub fn advance(&mut self) -> Result<bool, Fault>
-        ensures { IfErr result IsNumbered }
+        ensures next { IfOk result (λ more. self.new.number ≡ self.old.number + (if more then 1 else 0)) }
+        ensures ended { IfOk result (λ more. more ≡ false → self.new.is_at_end ≡ true) }
+        ensures fault { IfErr result (IsOfLine (self.old.number + 1)) }
+        ensures reached { IfErr result (IsReached self.new.number) }
+        ensures numbered { IfErr result IsNumbered }
     {
         let line = self.number + 1;
         if is_at_end(&mut self.source, self.is_at_end).map_err(|kind| Fault::Line { line, kind })? {
@@ -73,7 +83,9 @@ impl<R: Read + Drop> Lines<R> {
     }
 
     /// The line, without the byte that ends it.
-    pub fn line(&self) -> &str {
+    pub fn line(&self) -> &str
+        ensures { result.now ≡ self.now.line.items }
+    {
         match str::from_utf8(self.line.as_slice()) {
             Ok(line) => line,
             // The characters of ASCII are a text.

@@ -1,5 +1,10 @@
 // The words of a line, read as what they ask for.
-ghost use Rattle.std.specs.Prelude.{◌≢◌, IfErr};
+ghost use Rattle.std.specs.Prelude.{◌≡◌, ◌≢◌, ◌==◌, true, false, ℕ, ◌+◌, ◌-◌, ◌*◌, ◌<◌, codes, length, IfErr};
+ghost use Rattle.std.specs.List.{list_any};
+ghost use Rattle.std.specs.Option.{SomeIff};
+ghost use Rattle.ar_script.specs.Words.{IsNumber};
+ghost use Rattle.ar_script.specs.Forms.{word, value, IsNumberOf, AreAddress, IsAddress, NamesUnit, HasUnit, HasUnitAndNumber, HasSectors, HasWritten, HasBlock, HasRow, HasDisk, Gives, Reads, ReadsWords, ReadsLine, nothing};
+ghost use Rattle.ar_script.specs.Forms.{AsksMake, AsksGrow, AsksDrop, AsksTur, AsksInquiry, AsksCapacity, AsksRead, AsksWrite, AsksBlock, AsksLevels, AsksHome, AsksRow, AsksOut};
 
 use crate::order::{Action, Data, Notation, Order, Question};
 use crate::{FaultKind, blocks, words};
@@ -10,13 +15,22 @@ const NO_DATA: Data = Data { len: 0, byte: 0 };
 
 /// Reads a line, of which an empty one and one that begins with `#` ask for nothing.
 pub fn order_in(alloc: Global, line: &str) -> Result<Option<Order>, FaultKind>
-    ensures { IfErr result (λ kind. kind ≢ FaultKind.TooManyLines) }
+    ensures reads { ReadsLine line.now result }
+    ensures few { IfErr result (λ kind. kind ≢ FaultKind.TooManyLines) }
 {
     if line.is_empty() || line.starts_with('#') {
         return Ok(None);
     }
     let words = words::split_words(alloc, line).map_err(|_| FaultKind::NoMemory)?;
-    if words.iter().any(|word| word.is_empty()) {
+    order_in_words(&words)
+}
+
+// Reads the words of a line, of which none may be empty.
+fn order_in_words(words: &[&str]) -> Result<Option<Order>, FaultKind>
+    ensures reads { ReadsWords words.now result }
+    ensures few { IfErr result (λ kind. kind ≢ FaultKind.TooManyLines) }
+{
+    if has_empty(words) {
         return Err(FaultKind::BadArgument);
     }
     match words.split_first() {
@@ -25,9 +39,16 @@ pub fn order_in(alloc: Global, line: &str) -> Result<Option<Order>, FaultKind>
     }
 }
 
+fn has_empty(words: &[&str]) -> bool
+    ensures { result ≡ list_any (λ text. length text.now == 0) words.now }
+{
+    words.iter().any(|word| word.is_empty())
+}
+
 // Reads the arguments as those of the order that has this name.
 fn order_of(name: &str, arguments: &[&str]) -> Result<Order, FaultKind>
-    ensures { IfErr result (λ kind. kind ≢ FaultKind.TooManyLines) }
+    ensures reads { Reads name.now arguments.now result }
+    ensures few { IfErr result (λ kind. kind ≢ FaultKind.TooManyLines) }
 {
     let order = match name {
         "make" => make(arguments),
@@ -54,27 +75,37 @@ fn order_of(name: &str, arguments: &[&str]) -> Result<Order, FaultKind>
     order.ok_or(FaultKind::BadArgument)
 }
 
-fn make(arguments: &[&str]) -> Option<Order> {
+fn make(arguments: &[&str]) -> Option<Order>
+    ensures { Gives (HasUnitAndNumber 32 arguments.now) (AsksMake arguments.now) result }
+{
     let (addr, sectors) = unit_and_number(arguments)?;
     Some(Order::Act(Action::Make(addr, sectors)))
 }
 
-fn grow(arguments: &[&str]) -> Option<Order> {
+fn grow(arguments: &[&str]) -> Option<Order>
+    ensures { Gives (HasUnitAndNumber 32 arguments.now) (AsksGrow arguments.now) result }
+{
     let (addr, sectors) = unit_and_number(arguments)?;
     Some(Order::Act(Action::Grow(addr, sectors)))
 }
 
-fn remove(arguments: &[&str]) -> Option<Order> {
+fn remove(arguments: &[&str]) -> Option<Order>
+    ensures { Gives (HasUnit arguments.now) (AsksDrop arguments.now) result }
+{
     let addr = unit(arguments)?;
     Some(Order::Act(Action::Remove(addr)))
 }
 
-fn test_unit_ready(arguments: &[&str]) -> Option<Order> {
+fn test_unit_ready(arguments: &[&str]) -> Option<Order>
+    ensures { Gives (HasUnit arguments.now) (AsksTur arguments.now) result }
+{
     let addr = unit(arguments)?;
     Some(command(addr, blocks::test_unit_ready()))
 }
 
-fn inquiry(arguments: &[&str]) -> Option<Order> {
+fn inquiry(arguments: &[&str]) -> Option<Order>
+    ensures { Gives (HasUnitAndNumber 16 arguments.now) (AsksInquiry arguments.now) result }
+{
     let [host, lun, len] = arguments else {
         return None;
     };
@@ -82,12 +113,16 @@ fn inquiry(arguments: &[&str]) -> Option<Order> {
     Some(command(addr, blocks::inquiry(number_16(len)?)))
 }
 
-fn capacity(arguments: &[&str]) -> Option<Order> {
+fn capacity(arguments: &[&str]) -> Option<Order>
+    ensures { Gives (HasUnit arguments.now) (AsksCapacity arguments.now) result }
+{
     let addr = unit(arguments)?;
     Some(command(addr, blocks::read_capacity()))
 }
 
-fn read(arguments: &[&str]) -> Option<Order> {
+fn read(arguments: &[&str]) -> Option<Order>
+    ensures { Gives (HasSectors (IsNumberOf 32) arguments.now) (AsksRead arguments.now) result }
+{
     let [host, lun, lba, count] = arguments else {
         return None;
     };
@@ -96,7 +131,9 @@ fn read(arguments: &[&str]) -> Option<Order> {
     Some(reading(addr, cdb))
 }
 
-fn read_16(arguments: &[&str]) -> Option<Order> {
+fn read_16(arguments: &[&str]) -> Option<Order>
+    ensures { Gives (HasSectors IsNumber arguments.now) (AsksRead arguments.now) result }
+{
     let [host, lun, lba, count] = arguments else {
         return None;
     };
@@ -105,7 +142,9 @@ fn read_16(arguments: &[&str]) -> Option<Order> {
     Some(reading(addr, cdb))
 }
 
-fn write(arguments: &[&str]) -> Option<Order> {
+fn write(arguments: &[&str]) -> Option<Order>
+    ensures { Gives (HasWritten (IsNumberOf 32) arguments.now) (AsksWrite arguments.now) result }
+{
     let (fua, arguments) = force_unit_access(arguments);
     let [host, lun, lba, count, byte] = arguments else {
         return None;
@@ -116,7 +155,9 @@ fn write(arguments: &[&str]) -> Option<Order> {
     Some(writing(addr, cdb, count, words::byte(byte)?))
 }
 
-fn write_16(arguments: &[&str]) -> Option<Order> {
+fn write_16(arguments: &[&str]) -> Option<Order>
+    ensures { Gives (HasWritten IsNumber arguments.now) (AsksWrite arguments.now) result }
+{
     let (fua, arguments) = force_unit_access(arguments);
     let [host, lun, lba, count, byte] = arguments else {
         return None;
@@ -127,7 +168,9 @@ fn write_16(arguments: &[&str]) -> Option<Order> {
     Some(writing(addr, cdb, count, words::byte(byte)?))
 }
 
-fn command_block(arguments: &[&str]) -> Option<Order> {
+fn command_block(arguments: &[&str]) -> Option<Order>
+    ensures { Gives (HasBlock arguments.now) (AsksBlock arguments.now) result }
+{
     match arguments {
         [host, lun, block] => Some(command(address(host, lun)?, words::block(block)?)),
         [host, lun, block, count, byte] => Some(Order::Act(Action::Command {
@@ -143,24 +186,32 @@ fn command_block(arguments: &[&str]) -> Option<Order> {
     }
 }
 
-fn disk_out(arguments: &[&str]) -> Option<Order> {
+fn disk_out(arguments: &[&str]) -> Option<Order>
+    ensures { Gives (HasDisk arguments.now) (AsksOut arguments.now) result }
+{
     let [disk] = arguments else {
         return None;
     };
     Some(Order::Act(Action::DiskOut(number_8(disk)?)))
 }
 
-fn levels(arguments: &[&str]) -> Option<Order> {
+fn levels(arguments: &[&str]) -> Option<Order>
+    ensures { Gives (HasUnit arguments.now) (AsksLevels arguments.now) result }
+{
     let addr = unit(arguments)?;
     Some(Order::Ask(Question::Levels(addr)))
 }
 
-fn home(arguments: &[&str]) -> Option<Order> {
+fn home(arguments: &[&str]) -> Option<Order>
+    ensures { Gives (HasUnitAndNumber 32 arguments.now) (AsksHome arguments.now) result }
+{
     let (addr, rb) = unit_and_number(arguments)?;
     Some(Order::Ask(Question::Home(addr, rb)))
 }
 
-fn block(arguments: &[&str]) -> Option<Order> {
+fn block(arguments: &[&str]) -> Option<Order>
+    ensures { Gives (HasRow arguments.now) (AsksRow arguments.now) result }
+{
     let [disk, extent, row] = arguments else {
         return None;
     };
@@ -172,12 +223,18 @@ fn block(arguments: &[&str]) -> Option<Order> {
 }
 
 // An order whose name stands alone.
-fn alone(arguments: &[&str], order: Order) -> Option<Order> {
+fn alone(arguments: &[&str], order: Order) -> Option<Order>
+    ensures { Gives (length arguments.now ≡ 0) (λ given. given ≡ order) result }
+{
     arguments.is_empty().then_some(order)
 }
 
 // Whether the last of the arguments asks for FORCE UNIT ACCESS, and the others.
-fn force_unit_access<'a, 'b>(arguments: &'a [&'b str]) -> (bool, &'a [&'b str]) {
+fn force_unit_access<'a, 'b>(arguments: &'a [&'b str]) -> (bool, &'a [&'b str])
+    ensures forced { result.0 ≡ true → (length arguments.now ≡ length result.1.now + 1) × (word arguments.now (length result.1.now) ≡ codes "fua") }
+    ensures others { (i : ℕ) → i < length result.1.now → word result.1.now i ≡ word arguments.now i }
+    ensures plain { result.0 ≡ false → (length arguments.now ≡ length result.1.now) × (word arguments.now (length arguments.now - 1) ≢ codes "fua") }
+{
     match arguments {
         [others @ .., "fua"] => (true, others),
         _ => (false, arguments),
@@ -185,7 +242,9 @@ fn force_unit_access<'a, 'b>(arguments: &'a [&'b str]) -> (bool, &'a [&'b str]) 
 }
 
 // A command without data, whose bytes are printed one by one.
-fn command(addr: Addr, cdb: [u8; 16]) -> Order {
+fn command(addr: Addr, cdb: [u8; 16]) -> Order
+    ensures { result ≡ Order.Act (Action.Command addr cdb nothing Notation.Bytes) }
+{
     Order::Act(Action::Command {
         addr,
         cdb,
@@ -195,7 +254,9 @@ fn command(addr: Addr, cdb: [u8; 16]) -> Order {
 }
 
 // A command that returns sectors.
-fn reading(addr: Addr, cdb: [u8; 16]) -> Order {
+fn reading(addr: Addr, cdb: [u8; 16]) -> Order
+    ensures { result ≡ Order.Act (Action.Command addr cdb nothing Notation.Runs) }
+{
     Order::Act(Action::Command {
         addr,
         cdb,
@@ -205,7 +266,9 @@ fn reading(addr: Addr, cdb: [u8; 16]) -> Order {
 }
 
 // A command that takes so many sectors, each byte the same.
-fn writing(addr: Addr, cdb: [u8; 16], count: u16, byte: u8) -> Order {
+fn writing(addr: Addr, cdb: [u8; 16], count: u16, byte: u8) -> Order
+    ensures { result ≡ Order.Act (Action.Command addr cdb (record { len = count * 512; byte = byte }) Notation.Runs) }
+{
     Order::Act(Action::Command {
         addr,
         cdb,
@@ -218,7 +281,9 @@ fn writing(addr: Addr, cdb: [u8; 16], count: u16, byte: u8) -> Order {
 }
 
 // A unit's address, and nothing more.
-fn unit(arguments: &[&str]) -> Option<Addr> {
+fn unit(arguments: &[&str]) -> Option<Addr>
+    ensures { Gives (HasUnit arguments.now) (NamesUnit arguments.now) result }
+{
     let [host, lun] = arguments else {
         return None;
     };
@@ -226,27 +291,37 @@ fn unit(arguments: &[&str]) -> Option<Addr> {
 }
 
 // A unit's address and a number.
-fn unit_and_number(arguments: &[&str]) -> Option<(Addr, u32)> {
+fn unit_and_number(arguments: &[&str]) -> Option<(Addr, u32)>
+    ensures { Gives (HasUnitAndNumber 32 arguments.now) (λ both. NamesUnit arguments.now both.0 × (both.1 ≡ value (word arguments.now 2))) result }
+{
     let [host, lun, number] = arguments else {
         return None;
     };
     Some((address(host, lun)?, number_32(number)?))
 }
 
-fn address(host: &str, lun: &str) -> Option<Addr> {
+fn address(host: &str, lun: &str) -> Option<Addr>
+    ensures { Gives (AreAddress host.now lun.now) (IsAddress host.now lun.now) result }
+{
     let host = Host::new(number_8(host)?)?;
     let lun = number_8(lun)?;
     Some(Addr { host, lun })
 }
 
-fn number_8(word: &str) -> Option<u8> {
+fn number_8(word: &str) -> Option<u8>
+    ensures { SomeIff result (IsNumberOf 8 word.now) (value word.now) }
+{
     u8::try_from(words::number(word)?).ok()
 }
 
-fn number_16(word: &str) -> Option<u16> {
+fn number_16(word: &str) -> Option<u16>
+    ensures { SomeIff result (IsNumberOf 16 word.now) (value word.now) }
+{
     u16::try_from(words::number(word)?).ok()
 }
 
-fn number_32(word: &str) -> Option<u32> {
+fn number_32(word: &str) -> Option<u32>
+    ensures { SomeIff result (IsNumberOf 32 word.now) (value word.now) }
+{
     u32::try_from(words::number(word)?).ok()
 }

@@ -1,6 +1,9 @@
 // Runs a script.
-ghost use Rattle.std.specs.Prelude.{◌≢◌, ◌≤◌, IfErr};
-ghost use Rattle.ar_script.specs.Lines.{IsNumbered};
+ghost use Rattle.std.specs.Prelude.{◌≡◌, ◌≢◌, ◌≤◌, max, true, None, Err, IfErr, OnOk};
+ghost use Rattle.ar_extents.specs.Changes.{start_fault};
+ghost use Rattle.ar_script.specs.Lines.{IsNumbered, IsReached, Ends, is_write_fault as tells_write_fault};
+ghost use Rattle.ar_script.specs.Orders.{MeetsLine};
+ghost use Rattle.ar_script.specs.Setups.{disks_of};
 
 use crate::lines::Lines;
 use crate::parse::order_in;
@@ -33,7 +36,8 @@ pub fn run_script<R: Read + Drop, W: Write + Drop>(
     writer: W,
     setup: Setup,
 ) -> Result<(), Fault>
-    ensures { IfErr result IsNumbered }
+    ensures begun { result ≢ Err Fault.Start → (setup.cache ≤ 65536) × (start_fault (disks_of setup) ≡ None) }
+    ensures numbered { IfErr result IsNumbered }
 {
     let mut runner = Runner::start(alloc, setup)?;
     let Ok(mut lines) = Lines::new(alloc, reader) else {
@@ -50,7 +54,8 @@ pub fn run_script<R: Read + Drop, W: Write + Drop>(
 fn fault_at(line: u32, kind: FaultKind) -> Fault
     requires known { line ≤ 1000000 }
     requires few { kind ≢ FaultKind.TooManyLines }
-    ensures { IsNumbered result }
+    ensures same { result ≡ Fault.Line (max line 1) kind }
+    ensures numbered { IsNumbered result }
 {
     let line = line.max(1);
     Fault::Line { line, kind }
@@ -63,7 +68,9 @@ fn run_lines<R: Read + Drop, W: Write + Drop>(
     lines: &mut Lines<R>,
     out: &mut BufWriter<W>,
 ) -> Result<(), Fault>
-    ensures { IfErr result IsNumbered }
+    ensures ended { OnOk result (lines.new.is_at_end ≡ true) }
+    ensures reached { IfErr result (IsReached lines.new.number) }
+    ensures numbered { IfErr result IsNumbered }
 {
     for _ in 0..u32::MAX {
         let number = lines.number();
@@ -86,7 +93,8 @@ fn answer_line<R: Read + Drop, W: Write + Drop>(
     lines: &Lines<R>,
     out: &mut BufWriter<W>,
 ) -> Result<(), FaultKind>
-    ensures { IfErr result (λ kind. kind ≢ FaultKind.TooManyLines) }
+    ensures meets { MeetsLine lines.now.line.items runner.old result runner.new }
+    ensures few { IfErr result (λ kind. kind ≢ FaultKind.TooManyLines) }
 {
     match order_in(alloc, lines.line())? {
         Some(order) => runner.answer(alloc, order, out),
@@ -102,7 +110,8 @@ fn finish<W: Write + Drop>(
 ) -> Result<(), Fault>
     requires line { line ≤ 1000000 }
     requires numbered { IfErr done IsNumbered }
-    ensures { IfErr result IsNumbered }
+    ensures ends { Ends line done result }
+    ensures numbered { IfErr result IsNumbered }
 {
     let failed = is_write_fault(&done) || out.flush().is_err();
     let (_writer, _unwritten) = out.into_parts();
@@ -113,7 +122,9 @@ fn finish<W: Write + Drop>(
     }
 }
 
-fn is_write_fault(done: &Result<(), Fault>) -> bool {
+fn is_write_fault(done: &Result<(), Fault>) -> bool
+    ensures { result ≡ tells_write_fault done.now }
+{
     matches!(
         done,
         Err(Fault::Line {

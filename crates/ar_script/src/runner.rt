@@ -1,8 +1,9 @@
 // What a script runs on: an array, and how it answers an order.
-ghost use Rattle.std.specs.Prelude.{◌≡◌, ◌≢◌, ◌≤◌, IfOk, IfErr, OnOk, OnErr, replicate};
+ghost use Rattle.std.specs.Prelude.{◌≡◌, ◌≢◌, ◌≤◌, IfOk, IfErr, OnOk, OnErr, None, replicate};
+ghost use Rattle.ar_extents.specs.Changes.{start_fault};
 ghost use Rattle.ar_core.specs.Start.{IsStarted};
 ghost use Rattle.ar_core.specs.Step.{Steps};
-ghost use Rattle.ar_script.specs.Orders.{event_in, Looks, Leaves};
+ghost use Rattle.ar_script.specs.Orders.{event_in, Looks, IsLost, Leaves};
 ghost use Rattle.ar_script.specs.Setups.{disks_of};
 
 use crate::order::{Action, Data, Order, Question};
@@ -42,6 +43,7 @@ impl Runner {
     pub fn start(alloc: Global, setup: Setup) -> Result<Runner, Fault>
         ensures refused { IfErr result (λ fault. fault ≡ Fault.Start) }
         ensures few { OnOk result (setup.cache ≤ CAPACITY_LIMIT) }
+        ensures taken { OnOk result (start_fault (disks_of setup) ≡ None) }
         ensures started { IfOk result (IsStarted (disks_of setup) setup.cache) }
     {
         if setup.cache > CAPACITY_LIMIT {
@@ -61,6 +63,7 @@ impl Runner {
         out: &mut W,
     ) -> Result<(), FaultKind>
         ensures few { IfErr result (λ kind. kind ≢ FaultKind.TooManyLines) }
+        ensures lost { IfErr result IsLost }
         ensures leaves { Leaves order self.old result self.new }
     {
         match order {
@@ -89,6 +92,7 @@ impl Runner {
         out: &mut W,
     ) -> Result<(), FaultKind>
         ensures few { IfErr result (λ kind. kind ≢ FaultKind.TooManyLines) }
+        ensures lost { IfErr result IsLost }
         ensures looks { Looks question self.old self.new }
     {
         let written = match question {

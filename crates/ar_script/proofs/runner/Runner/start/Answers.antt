@@ -44,3 +44,6 @@ invariant_of-result c =
 
 pub returns-clause-started : goal.returns-clause-started
 returns-clause-started c = started c
+
+pub returns-clause-taken : goal.returns-clause-taken
+returns-clause-taken c = taken c

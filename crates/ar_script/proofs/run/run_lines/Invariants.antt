@@ -1,0 +1,6 @@
+-- Each turn begins a line.
+use Rattle.std.proofs.Common.{◌≤◌}
+use Rattle.ar_script.proofs.run.run_lines.Given as goal
+
+abbrev pub invariant-loop : goal.invariant-loop
+invariant-loop g l = l.counter ≤ l.lines.number
