@@ -67,7 +67,7 @@ answer (Present sectors true) cdb bytes =
     else leaving (Present sectors false) (check capacity_data_has_changed)
 answer (Present sectors false) cdb bytes = obeyed sectors false (reading cdb) bytes
 
--- the reply of a program that may be refused memory: the table's, or BUSY. Only for the bytes of a reply is memory asked for.
+-- the reply of a program that may be refused memory: the table's, or BUSY, and that only where the table's reply has bytes
 pub record IsGiven (table reply : Reply) : Type 0 where
   pub answered : reply.status ≢ Busy → reply ≡ table
   pub refused : reply.status ≡ Busy → reply ≡ busy
