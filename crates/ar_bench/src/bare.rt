@@ -51,11 +51,11 @@ impl Bare {
         Ok(Bare {
             geometry,
             count,
-            disks: blocks(alloc, geometry, count)?,
-            source: blocks(alloc, geometry, DATA_BLOCKS)?,
-            block: blocks(alloc, geometry, 1)?,
-            spare: blocks(alloc, geometry, 1)?,
-            answer: blocks(alloc, geometry, 1)?,
+            disks: blocks(alloc, geometry, count, 0xEE)?,
+            source: blocks(alloc, geometry, DATA_BLOCKS, 0x11)?,
+            block: blocks(alloc, geometry, 1, 0x22)?,
+            spare: blocks(alloc, geometry, 1, 0x44)?,
+            answer: blocks(alloc, geometry, 1, 0x88)?,
         })
     }
 
@@ -71,7 +71,7 @@ impl Bare {
         }
     }
 
-    // The moves of one operation. Each read, and each write beside the reads, is at a block of its own.
+    // The moves of one operation. Each read, and each write beside the reads, is at a block of its own, as long as there are so many.
     fn turn(&mut self, moves: Moves, turn: usize) {
         let span = moves.times as usize;
         self.take(moves.taken, turn);
@@ -164,12 +164,12 @@ fn add_into(bytes: &[u8], target: &mut [u8])
     }
 }
 
-// So many blocks, none of whose bytes is zero.
-fn blocks(alloc: Global, geometry: Geometry, count: usize) -> Result<Vec<u8>, AllocError>
+// So many blocks of one byte.
+fn blocks(alloc: Global, geometry: Geometry, count: usize, byte: u8) -> Result<Vec<u8>, AllocError>
     requires { count ≤ 65536 }
     ensures { IfOk result (λ bytes. length bytes.items ≡ count * block_len_of geometry) }
 {
-    vec![in alloc; 0xEE; count * geometry.block_len()]
+    vec![in alloc; byte; count * geometry.block_len()]
 }
 
 // Where a block begins; past the last one it goes on with the first.
@@ -180,4 +180,72 @@ fn place(geometry: Geometry, count: usize, number: usize) -> usize
     ensures { result + block_len_of geometry ≤ count * block_len_of geometry }
 {
     (number % count) * geometry.block_len()
+}
+
+#[cfg(test)]
+mod tests {
+    use super::*;
+    use rand_core::SeedableRng;
+    use rand_xoshiro::Xoshiro256PlusPlus;
+
+    // The places of a buffer, block by block, that hold a byte.
+    fn holding(bytes: &[u8], byte: u8) -> u8 {
+        let mut mask = 0;
+        for (number, block) in bytes.chunks_exact(1_024).enumerate() {
+            if number < 8 && block.iter().all(|other| *other == byte) {
+                mask |= 1u8 << number as u32;
+            }
+        }
+        mask
+    }
+
+    fn after(alloc: Global, moves: Moves) -> Result<Bare, AllocError> {
+        let mut rng = Xoshiro256PlusPlus::seed_from_u64(1);
+        let mut bare = Bare::new(alloc, Geometry::SMALL, 1)?;
+        bare.run(moves, false, &mut rng);
+        Ok(bare)
+    }
+
+    // Two mirrored writes of two operations: blocks 0 and 1, and their copies behind them.
+    #[test]
+    fn writes_are_copies_of_what_is_taken(rt: HostRuntime) -> Result<(), AllocError> {
+        let moves = Moves {
+            times: 2,
+            taken: 1_024,
+            writes: 2,
+            ..Moves::NONE
+        };
+        let bare = after(rt.alloc(), moves)?;
+        assert_eq!(rt; holding(&bare.disks, 0x11), 0b0000_1111);
+        assert_eq!(rt; holding(&bare.disks, 0xEE), 0b1111_0000);
+        Ok(())
+    }
+
+    // What is read is given.
+    #[test]
+    fn reads_are_given(rt: HostRuntime) -> Result<(), AllocError> {
+        let moves = Moves {
+            times: 1,
+            reads: 1,
+            given: 1_024,
+            ..Moves::NONE
+        };
+        let bare = after(rt.alloc(), moves)?;
+        assert_eq!(rt; holding(&bare.answer, 0xEE), 1);
+        Ok(())
+    }
+
+    // 22 and 44 make 66.
+    #[test]
+    fn blocks_are_added(rt: HostRuntime) -> Result<(), AllocError> {
+        let moves = Moves {
+            times: 1,
+            sums: 1,
+            writes: 1,
+            ..Moves::NONE
+        };
+        let bare = after(rt.alloc(), moves)?;
+        assert_eq!(rt; holding(&bare.disks, 0x66), 1);
+        Ok(())
+    }
 }

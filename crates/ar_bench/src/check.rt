@@ -37,8 +37,8 @@ impl ReadBack {
     }
 }
 
-// An array on which a few hundred operations are done at once.
-fn size_of(geometry: Geometry) -> Size {
+// The size of an array on which a few hundred operations are soon done.
+fn few_extents(geometry: Geometry) -> Size {
     let extents = match geometry {
         Geometry::Paper => 4,
         Geometry::Small => 32,
@@ -55,7 +55,7 @@ pub fn check(
     read_back: &mut ReadBack,
 ) -> Result<(), Failure> {
     let data = Data::new(alloc, geometry, seed)?;
-    let mut stage = Stage::new(alloc, workload, size_of(geometry))?;
+    let mut stage = Stage::new(alloc, workload, few_extents(geometry))?;
     let mut rng = Xoshiro256PlusPlus::seed_from_u64(seed);
     let round = stage.round();
     for number in 0..rounds(round.operations()) {
@@ -63,6 +63,7 @@ pub fn check(
             stage.prepare(alloc, &data)?;
         }
         stage.operate(alloc, round, &data, &mut rng, read_back)?;
+        stage.check(alloc)?;
     }
     stage.read_blocks(alloc, round.blocks, read_back)
 }
@@ -77,19 +78,38 @@ mod tests {
     use super::*;
     use std::test::Fail;
 
+    // The example of FIPS 180-4, in two parts.
+    #[test]
+    fn the_digest_is_that_of_all_bytes(rt: HostRuntime) -> Result<(), Fail> {
+        let mut read_back = ReadBack::new();
+        read_back.take(b"a");
+        read_back.take(b"bc");
+        let digest = hex::encode(rt.alloc(), read_back.digest())?;
+        assert_eq!(rt;
+            digest.as_str(),
+            "ba7816bf8f01cfea414140de5dae2223b00361a396177a9cb410ff61f20015ad"
+        );
+        Ok(())
+    }
+
     fn digest_of(alloc: Global, workload: Workload) -> Result<[u8; 32], Fail> {
         let mut read_back = ReadBack::new();
         check(alloc, workload, Geometry::SMALL, 1, &mut read_back).map_err(Fail::new)?;
         Ok(read_back.digest())
     }
 
-    // So many times so many blocks, as they were written.
-    fn digest_of_blocks(alloc: Global, times: u32, blocks: u32) -> Result<[u8; 32], Fail> {
+    // So many times so many blocks, as they were written in a pass.
+    fn digest_of_blocks(
+        alloc: Global,
+        times: u32,
+        blocks: u32,
+        pass: u32,
+    ) -> Result<[u8; 32], Fail> {
         let data = Data::new(alloc, Geometry::SMALL, 1).map_err(Fail::new)?;
         let mut plain = ReadBack::new();
         for _ in 0..times {
             for turn in 0..blocks {
-                let block = data.block(turn).map_err(Fail::new)?;
+                let block = data.block(turn.wrapping_add(pass)).map_err(Fail::new)?;
                 plain.take(block.as_slice());
             }
         }
@@ -97,23 +117,23 @@ mod tests {
     }
 
     // 31 groups of 4 mirrored blocks; those at the parity level are as many as 15 mirrored groups hold. A reading workload
-    // reads them until 200 blocks were read, and once more.
+    // reads them until 200 blocks were read, and once more. One that writes them leaves those of the last pass.
     #[test]
     fn what_was_written_is_read_back(rt: HostRuntime) -> Result<(), Fail> {
         let alloc = rt.alloc();
-        for (workload, times, blocks) in [
-            (Workload::Fill, 1, 186),
-            (Workload::Overwrite, 1, 124),
-            (Workload::OverwriteCached, 1, 124),
-            (Workload::Read, 3, 124),
-            (Workload::ParityRead, 5, 60),
-            (Workload::ParityWrite, 1, 60),
-            (Workload::DegradedRead, 5, 60),
-            (Workload::DegradedWrite, 1, 60),
-            (Workload::ManyGroups, 1, 186),
+        for (workload, times, blocks, pass) in [
+            (Workload::Fill, 1, 186, 1),
+            (Workload::Overwrite, 1, 124, 2),
+            (Workload::OverwriteCached, 1, 124, 8),
+            (Workload::Read, 3, 124, 0),
+            (Workload::ParityRead, 5, 60, 0),
+            (Workload::ParityWrite, 1, 60, 1),
+            (Workload::DegradedRead, 5, 60, 0),
+            (Workload::DegradedWrite, 1, 60, 1),
+            (Workload::ManyGroups, 1, 186, 2),
         ] {
             let name = workload.name();
-            let wanted = digest_of_blocks(alloc, times, blocks)?;
+            let wanted = digest_of_blocks(alloc, times, blocks, pass)?;
             assert_eq!(rt; digest_of(alloc, workload)?, wanted, "{name}");
         }
         Ok(())

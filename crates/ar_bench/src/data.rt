@@ -2,15 +2,15 @@
 ghost use Rattle.std.specs.Prelude.{◌≡◌, length, IfOk};
 
 use crate::failure::Failure;
-use ar_disks::Geometry;
+use ar_disks::{Geometry, SECTOR_LEN};
 use bytes::Bytes;
 use rand_core::{Rng, SeedableRng};
 use rand_xoshiro::Xoshiro256PlusPlus;
 use std::alloc::{AllocError, Global};
 use std::marker::Model;
 
-/// How many different blocks of data there are.
-const VARIETY: u32 = 16;
+/// How many different blocks of data there are: a prime, so that blocks which differ by whole extents differ in their data.
+const VARIETY: u32 = 17;
 
 /// Blocks of data, and sectors, which writes bring in turn.
 #[derive(Drop)]
@@ -26,7 +26,7 @@ impl Model for Data {
 
     ghost view = { λ _. tt };
 
-    ghost invariant = { λ d. (length d.blocks.items ≡ 16) × (length d.sectors.items ≡ 16) };
+    ghost invariant = { λ d. (length d.blocks.items ≡ 17) × (length d.sectors.items ≡ 17) };
 }
 
 impl Data {
@@ -34,7 +34,7 @@ impl Data {
     pub fn new(alloc: Global, geometry: Geometry, seed: u64) -> Result<Data, Failure> {
         let mut rng = Xoshiro256PlusPlus::seed_from_u64(seed);
         let blocks = drawn(alloc, &mut rng, geometry.block_len());
-        let sectors = drawn(alloc, &mut rng, 512);
+        let sectors = drawn(alloc, &mut rng, SECTOR_LEN);
         match (blocks, sectors) {
             (Ok(blocks), Ok(sectors)) => Ok(Data { blocks, sectors }),
             _ => Err(Failure::NoMemory),
@@ -55,7 +55,7 @@ impl Data {
 }
 
 fn drawn<R: Rng>(alloc: Global, rng: &mut R, len: usize) -> Result<Vec<Bytes>, AllocError>
-    ensures { IfOk result (λ all. length all.items ≡ 16) }
+    ensures { IfOk result (λ all. length all.items ≡ 17) }
 {
     let mut all = Vec::new(alloc);
     for _ in 0..VARIETY {

@@ -16,6 +16,9 @@ pub enum Failure {
     /// A block doesn't stand where the workload needs it.
     #[error("{0}: a block stands at another level")]
     Level(&'static str),
+    /// The disks are not as the workload needs them.
+    #[error("{0}: a disk is out, or none is")]
+    Health(&'static str),
     /// The clock can't be read.
     #[error("no clock")]
     Clock,
@@ -54,6 +57,11 @@ mod tests {
                 1,
                 "read: a block stands at another level",
             ),
+            (
+                Failure::Health("read"),
+                1,
+                "read: a disk is out, or none is",
+            ),
             (Failure::Clock, 1, "no clock"),
             (Failure::Write, 1, "write fault"),
         ] {
@@ -67,7 +75,10 @@ mod tests {
     fn bad_command_lines(rt: HostRuntime) -> Result<(), std::test::Fail> {
         for (fault, beginning) in [
             (CommandLineFault::Bad, "bad command line: ar_bench [--"),
-            (CommandLineFault::Workload, "no such workload: fill over"),
+            (
+                CommandLineFault::Workload,
+                "no such workload; there are: fill",
+            ),
         ] {
             let failure = Failure::CommandLine(fault);
             assert_eq!(rt; failure.status(), 2, "{beginning}");

@@ -6,7 +6,7 @@ use crate::cost::Round;
 use crate::data::Data;
 use crate::failure::Failure;
 use crate::stage::{Sink, Size, Stage};
-use crate::workload::{Access, Workload};
+use crate::workload::Workload;
 use ar_disks::Geometry;
 use rand_core::SeedableRng;
 use rand_xoshiro::Xoshiro256PlusPlus;
@@ -15,7 +15,7 @@ use std::rt::Clock;
 use std::time::Instant;
 
 /// The most rounds of a workload, however short they are.
-const ROUNDS: u32 = 1_000_000;
+const ROUNDS: u32 = 100_000_000;
 
 /// What a workload cost.
 #[derive(Clone, Copy, Debug, PartialEq, Eq)]
@@ -64,7 +64,8 @@ pub struct Budget {
     pub seed: u64,
 }
 
-/// How large the array of a workload is: 256 MiB of disks with large blocks, half a MiB with small ones.
+/// How large the array of a workload is: 256 MiB of disks with large blocks, half a MiB with small ones, and 8 MiB of these for
+/// many groups.
 pub fn size_of(workload: Workload, geometry: Geometry) -> Size
     ensures some { 0 < result.extents }
     ensures few { result.extents ≤ 1024 }
@@ -124,14 +125,14 @@ impl Trial {
         })
     }
 
-    // Times a round of the array, and one of the bare loop.
+    // Times a round of the bare loop, and then one of the array, whose caches it leaves cold.
     fn time_round<C: Clock>(&mut self, clock: &C, alloc: Global) -> Result<Figures, Failure> {
         let round = self.stage.round();
+        let bare = self.time_bare(clock, round)?;
         let begin = now(clock)?;
         self.stage
             .operate(alloc, round, &self.data, &mut self.rng, &mut Discard)?;
         let array = since(clock, begin)?;
-        let bare = self.time_bare(clock, round)?;
         let operations = u64::from(round.operations());
         Ok(Figures {
             operations,
@@ -142,10 +143,7 @@ impl Trial {
     }
 
     fn time_bare<C: Clock>(&mut self, clock: &C, round: Round) -> Result<u64, Failure> {
-        let is_random = matches!(
-            round.workload.plan().access,
-            Access::ReadSectors | Access::WriteSectors
-        );
+        let is_random = round.workload.plan().access.is_random();
         let begin = now(clock)?;
         for moves in round.moves() {
             self.bare.run(moves, is_random, &mut self.rng);

@@ -6,7 +6,7 @@ use crate::cost::Round;
 use crate::data::Data;
 use crate::failure::Failure;
 use crate::workload::{Access, Plan, Stands, Workload};
-use ar_core::{Array, CAPACITY_LIMIT, Event, LevelOf, Outcome, Stored};
+use ar_core::{Array, CAPACITY_LIMIT, Event, Flush, Health, LevelOf, Outcome, Stored};
 use ar_disks::{Addr, Geometry, Host, MemDisk};
 use ar_scsi::Status;
 use bytes::Bytes;
@@ -45,6 +45,8 @@ pub struct Stage {
     unit: Addr,
     // Another, which uses the rest of the room while the blocks of the first one go to the parity level.
     ballast: Addr,
+    // How often the blocks were gone over since the unit was made ready. Each time other data are written.
+    passes: u32,
 }
 
 impl Size {
@@ -95,6 +97,7 @@ impl Stage {
             size,
             unit,
             ballast,
+            passes: 0,
         })
     }
 
@@ -123,6 +126,7 @@ impl Stage {
         let _ = self.array.step(alloc, Event::Remove(self.unit));
         let blocks = self.size.blocks(self.plan.stands);
         self.make(alloc, self.unit, blocks)?;
+        self.passes = 0;
         if self.plan.stands != Stands::Nowhere {
             self.write_blocks(alloc, self.unit, blocks, data)?;
         }
@@ -134,7 +138,15 @@ impl Stage {
             // It may be out.
             let _ = self.array.step(alloc, Event::DiskOut(0));
         }
-        self.check_levels()
+        self.check_levels(self.plan.level_before())
+    }
+
+    /// Whether the operations of a round have left the unit as they have to: nothing is cached, and written blocks are promoted.
+    pub fn check(&mut self, alloc: Global) -> Result<(), Failure> {
+        match self.array.step(alloc, Event::Flush) {
+            Outcome::Flush(Flush::Idle) => self.check_levels(self.plan.level_after()),
+            _ => Err(self.refused()),
+        }
     }
 
     // Fills the rest of the room, so that all blocks go to the parity level, and empties it again.
@@ -156,13 +168,16 @@ impl Stage {
         }
     }
 
-    // Every block has to stand where the workload needs it.
-    fn check_levels(&self) -> Result<(), Failure> {
-        let level = match self.plan.stands {
-            Stands::Nowhere => LevelOf::Unplaced,
-            Stands::Mirrored => LevelOf::Mirrored,
-            Stands::Parity | Stands::Everywhere => LevelOf::Parity,
+    // Every block has to stand at this level, and disk 0 has to be out exactly where the workload is about that.
+    fn check_levels(&self, level: LevelOf) -> Result<(), Failure> {
+        let health = if self.plan.is_degraded {
+            Health::Out(0)
+        } else {
+            Health::Whole
         };
+        if self.array.health() != health {
+            return Err(Failure::Health(self.workload.name()));
+        }
         for rb in 0..self.size.blocks(self.plan.stands) {
             if self.array.level(self.unit, rb) != level {
                 return Err(Failure::Level(self.workload.name()));
@@ -181,6 +196,7 @@ impl Stage {
         sink: &mut S,
     ) -> Result<(), Failure> {
         for _ in 0..round.passes {
+            self.passes = self.passes.wrapping_add(1);
             match self.plan.access {
                 Access::ReadBlocks => self.read_blocks(alloc, round.blocks, sink)?,
                 Access::WriteBlocks => self.write_blocks(alloc, self.unit, round.blocks, data)?,
@@ -216,7 +232,13 @@ impl Stage {
         let sectors = self.size.geometry.sectors();
         for rb in 0..blocks {
             let lba = rb.saturating_mul(sectors);
-            self.write(alloc, addr, lba, sectors as u8, data.block(rb)?)?;
+            self.write(
+                alloc,
+                addr,
+                lba,
+                sectors as u8,
+                data.block(rb.wrapping_add(self.passes))?,
+            )?;
         }
         Ok(())
     }

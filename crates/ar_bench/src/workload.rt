@@ -1,4 +1,5 @@
 // What is measured, and what each workload needs.
+use ar_core::LevelOf;
 use ar_disks::Geometry;
 
 /// What the array is asked to do.
@@ -54,6 +55,13 @@ pub enum Access {
     WriteSectors,
 }
 
+impl Access {
+    /// Whether it goes anywhere, instead of in order.
+    pub fn is_random(self) -> bool {
+        matches!(self, Access::ReadSectors | Access::WriteSectors)
+    }
+}
+
 /// What a workload does.
 #[derive(Clone, Copy, Debug, PartialEq, Eq)]
 pub struct Plan {
@@ -63,6 +71,27 @@ pub struct Plan {
     pub is_cached: bool,
     /// Whether disk 0 is out.
     pub is_degraded: bool,
+}
+
+impl Plan {
+    /// At which level each block stands before the operations.
+    pub fn level_before(self) -> LevelOf {
+        match self.stands {
+            Stands::Nowhere => LevelOf::Unplaced,
+            Stands::Mirrored => LevelOf::Mirrored,
+            Stands::Parity | Stands::Everywhere => LevelOf::Parity,
+        }
+    }
+
+    /// And after them: first writes that use all the room end at the parity level, and written blocks are promoted where there
+    /// are free groups.
+    pub fn level_after(self) -> LevelOf {
+        match (self.stands, self.access) {
+            (Stands::Nowhere, _) => LevelOf::Parity,
+            (Stands::Parity, Access::WriteBlocks) => LevelOf::Mirrored,
+            _ => self.level_before(),
+        }
+    }
 }
 
 impl Workload {
