@@ -141,7 +141,7 @@ impl Stage {
         self.check_levels(self.plan.level_before())
     }
 
-    /// Whether the operations of a round have left the unit as they have to: nothing is cached, and written blocks are promoted.
+    /// Checks that the operations of a round left the unit as they have to: nothing is cached, and written blocks are promoted.
     pub fn check(&mut self, alloc: Global) -> Result<(), Failure> {
         match self.array.step(alloc, Event::Flush) {
             Outcome::Flush(Flush::Idle) => self.check_levels(self.plan.level_after()),
