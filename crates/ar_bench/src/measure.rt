@@ -51,9 +51,13 @@ impl Figures {
 /// What a machine copies and adds by itself.
 #[derive(Clone, Copy, Debug, PartialEq, Eq)]
 pub struct Machine {
+    /// Bytes that were copied.
     pub copied: u64,
+    /// Nanoseconds of the copies.
     pub copying: u64,
+    /// Bytes that were added to others.
     pub added: u64,
+    /// Nanoseconds of the sums.
     pub adding: u64,
 }
 
