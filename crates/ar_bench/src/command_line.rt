@@ -1,5 +1,5 @@
 // What the words of a command line ask for.
-use crate::workload::Workload;
+use ar_workloads::Workload;
 use clap::error::ErrorKind;
 use clap::{Arg, ArgAction, ArgMatches, Command, Error as ParseError, value_parser};
 use std::alloc::Global;
@@ -83,70 +83,4 @@ fn options_of(matches: &ArgMatches<'_>, workload: Option<Workload>) -> Option<Op
         shows_progress: matches.get_flag("progress"),
         is_check: matches.get_flag("check"),
     })
-}
-
-#[cfg(test)]
-mod tests {
-    use super::*;
-
-    const PLAIN: Options = Options {
-        workload: None,
-        seconds: 2,
-        seed: 1,
-        shows_progress: false,
-        is_check: false,
-    };
-
-    #[test]
-    fn command_lines_that_run(rt: HostRuntime) {
-        let alloc = rt.alloc();
-        assert_eq!(rt; options_in(alloc, ["ar_bench"].as_slice()), Ok(PLAIN));
-        let all = [
-            "ar_bench",
-            "--workload",
-            "parity-read",
-            "--seconds=600",
-            "--seed",
-            "18446744073709551615",
-            "--progress",
-            "--check",
-        ];
-        let options = Options {
-            workload: Some(Workload::ParityRead),
-            seconds: 600,
-            seed: u64::MAX,
-            shows_progress: true,
-            is_check: true,
-        };
-        assert_eq!(rt; options_in(alloc, all.as_slice()), Ok(options));
-    }
-
-    #[test]
-    fn command_lines_that_are_refused(rt: HostRuntime) {
-        let alloc = rt.alloc();
-        for words in [
-            &["ar_bench", "fill"][..],
-            &["ar_bench", "--help"],
-            &["ar_bench", "--workload"],
-            &["ar_bench", "--seconds", "0"],
-            &["ar_bench", "--seconds", "601"],
-            &["ar_bench", "--seconds", "two"],
-            &["ar_bench", "--seconds", "1", "--seconds", "1"],
-            &["ar_bench", "--seed", "-1"],
-            &["ar_bench", "--seed", "18446744073709551616"],
-            &["ar_bench", "--check", "1"],
-            &["ar_bench", "--geometry", "small"],
-        ] {
-            assert_eq!(rt;
-                options_in(alloc, words),
-                Err(CommandLineFault::Bad),
-                "{words:?}"
-            );
-        }
-        for name in ["", "Fill", "fills", "overwrite cached"] {
-            let words = ["ar_bench", "--workload", name];
-            let fault = Err(CommandLineFault::Workload);
-            assert_eq!(rt; options_in(alloc, words.as_slice()), fault, "{name:?}");
-        }
-    }
 }

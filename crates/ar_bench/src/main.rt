@@ -1,27 +1,20 @@
 //! What a step of the array costs: each workload is timed beside a bare loop of the same copies and sums.
 #![tactic(auto)]
 
-mod bare;
 mod check;
 mod command_line;
-mod cost;
-mod data;
 mod failure;
 mod measure;
-mod report;
-mod stage;
-mod workload;
 
 use ar_disks::Geometry;
+use ar_workloads::{Workload, name_of};
 use check::{ReadBack, check};
 use command_line::{CommandLineFault, Options, options_in};
 use failure::Failure;
 use measure::{Budget, measure, measure_machine};
-use report::name_of;
 use std::alloc::Global;
 use std::process::ExitCode;
 use std::{env, io};
-use workload::Workload;
 
 fn main(rt: HostRuntime) -> ExitCode {
     match run(&rt) {

@@ -1,13 +1,9 @@
 // A workload timed against the bare loop.
 ghost use Rattle.std.specs.Prelude.{◌<◌, ◌≤◌};
 
-use crate::bare::Bare;
-use crate::cost::Round;
-use crate::data::Data;
 use crate::failure::Failure;
-use crate::stage::{Sink, Size, Stage};
-use crate::workload::Workload;
 use ar_disks::Geometry;
+use ar_workloads::{Bare, Data, Figures, Machine, Round, Sink, Size, Stage, Workload};
 use rand_core::SeedableRng;
 use rand_xoshiro::Xoshiro256PlusPlus;
 use std::alloc::Global;
@@ -16,50 +12,6 @@ use std::time::Instant;
 
 /// The most rounds of a workload, however short they are.
 const ROUNDS: u32 = 100_000_000;
-
-/// What a workload cost.
-#[derive(Clone, Copy, Debug, PartialEq, Eq)]
-pub struct Figures {
-    pub operations: u64,
-    /// Bytes of data that came or went with the commands.
-    pub bytes: u64,
-    /// Nanoseconds of the array.
-    pub array: u64,
-    /// Nanoseconds of the bare loop.
-    pub bare: u64,
-}
-
-impl Figures {
-    const NONE: Figures = Figures {
-        operations: 0,
-        bytes: 0,
-        array: 0,
-        bare: 0,
-    };
-
-    // With those of another round.
-    fn and(self, other: Figures) -> Figures {
-        Figures {
-            operations: self.operations.saturating_add(other.operations),
-            bytes: self.bytes.saturating_add(other.bytes),
-            array: self.array.saturating_add(other.array),
-            bare: self.bare.saturating_add(other.bare),
-        }
-    }
-}
-
-/// What a machine copies and adds by itself.
-#[derive(Clone, Copy, Debug, PartialEq, Eq)]
-pub struct Machine {
-    /// Bytes that were copied.
-    pub copied: u64,
-    /// Nanoseconds of the copies.
-    pub copying: u64,
-    /// Bytes that were added to others.
-    pub added: u64,
-    /// Nanoseconds of the sums.
-    pub adding: u64,
-}
 
 /// For how long a workload runs, its preparation included, and on what.
 #[derive(Clone, Copy, Debug, PartialEq, Eq)]
@@ -100,17 +52,7 @@ pub fn measure<C: Clock>(
 ) -> Result<Figures, Failure> {
     let begin = now(clock)?;
     let mut trial = Trial::new(alloc, workload, geometry, budget.seed)?;
-    let mut figures = Figures::NONE;
-    for number in 0..ROUNDS {
-        if number == 0 || trial.stage.wears_out() {
-            trial.stage.prepare(alloc, &trial.data)?;
-        }
-        figures = figures.and(trial.time_round(clock, alloc)?);
-        if since(clock, begin)? / 1_000_000_000 >= u64::from(budget.seconds) {
-            break;
-        }
-    }
-    Ok(figures)
+    trial.time_rounds(clock, alloc, begin, budget.seconds)
 }
 
 impl Trial {
@@ -121,12 +63,39 @@ impl Trial {
         seed: u64,
     ) -> Result<Trial, Failure> {
         let size = size_of(workload, geometry);
-        Ok(Trial {
-            stage: Stage::new(alloc, workload, size)?,
-            bare: Bare::new(alloc, geometry, size.extents).map_err(|_| Failure::NoMemory)?,
-            data: Data::new(alloc, geometry, seed)?,
-            rng: Xoshiro256PlusPlus::seed_from_u64(seed),
-        })
+        let stage = Stage::new(alloc, workload, size);
+        let bare = Bare::new(alloc, geometry, size.extents);
+        let data = Data::new(alloc, geometry, seed);
+        match (stage, bare, data) {
+            (Ok(stage), Ok(bare), Ok(data)) => Ok(Trial {
+                stage,
+                bare,
+                data,
+                rng: Xoshiro256PlusPlus::seed_from_u64(seed),
+            }),
+            _ => Err(Failure::NoMemory),
+        }
+    }
+
+    // Times rounds until so many seconds have gone since the beginning.
+    fn time_rounds<C: Clock>(
+        &mut self,
+        clock: &C,
+        alloc: Global,
+        begin: Instant,
+        seconds: u32,
+    ) -> Result<Figures, Failure> {
+        let mut figures = Figures::NONE;
+        for number in 0..ROUNDS {
+            if number == 0 || self.stage.wears_out() {
+                self.stage.prepare(alloc, &self.data)?;
+            }
+            figures = figures.and(self.time_round(clock, alloc)?);
+            if since(clock, begin)? / 1_000_000_000 >= u64::from(seconds) {
+                break;
+            }
+        }
+        Ok(figures)
     }
 
     // Times a round of the bare loop, and then one of the array, whose caches it leaves cold.
@@ -158,30 +127,30 @@ impl Trial {
 
 /// Times the copies and the sums of a machine, over buffers as large as the disks.
 pub fn measure_machine<C: Clock>(clock: &C, alloc: Global) -> Result<Machine, Failure> {
-    let geometry = Geometry::PAPER;
-    let Size { extents, .. } = size_of(Workload::Fill, geometry);
-    let mut bare = Bare::new(alloc, geometry, extents).map_err(|_| Failure::NoMemory)?;
-    let mut machine = Machine {
-        copied: 0,
-        copying: 0,
-        added: 0,
-        adding: 0,
-    };
+    let Size { extents, .. } = size_of(Workload::Fill, Geometry::PAPER);
+    let bare = Bare::new(alloc, Geometry::PAPER, extents);
+    let mut bare = bare.map_err(|_| Failure::NoMemory)?;
+    time_machine(clock, &mut bare)
+}
+
+// Four rounds of each.
+fn time_machine<C: Clock>(clock: &C, bare: &mut Bare) -> Result<Machine, Failure> {
+    let mut machine = Machine::NONE;
     for _ in 0..4 {
         let begin = now(clock)?;
         let copied = bare.copy_all();
         machine.copying = machine.copying.saturating_add(since(clock, begin)?);
-        machine.copied = machine.copied.saturating_add(bytes_of(geometry, copied));
+        machine.copied = machine.copied.saturating_add(bytes_of(copied));
         let begin = now(clock)?;
         let added = bare.add_all();
         machine.adding = machine.adding.saturating_add(since(clock, begin)?);
-        machine.added = machine.added.saturating_add(bytes_of(geometry, added));
+        machine.added = machine.added.saturating_add(bytes_of(added));
     }
     Ok(machine)
 }
 
-fn bytes_of(geometry: Geometry, blocks: usize) -> u64 {
-    (blocks as u64).saturating_mul(geometry.block_len() as u64)
+fn bytes_of(blocks: usize) -> u64 {
+    (blocks as u64).saturating_mul(Geometry::PAPER.block_len() as u64)
 }
 
 // What reads give is let go.

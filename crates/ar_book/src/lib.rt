@@ -10,8 +10,6 @@ mod places;
 mod refusal;
 mod search;
 mod tables;
-#[cfg(test)]
-mod tests;
 mod unit;
 mod units;
 

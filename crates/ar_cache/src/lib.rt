@@ -5,10 +5,6 @@ mod answers;
 mod backing;
 mod cache;
 mod entries;
-#[cfg(test)]
-mod shelf;
-#[cfg(test)]
-mod tests;
 
 pub use answers::{Flush, Stored};
 pub use backing::Backing;

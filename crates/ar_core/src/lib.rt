@@ -7,8 +7,6 @@ mod blocks;
 mod commands;
 mod event;
 mod reply;
-#[cfg(test)]
-mod tests;
 mod transfer;
 mod views;
 

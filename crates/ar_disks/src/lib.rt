@@ -19,6 +19,3 @@ pub use geometry::{Geometry, SECTOR_LEN};
 pub use laws::xor_laws;
 pub use memory::MemDisk;
 pub use scratch::Scratch;
-
-#[cfg(test)]
-mod tests;

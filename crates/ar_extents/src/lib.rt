@@ -8,8 +8,6 @@ mod outcome;
 mod refusal;
 mod set;
 mod shape;
-#[cfg(test)]
-mod tests;
 
 pub use answers::{Got, Put, PutNew};
 pub use health::Health;

@@ -5,8 +5,6 @@ mod laws;
 mod pair;
 mod rebuild;
 mod slot;
-#[cfg(test)]
-mod tests;
 
 pub use ar_extents::{Outcome, RowOutcome};
 pub use laws::mirrored_slots_survive_a_loss;

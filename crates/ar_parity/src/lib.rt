@@ -7,8 +7,6 @@ mod laws;
 mod rebuild;
 mod slots;
 mod steps;
-#[cfg(test)]
-mod tests;
 mod update;
 mod zero;
 

@@ -8,10 +8,10 @@ mod order;
 mod parse;
 mod run;
 mod runner;
-#[cfg(test)]
-mod tests;
 mod text;
 mod words;
 
 pub use fault::{Fault, FaultKind};
+pub use order::Notation;
 pub use run::{Setup, run_script};
+pub use text::{write_health, write_outcome};

@@ -11,8 +11,6 @@ mod command;
 mod data;
 mod reply;
 mod sense;
-#[cfg(test)]
-mod tests;
 
 pub use command::{Command, allocation_length, decode, is_inquiry};
 pub use data::{capacity_data, inquiry_data};

@@ -9,10 +9,6 @@ mod slots;
 mod squeeze;
 mod start;
 mod store;
-#[cfg(test)]
-mod tests;
-#[cfg(test)]
-mod tests_start;
 mod units;
 mod way;
 

@@ -1,21 +1,12 @@
 // Events that a seeded generator draws: good ones and bad ones, over the addresses of all hosts.
 ghost use Rattle.std.specs.Prelude.{◌<◌, ◌≤◌, ◌*◌};
 
+use ar_core::Event;
 use ar_disks::{Addr, Host};
+use bytes::Bytes;
 use rand::RngExt;
 use rand_core::Rng;
 use std::alloc::{AllocError, Global};
-
-/// An event that an array is to answer.
-#[derive(Debug, Drop)]
-pub enum Drawn {
-    Make(Addr, u32),
-    Remove(Addr),
-    Grow(Addr, u32),
-    /// A command block and the data that come with it.
-    Command(Addr, [u8; 16], Vec<u8>),
-    Flush,
-}
 
 const INQUIRY: u8 = 0x12;
 
@@ -33,15 +24,15 @@ const WRITE_16: u8 = 0x8A;
 const LUNS: u8 = 9;
 
 /// The next event: a command mostly, and every other one of these a good one to a unit that is there.
-pub fn draw<R: Rng>(alloc: Global, rng: &mut R) -> Result<Drawn, AllocError> {
+pub fn draw<R: Rng>(alloc: Global, rng: &mut R) -> Result<Event, AllocError> {
     let luns = if rng.random_ratio(3, 4) { 2 } else { LUNS };
     let addr = address(rng, luns);
     match rng.random_range(0u8..40) {
-        0..=3 => Ok(Drawn::Make(addr, length(rng))),
+        0..=3 => Ok(Event::Make(addr, length(rng))),
         // Any unit is removed as often as any other, so that the first ones, which more is asked of, stay a while.
-        4 | 5 => Ok(Drawn::Remove(address(rng, LUNS))),
-        6..=8 => Ok(Drawn::Grow(addr, length(rng))),
-        9 | 10 => Ok(Drawn::Flush),
+        4 | 5 => Ok(Event::Remove(address(rng, LUNS))),
+        6..=8 => Ok(Event::Grow(addr, length(rng))),
+        9 | 10 => Ok(Event::Flush),
         _ => command(alloc, rng, addr),
     }
 }
@@ -67,13 +58,18 @@ fn length<R: Rng>(rng: &mut R) -> u32 {
     }
 }
 
-fn command<R: Rng>(alloc: Global, rng: &mut R, addr: Addr) -> Result<Drawn, AllocError> {
+fn command<R: Rng>(alloc: Global, rng: &mut R, addr: Addr) -> Result<Event, AllocError> {
     let mut cdb = block(rng);
     let len = data_len(rng, &cdb);
     let mut data = vec![in alloc; 0u8; len]?;
     rng.fill_bytes(&mut data);
     spoil(rng, &mut cdb);
-    Ok(Drawn::Command(addr, cdb, data))
+    Ok(Event::Cmd {
+        host: addr.host,
+        lun: addr.lun,
+        cdb,
+        payload: Bytes::from_vec(data)?,
+    })
 }
 
 // A command block as a host may send it, now and then with fields that are not valid.

@@ -1,57 +1,56 @@
 // Events that an array does in one run.
 use crate::arrays::sound_array;
-use crate::exchange::{
-    Exchange, READ_10, TEST_UNIT_READY, answered, made, refused, removed, sectors_written,
-    transfer, unit,
-};
+use crate::calls::{Answer, Call, Row, event_of, is_answer};
 use ar_core::{Event, Outcome};
 use ar_scsi::Sense;
 use std::alloc::{AllocError, Global};
+use std::process::Abort;
 use std::test::Fail;
 
-// A unit is made, written, read, removed and made anew, and has zeros then. At the other address no unit is.
-fn first_run(alloc: Global) -> Result<Vec<Exchange>, AllocError> {
-    let mut shown = vec![in alloc; 0x00; 512]?;
-    shown.resize(1_024, 0xAA)?;
-    let both = transfer(READ_10, 0, 2);
-    let ready = transfer(TEST_UNIT_READY, 0, 0);
-    let no_unit = Sense {
-        key: 0x05,
-        asc: 0x25,
-        ascq: 0x00,
-    };
-    let mut exchanges = Vec::new(alloc);
-    exchanges.push(made(unit(0), 4))?;
-    exchanges.push(sectors_written(alloc, unit(0), 1, 1, 0xAA)?)?;
-    exchanges.push(answered(alloc, unit(0), both, &shown)?)?;
-    exchanges.push(removed(unit(0)))?;
-    exchanges.push(made(unit(0), 4))?;
-    exchanges.push(answered(alloc, unit(0), both, &[0; 1_024])?)?;
-    exchanges.push(refused(unit(1), ready, no_unit))?;
-    Ok(exchanges)
+/// A unit is made, written, read, removed and made anew, and has zeros then. At the other address no unit is.
+const FIRST_RUN: [Row; 7] = [
+    (Call::Make(0, 4), Answer::Done),
+    (Call::Write(0, 1, 1, 0xAA), Answer::Good(&[])),
+    (Call::Read(0, 0), Answer::Sectors(0x00, 0xAA)),
+    (Call::Remove(0), Answer::Done),
+    (Call::Make(0, 4), Answer::Done),
+    (Call::Read(0, 0), Answer::Sectors(0x00, 0x00)),
+    (
+        Call::Ready(1),
+        Answer::Check(Sense::LOGICAL_UNIT_NOT_SUPPORTED),
+    ),
+];
+
+fn push_events(alloc: Global, events: &mut Vec<Event>) -> Result<(), AllocError> {
+    for (call, _) in &FIRST_RUN {
+        events.push(event_of(alloc, *call)?)?;
+    }
+    Ok(())
 }
 
-// The events of exchanges, and their answers.
-fn parted(
-    alloc: Global,
-    exchanges: Vec<Exchange>,
-) -> Result<(Vec<Event>, Vec<Outcome>), AllocError> {
+fn outcomes(alloc: Global, cache: u16) -> Result<Vec<Outcome>, Fail> {
     let mut events = Vec::new(alloc);
-    let mut outcomes = Vec::new(alloc);
-    for Exchange { event, outcome } in exchanges {
-        events.push(event)?;
-        outcomes.push(outcome)?;
+    push_events(alloc, &mut events)?;
+    match sound_array(alloc, 4, cache)?.run(alloc, events) {
+        Ok(outcomes) => Ok(outcomes),
+        Err(_) => Err(Fail::new("the run is refused")),
     }
-    Ok((events, outcomes))
+}
+
+fn answers(rt: &impl Abort, outcomes: &[Outcome], cache: u16) {
+    assert!(rt; outcomes.len() == FIRST_RUN.len(), "cache {cache}");
+    for (outcome, (call, answer)) in outcomes.iter().zip(&FIRST_RUN) {
+        assert!(rt;
+            is_answer(outcome, *answer),
+            "cache {cache}, {call:?}: {outcome:?}"
+        );
+    }
 }
 
 #[test]
 fn a_run_answers_each_event(rt: HostRuntime) -> Result<(), Fail> {
-    let alloc = rt.alloc();
     for cache in [0, 4] {
-        let (events, outcomes) = parted(alloc, first_run(alloc)?)?;
-        let answers = sound_array(alloc, 4, cache)?.run(alloc, events).ok();
-        assert_eq!(rt; answers, Some(outcomes), "cache {cache}");
+        answers(&rt, &outcomes(rt.alloc(), cache)?, cache);
     }
     Ok(())
 }

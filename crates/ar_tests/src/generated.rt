@@ -1,11 +1,10 @@
 // Runs of drawn events, and what they are answered with.
 use crate::arrays::sound_array;
-use crate::drawn::{Drawn, draw};
+use crate::drawn::draw;
 use crate::plain::{Answer, PlainArray};
-use ar_core::{Array, Class, Event, Flush, Health, Outcome, Refusal, UnitRefusal};
-use ar_disks::MemDisk;
+use ar_core::{Array, Class, Event, Flush, GroupUse, Health, Outcome, Refusal, UnitRefusal};
+use ar_disks::FuseDisk;
 use ar_scsi::{Reply, Status};
-use bytes::Bytes;
 use rand::SeedableRng;
 use rand::rngs::SmallRng;
 use std::alloc::{AllocError, Global};
@@ -22,7 +21,7 @@ const ROOM: u32 = 6 * 15;
 const LITTLE_ROOM: u32 = 6 * 3;
 
 /// A kind of answer.
-#[derive(Clone, Copy, Debug, PartialEq, Eq)]
+#[derive(Clone, Copy, Debug)]
 enum Kind {
     Made,
     Removed,
@@ -46,21 +45,42 @@ enum Kind {
     Other,
 }
 
-fn kind_of(drawn: &Drawn, answer: &Answer) -> Kind {
+/// All kinds but the last.
+const KINDS: [Kind; 17] = [
+    Kind::Made,
+    Kind::Removed,
+    Kind::Grown,
+    Kind::Exists,
+    Kind::Size,
+    Kind::NoRoom,
+    Kind::Absent,
+    Kind::BadLun,
+    Kind::Good,
+    Kind::Data,
+    Kind::UnknownCode,
+    Kind::OutOfRange,
+    Kind::InvalidField,
+    Kind::NoUnit,
+    Kind::Attention,
+    Kind::WrongLength,
+    Kind::Open,
+];
+
+fn kind_of(event: &Event, answer: &Answer) -> Kind {
     match answer {
-        Answer::Changed(Ok(())) => change_kind(drawn),
+        Answer::Changed(Ok(())) => change_kind(event),
         Answer::Changed(Err(refusal)) => refusal_kind(*refusal),
         Answer::Replied(reply) => reply_kind(reply),
         Answer::Open => Kind::Open,
     }
 }
 
-fn change_kind(drawn: &Drawn) -> Kind {
-    match drawn {
-        Drawn::Make(..) => Kind::Made,
-        Drawn::Remove(_) => Kind::Removed,
-        Drawn::Grow(..) => Kind::Grown,
-        Drawn::Command(..) | Drawn::Flush => Kind::Other,
+fn change_kind(event: &Event) -> Kind {
+    match event {
+        Event::Make(..) => Kind::Made,
+        Event::Remove(_) => Kind::Removed,
+        Event::Grow(..) => Kind::Grown,
+        _ => Kind::Other,
     }
 }
 
@@ -103,63 +123,56 @@ fn sense_kind(sense: &[u8; 18]) -> Kind {
     }
 }
 
-// What the events of a run are answered with, by plain lists.
-fn kinds(alloc: Global, seed: u64) -> Result<Vec<Kind>, AllocError> {
-    let mut rng = SmallRng::seed_from_u64(seed);
-    let mut plain = PlainArray::new(alloc, ROOM);
-    let mut kinds = Vec::new(alloc);
-    for _ in 0..EVENTS {
-        let drawn = draw(alloc, &mut rng)?;
-        let answer = plain.step(alloc, &drawn);
-        kinds.push(kind_of(&drawn, &answer))?;
+/// How often an answer of each kind came.
+#[derive(Clone, Copy)]
+struct Tally {
+    counts: [u32; 18],
+}
+
+impl Tally {
+    fn add(&mut self, kind: Kind) {
+        if let Some(count) = self.counts.get_mut(kind as usize) {
+            *count = count.saturating_add(1);
+        }
     }
-    Ok(kinds)
+
+    fn count(&self, kind: Kind) -> u32 {
+        self.counts.get(kind as usize).copied().unwrap_or(0)
+    }
+}
+
+// What plain lists answer to the events of a run.
+fn count_kinds(
+    alloc: Global,
+    rng: &mut SmallRng,
+    plain: &mut PlainArray,
+    tally: &mut Tally,
+) -> Result<(), AllocError> {
+    for _ in 0..EVENTS {
+        let event = draw(alloc, rng)?;
+        let answer = plain.step(alloc, &event);
+        tally.add(kind_of(&event, &answer));
+    }
+    Ok(())
 }
 
 // A run that never met an answer would say nothing of it.
 #[test]
 fn drawn_events_meet_every_answer(rt: HostRuntime) -> Result<(), Fail> {
-    let kinds = kinds(rt.alloc(), 1)?;
-    for wanted in [
-        Kind::Made,
-        Kind::Removed,
-        Kind::Grown,
-        Kind::Exists,
-        Kind::Size,
-        Kind::NoRoom,
-        Kind::Absent,
-        Kind::BadLun,
-        Kind::Good,
-        Kind::Data,
-        Kind::UnknownCode,
-        Kind::OutOfRange,
-        Kind::InvalidField,
-        Kind::NoUnit,
-        Kind::Attention,
-        Kind::WrongLength,
-        Kind::Open,
-    ] {
-        let count = kinds.iter().filter(|kind| **kind == wanted).count();
-        assert!(rt; count >= 20, "{count} times {wanted:?}");
+    let mut tally = Tally { counts: [0; 18] };
+    let mut plain = PlainArray::new(rt.alloc(), ROOM);
+    count_kinds(
+        rt.alloc(),
+        &mut SmallRng::seed_from_u64(1),
+        &mut plain,
+        &mut tally,
+    )?;
+    for kind in KINDS {
+        let count = tally.count(kind);
+        assert!(rt; count >= 20, "{count} times {kind:?}");
     }
-    assert!(rt; !kinds.contains(&Kind::Other));
+    assert!(rt; tally.count(Kind::Other) == 0, "another answer");
     Ok(())
-}
-
-// The event that was drawn.
-fn event_of(drawn: Drawn) -> Result<Event, AllocError> {
-    Ok(match drawn {
-        Drawn::Make(addr, sectors) => Event::Make(addr, sectors),
-        Drawn::Remove(addr) => Event::Remove(addr),
-        Drawn::Grow(addr, sectors) => Event::Grow(addr, sectors),
-        Drawn::Command(addr, cdb, data) => Event::Cmd {
-            host: addr.host,
-            lun: addr.lun,
-            cdb,
-            payload: Bytes::from_vec(data)?,
-        },
-        Drawn::Flush => Event::Flush,
-    })
 }
 
 // Whether an array answered as plain lists do. What a flush did is its own affair, but there is no loss that it can meet.
@@ -176,62 +189,75 @@ fn agrees(outcome: &Outcome, answer: &Answer) -> bool {
 }
 
 // Draws an event, and asserts that an array answers it as plain lists do.
-fn assert_agreement<R: Abort + AllocGlobal>(
+fn agree<R: Abort + AllocGlobal>(
     rt: &R,
     rng: &mut SmallRng,
     plain: &mut PlainArray,
-    array: &mut Array<MemDisk>,
-) -> Result<(), Fail> {
-    let drawn = draw(rt.alloc(), rng)?;
-    let answer = plain.step(rt.alloc(), &drawn);
-    let outcome = array.step(rt.alloc(), event_of(drawn)?);
+    array: &mut Array<FuseDisk>,
+) -> Result<(), AllocError> {
+    let event = draw(rt.alloc(), rng)?;
+    let answer = plain.step(rt.alloc(), &event);
+    let outcome = array.step(rt.alloc(), event);
     assert!(rt; agrees(&outcome, &answer), "{outcome:?} for {answer:?}");
     Ok(())
 }
 
-// Whether blocks stand in groups with parity.
-fn has_parity(alloc: Global, array: &Array<MemDisk>) -> Result<bool, AllocError> {
-    let groups = array.groups(alloc)?;
-    Ok(groups.iter().any(|group| group.class == Class::Parity))
-}
-
-// Draws events, half of a run, and asserts that an array answers them as plain lists do.
-fn assert_half<R: Abort + AllocGlobal>(
+// The same for half of a run.
+fn agree_in_half<R: Abort + AllocGlobal>(
     rt: &R,
     rng: &mut SmallRng,
     plain: &mut PlainArray,
-    array: &mut Array<MemDisk>,
-) -> Result<(), Fail> {
+    array: &mut Array<FuseDisk>,
+) -> Result<(), AllocError> {
     for _ in 0..EVENTS / 2 {
-        assert_agreement(rt, rng, plain, array)?;
+        agree(rt, rng, plain, array)?;
     }
     Ok(())
 }
 
+// Whether blocks stand in groups with parity.
+fn has_parity(groups: &[GroupUse]) -> bool {
+    groups.iter().any(|group| group.class == Class::Parity)
+}
+
+// Takes a disk out.
+fn lose_a_disk<R: Abort + AllocGlobal>(rt: &R, array: &mut Array<FuseDisk>) {
+    let outcome = array.step(rt.alloc(), Event::DiskOut(1));
+    assert!(rt; outcome == Outcome::DiskOut(Ok(())), "{outcome:?}");
+}
+
 // A run of drawn events on an array with so much room, in the middle of which a disk is taken out. Says whether blocks
 // stood in groups with parity then.
-fn assert_run<R: Abort + AllocGlobal>(
+fn run<R: Abort + AllocGlobal>(
     rt: &R,
-    array: &mut Array<MemDisk>,
+    plain: &mut PlainArray,
+    array: &mut Array<FuseDisk>,
+) -> Result<bool, AllocError> {
+    let mut rng = SmallRng::seed_from_u64(1);
+    agree_in_half(rt, &mut rng, plain, array)?;
+    let has_parity = has_parity(&array.groups(rt.alloc())?);
+    lose_a_disk(rt, array);
+    agree_in_half(rt, &mut rng, plain, array)?;
+    assert!(rt; array.health() == Health::Out(1), "{:?}", array.health());
+    Ok(has_parity)
+}
+
+fn run_on<R: Abort + AllocGlobal>(
+    rt: &R,
+    extents: u16,
+    cache: u16,
     room: u32,
 ) -> Result<bool, Fail> {
-    let mut rng = SmallRng::seed_from_u64(1);
+    let mut array = sound_array(rt.alloc(), extents, cache)?;
+    assert!(rt; array.free_room() == room, "{extents} extents");
     let mut plain = PlainArray::new(rt.alloc(), room);
-    assert_eq!(rt; array.free_room(), room);
-    assert_half(rt, &mut rng, &mut plain, array)?;
-    let has_parity = has_parity(rt.alloc(), array)?;
-    let outcome = array.step(rt.alloc(), Event::DiskOut(1));
-    assert_eq!(rt; outcome, Outcome::DiskOut(Ok(())));
-    assert_half(rt, &mut rng, &mut plain, array)?;
-    assert_eq!(rt; array.health(), Health::Out(1));
-    Ok(has_parity)
+    Ok(run(rt, &mut plain, &mut array)?)
 }
 
 #[test]
 fn drawn_events_are_answered_as_by_plain_lists(rt: HostRuntime) -> Result<(), Fail> {
     for cache in [0, 2, 64] {
-        let mut array = sound_array(rt.alloc(), 16, cache)?;
-        assert_run(&rt, &mut array, ROOM)?;
+        run_on(&rt, 16, cache, ROOM)?;
     }
     Ok(())
 }
@@ -239,8 +265,7 @@ fn drawn_events_are_answered_as_by_plain_lists(rt: HostRuntime) -> Result<(), Fa
 #[test]
 fn drawn_events_are_answered_so_on_a_crowded_array(rt: HostRuntime) -> Result<(), Fail> {
     for cache in [0, 2] {
-        let mut array = sound_array(rt.alloc(), 4, cache)?;
-        let has_parity = assert_run(&rt, &mut array, LITTLE_ROOM)?;
+        let has_parity = run_on(&rt, 4, cache, LITTLE_ROOM)?;
         assert!(rt; has_parity, "cache {cache}");
     }
     Ok(())

@@ -1,17 +1,13 @@
-//! Tests that cross crates: scripts and what each line must be answered with, drawn events against plain lists of sectors, and
-//! disks that are lost at any of their calls.
+//! Tests of the array and its scripts that must be code: drawn events against plain lists of sectors, disks that are lost at any of
+//! their calls, and input, output and arrays that fail. What a script can say is said by the scenarios of `ar_scenarios`.
 #![tactic(auto)]
 
 #[cfg(test)]
 mod arrays;
 #[cfg(test)]
-mod cache;
-#[cfg(test)]
-mod commands;
+mod calls;
 #[cfg(test)]
 mod drawn;
-#[cfg(test)]
-mod exchange;
 #[cfg(test)]
 mod first_run;
 #[cfg(test)]
@@ -21,18 +17,8 @@ mod fuses;
 #[cfg(test)]
 mod generated;
 #[cfg(test)]
-mod growth;
-#[cfg(test)]
-mod lost_disk;
-#[cfg(test)]
 mod plain;
 #[cfg(test)]
-mod ranges;
+mod scripts;
 #[cfg(test)]
-mod room;
-#[cfg(test)]
-mod script;
-#[cfg(test)]
-mod squeeze;
-#[cfg(test)]
-mod units;
+mod starts;

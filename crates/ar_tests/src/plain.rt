@@ -1,8 +1,7 @@
 // What an array must answer: its units as plain lists of sectors, and the room that they leave.
 ghost use Rattle.std.specs.Prelude.{◌<◌, IfSome, vec_len};
 
-use crate::drawn::Drawn;
-use ar_core::UnitRefusal;
+use ar_core::{Event, UnitRefusal};
 use ar_disks::Addr;
 use ar_scsi::Reply;
 use ar_unit::PlainUnit;
@@ -15,7 +14,7 @@ const MOST_SECTORS: u32 = 1_048_576;
 const BLOCK_SECTORS: u32 = 2;
 
 /// The answer to an event.
-#[derive(Debug, Drop, PartialEq, Eq)]
+#[derive(Debug, Drop)]
 pub enum Answer {
     /// A unit was made, removed or lengthened, or not.
     Changed(Result<(), UnitRefusal>),
@@ -48,15 +47,24 @@ impl PlainArray {
     }
 
     /// Does an event, and answers it.
-    pub fn step(&mut self, alloc: Global, drawn: &Drawn) -> Answer {
-        match drawn {
-            Drawn::Make(addr, sectors) => Answer::Changed(self.make(alloc, *addr, *sectors)),
-            Drawn::Remove(addr) => Answer::Changed(self.remove(*addr)),
-            Drawn::Grow(addr, sectors) => Answer::Changed(self.grow(*addr, *sectors)),
-            Drawn::Command(addr, cdb, data) => Answer::Replied(self.command(
-                alloc, *addr, cdb, data,
-            )),
-            Drawn::Flush => Answer::Open,
+    pub fn step(&mut self, alloc: Global, event: &Event) -> Answer {
+        match event {
+            Event::Make(addr, sectors) => Answer::Changed(self.make(alloc, *addr, *sectors)),
+            Event::Remove(addr) => Answer::Changed(self.remove(*addr)),
+            Event::Grow(addr, sectors) => Answer::Changed(self.grow(*addr, *sectors)),
+            Event::Cmd {
+                host,
+                lun,
+                cdb,
+                payload,
+            } => {
+                let addr = Addr {
+                    host: *host,
+                    lun: *lun,
+                };
+                Answer::Replied(self.command(alloc, addr, cdb, payload.as_slice()))
+            }
+            Event::Flush | Event::DiskOut(_) => Answer::Open,
         }
     }
 

@@ -7,8 +7,6 @@ ghost use Rattle.ar_unit.specs.Broken.{shape_of, shape_after, broken_answer, whe
 ghost use Rattle.ar_unit.specs.Unit.{UnitState, IsWhole, TakesNoMemory, Entry, answer, after, unit_run};
 
 mod plain;
-#[cfg(test)]
-mod tests;
 
 pub use plain::PlainUnit;
 

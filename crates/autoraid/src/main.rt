@@ -55,35 +55,3 @@ fn words_of(rt: &HostRuntime, alloc: Global) -> Result<Vec<String>, CommandLineF
         Err(_) => Err(CommandLineFault::Bad),
     }
 }
-
-#[cfg(test)]
-mod tests {
-    use super::*;
-    use ar_script::FaultKind;
-
-    #[test]
-    fn statuses_and_texts(rt: HostRuntime) -> Result<(), std::test::Fail> {
-        let line = Fault::Line {
-            line: 3,
-            kind: FaultKind::UnknownWord,
-        };
-        for (failure, status, text) in [
-            (
-                Failure::CommandLine(CommandLineFault::Bad),
-                2,
-                "bad command line",
-            ),
-            (
-                Failure::CommandLine(CommandLineFault::NoMemory),
-                1,
-                "no memory",
-            ),
-            (Failure::Script(Fault::Start), 1, "start fault"),
-            (Failure::Script(line), 1, "line 3: unknown word"),
-        ] {
-            assert_eq!(rt; failure.status(), status, "{text}");
-            assert_eq!(rt; format!(in rt.alloc(); "{failure}")?.as_str(), text);
-        }
-        Ok(())
-    }
-}

@@ -1,0 +1,239 @@
+// How stores begin, with groups worked by hand. Of the memory that is taken any one allocation may be refused, as a run with
+// `--fail-alloc` does: the disks come back, and a second start takes them.
+ghost use Rattle.std.specs.Prelude.{◌≤◌, length};
+
+use crate::fixtures::{SMALL, Shape, fused_disk, fused_disks};
+use ar_book::Book;
+use ar_disks::{Disk, FuseDisk, Geometry, Members, Place};
+use ar_extents::{Health, StartFault};
+use ar_store::{FourDisks, Store, four_fullest};
+use std::alloc::Global;
+use std::process::Abort;
+use std::test::Fail;
+
+// So many disks of the same extents.
+fn of(disks: u8, extents: u16) -> Shape {
+    Shape {
+        disks,
+        extents,
+        ..SMALL
+    }
+}
+
+// Starts a store, a second time where memory is refused at first.
+fn begin(rt: &impl Abort, alloc: Global, shape: Shape) -> Result<Store<FuseDisk>, Fail> {
+    match Store::start(alloc, fused_disks(alloc, shape)?) {
+        Ok(store) => Ok(store),
+        Err((fault, back)) => {
+            is_refused(rt, shape, (fault, back.len()), StartFault::NoMemory);
+            match Store::start(alloc, back) {
+                Ok(store) => Ok(store),
+                Err((fault, _)) => Err(Fail::new(fault)),
+            }
+        }
+    }
+}
+
+// The fault is this one, and all disks came back.
+fn is_refused(rt: &impl Abort, shape: Shape, met: (StartFault, usize), fault: StartFault) {
+    assert!(rt;
+        met == (fault, usize::from(shape.disks)),
+        "{met:?} for {shape:?}"
+    );
+}
+
+// The extents of four disks.
+fn four(places: [(u8, u16); 4]) -> Members {
+    let [first, second, third, fourth] = places.map(|(disk, extent)| Place { disk, extent });
+    Members {
+        first,
+        second,
+        third,
+        fourth,
+    }
+}
+
+// Compares a group's extents with those that are wanted.
+fn has_group(rt: &impl Abort, book: &Book, group: u32, wanted: Members) {
+    assert!(rt; group < book.groups(), "group {group} isn't there");
+    assert!(rt;
+        book.members(group) == wanted,
+        "the members of group {group}"
+    );
+}
+
+// How many groups there are, and how many are free.
+fn has_groups(rt: &impl Abort, book: &Book, groups: u32) {
+    assert!(rt; book.groups() == groups, "{groups} groups");
+    assert!(rt; book.free_groups() == groups, "{groups} free groups");
+}
+
+// How many extents of a disk are loose.
+fn has_loose(rt: &impl Abort, store: &Store<FuseDisk>, disk: u8, wanted: u16) {
+    assert!(rt; disk < store.disks.count(), "disk {disk} isn't there");
+    assert!(rt;
+        store.disks.loose(disk) == wanted,
+        "loose extents of disk {disk}"
+    );
+}
+
+fn is_new(rt: &impl Abort, store: &Store<FuseDisk>) {
+    assert!(rt; store.health() == Health::Whole, "health");
+    assert!(rt; store.book.geometry() == Geometry::SMALL, "geometry");
+    assert!(rt; store.book.units() == 0, "units");
+}
+
+// A store of so many groups, of which these have these members, has so many loose extents on these disks.
+fn is_formed(
+    rt: &impl Abort,
+    store: &Store<FuseDisk>,
+    groups: u32,
+    members: &[(u32, [(u8, u16); 4])],
+    loose: &[(u8, u16)],
+) {
+    is_new(rt, store);
+    has_groups(rt, &store.book, groups);
+    for (group, places) in members {
+        has_group(rt, &store.book, *group, four(*places));
+    }
+    for (disk, extents) in loose {
+        has_loose(rt, store, *disk, *extents);
+    }
+}
+
+#[test]
+fn four_disks_form_a_group_of_each_extent(rt: HostRuntime) -> Result<(), Fail> {
+    let store = begin(&rt, rt.alloc(), of(4, 3))?;
+    is_formed(
+        &rt,
+        &store,
+        3,
+        &[
+            (0, [(0, 0), (1, 0), (2, 0), (3, 0)]),
+            (1, [(0, 1), (1, 1), (2, 1), (3, 1)]),
+            (2, [(0, 2), (1, 2), (2, 2), (3, 2)]),
+        ],
+        &[(0, 0), (1, 0), (2, 0), (3, 0)],
+    );
+    Ok(())
+}
+
+#[test]
+fn five_disks_form_groups_in_turn(rt: HostRuntime) -> Result<(), Fail> {
+    let store = begin(&rt, rt.alloc(), of(5, 4))?;
+    is_formed(
+        &rt,
+        &store,
+        5,
+        &[
+            (0, [(0, 0), (1, 0), (2, 0), (3, 0)]),
+            (1, [(0, 1), (1, 1), (2, 1), (4, 0)]),
+            (2, [(0, 2), (1, 2), (3, 1), (4, 1)]),
+            (3, [(0, 3), (2, 2), (3, 2), (4, 2)]),
+            (4, [(1, 3), (2, 3), (3, 3), (4, 3)]),
+        ],
+        &[(0, 0), (1, 0), (2, 0), (3, 0), (4, 0)],
+    );
+    Ok(())
+}
+
+#[test]
+fn extents_that_no_four_disks_have_stay_loose(rt: HostRuntime) -> Result<(), Fail> {
+    let store = begin(&rt, rt.alloc(), of(7, 1))?;
+    is_formed(
+        &rt,
+        &store,
+        1,
+        &[(0, [(0, 0), (1, 0), (2, 0), (3, 0)])],
+        &[(0, 0), (1, 0), (2, 0), (3, 0), (4, 1), (5, 1), (6, 1)],
+    );
+    Ok(())
+}
+
+// The most disks that there may be.
+#[test]
+fn the_widest_store_begins(rt: HostRuntime) -> Result<(), Fail> {
+    let store = begin(&rt, rt.alloc(), of(12, 1))?;
+    let last = (2, [(8, 0), (9, 0), (10, 0), (11, 0)]);
+    is_formed(&rt, &store, 3, &[last], &[(0, 0), (11, 0)]);
+    Ok(())
+}
+
+// The most extents.
+#[test]
+fn the_longest_store_begins(rt: HostRuntime) -> Result<(), Fail> {
+    let store = begin(&rt, rt.alloc(), of(4, 1_024))?;
+    let last = (1_023, [(0, 1_023), (1, 1_023), (2, 1_023), (3, 1_023)]);
+    is_formed(&rt, &store, 1_024, &[last], &[(0, 0), (3, 0)]);
+    Ok(())
+}
+
+// Disks that make no store are handed back.
+fn start_refuses(
+    rt: &impl Abort,
+    alloc: Global,
+    shape: Shape,
+    fault: StartFault,
+) -> Result<(), Fail> {
+    match Store::start(alloc, fused_disks(alloc, shape)?) {
+        Ok(_) => Err(Fail::new("a store was made of too few disks, too many or none")),
+        Err((met, back)) => {
+            is_refused(rt, shape, (met, back.len()), fault);
+            Ok(())
+        }
+    }
+}
+
+#[test]
+fn disks_that_make_no_store_are_handed_back(rt: HostRuntime) -> Result<(), Fail> {
+    for (disks, extents, fault) in [
+        (3, 2, StartFault::BadCount),
+        (13, 2, StartFault::BadCount),
+        (4, 0, StartFault::WrongSize),
+    ] {
+        start_refuses(&rt, rt.alloc(), of(disks, extents), fault)?;
+    }
+    Ok(())
+}
+
+// The last disk is longer.
+#[test]
+fn a_disk_of_another_length_is_handed_back(rt: HostRuntime) -> Result<(), Fail> {
+    let alloc = rt.alloc();
+    let mut unlike = fused_disks(alloc, of(3, 2))?;
+    unlike.push(fused_disk(alloc, of(4, 3), 0)?)?;
+    match Store::start(alloc, unlike) {
+        Ok(_) => Err(Fail::new("a store was made of unlike disks")),
+        Err((met, back)) => {
+            is_refused(&rt, of(4, 2), (met, back.len()), StartFault::WrongSize);
+            assert!(rt; back.last().map(Disk::extents) == Some(3));
+            Ok(())
+        }
+    }
+}
+
+fn are_fullest(rt: &impl Abort, counts: &[u16], wanted: Option<FourDisks>)
+    requires { length counts.now ≤ 12 }
+{
+    assert!(rt; four_fullest(counts) == wanted, "{counts:?}");
+}
+
+#[test]
+fn the_fullest_disks_stand_in_ascending_order(rt: HostRuntime) {
+    let found = FourDisks {
+        first: 1,
+        second: 2,
+        third: 4,
+        fourth: 5,
+    };
+    are_fullest(&rt, &[2, 7, 3, 2, 9, 3], Some(found));
+    let lowest = FourDisks {
+        first: 0,
+        second: 2,
+        third: 3,
+        fourth: 4,
+    };
+    are_fullest(&rt, &[1, 0, 1, 1, 1, 1], Some(lowest));
+    are_fullest(&rt, &[5, 0, 0, 5, 5, 0], None);
+    are_fullest(&rt, &[], None);
+}

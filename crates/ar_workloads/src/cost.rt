@@ -1,0 +1,173 @@
+// What the scheme has to copy and to add for each workload, which the bare loop does alone.
+use crate::workload::Workload;
+use ar_disks::{Geometry, SECTOR_LEN};
+
+/// What some operations of a round have to do, all alike.
+#[derive(Clone, Copy, Debug, PartialEq, Eq)]
+pub struct Moves {
+    /// How many operations.
+    pub times: u32,
+    /// Bytes that come with a command and are copied into a block.
+    pub taken: usize,
+    /// Blocks that are copied from disks.
+    pub reads: u32,
+    /// Blocks that are added to others.
+    pub sums: u32,
+    /// Blocks that are copied to disks, or to the cache.
+    pub writes: u32,
+    /// Bytes that are copied from a block into the answer.
+    pub given: usize,
+}
+
+impl Moves {
+    /// Nothing.
+    pub const NONE: Moves = Moves {
+        times: 0,
+        taken: 0,
+        reads: 0,
+        sums: 0,
+        writes: 0,
+        given: 0,
+    };
+}
+
+/// A round of a workload on an array: what it does to how many blocks.
+#[derive(Clone, Copy, Debug, PartialEq, Eq)]
+pub struct Round {
+    pub workload: Workload,
+    pub geometry: Geometry,
+    /// Blocks of the unit that the operations are on.
+    pub blocks: u32,
+    /// How often each of them is touched, on average where that is at random.
+    pub passes: u32,
+}
+
+impl Round {
+    /// How many operations it has.
+    pub fn operations(self) -> u32 {
+        self.blocks.saturating_mul(self.passes)
+    }
+
+    /// How many bytes of data come or go with each of its commands.
+    pub fn payload(self) -> usize {
+        match self.workload {
+            Workload::SmallWrite | Workload::SmallRead => SECTOR_LEN,
+            _ => self.geometry.block_len(),
+        }
+    }
+
+    /// What its operations have to do.
+    pub fn moves(self) -> [Moves; 4] {
+        let times = self.operations();
+        match self.workload {
+            Workload::Fill => self.fill(),
+            Workload::Overwrite | Workload::ParityWrite => alone(self.written(times, 2)),
+            Workload::OverwriteCached => self.cached(),
+            Workload::SmallWrite => alone(Moves {
+                reads: 1,
+                ..self.written(times, 2)
+            }),
+            Workload::Read | Workload::SmallRead | Workload::ParityRead => {
+                alone(self.read(times, 1))
+            }
+            Workload::DegradedRead => self.degraded_read(),
+            Workload::DegradedWrite => self.degraded_write(),
+            Workload::ManyGroups => alone(self.updated(times)),
+        }
+    }
+
+    // So many writes, each of the data and then of so many copies.
+    fn written(self, times: u32, writes: u32) -> Moves {
+        Moves {
+            times,
+            taken: self.payload(),
+            writes,
+            ..Moves::NONE
+        }
+    }
+
+    // So many reads, each of so many blocks and then of the data.
+    fn read(self, times: u32, reads: u32) -> Moves {
+        Moves {
+            times,
+            reads,
+            given: self.payload(),
+            ..Moves::NONE
+        }
+    }
+
+    // So many writes at the parity level: block and parity are read, changed and written.
+    fn updated(self, times: u32) -> Moves {
+        Moves {
+            reads: 2,
+            sums: 2,
+            ..self.written(times, 2)
+        }
+    }
+
+    // Of three blocks two are written mirrored and one at the parity level, into a hole that a squeeze left. A squeeze moves as
+    // many blocks as a mirrored group has, and leaves half as many holes. It begins by writing zeros to four extents.
+    fn fill(self) -> [Moves; 4] {
+        let third = self.blocks / 3;
+        let zeroed = Moves {
+            times: third.saturating_mul(4),
+            writes: 1,
+            ..Moves::NONE
+        };
+        let moved = Moves {
+            times: third.saturating_mul(2),
+            reads: 3,
+            sums: 2,
+            writes: 2,
+            ..Moves::NONE
+        };
+        [
+            self.written(third.saturating_mul(2), 2),
+            self.updated(third),
+            zeroed,
+            moved,
+        ]
+    }
+
+    // Each write goes to the cache, and at the end each block to two disks.
+    fn cached(self) -> [Moves; 4] {
+        let flushed = Moves {
+            times: self.blocks,
+            writes: 2,
+            ..Moves::NONE
+        };
+        [
+            self.written(self.operations(), 1),
+            flushed,
+            Moves::NONE,
+            Moves::NONE,
+        ]
+    }
+
+    // A quarter of the blocks stood on the disk that is out: each is the sum of three others.
+    fn degraded_read(self) -> [Moves; 4] {
+        let lost = self.operations() / 4;
+        let sound = self.operations().saturating_sub(lost);
+        let summed = Moves {
+            sums: 2,
+            ..self.read(lost, 3)
+        };
+        [self.read(sound, 1), summed, Moves::NONE, Moves::NONE]
+    }
+
+    // Half of the blocks have one of their two copies on the disk that is out.
+    fn degraded_write(self) -> [Moves; 4] {
+        let single = self.operations() / 2;
+        let double = self.operations().saturating_sub(single);
+        [
+            self.written(double, 2),
+            self.written(single, 1),
+            Moves::NONE,
+            Moves::NONE,
+        ]
+    }
+}
+
+fn alone(moves: Moves) -> [Moves; 4] {
+    [moves, Moves::NONE, Moves::NONE, Moves::NONE]
+}

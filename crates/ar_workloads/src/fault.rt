@@ -1,0 +1,19 @@
+// Why a workload isn't done.
+use thiserror::Error;
+
+/// Why a workload isn't done. Each case but the first names the workload.
+#[derive(Clone, Copy, Debug, PartialEq, Eq, Error)]
+pub enum WorkloadFault {
+    /// Memory was refused.
+    #[error("no memory")]
+    NoMemory,
+    /// A command was not answered as it has to be.
+    #[error("{0}: a command was not GOOD")]
+    Command(&'static str),
+    /// A block doesn't stand where the workload needs it.
+    #[error("{0}: a block stands at another level")]
+    Level(&'static str),
+    /// The disks are not as the workload needs them.
+    #[error("{0}: a disk is out, or none is")]
+    Health(&'static str),
+}
