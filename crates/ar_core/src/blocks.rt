@@ -142,14 +142,14 @@ impl<D: Disk> Blocks<D> {
         ensures book { result.now ≡ self.now.store.book }
         ensures kept { IsKept self.now.store }
     {
-        &self.behind.store.book
+        &self.behind.store.space.book
     }
 
     /// The disks of the store.
     pub fn disks(&self) -> &DiskSet<D>
         ensures { result.now ≡ self.now.store.disks }
     {
-        &self.behind.store.disks
+        &self.behind.store.space.disks
     }
 
     /// The geometry of the blocks.

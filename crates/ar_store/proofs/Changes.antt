@@ -28,7 +28,7 @@ use Rattle.ar_book.proofs.AfterStamp.{stamped_agrees, stamped_home, stamped_orde
 use Rattle.ar_store.specs.Store.{StoreState, members_of, class_in, store_of}
 use Rattle.ar_store.specs.Slots.{SlotHolds, HoldsBlock, stands, AllStand, OthersStand}
 use Rattle.ar_store.specs.Kept.{IsTaken, IsSpace}
-use Rattle.ar_store.specs.Placing.{SameUnits, IsVacant, StandsBy}
+use Rattle.ar_store.specs.Placing.{SameUnits, IsVacant}
 use Rattle.ar_store.proofs.Standing.{stands_held, stands_same, holds_same, block_same}
 
 is_mirrored : Class → Bool
@@ -175,10 +175,10 @@ units_assigned t k s block = record {
   reserved = assigned_reserved t k s block;
 }
 
--- a group is opened for mirrored blocks: the store keeps what it kept
-pub stands_by_opened : (a : SetState) (t : Tables) (g : ℕ) → IsSpace (store_of a t) → g < length t.groups → class_of t g ≡ Free → StandsBy a t (opened t g Mirrored)
-stands_by_opened a t g space inside free = record {
-  space = record {
+-- a group is opened for mirrored blocks: the store keeps what it kept, and every block stands as it did
+module _ (a : SetState) (t : Tables) (g : ℕ) (space : IsSpace (store_of a t)) (inside : g < length t.groups) (free : class_of t g ≡ Free) where
+  pub space_opened : IsSpace (store_of a (opened t g Mirrored))
+  space_opened = record {
     geometry = space.geometry;
     tables = opened_agrees t g Mirrored space.tables inside free;
     extents = extents_same a t (opened t g Mirrored) space (opened_group_count t g Mirrored) (opened_members t g Mirrored);
@@ -191,16 +191,13 @@ stands_by_opened a t g space inside free = record {
         let class = opened_class_other t g Mirrored slot.group ne in
         block_same a t (opened t g Mirrored) slot class (opened_members t g Mirrored slot.group)
         (space.parity slot (subst (λ n. slot.group < n) (opened_group_count t g Mirrored) there) (sym class ∙ is) lt);
-  };
-  blocks = λ k.
+  }
+
+  pub all_opened : (k : Key) → stands (store_of a (opened t g Mirrored)) k ≡ stands (store_of a t) k
+  all_opened k =
       stands_same a t (opened t g Mirrored) k refl
       (λ slot is. opened_class_other t g Mirrored slot.group (named_apart t g slot k space.tables free (home_key t space.tables k slot is)))
-      (opened_members t g Mirrored);
-}
-
--- no change of the tables
-pub stands_by_refl : (a : SetState) (t : Tables) → IsSpace (store_of a t) → StandsBy a t t
-stands_by_refl a t space = record { space = space; blocks = λ k. refl }
+      (opened_members t g Mirrored)
 
 -- the units stay where a group is opened
 pub units_opened : (t : Tables) (g : ℕ) (c : Class) → SameUnits t (opened t g c)

@@ -19,7 +19,7 @@ use Rattle.ar_parity.proofs.Standing.{standing_is as parity_standing_is}
 use Rattle.ar_book.specs.declared.class.Class.{Class}
 use Rattle.ar_book.specs.declared.class.Class.TheVariants.{Free, Mirrored, Parity}
 use Rattle.ar_book.specs.Tables.{slots_of}
-use Rattle.ar_store.specs.Slots.{ClassHolds, IsReady, IsWritten, standing_in}
+use Rattle.ar_store.specs.Slots.{ClassHolds, CanWrite, IsWritten, standing_in}
 
 -- reads leave what a slot holds
 pub class_read : (c : Class) (a b : SetState) (m : Members) (i : ℕ) (block : List ℕ) → Follows a b → Keeps Anywhere a b
@@ -58,7 +58,7 @@ mirror_written a b m i block here slots keeps = record {
   outside = mirror_outside a b m i keeps;
 }
 
-pub parity_written : (a b : SetState) (m : Members) (i : ℕ) (block : List ℕ) → IsReady Parity a m i
+pub parity_written : (a b : SetState) (m : Members) (i : ℕ) (block : List ℕ) → CanWrite Parity a m i
     → ((held : List ℕ) → ParityHolds a m i held → ParityHolds b m i block)
     → ((k : ℕ) → k ≢ i → (held : List ℕ) → ParityHolds a m k held → ParityHolds b m k held)
     → KeepsButRow m (parity_row_of i) a b → IsWritten Parity a b m i block

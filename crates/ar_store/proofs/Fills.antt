@@ -1,30 +1,25 @@
 -- What a write to a slot and a change of a home come to.
-use Rattle.std.proofs.Common.{◌≡◌, ◌≢◌, inl, inr, ℕ, List, length, Option, None, Some, refl, sym, ap, subst, ◌∙◌}
+use Rattle.std.proofs.Common.{◌≡◌, ◌≢◌, ◌≤◌, inl, inr, ℕ, List, length, Option, None, Some, refl, sym, ap, subst, ◌∙◌, arith}
 use Rattle.ar_disks.specs.declared.address.Key.{Key}
-use Rattle.ar_disks.specs.declared.address.Members.{Members}
 use Rattle.ar_disks.specs.Geometry.{block_len_of}
 use Rattle.ar_extents.specs.declared.health.Health.TheVariants.{Broken}
+use Rattle.ar_extents.specs.declared.outcome.Outcome.TheVariants.{Done, Broken as NotDone}
 use Rattle.ar_extents.specs.Set.{SetState}
 use Rattle.ar_extents.specs.Follows.{Follows}
 use Rattle.ar_extents.proofs.Follows.{follows_refl, follows_then}
-use Rattle.ar_book.specs.declared.class.Class.{Class}
 use Rattle.ar_book.specs.declared.class.Slot.{Slot}
-use Rattle.ar_book.specs.Tables.{Tables, home, HasBlock}
-use Rattle.ar_book.specs.Changes.{assigned}
+use Rattle.ar_book.specs.Tables.{Tables, home, free_groups, HasBlock}
+use Rattle.ar_book.specs.Changes.{assigned, stamped}
+use Rattle.ar_book.proofs.AfterAssign.{assigned_free_groups}
 use Rattle.ar_book.proofs.Homes.{home_key, home_block}
 use Rattle.ar_book.proofs.Keys.{key_tells}
 use Rattle.ar_store.specs.Store.{StoreState, store_of}
-use Rattle.ar_store.specs.Slots.{SlotHolds, HoldsBlock, IsWritten, stands, AllStand, OthersStand, SlotsHold, OtherSlotsHold}
+use Rattle.ar_store.specs.Slots.{SlotHolds, HoldsBlock, stands, AllStand, OthersStand, SlotsHold, OtherSlotsHold}
 use Rattle.ar_store.specs.Kept.{IsSpace}
 use Rattle.ar_store.specs.Calls.{IsAccessed}
 use Rattle.ar_store.specs.Placing.{IsVacant, SameUnits}
-use Rattle.ar_store.proofs.Standing.{hole_stand, stands_held, was_sound}
-use Rattle.ar_store.proofs.Changes.{space_moved, others_moved, block_moved}
-
--- a write to four extents under other names
-pub written_as : (c d : Class) (m n : Members) (a b : SetState) (i : ℕ) (block : List ℕ) → c ≡ d → m ≡ n → IsWritten c a b m i block → IsWritten d a b n i block
-written_as c d m n a b i block class members written =
-    subst (λ (x : Members). IsWritten d a b x i block) members (subst (λ (x : Class). IsWritten x a b m i block) class written)
+use Rattle.ar_store.proofs.Standing.{hole_stand, others_stand, home_apart, stands_held, was_sound}
+use Rattle.ar_store.proofs.Changes.{space_moved, others_moved, block_moved, units_assigned, space_stamped, all_stamped, others_stamped, units_stamped, units_then, block_then}
 
 -- no access
 pub accessed_refl : (s : SetState) → IsAccessed s s
@@ -38,41 +33,86 @@ accessed_then a b c ab bc = record { follows = follows_then a b c ab.follows bc.
 pub stand_then : (a b c : StoreState) → Follows b.disks c.disks → AllStand a b → AllStand b c → AllStand a c
 stand_then a b c bc first second = record { blocks = λ sound k. second.blocks sound k ∙ first.blocks (was_sound b.disks c.disks bc sound) k }
 
--- A hole was written and is a block's home from then on.
-pub record IsFilled (a b : SetState) (t : Tables) (k : Key) (s : Slot) (block : List ℕ) : Type 0 where
-  pub space : IsSpace (store_of b (assigned t k s))
-  pub here : b.health ≢ Broken → stands (store_of b (assigned t k s)) k ≡ block
-  pub others : OthersStand (store_of a t) (store_of b (assigned t k s)) k
+-- A block was written to a hole, which is its home from then on.
+pub record IsFilled (a b : SetState) (t u : Tables) (k : Key) (block : List ℕ) : Type 0 where
+  pub space : IsSpace (store_of b u)
+  pub units : SameUnits t u
+  pub free : free_groups t ≤ free_groups u
+  pub here : b.health ≢ Broken → stands (store_of b u) k ≡ block
+  pub others : OthersStand (store_of a t) (store_of b u) k
 
-pub filled : (a b : SetState) (t : Tables) (k : Key) (s : Slot) (block : List ℕ) → IsSpace (store_of a t) → IsSpace (store_of b t) → HasBlock t k → IsVacant t s
+pub filled : (a b : SetState) (t u : Tables) (k : Key) (s : Slot) (block : List ℕ) → IsSpace (store_of a t) → IsSpace (store_of b t) → HasBlock t k → IsVacant t s
     → length block ≡ block_len_of a.geometry → IsAccessed a b → OtherSlotsHold (store_of a t) (store_of b t) s → SlotHolds (store_of b t) s block
-    → IsFilled a b t k s block
-filled a b t k s block space_a space_b has vacant len access slots here =
+    → u ≡ assigned t k s → IsFilled a b t u k block
+filled a b t u k s block space_a space_b has vacant len access slots here is =
     let held : HoldsBlock (store_of b t) s = record { block = block; len = len ∙ ap block_len_of (sym access.follows.geometry); holds = here } in
     let after = space_moved b t k s space_b has vacant held in
-    record {
+    subst (λ (x : Tables). IsFilled a b t x k block) (sym is) (record {
       space = after;
+      units = units_assigned t k s has;
+      free = assigned_free_groups t k s;
       here = λ sound. block_moved b t k s space_b has vacant block after sound here;
       others = record {
         blocks = λ sound j ne.
             others_moved b t k s space_b has vacant j ne
             ∙ (hole_stand a b t s space_a space_b access.follows slots vacant.empty).blocks sound j;
       };
-    }
+    })
+
+-- A block was written to its home.
+pub record IsRewritten (a b : SetState) (t : Tables) (k : Key) (block : List ℕ) : Type 0 where
+  pub here : b.health ≢ Broken → stands (store_of b t) k ≡ block
+  pub others : OthersStand (store_of a t) (store_of b t) k
+
+pub rewritten : (a b : SetState) (t : Tables) (k : Key) (s : Slot) (block : List ℕ) → IsSpace (store_of a t) → IsSpace (store_of b t) → home t k ≡ Some s
+    → Follows a b → OtherSlotsHold (store_of a t) (store_of b t) s → SlotHolds (store_of b t) s block → IsRewritten a b t k block
+rewritten a b t k s block space_a space_b is ab slots here = record {
+  here = λ sound. stands_held (store_of b t) k s block space_b sound is here;
+  others = others_stand a b t k s space_a space_b ab slots (home_apart t a k s space_a is);
+}
+
+-- A block has a stamp more.
+pub record IsStamped (a : StoreState) (b : SetState) (t u v : Tables) (k : Key) (block : List ℕ) : Type 0 where
+  pub space : IsSpace (store_of b v)
+  pub units : SameUnits t v
+  pub here : stands (store_of b v) k ≡ block
+  pub others : OthersStand a (store_of b v) k
+
+pub stamped_then : (a : StoreState) (b : SetState) (t u v : Tables) (k : Key) (block : List ℕ) → IsSpace (store_of b u) → HasBlock t k → SameUnits t u
+    → stands (store_of b u) k ≡ block → OthersStand a (store_of b u) k → v ≡ stamped u k → IsStamped a b t u v k block
+stamped_then a b t u v k block space has units here others is =
+    let has_u = block_then t u k units has in
+    subst (λ (x : Tables). IsStamped a b t u x k block) (sym is) (record {
+      space = space_stamped b u k space has_u;
+      units = units_then t u (stamped u k) units (units_stamped b u k space has_u);
+      here = all_stamped b u k space has_u k ∙ here;
+      others = others_stamped a b u k space has_u others;
+    })
+
+-- on broken disks nothing is said of the others
+pub none_stands : (a b : StoreState) (k : Key) → b.disks.health ≡ Broken → OthersStand a b k
+none_stands a b k broken = record { blocks = λ sound. absurd (sound broken) }
 
 -- The block that was read from a block's home was written to the hole: every block stands as it did.
-pub moved_stand : (a b c : SetState) (t : Tables) (k : Key) (from s : Slot) (bytes : List ℕ) (u : Tables) → IsSpace (store_of a t) → home t k ≡ Some from
-    → Follows a b → Follows b c → AllStand (store_of a t) (store_of b t) → ((block : List ℕ) → SlotHolds (store_of a t) from block → bytes ≡ block)
-    → (c.health ≢ Broken → stands (store_of c u) k ≡ bytes) → OthersStand (store_of b t) (store_of c u) k → AllStand (store_of a t) (store_of c u)
-moved_stand a b c t k from s bytes u space is ab bc first read here others = record {
+pub moved_stand : (a b c : StoreState) (k : Key) (from : Slot) (bytes : List ℕ) → IsSpace a → home a.book k ≡ Some from
+    → Follows a.disks b.disks → Follows b.disks c.disks → AllStand a b → ((block : List ℕ) → SlotHolds a from block → bytes ≡ block)
+    → (c.disks.health ≢ Broken → stands c k ≡ bytes) → OthersStand b c k → AllStand a c
+moved_stand a b c k from bytes space is ab bc first read here others = record {
   blocks = λ sound j.
       elim (key_tells j k) [
         | inl same ↦
-            (let P : Key → Type 0 = λ x. stands (store_of c u) x ≡ stands (store_of a t) x in
-            let held = space.named from k (home_key t space.tables k from is) in
-            let sound_a = was_sound a b ab (was_sound b c bc sound) in
-            subst P (sym same)
-            (here sound ∙ read held.block held.holds ∙ sym (stands_held (store_of a t) k from held.block space sound_a is held.holds)))
-        | inr ne ↦ others.blocks sound j ne ∙ first.blocks (was_sound b c bc sound) j
+            (let P : Key → Type 0 = λ x. stands c x ≡ stands a x in
+            let held = space.named from k (home_key a.book space.tables k from is) in
+            let sound_a = was_sound a.disks b.disks ab (was_sound b.disks c.disks bc sound) in
+            subst P (sym same) (here sound ∙ read held.block held.holds ∙ sym (stands_held a k from held.block space sound_a is held.holds)))
+        | inr ne ↦ others.blocks sound j ne ∙ first.blocks (was_sound b.disks c.disks bc sound) j
       ];
 }
+
+-- as many groups are free in the same tables
+pub same_free : (t u : Tables) → u ≡ t → free_groups t ≤ free_groups u
+same_free t u is = subst (λ (x : Tables). free_groups t ≤ free_groups x) (sym is) (omega arith)
+
+-- a call that is done isn't one that found the disks broken
+pub done_not_broken : Done ≢ NotDone
+done_not_broken e = cc

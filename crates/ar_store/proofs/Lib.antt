@@ -2,6 +2,8 @@ pub mod Options
 pub mod Classes
 pub mod Spaces
 pub mod Standing
+pub mod SlotCalls
+pub mod Stays
 pub mod Outages
 pub mod Changes
 pub mod Fills

@@ -1,5 +1,6 @@
 -- A free group is opened for parity, with zeros in all of its slots.
-use Rattle.std.proofs.Common.{◌≡◌, ◌≢◌, inl, inr, ℕ, ◌*◌, ◌<◌, List, length, Option, None, Some, IfSome, IfNone, refl, sym, ap, subst, ◌∙◌}
+use Rattle.std.proofs.Common.{◌≡◌, ◌≢◌, ◌⊎◌, inl, inr, ℕ, ◌*◌, ◌<◌, ◌≤◌, List, length, Option, None, Some, true, false, true≢false, refl, sym, ap, subst, ◌∙◌, arith}
+use Rattle.std.proofs.lemmas.Bool.{cases_lt}
 use Rattle.std.proofs.lemmas.Bool.Decides.{eqb_tells}
 use Rattle.ar_disks.specs.Block.{zeros}
 use Rattle.ar_disks.specs.Geometry.{rows_of, block_len_of}
@@ -10,27 +11,29 @@ use Rattle.ar_disks.proofs.Xor.{length-zeros}
 use Rattle.ar_extents.specs.declared.health.Health.TheVariants.{Broken}
 use Rattle.ar_extents.specs.Set.{SetState}
 use Rattle.ar_extents.specs.Follows.{Follows, Keeps}
-use Rattle.ar_extents.specs.Groups.{IsOutside}
+use Rattle.ar_extents.specs.Groups.{IsGroup, IsOutside}
 use Rattle.ar_extents.specs.Loose.{is_loose}
 use Rattle.ar_extents.proofs.Follows.{has_extent_then}
 use Rattle.ar_parity.specs.Group.{Holds as ParityHolds}
 use Rattle.ar_book.specs.declared.class.Class.{Class}
 use Rattle.ar_book.specs.declared.class.Class.TheVariants.{Free, Mirrored, Parity}
 use Rattle.ar_book.specs.declared.class.Slot.{Slot}
-use Rattle.ar_book.specs.Tables.{Tables, group_in, class_of, key_at, home, slots_of, HasSlot}
+use Rattle.ar_book.specs.Tables.{Tables, group_in, class_of, key_at, home, slots_of, HasSlot, free_groups}
+use Rattle.ar_book.specs.Book.{TablesAgree}
 use Rattle.ar_book.specs.Changes.{opened}
 use Rattle.ar_book.specs.Choices.{IsLowestFree}
 use Rattle.ar_book.proofs.Homes.{home_key, home_slot, key_slot}
-use Rattle.ar_book.proofs.AfterOpen.{opened_group_count, opened_members, opened_key, opened_class, opened_class_other, opened_agrees}
+use Rattle.ar_book.proofs.AfterOpen.{opened_group_count, opened_members, opened_key, opened_class, opened_class_other, opened_agrees, opened_free_groups}
+use Rattle.ar_store.specs.declared.open.Opening.TheVariants.{Opened, Idle, Broken as NotOpened}
 use Rattle.ar_store.specs.Store.{StoreState, store_of}
 use Rattle.ar_store.specs.Slots.{ClassHolds, SlotHolds, HoldsBlock, stands, AllStand}
 use Rattle.ar_store.specs.Kept.{IsTaken, IsSpace}
-use Rattle.ar_store.specs.Placing.{slot_at, StandsBy}
+use Rattle.ar_store.specs.Placing.{slot_at, SameUnits, MayOpen}
 use Rattle.ar_store.specs.Calls.{IsAccessed, HoldsZeros}
 use Rattle.ar_store.proofs.Classes.{class_disjoint}
-use Rattle.ar_store.proofs.Spaces.{groups_apart}
+use Rattle.ar_store.proofs.Spaces.{groups_apart, slot_group}
 use Rattle.ar_store.proofs.Standing.{stands_held, stands_nowhere, was_sound, holds_same, block_same}
-use Rattle.ar_store.proofs.Changes.{extents_same, named_apart, stands_by_opened, stands_by_refl}
+use Rattle.ar_store.proofs.Changes.{extents_same, named_apart, space_opened, all_opened, units_refl, units_opened, mirrored_not_free}
 
 -- All slots of a free group were written with zeros, and the group is opened for parity.
 module _ (a b : SetState) (t : Tables) (g : ℕ) (space : IsSpace (store_of a t)) (inside : g < length t.groups) (free : class_of t g ≡ Free) (access : IsAccessed a b)
@@ -121,8 +124,9 @@ module _ (a b : SetState) (t : Tables) (g : ℕ) (space : IsSpace (store_of a t)
 
 -- the same, of a group that was found, and under the names that the calls give
 pub record IsZeroed (a b : SetState) (t u : Tables) (g : ℕ) : Type 0 where
-  pub stand : AllStand (store_of a t) (store_of b u)
   pub space : IsSpace (store_of b u)
+  pub units : SameUnits t u
+  pub stand : AllStand (store_of a t) (store_of b u)
   pub zeros_in : HoldsZeros (store_of b u) g
 
 pub zeroed : (a b : SetState) (t u : Tables) (g : ℕ) (m : Members) → IsSpace (store_of a t) → IsLowestFree t g → u ≡ opened t g Parity → m ≡ (group_in u.groups g).members
@@ -133,13 +137,64 @@ zeroed a b t u g m space lowest is_u is_m access keeps slots =
     let keeps_t = subst (λ (x : Members). Keeps (IsOutside x) a b) is keeps in
     let slots_t = subst (λ (x : Members). (i : ℕ) → i < 3 * rows_of a.geometry → ParityHolds b x i (zeros (block_len_of a.geometry))) is slots in
     subst (λ (x : Tables). IsZeroed a b t x g) (sym is_u) (record {
-      stand = stand_zeroed a b t g space lowest.there lowest.free access keeps_t slots_t;
       space = space_zeroed a b t g space lowest.there lowest.free access keeps_t slots_t;
+      units = units_opened t g Parity;
+      stand = stand_zeroed a b t g space lowest.there lowest.free access keeps_t slots_t;
       zeros_in = zeros_zeroed a b t g space lowest.there lowest.free access keeps_t slots_t;
     })
 
--- a group is opened for mirrored blocks, if one may be
-pub opening_stands : (a : SetState) (t u : Tables) (o : Option ℕ) → IsSpace (store_of a t) → IfSome o (IsLowestFree t) → IfSome o (λ g. u ≡ opened t g Mirrored) → IfNone o (u ≡ t)
-    → StandsBy a t u
-opening_stands a t u None space lowest is same = subst (λ (x : Tables). StandsBy a t x) (sym same) (stands_by_refl a t space)
-opening_stands a t u (Some g) space lowest is same = subst (λ (x : Tables). StandsBy a t x) (sym is) (stands_by_opened a t g space lowest.there lowest.free)
+-- the extents of a group that was opened are one group of the disks
+pub opened_group : (a : SetState) (t u : Tables) (g : ℕ) (c : Class) (m : Members) → IsSpace (store_of a t) → IsLowestFree t g → u ≡ opened t g c → m ≡ (group_in u.groups g).members
+    → IsGroup a m
+opened_group a t u g c m space lowest is_u is_m =
+    subst (λ (x : Members). IsGroup a x) (sym (is_m ∙ ap (λ (x : Tables). (group_in x.groups g).members) is_u ∙ opened_members t g c g))
+    (slot_group (store_of a t) g space lowest.there)
+
+-- and it is there
+pub opened_there : (t u : Tables) (g : ℕ) (c : Class) → IsLowestFree t g → u ≡ opened t g c → g < length u.groups
+opened_there t u g c lowest is = subst (λ n. g < n) (sym (ap (λ (x : Tables). length x.groups) is ∙ opened_group_count t g c)) lowest.there
+
+-- where two groups are free, one is once a group was opened
+pub opened_free : (t u : Tables) (g : ℕ) (c : Class) → TablesAgree t → IsLowestFree t g → 2 ≤ free_groups t → c ≢ Free → u ≡ opened t g c → 0 < free_groups u
+opened_free t u g c ok lowest many taken is =
+    subst (λ (x : Tables). 0 < free_groups x) (sym is)
+    (let count = opened_free_groups t g c ok lowest.there lowest.free taken in omega arith)
+
+-- A group may have been opened for mirrored blocks: units, homes and blocks are as they were.
+pub record IsAfterOpening (a : SetState) (t u : Tables) : Type 0 where
+  pub space : IsSpace (store_of a u)
+  pub units : SameUnits t u
+  pub homes : (k : Key) → home u k ≡ home t k
+  pub free : 0 < free_groups t → 0 < free_groups u
+  pub stand : AllStand (store_of a t) (store_of a u)
+
+pub after_opening : (a : SetState) (t u : Tables) → IsSpace (store_of a t) → MayOpen t u → IsAfterOpening a t u
+after_opening a t u space (inl same) =
+    subst (λ (x : Tables). IsAfterOpening a t x) (sym same)
+    (record { space = space; units = units_refl t; homes = λ k. refl; free = λ some. some; stand = record { blocks = λ sound k. refl } })
+after_opening a t u space (inr has) =
+    let g = has.group in
+    let lowest = has.lowest in
+    subst (λ (x : Tables). IsAfterOpening a t x) (sym has.tables) (record {
+      space = space_opened a t g space lowest.there lowest.free;
+      units = units_opened t g Mirrored;
+      homes = λ k. refl;
+      free = λ some. opened_free t (opened t g Mirrored) g Mirrored space.tables lowest has.many mirrored_not_free refl;
+      stand = record { blocks = λ sound k. all_opened a t g space lowest.there lowest.free k };
+    })
+
+-- a class that a group is opened for
+pub class_mirrored : (c : Class) → (c ≡ Mirrored) ⊎ (c ≡ Free) → c ≢ Free → c ≡ Mirrored
+class_mirrored c (inl is) taken = is
+class_mirrored c (inr is) taken = absurd (taken is)
+
+-- no two groups are free where none was opened
+pub not_many : (t : Tables) → (false ≡ true → 2 ≤ free_groups t) × (2 ≤ free_groups t → false ≡ true) → free_groups t < 2
+not_many t when = elim (cases_lt (free_groups t) 2) [ inl few ↦ few | inr many ↦ absurd (true≢false (sym (when.1 many))) ]
+
+-- the answers of an opening differ
+pub opened_not_broken : (g : ℕ) → Opened g ≢ NotOpened
+opened_not_broken g e = cc
+
+pub idle_not_broken : Idle ≢ NotOpened
+idle_not_broken e = cc

@@ -1,6 +1,20 @@
--- Options that are values.
-use Rattle.std.proofs.Common.{◌≡◌, Option, Some, IsSome, refl, sym, subst}
+-- Options that are values, and results that are ok.
+use Rattle.std.proofs.Common.{◌≡◌, Option, None, Some, IsSome, Result, Ok, Err, OnOk, refl, sym, subst, ◌∙◌, true≢false}
+use Rattle.std.proofs.lemmas.Option.{none-some}
 
 -- an option that is a value is some
 pub some_is : {A : Type 0} (o : Option A) (x : A) → o ≡ Some x → IsSome o
 some_is o x is = subst (λ (p : Option _). IsSome p) (sym is) refl
+
+-- and one that is some is a value
+pub some_value : {A : Type 0} (o : Option A) → IsSome o → (x : A) × (o ≡ Some x)
+some_value None e = absurd (true≢false (sym e))
+some_value (Some x) e = (x, refl)
+
+pub none_not_some : {A : Type 0} (o : Option A) → IsSome o → o ≡ None → ⊥
+none_not_some o some none = let value = some_value o some in none-some value.0 (sym none ∙ value.1)
+
+-- what holds anyway holds of a result that is ok
+pub on_ok_always : {A E : Type 0} (r : Result A E) (P : Type 0) → P → OnOk r P
+on_ok_always (Ok x) P p = p
+on_ok_always (Err e) P p = tt

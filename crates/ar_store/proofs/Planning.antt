@@ -1,5 +1,5 @@
 -- How the groups of a store are planned, and how their extents are taken.
-use Rattle.std.proofs.Common.{◌≡◌, ◌≢◌, inl, inr, ℕ, ◌+◌, ◌-◌, ◌<◌, ◌≤◌, ◌||◌, ◌&&◌, ◌*◌, Bool, false, eqb, List, [], ◌∷◌, ◌++◌, length, get_or, replicate, sum_by, refl, sym, ap, subst, ◌∙◌, arith}
+use Rattle.std.proofs.Common.{◌≡◌, ◌≢◌, inl, inr, ℕ, ◌+◌, ◌-◌, ◌<◌, ◌≤◌, ◌||◌, ◌&&◌, ◌*◌, Bool, false, eqb, List, [], ◌∷◌, ◌++◌, length, get_or, replicate, sum_by, Result, IfOk, refl, sym, ap, subst, ◌∙◌, arith}
 use Rattle.std.specs.Prelude.{slice_index}
 use Rattle.std.proofs.lemmas.Bool.{cases_lt}
 use Rattle.std.proofs.lemmas.Bool.Decides.{eqb_tells}
@@ -285,3 +285,8 @@ pub planning_less : (counts new xs : List ℕ) (f : FourDisks) → xs ≡ counts
     → sum_by (λ n. n) new < sum_by (λ n. n) counts
 planning_less counts new xs f xs_is four new_is =
     subst (λ zs. sum_by (λ n. n) zs < sum_by (λ n. n) counts) (sym new_is) (sum_less counts f (subst (λ zs. AreFourFullest zs f) xs_is four))
+
+-- the plan for as many disks, under another name for their number
+pub plan_of : {E : Type 0} (r : Result Tables E) (g : Geometry) (m n e : ℕ) → m ≡ n
+    → IfOk r (λ t. (s : SetState) → IsAllLoose g m e s → IsPlanFor s t) → IfOk r (λ t. (s : SetState) → IsAllLoose g n e s → IsPlanFor s t)
+plan_of r g m n e same plan = subst (λ k. IfOk r (λ t. (s : SetState) → IsAllLoose g k e s → IsPlanFor s t)) same plan

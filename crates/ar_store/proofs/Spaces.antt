@@ -18,7 +18,7 @@ use Rattle.ar_book.specs.Book.{TablesAgree}
 use Rattle.ar_book.proofs.Keys.{slot_tells, make_slot}
 use Rattle.ar_book.proofs.Homes.{home_key, home_slot, key_slot}
 use Rattle.ar_store.specs.Store.{StoreState, members_of, class_in, store_of}
-use Rattle.ar_store.specs.Slots.{ClassHolds, SlotHolds, HoldsBlock, stands, stands_at, standing_in, SlotsHold, OtherSlotsHold, AllStand, OthersStand, IsReady, IsWritten}
+use Rattle.ar_store.specs.Slots.{ClassHolds, SlotHolds, HoldsBlock, stands, stands_at, standing_in, SlotsHold, OtherSlotsHold, AllStand, OthersStand, CanWrite, IsWritten}
 use Rattle.ar_store.specs.Kept.{IsTaken, IsSpace}
 use Rattle.ar_store.specs.Calls.{IsAccessed}
 use Rattle.ar_store.proofs.Classes.{class_read, class_disjoint, class_standing}
@@ -32,11 +32,11 @@ pub slot_inside : (s : StoreState) (slot : Slot) → IsSpace s → HasSlot s.boo
 slot_inside s slot space has = subst (λ g. slot.slot < slots_of g (class_in s slot.group)) space.geometry has.1
 
 -- a slot of a group with parity can be written at any time
-pub slot_ready : (s : StoreState) (slot : Slot) → IsSpace s → HasSlot s.book slot → IsReady (class_in s slot.group) s.disks (members_of s slot.group) slot.slot
+pub slot_ready : (s : StoreState) (slot : Slot) → IsSpace s → HasSlot s.book slot → CanWrite (class_in s slot.group) s.disks (members_of s slot.group) slot.slot
 slot_ready s slot space has =
     by (class_in s slot.group) refl (slot_inside s slot space has)
   where
-    by : (c : Class) → class_in s slot.group ≡ c → slot.slot < slots_of s.disks.geometry c → IsReady c s.disks (members_of s slot.group) slot.slot
+    by : (c : Class) → class_in s slot.group ≡ c → slot.slot < slots_of s.disks.geometry c → CanWrite c s.disks (members_of s slot.group) slot.slot
     by Free is inside = tt
     by Mirrored is inside = tt
     by Parity is inside =

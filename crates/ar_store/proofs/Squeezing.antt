@@ -19,23 +19,13 @@ use Rattle.ar_book.proofs.PlaceLemmas.{assigned_agrees}
 use Rattle.ar_book.proofs.AfterAssign.{assigned_class_named, assigned_class_here, assigned_class_left, assigned_key_other, assigned_key_left, assigned_home_other, assigned_group_count}
 use Rattle.ar_book.proofs.AfterOpen.{opened_group_count, opened_class, opened_class_other, opened_key, opened_empty, opened_free_groups}
 use Rattle.ar_extents.specs.declared.health.Health.TheVariants.{Broken}
-use Rattle.ar_extents.specs.Set.{SetState}
-use Rattle.ar_extents.proofs.Follows.{follows_refl}
-use Rattle.ar_store.specs.Store.{store_of}
+use Rattle.ar_store.specs.declared.space.Space.{Space}
 use Rattle.ar_store.specs.Slots.{AllStand}
-use Rattle.ar_store.specs.Kept.{IsSpace}
-use Rattle.ar_store.specs.Calls.{IsAccessed}
-use Rattle.ar_store.proofs.Fills.{stand_then, accessed_then}
+use Rattle.ar_store.specs.Spaces.{store_in, IsReady, Stays}
+use Rattle.ar_store.proofs.Options.{some_value}
+use Rattle.ar_store.proofs.Stays.{stays_refl, stays_then, all_then}
 use Rattle.ar_store.specs.Placing.{slot_at, moved_from, moved_first, squeezed, CanMove, IsVacant, IsSqueezed, SameUnits}
-use Rattle.ar_store.proofs.Changes.{units_refl, units_then, units_assigned, units_opened, mirrored_not_free}
-
--- a slot that names something names a block
-some_value : (o : Option Key) → IsSome o → (k : Key) × (o ≡ Some k)
-some_value None e = absurd (true≢false (sym e))
-some_value (Some k) e = (k, refl)
-
-pub none_not_some : (o : Option Key) → IsSome o → o ≡ None → ⊥
-none_not_some o some none = let key = some_value o some in none-some key.0 (sym none ∙ key.1)
+use Rattle.ar_store.proofs.Changes.{units_refl, units_then, units_assigned, mirrored_not_free}
 
 -- The first i blocks of a group have moved, and the rest are to come.
 pub record IsMoving (t : Tables) (from to i : ℕ) (u : Tables) : Type 0 where
@@ -51,7 +41,7 @@ pub record IsMoving (t : Tables) (from to i : ℕ) (u : Tables) : Type 0 where
   pub unplaced : (k : Key) → home t k ≡ None → home u k ≡ None
 
 -- there are slots, and more of them with parity
-mirrored_some : (g : Geometry) → 0 < slots_of g Mirrored
+pub mirrored_some : (g : Geometry) → 0 < slots_of g Mirrored
 mirrored_some Paper = omega arith
 mirrored_some Small = omega arith
 
@@ -187,31 +177,28 @@ moving_end t u from to i can moving is =
     record { there = (there, omega arith); empty = moving.empty i (omega arith) }
 
 -- A squeeze on its way: the tables, the disks, and what stands.
-pub record IsSqueezing (a b : SetState) (t u : Tables) (from to i : ℕ) : Type 0 where
-  pub moving : IsMoving t from to i u
-  pub space : IsSpace (store_of b u)
-  pub stand : AllStand (store_of a t) (store_of b u)
-  pub accessed : IsAccessed a b
-  pub sound : b.health ≢ Broken
+pub record IsSqueezing {X : Type 0} (old now : Space X) (from to i : ℕ) : Type 0 where
+  pub moving : IsMoving old.book from to i now.book
+  pub stays : Stays old now
+  pub stand : AllStand (store_in old) (store_in now)
+  pub sound : now.disks.health ≢ Broken
 
-pub squeezing_start : (a : SetState) (t : Tables) (from to : ℕ) → IsSpace (store_of a t) → CanMove t from to → a.health ≢ Broken → IsSqueezing a a t t from to 0
-squeezing_start a t from to space can sound = record {
-  moving = moving_start t from to can;
-  space = space;
-  stand = record { blocks = λ s k. refl };
-  accessed = record { follows = follows_refl a; loose = refl };
+pub squeezing_start : {X : Type 0} (s : Space X) (from to : ℕ) → IsReady s → CanMove s.book from to → s.disks.health ≢ Broken → IsSqueezing s s from to 0
+squeezing_start s from to ready can sound = record {
+  moving = moving_start s.book from to can;
+  stays = stays_refl s ready;
+  stand = record { blocks = λ _ k. refl };
   sound = sound;
 }
 
-pub squeezing_then : (a b d : SetState) (t u v : Tables) (from to i : ℕ) (k : Key) → IsSpace (store_of a t) → CanMove t from to → IsSqueezing a b t u from to i
-    → i < slots_of t.geometry Mirrored → key_at u (slot_at from i) ≡ Some k → v ≡ assigned u k (slot_at to i) → AllStand (store_of b u) (store_of d v)
-    → IsSpace (store_of d v) → IsAccessed b d → d.health ≢ Broken → IsSqueezing a d t v from to (i + 1)
-squeezing_then a b d t u v from to i k space can now inside names is stand after access sound = record {
-  moving = subst (λ (x : Tables). IsMoving t from to (i + 1) x) (sym is)
-      (moving_then t u from to i k space.tables now.space.tables can now.moving inside names);
-  space = after;
-  stand = stand_then (store_of a t) (store_of b u) (store_of d v) access.follows now.stand stand;
-  accessed = accessed_then a b d now.accessed access;
+pub squeezing_then : {X : Type 0} (old now new : Space X) (from to i : ℕ) (k : Key) → IsReady old → CanMove old.book from to → IsSqueezing old now from to i
+    → i < slots_of old.book.geometry Mirrored → key_at now.book (slot_at from i) ≡ Some k → new.book ≡ assigned now.book k (slot_at to i)
+    → AllStand (store_in now) (store_in new) → Stays now new → new.disks.health ≢ Broken → IsSqueezing old new from to (i + 1)
+squeezing_then old now new from to i k ready can so_far inside names is stand stays sound = record {
+  moving = subst (λ (x : Tables). IsMoving old.book from to (i + 1) x) (sym is)
+      (moving_then old.book now.book from to i k ready.space.tables so_far.stays.ready.space.tables can so_far.moving inside names);
+  stays = stays_then old now new so_far.stays stays;
+  stand = all_then old now new stays so_far.stand stand;
   sound = sound;
 }
 
@@ -240,7 +227,7 @@ same_full t f g is_f is_g =
       | inr ge ↦ elim (cases_lt g f) [ inl lt ↦ absurd (is_f.least g lt is_g.mirrored) | inr le ↦ omega arith ]
     ]
 
-same_free : (t : Tables) (f g : ℕ) → IsLowestFree t f → IsLowestFree t g → f ≡ g
+pub same_free : (t : Tables) (f g : ℕ) → IsLowestFree t f → IsLowestFree t g → f ≡ g
 same_free t f g is_f is_g =
     elim (cases_lt f g) [
       | inl lt ↦ absurd (is_g.least f lt is_f.free)
@@ -270,9 +257,6 @@ free_counted t g ok inside free =
     let count = opened_free_groups t g Mirrored ok inside free mirrored_not_free in
     omega arith
 
--- the opening moves no block, and changes no unit
+-- the opening moves no block
 pub homes_opened : (t u : Tables) (g : ℕ) (k : Key) → u ≡ opened t g Parity → home t k ≡ None → home u k ≡ None
 homes_opened t u g k is none = ap (λ (x : Tables). home x k) is ∙ none
-
-pub units_of : (t u v : Tables) (g : ℕ) → u ≡ opened t g Parity → SameUnits u v → SameUnits t v
-units_of t u v g is same = units_then t u v (subst (λ (x : Tables). SameUnits t x) (sym is) (units_opened t g Parity)) same

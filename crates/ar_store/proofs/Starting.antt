@@ -27,7 +27,7 @@ use Rattle.ar_book.proofs.GroupChanges.{formed_group_count, formed_keys}
 use Rattle.ar_book.proofs.AfterForm.{formed_members, formed_class, formed_members_other, formed_class_other, formed_free_groups}
 use Rattle.ar_store.specs.Store.{StoreState, store_of}
 use Rattle.ar_store.specs.Kept.{IsTaken, FieldsAgree}
-use Rattle.ar_store.specs.Forming.{AreFullest, HasFewLoose, IsFormed, IsStarted, IsAllLoose, with_group, without, empty_book, members_list}
+use Rattle.ar_store.specs.Forming.{AreFullest, HasFewLoose, IsFormed, IsFresh, IsStarted, IsAllLoose, with_group, without, empty_book, members_list}
 use Rattle.ar_store.proofs.Lined.{lined_start, lined_count, four_cases}
 
 -- disks that aren't refused are at least four, with extents
@@ -260,17 +260,18 @@ free_not_parity : Free ≢ Parity
 free_not_parity e = true≢false (ap is_free e)
 
 -- what a store keeps true holds once its groups are formed
-pub started_fields : (disks : List DiskState) (set : SetState) (t : Tables) (block : List ℕ) (g : Geometry)
-    → start_fault disks ≡ None
-    → IsFormed (store_of (started disks) (empty_book (started disks).geometry)) (members_list t) (store_of set t) → TablesAgree t
-    → length block ≡ block_len_of (started disks).geometry → g ≡ (started disks).geometry → FieldsAgree (store_of set t) block g
-started_fields disks set t block g taken is agree len scratch =
-    let start : StoreState = store_of (started disks) (empty_book (started disks).geometry) in
-    let bare = bare_formed start (members_list t) (store_of set t) (bare_start disks) is in
-    let same = formed_same start (members_list t) (store_of set t) is in
-    let some = start_some disks taken in
-    let count = formed_free start (members_list t) (store_of set t) is in
-    let one = formed_some start (members_list t) (store_of set t) is (many_loose disks some.0 some.1) in
+pub started_fields : (s new : SetState) (t : Tables) (block : List ℕ) (g : Geometry) → IsFresh s
+    → IsFormed (store_of s (empty_book s.geometry)) (members_list t) (store_of new t) → TablesAgree t
+    → length block ≡ block_len_of s.geometry → g ≡ s.geometry → FieldsAgree (store_of new t) block g
+started_fields s new t block g fresh is agree len scratch =
+    let start = store_of s (empty_book s.geometry) in
+    let first = subst (λ (x : SetState). IsBare (store_of x (empty_book x.geometry))) (sym fresh.set) (bare_start fresh.disks) in
+    let some = start_some fresh.disks fresh.taken in
+    let many = subst (λ (x : SetState). HasFewLoose x → ⊥) (sym fresh.set) (many_loose fresh.disks some.0 some.1) in
+    let bare = bare_formed start (members_list t) (store_of new t) first is in
+    let same = formed_same start (members_list t) (store_of new t) is in
+    let count = formed_free start (members_list t) (store_of new t) is in
+    let one = formed_some start (members_list t) (store_of new t) is many in
     record {
       kept = record {
         space = record {

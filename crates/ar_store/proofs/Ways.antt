@@ -7,15 +7,19 @@ use Rattle.ar_book.specs.declared.class.Class.TheVariants.{Free, Mirrored, Parit
 use Rattle.ar_book.specs.declared.class.Level.{Level}
 use Rattle.ar_book.specs.declared.class.Level.TheVariants.{Unplaced, Mirrored as MirroredLevel, Parity as ParityLevel}
 use Rattle.ar_book.specs.declared.class.Slot.{Slot}
-use Rattle.ar_book.specs.Tables.{Tables, home, level, level_in, level_of, class_of, free_groups, HasBlock}
+use Rattle.ar_book.specs.Tables.{Tables, home, level, level_in, level_of, class_of, slots_of, free_groups, HasBlock}
 use Rattle.ar_book.specs.Book.{TablesAgree}
 use Rattle.ar_book.proofs.Homes.{home_key, home_level, key_class}
 use Rattle.ar_book.specs.Changes.{stamped, opened}
-use Rattle.ar_book.specs.Choices.{IsWaiting, IsUpTo}
+use Rattle.ar_book.specs.Choices.{IsWaiting, IsUpTo, IsHole, IsLowestFree}
 use Rattle.ar_book.proofs.Keys.{make_slot}
+use Rattle.ar_book.proofs.AfterOpen.{opened_group_count, opened_class, opened_empty}
+use Rattle.ar_store.proofs.Squeezing.{mirrored_some, same_free}
+use Rattle.ar_extents.specs.Set.{SetState}
+use Rattle.ar_store.specs.Store.{store_of}
 use Rattle.ar_store.specs.declared.way.Way.{Way}
 use Rattle.ar_store.specs.declared.way.Way.TheVariants.{Home, Hole, Broken}
-use Rattle.ar_store.specs.Placing.{HasNoHole, IsLowestHole, LeadsHome, LeadsToHole, Leads, Writes, Puts, IsMirroredHole, HasNoMirroredHole, IsSqueezed, IsVacant, put_in}
+use Rattle.ar_store.specs.Placing.{slot_at, HasNoHole, IsLowestHole, LeadsHome, LeadsToHole, Leads, Puts, IsMirroredHole, HasNoMirroredHole, IsSqueezed, IsVacant, IsThere, IsWayIn, HasNoWay, MayOpen, IsReadyFor, placed_by, put_in}
 
 -- the level, as a number
 rank : Level → ℕ
@@ -70,10 +74,16 @@ puts_hole t u new k s leads is =
       squeezed_group = λ from to at none full few is_from is_to. goes _ _ (leads.squeezed_group from to none full few is_from is_to);
     }
 
-pub puts_way : (t u new : Tables) (k : Key) (way : Way) → Leads t k u way → Writes u k way new → (way ≡ Broken → ⊥) → Puts t k new
-puts_way t u new k (Home s) leads writes whole = puts_home t u new k s leads writes
-puts_way t u new k (Hole s) leads writes whole = puts_hole t u new k s leads writes
-puts_way t u new k Broken leads writes whole = absurd (whole refl)
+pub puts_way : (t u new : Tables) (k : Key) (way : Way) → Leads t k u way → new ≡ stamped (placed_by u k way) k → way ≢ Broken → Puts t k new
+puts_way t u new k (Home s) leads is found = puts_home t u new k s leads is
+puts_way t u new k (Hole s) leads is found = puts_hole t u new k s leads is
+puts_way t u new k Broken leads is found = absurd (found refl)
+
+-- a way that is there is one that a block can be written by
+pub ready_there : (a : SetState) (t : Tables) (k : Key) (way : Way) → IsThere t k way → IsReadyFor (store_of a t) k way
+ready_there a t k (Home s) there = there
+ready_there a t k (Hole s) there = there
+ready_there a t k Broken there = absurd there
 
 -- a hole at the mirrored level, for a block that isn't there
 pub leads_mirrored : (t u : Tables) (k : Key) (s : Slot) → level t k ≢ MirroredLevel → home u k ≡ home t k → IsMirroredHole t u s → LeadsToHole t k u s
@@ -141,3 +151,82 @@ placed t k s ok is nowhere_k =
 pub placed_mirrored : (t : Tables) (k : Key) (s : Slot) (l : Level) → TablesAgree t → home t k ≡ Some s → l ≡ level t k → (l ≡ MirroredLevel) ⊎ (l ≡ Unplaced)
     → level t k ≡ MirroredLevel
 placed_mirrored t k s l ok is same at = elim at [ inl high ↦ sym same ∙ high | inr nowhere_k ↦ absurd (placed t k s ok is (sym same ∙ nowhere_k)) ]
+
+-- a group that may have been opened leaves homes as they were
+opens_home : (t u : Tables) (k : Key) → MayOpen t u → home u k ≡ home t k
+opens_home t u k (inl same) = ap (λ (x : Tables). home x k) same
+opens_home t u k (inr has) = ap (λ (x : Tables). home x k) has.tables
+
+-- a hole of a class is a slot that names none
+pub hole_vacant : (t : Tables) (c : Class) (s : Slot) → IsHole t c s → IsVacant t s
+hole_vacant t c s hole = record {
+  there = (hole.group, subst (λ (x : Class). s.slot < slots_of t.geometry x) (sym hole.class) hole.slot);
+  empty = hole.empty;
+}
+
+-- the lowest mirrored hole was found
+pub hole_found : (t : Tables) (s : Slot) → IsHole t Mirrored s → ((r : Slot) → IsHole t Mirrored r → IsUpTo s r) → IsMirroredHole t t s
+hole_found t s hole least = record {
+  empty = hole_vacant t Mirrored s hole;
+  found = λ r is. (refl, first_is s r (least r is.hole) (is.least s hole));
+  made = λ g none many lowest. absurd (none.none s hole);
+  when = λ none. absurd (none.none s hole);
+}
+
+-- or a group was opened for it
+pub hole_made : (t u : Tables) (g : ℕ) → TablesAgree t → ((s : Slot) → IsHole t Mirrored s → ⊥) → 2 ≤ free_groups t → IsLowestFree t g → u ≡ opened t g Mirrored
+    → IsMirroredHole t u (slot_at g 0)
+hole_made t u g ok none many lowest is =
+    subst (λ (x : Tables). IsMirroredHole t x (slot_at g 0)) (sym is) (record {
+      empty = record {
+        there = (
+          subst (λ n. g < n) (sym (opened_group_count t g Mirrored)) lowest.there,
+          subst (λ (c : Class). 0 < slots_of t.geometry c) (sym (opened_class t g Mirrored lowest.there)) (mirrored_some t.geometry),
+        );
+        empty = opened_empty t g Mirrored ok lowest.there lowest.free 0;
+      };
+      found = λ r hole. absurd (none r hole.hole);
+      made = λ h _ _ other. let same = same_free t g h lowest other in (ap (λ n. opened t n Mirrored) same, ap (λ n. slot_at n 0) same);
+      when = λ _. many;
+    })
+
+-- The ways that need no squeeze.
+module _ (t : Tables) (k : Key) where
+  -- a block without a home goes to a mirrored hole
+  pub way_to_mirrored : (u : Tables) (s : Slot) → home t k ≡ None → IsMirroredHole t u s → MayOpen t u → IsWayIn t k u (Hole s)
+  way_to_mirrored u s none hole opens = record {
+    leads = leads_mirrored t u k s (λ at. unplaced_not_mirrored (sym (nowhere t k none) ∙ at)) (opens_home t u k opens) hole;
+    there = hole.empty;
+  }
+
+  -- or to one with parity
+  pub way_to_parity : (u : Tables) (s : Slot) → home t k ≡ None → HasNoMirroredHole t u → IsHole u Parity s → ((r : Slot) → IsHole u Parity r → IsUpTo s r)
+      → IsWayIn t k u (Hole s)
+  way_to_parity u s none without hole least =
+      let vacant = hole_vacant u Parity s hole in
+      let P : Tables → Type 0 = λ x. IsLowestHole x Parity s in
+      record {
+        leads = leads_parity t u k s none without vacant (subst P without.same (record { hole = hole; least = least }));
+        there = vacant;
+      }
+
+  -- a block at the parity level goes to a mirrored hole
+  pub way_up : (u : Tables) (s : Slot) → level t k ≡ ParityLevel → IsMirroredHole t u s → MayOpen t u → IsWayIn t k u (Hole s)
+  way_up u s at hole opens = record {
+    leads = leads_mirrored t u k s (λ high. parity_not_mirrored (sym at ∙ high)) (opens_home t u k opens) hole;
+    there = hole.empty;
+  }
+
+  -- or stays where it is
+  pub way_low : (u : Tables) (s : Slot) → level t k ≡ ParityLevel → home t k ≡ Some s → HasNoMirroredHole t u → IsWayIn t k u (Home s)
+  way_low u s at is without = record {
+    leads = record { same = without.same; home = is; when = inr (at, without.none, without.few) };
+    there = ap (λ (x : Tables). home x k) without.same ∙ is;
+  }
+
+  -- as does one at the mirrored level
+  pub way_high : (s : Slot) (l : Level) → TablesAgree t → home t k ≡ Some s → l ≡ level t k → (l ≡ MirroredLevel) ⊎ (l ≡ Unplaced) → IsWayIn t k t (Home s)
+  way_high s l ok is same at = record {
+    leads = record { same = refl; home = is; when = inl (placed_mirrored t k s l ok is same at) };
+    there = is;
+  }

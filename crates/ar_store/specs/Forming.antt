@@ -1,12 +1,12 @@
 -- How a store begins: which groups its disks form, and in what order.
-use Rattle.std.specs.Prelude.{◌≡◌, ◌≢◌, ◌⊎◌, ℕ, ◌<◌, true, List, [], ◌∷◌, length, map, replicate, Some}
+use Rattle.std.specs.Prelude.{◌≡◌, ◌≢◌, ◌⊎◌, ℕ, ◌<◌, true, List, [], ◌∷◌, length, map, replicate, None, Some}
 use Rattle.ar_disks.specs.declared.geometry.Geometry.{Geometry}
 use Rattle.ar_disks.specs.declared.address.Members.{Members}
 use Rattle.ar_disks.specs.Members.{member}
 use Rattle.ar_disks.specs.Disk.{DiskState}
 use Rattle.ar_extents.specs.Set.{SetState}
 use Rattle.ar_extents.specs.Loose.{loose_count, lowest_loose, taken}
-use Rattle.ar_extents.specs.Changes.{started}
+use Rattle.ar_extents.specs.Changes.{start_fault, started}
 use Rattle.ar_book.specs.Tables.{Tables}
 use Rattle.ar_book.specs.Changes.{formed}
 use Rattle.ar_store.specs.Store.{StoreState, store_of}
@@ -51,6 +51,12 @@ members_list t = map (λ g. g.members) t.groups
 -- the store of these disks, all whole, with no unit: its groups are formed from the disks' extents, which are all loose at first
 pub record IsStarted (disks : List DiskState) (s : StoreState) : Type 0 where
   pub formed : IsFormed (store_of (started disks) (empty_book (started disks).geometry)) (members_list s.book) s
+
+-- a set was just started with disks that aren't refused
+pub record IsFresh (s : SetState) : Type 0 where
+  pub disks : List DiskState
+  pub taken : start_fault disks ≡ None
+  pub set : s ≡ started disks
 
 -- a book has the groups that a set forms
 pub record IsPlanFor (s : SetState) (t : Tables) : Type 0 where

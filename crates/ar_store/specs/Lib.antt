@@ -3,6 +3,7 @@ pub mod Slots
 pub mod Kept
 pub mod Placing
 pub mod Calls
+pub mod Spaces
 pub mod Fullest
 pub mod Forming
 -- the words of lower crates that clauses of this crate cite

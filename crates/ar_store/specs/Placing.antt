@@ -8,10 +8,7 @@ use Rattle.ar_book.specs.declared.class.Class.TheVariants.{Mirrored, Parity}
 use Rattle.ar_book.specs.declared.class.Level.TheVariants.{Unplaced, Mirrored as MirroredLevel, Parity as ParityLevel}
 use Rattle.ar_book.specs.declared.class.Slot.{Slot}
 use Rattle.ar_extents.specs.declared.health.Health.TheVariants.{Broken as AllBroken}
-use Rattle.ar_extents.specs.Set.{SetState}
-use Rattle.ar_store.specs.Store.{StoreState, store_of}
-use Rattle.ar_store.specs.Slots.{stands}
-use Rattle.ar_store.specs.Kept.{IsSpace}
+use Rattle.ar_store.specs.Store.{StoreState}
 use Rattle.ar_store.specs.declared.way.Way.{Way}
 use Rattle.ar_store.specs.declared.way.Way.TheVariants.{Home, Hole, Broken}
 use Rattle.ar_book.specs.Tables.{Tables, HasSlot, key_at, home, level, slots_of, class_of, free_groups, unit_in, reserved}
@@ -136,19 +133,42 @@ pub record CanMove (t : Tables) (from to : ℕ) : Type 0 where
   pub opened : class_of t to ≡ Parity
   pub empty : (i : ℕ) → key_at t (slot_at to i) ≡ None
 
+-- the lowest of two free groups or more was opened for mirrored blocks
+pub record HasOpened (t new : Tables) : Type 0 where
+  pub group : ℕ
+  pub lowest : IsLowestFree t group
+  pub many : 2 ≤ free_groups t
+  pub tables : new ≡ opened t group Mirrored
+
+-- it may have been, and nothing else changed
+abbrev pub MayOpen : Tables → Tables → Type 0
+MayOpen t new = (new ≡ t) ⊎ HasOpened t new
+
+-- a way is there: the block's home, or a slot that names none
+abbrev pub IsThere : Tables → Key → Way → Type 0
+IsThere t k (Home s) = home t k ≡ Some s
+IsThere t k (Hole s) = IsVacant t s
+IsThere t k Broken = ⊥
+
+-- a way that needs no squeeze
+pub record IsWayIn (t : Tables) (k : Key) (new : Tables) (way : Way) : Type 0 where
+  pub leads : Leads t k new way
+  pub there : IsThere new k way
+
+-- there is none: the block has no home, and no group a hole
+pub record HasNoWay (t : Tables) (k : Key) (new : Tables) : Type 0 where
+  pub unplaced : home t k ≡ None
+  pub mirrored : HasNoMirroredHole t new
+  pub parity : HasNoHole new Parity
+
 -- a block can be written where it was found to go; the way is Broken only where the disks are
 abbrev pub IsReadyFor : StoreState → Key → Way → Type 0
 IsReadyFor s k (Home slot) = home s.book k ≡ Some slot
 IsReadyFor s k (Hole slot) = IsVacant s.book slot
 IsReadyFor s k Broken = s.disks.health ≡ AllBroken
 
--- the tables once it was written there
-abbrev pub Writes : Tables → Key → Way → Tables → Type 0
-Writes t k (Home slot) new = new ≡ stamped t k
-Writes t k (Hole slot) new = new ≡ put_in t k slot
-Writes t k Broken new = Unit {0}
-
--- the tables changed so that every block stands as it did, on any disks
-pub record StandsBy (disks : SetState) (t new : Tables) : Type 0 where
-  pub space : IsSpace (store_of disks new)
-  pub blocks : (k : Key) → stands (store_of disks new) k ≡ stands (store_of disks t) k
+-- the tables once the block stands there
+abbrev pub placed_by : Tables → Key → Way → Tables
+placed_by t k (Home slot) = t
+placed_by t k (Hole slot) = assigned t k slot
+placed_by t k Broken = t

@@ -62,10 +62,10 @@ pub record HoldsAny (s : SetState) (m : Members) (i : ℕ) : Type 0 where
   pub holds : ParityHolds s m i block
 
 -- the slot can be written: with parity it holds a block, which the row's parity counts in
-abbrev pub IsReady : Class → SetState → Members → ℕ → Type 0
-IsReady Free s m i = Unit {0}
-IsReady Mirrored s m i = Unit {0}
-IsReady Parity s m i = HoldsAny s m i
+abbrev pub CanWrite : Class → SetState → Members → ℕ → Type 0
+CanWrite Free s m i = Unit {0}
+CanWrite Mirrored s m i = Unit {0}
+CanWrite Parity s m i = HoldsAny s m i
 
 -- One slot of four extents was written: it holds the block, the others hold what they held, and no other extent was written.
 pub record IsWritten (class : Class) (old new : SetState) (m : Members) (i : ℕ) (block : List ℕ) : Type 0 where

@@ -24,7 +24,7 @@ impl<D: Disk> Store<D> {
         ensures unchanged { OnErr result (self.new ≡ self.old) }
         ensures stands { AllStand self.old self.new }
     {
-        self.disks.fail(disk)
+        self.space.disks.fail(disk)
     }
 
     /// Reads a row of an extent into `into`, a block of the store's length, as it stands on the disk, whatever the extent is used
@@ -41,6 +41,6 @@ impl<D: Disk> Store<D> {
         ensures accessed { IsAccessed self.old.disks self.new.disks }
         ensures len { length into.new ≡ length into.old }
     {
-        self.disks.get(place, row, into)
+        self.space.disks.get(place, row, into)
     }
 }

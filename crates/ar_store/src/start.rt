@@ -1,5 +1,5 @@
 // How a store begins.
-ghost use Rattle.std.specs.Prelude.{◌≡◌, ◌<◌, ◌≤◌, ℕ, All, map, None, length, slice_index, unwrap_or, IfOk, IfErr, OnOk};
+ghost use Rattle.std.specs.Prelude.{◌≡◌, ◌<◌, ◌≤◌, ℕ, All, map, replicate, None, length, slice_index, unwrap_or, IfOk, IfErr, OnOk};
 ghost use Rattle.ar_disks.specs.Geometry.{block_len_of};
 ghost use Rattle.ar_extents.specs.declared.refusal.StartFault.TheVariants.{NoMemory};
 ghost use Rattle.ar_extents.specs.Set.{SetState, CanCount};
@@ -7,9 +7,10 @@ ghost use Rattle.ar_extents.specs.Changes.{start_fault, started};
 ghost use Rattle.ar_book.specs.Book.{TablesAgree};
 ghost use Rattle.ar_store.specs.Store.{store_of};
 ghost use Rattle.ar_store.specs.Fullest.{AreFourFullest, one_fewer, four_fewer, next_place, next_members};
-ghost use Rattle.ar_store.specs.Forming.{AreFullest, IsFormed, IsStarted, IsPlanFor, IsAllLoose, without, empty_book, members_list};
+ghost use Rattle.ar_store.specs.Forming.{AreFullest, IsFormed, IsStarted, IsPlanFor, IsFresh, IsAllLoose, without, empty_book, members_list};
 
 use crate::form::{FourDisks, four_fullest};
+use crate::space::Space;
 use crate::store::Store;
 use ar_book::Book;
 use ar_disks::{Block, Disk, Geometry, Members, Place, Scratch};
@@ -29,17 +30,10 @@ impl<D: Disk> Store<D> {
         if let Some(fault) = fault_of(&disks) {
             return Err((fault, disks));
         }
-        let Ok(plan) = make_plan(alloc, &disks) else {
-            return Err((StartFault::NoMemory, disks));
-        };
-        let mut set = DiskSet::start(alloc, disks)?;
-        take_groups(&mut set, &plan.book);
-        Ok(Store {
-            disks: set,
-            book: plan.book,
-            block: plan.block,
-            scratch: plan.scratch,
-        })
+        match make_plan(alloc, &disks) {
+            Ok(plan) => start_planned(alloc, disks, plan),
+            Err(_) => Err((StartFault::NoMemory, disks)),
+        }
     }
 }
 
@@ -47,24 +41,75 @@ impl<D: Disk> Store<D> {
 #[derive(Drop)]
 struct Plan {
     book: Book,
+    work: Work,
+}
+
+#[derive(Drop)]
+struct Work {
     block: Block,
     scratch: Scratch,
+}
+
+// The store of disks that aren't refused, by the plan for them.
+fn start_planned<D: Disk>(
+    alloc: Global,
+    disks: Vec<D>,
+    plan: Plan,
+) -> Result<Store<D>, (StartFault, Vec<D>)>
+    requires counting { All CanCount (map D.state disks.items) }
+    requires taken { start_fault (map D.state disks.items) ≡ None }
+    requires book { IsPlanFor (started (map D.state disks.items)) plan.book }
+    requires block { length plan.work.block ≡ block_len_of (started (map D.state disks.items)).geometry }
+    requires scratch { plan.work.scratch.geometry ≡ (started (map D.state disks.items)).geometry }
+    ensures started { IfOk result (IsStarted (map D.state disks.items)) }
+    ensures refused { IfErr result (λ back. back.0 ≡ NoMemory) }
+    ensures handed_back { IfErr result (λ back. back.1 ≡ disks) }
+{
+    let set = DiskSet::start(alloc, disks)?;
+    Ok(form(set, plan))
+}
+
+// The store of a set that was just started, by the plan for it.
+fn form<D: Disk>(mut set: DiskSet<D>, plan: Plan) -> Store<D>
+    requires fresh { IsFresh set }
+    requires book { IsPlanFor set plan.book }
+    requires block { length plan.work.block ≡ block_len_of set.geometry }
+    requires scratch { plan.work.scratch.geometry ≡ set.geometry }
+    ensures { IsFormed (store_of set (empty_book set.geometry)) (members_list result.book) result }
+{
+    take_groups(&mut set, &plan.book);
+    Store {
+        space: Space {
+            disks: set,
+            book: plan.book,
+            scratch: plan.work.scratch,
+        },
+        block: plan.work.block,
+    }
 }
 
 // Takes all the memory that a store of these disks needs, but for that of the disk set.
 fn make_plan<D: Disk>(alloc: Global, disks: &[D]) -> Result<Plan, AllocError>
     requires { start_fault (map D.state disks.now) ≡ None }
     ensures book { IfOk result (λ plan. IsPlanFor (started (map D.state disks.now)) plan.book) }
-    ensures block { IfOk result (λ plan. length plan.block ≡ block_len_of (started (map D.state disks.now)).geometry) }
-    ensures scratch { IfOk result (λ plan. plan.scratch.geometry ≡ (started (map D.state disks.now)).geometry) }
+    ensures block { IfOk result (λ plan. length plan.work.block ≡ block_len_of (started (map D.state disks.now)).geometry) }
+    ensures scratch { IfOk result (λ plan. plan.work.scratch.geometry ≡ (started (map D.state disks.now)).geometry) }
 {
     let geometry = disks[0].geometry();
     let extents = disks[0].extents();
-    Ok(Plan {
-        book: plan_groups(alloc, geometry, disks.len(), extents)?,
-        block: Block::new(alloc, geometry)?,
-        scratch: Scratch::new(alloc, geometry)?,
-    })
+    let work = make_work(alloc, geometry)?;
+    let book = plan_groups(alloc, geometry, disks.len(), extents)?;
+    Ok(Plan { book, work })
+}
+
+// The blocks that calls work in.
+fn make_work(alloc: Global, geometry: Geometry) -> Result<Work, AllocError>
+    ensures block { IfOk result (λ work. length work.block ≡ block_len_of geometry) }
+    ensures scratch { IfOk result (λ work. work.scratch.geometry ≡ geometry) }
+{
+    let block = Block::new(alloc, geometry)?;
+    let scratch = Scratch::new(alloc, geometry)?;
+    Ok(Work { block, scratch })
 }
 
 // The book of all groups that so many disks form.
@@ -77,12 +122,26 @@ fn plan_groups(
     requires { disks ≤ 255 }
     ensures { IfOk result (λ book. (s : SetState) → IsAllLoose geometry disks extents s → IsPlanFor s book) }
 {
-    let mut book = Book::new(alloc, geometry);
     let mut counts = vec![in alloc; extents; disks]?;
-    while let Some(four) = four_fullest(&counts) {
-        let members = next_members(&counts, extents, four);
+    form_groups(alloc, geometry, &mut counts, extents)
+}
+
+// The book of all groups that disks form of which the last extents are loose, so many of each.
+fn form_groups(
+    alloc: Global,
+    geometry: Geometry,
+    counts: &mut Vec<u16>,
+    extents: u16,
+) -> Result<Book, AllocError>
+    requires few { length counts.old.items ≤ 255 }
+    requires all { counts.old.items ≡ replicate (length counts.old.items) extents }
+    ensures { IfOk result (λ book. (s : SetState) → IsAllLoose geometry (length counts.old.items) extents s → IsPlanFor s book) }
+{
+    let mut book = Book::new(alloc, geometry);
+    while let Some(four) = four_fullest(counts) {
+        let members = next_members(counts, extents, four);
         book.form_group(members)?;
-        four_fewer(&mut counts, four);
+        four_fewer(counts, four);
     }
     Ok(book)
 }

@@ -1,35 +1,31 @@
 // The store, and its reads and writes by key.
 
-use crate::moves::{move_block, write};
-use crate::open::{open_mirrored, open_spare};
-use crate::slots::read_at;
-use crate::way::find_way;
+use crate::space::Space;
 use crate::{Opening, Outcome};
 use ar_book::{Book, Class, Slot};
-use ar_disks::{Block, Disk, Key, Scratch};
+use ar_disks::{Block, Disk, Key};
 use ar_extents::{DiskSet, Health};
 use std::marker::Model;
 
-/// The disks of an array and the book of their space, with the blocks that calls work in. The fields are open to the crates that
-/// move blocks in the background; whoever changes them keeps what `IsKept` says of them.
+/// The disks of an array and the book of their space. Both are open to the crates that move blocks in the background; whoever changes
+/// them keeps what `IsKept` says of them.
 #[derive(Drop)]
 pub struct Store<D: Disk> {
-    pub disks: DiskSet<D>,
-    pub book: Book,
+    pub space: Space<D>,
     /// The block that is on its way from one slot to another.
     pub block: Block,
-    pub scratch: Scratch,
 }
 
 impl<D: Disk> Model for Store<D> {
     ghost use Rattle.ar_store.specs.Store.{StoreState};
     ghost use Rattle.ar_store.specs.Kept.{FieldsAgree};
+    ghost use Rattle.ar_store.specs.Spaces.{store_in};
 
     ghost Value = { StoreState };
 
-    ghost view = { λ s. record { disks = s.disks; book = s.book } };
+    ghost view = { λ s. store_in s.space };
 
-    ghost invariant = { λ s. FieldsAgree (record { disks = s.disks; book = s.book }) s.block s.scratch.geometry };
+    ghost invariant = { λ s. FieldsAgree (store_in s.space) s.block s.space.scratch.geometry };
 }
 
 impl<D: Disk> Store<D> {
@@ -57,7 +53,21 @@ impl<D: Disk> Store<D> {
         // Until the disks are broken, whole blocks stand for all keys.
         ensures whole { result ≢ Health.Broken → (k : Key) → length (stands self.now k) ≡ block_len_of self.now.disks.geometry }
     {
-        self.disks.health()
+        self.space.disks.health()
+    }
+
+    /// The disks.
+    pub fn disks(&self) -> &DiskSet<D>
+        ensures { result.now ≡ self.now.disks }
+    {
+        &self.space.disks
+    }
+
+    /// The book of their space.
+    pub fn book(&self) -> &Book
+        ensures { result.now ≡ self.now.book }
+    {
+        &self.space.book
     }
 
     /// Reads the block of a key into `into`, a block of the store's length. A block without a home is read as zeros, and no disk is
@@ -75,13 +85,13 @@ impl<D: Disk> Store<D> {
         ensures broken { self.old.disks.health ≡ Health.Broken → self.new ≡ self.old }
         ensures len { length into.new ≡ length into.old }
     {
-        let Some(slot) = self.book.home(key) else {
+        let Some(slot) = self.space.book.home(key) else {
             into.zero();
             return Outcome::Done;
         };
-        match self.disks.health() {
+        match self.space.disks.health() {
             Health::Broken => Outcome::Broken,
-            _ => read_at(&mut self.disks, &self.book, slot, into, &mut self.scratch),
+            _ => self.space.read_at(slot, into),
         }
     }
 
@@ -100,24 +110,11 @@ impl<D: Disk> Store<D> {
         ensures accessed { IsAccessed self.old.disks self.new.disks }
         ensures broken { self.old.disks.health ≡ Health.Broken → self.new ≡ self.old }
     {
-        if let Health::Broken = self.disks.health() {
+        if let Health::Broken = self.space.disks.health() {
             return Outcome::Broken;
         }
-        let way = find_way(
-            &mut self.disks,
-            &mut self.book,
-            key,
-            &mut self.block,
-            &mut self.scratch,
-        );
-        write(
-            &mut self.disks,
-            &mut self.book,
-            key,
-            way,
-            from,
-            &mut self.scratch,
-        )
+        let way = self.space.find_way(key, &mut self.block);
+        self.space.write(key, way, from)
     }
 
     /// Gives a unit's block that has no home one, by writing zeros: it goes where `put` would put it, and reads as before. After
@@ -134,25 +131,12 @@ impl<D: Disk> Store<D> {
         ensures accessed { IsAccessed self.old.disks self.new.disks }
         ensures broken { self.old.disks.health ≡ Health.Broken → self.new ≡ self.old }
     {
-        if let Health::Broken = self.disks.health() {
+        if let Health::Broken = self.space.disks.health() {
             return Outcome::Broken;
         }
-        let way = find_way(
-            &mut self.disks,
-            &mut self.book,
-            key,
-            &mut self.block,
-            &mut self.scratch,
-        );
+        let way = self.space.find_way(key, &mut self.block);
         self.block.zero();
-        write(
-            &mut self.disks,
-            &mut self.book,
-            key,
-            way,
-            &self.block,
-            &mut self.scratch,
-        )
+        self.space.write(key, way, &self.block)
     }
 
     /// Moves a block from its home to a slot that names none. The new slot is written before the old one is left; the stamp stays.
@@ -168,17 +152,10 @@ impl<D: Disk> Store<D> {
         ensures accessed { IsAccessed self.old.disks self.new.disks }
         ensures broken { self.old.disks.health ≡ Health.Broken → self.new ≡ self.old }
     {
-        if let Health::Broken = self.disks.health() {
+        if let Health::Broken = self.space.disks.health() {
             return Outcome::Broken;
         }
-        move_block(
-            &mut self.disks,
-            &mut self.book,
-            key,
-            slot,
-            &mut self.block,
-            &mut self.scratch,
-        )
+        self.space.move_block(key, slot, &mut self.block)
     }
 
     /// Opens the lowest free group for mirrored blocks or for parity, while two are free. A group that is opened for parity is filled
@@ -195,49 +172,9 @@ impl<D: Disk> Store<D> {
         ensures accessed { IsAccessed self.old.disks self.new.disks }
         ensures broken { self.old.disks.health ≡ Health.Broken → self.new ≡ self.old }
     {
-        if let Health::Broken = self.disks.health() {
+        if let Health::Broken = self.space.disks.health() {
             return Opening::Broken;
         }
-        match class {
-            Class::Parity => self.open_parity(),
-            Class::Mirrored | Class::Free => self.open_mirrored(),
-        }
-    }
-
-    // Opens the lowest free group for mirrored blocks, while two are free.
-    fn open_mirrored(&mut self) -> Opening
-        requires { self.old.disks.health ≢ Health.Broken }
-        ensures opens { Opens self.old self.new Class.Mirrored result }
-        ensures answer { result ≢ Opening.Broken }
-        ensures disks { self.new.disks ≡ self.old.disks }
-        ensures homes { (k : Key) → home self.new.book k ≡ home self.old.book k }
-        ensures stands { AllStand self.old self.new }
-        ensures units { SameUnits self.old.book self.new.book }
-        ensures accessed { IsAccessed self.old.disks self.new.disks }
-    {
-        match open_mirrored(&mut self.book) {
-            Some(group) => Opening::Opened(group),
-            None => Opening::Idle,
-        }
-    }
-
-    // Opens the lowest free group for parity, while two are free.
-    fn open_parity(&mut self) -> Opening
-        requires { self.old.disks.health ≢ Health.Broken }
-        ensures opens { Opens self.old self.new Class.Parity result }
-        ensures answer { (result ≡ Opening.Broken) ↔ (self.new.disks.health ≡ Health.Broken) }
-        ensures zeros { IfOpened result (HoldsZeros self.new) }
-        ensures homes { (k : Key) → home self.new.book k ≡ home self.old.book k }
-        ensures stands { AllStand self.old self.new }
-        ensures units { SameUnits self.old.book self.new.book }
-        ensures accessed { IsAccessed self.old.disks self.new.disks }
-    {
-        let Some(group) = open_spare(&mut self.disks, &mut self.book, &mut self.scratch) else {
-            return Opening::Idle;
-        };
-        match self.disks.health() {
-            Health::Broken => Opening::Broken,
-            _ => Opening::Opened(group),
-        }
+        self.space.open_group(class)
     }
 }

@@ -26,7 +26,7 @@ impl<D: Disk> Store<D> {
         ensures disks { self.new.disks ≡ self.old.disks }
         ensures stands { (k : Key) → stands self.new k ≡ stands self.old k }
     {
-        self.book.make(addr, sectors)
+        self.space.book.make(addr, sectors)
     }
 
     /// Makes a unit longer, up to 1,048,576 sectors, and sets its mark; the new blocks have no home and are read as zeros.
@@ -40,7 +40,7 @@ impl<D: Disk> Store<D> {
         ensures disks { self.new.disks ≡ self.old.disks }
         ensures stands { (k : Key) → stands self.new k ≡ stands self.old k }
     {
-        self.book.grow(addr, sectors)
+        self.space.book.grow(addr, sectors)
     }
 
     /// Drops a unit: its blocks have no home from then on and are read as zeros, and every other block stands as it did.
@@ -54,7 +54,7 @@ impl<D: Disk> Store<D> {
         ensures others { (k : Key) → k.addr ≢ addr → stands self.new k ≡ stands self.old k }
         ensures zeros { (k : Key) → k.addr ≡ addr → stands self.new k ≡ zeros (block_len_of self.old.disks.geometry) }
     {
-        self.book.drop_unit(addr)
+        self.space.book.drop_unit(addr)
     }
 
     /// Clears a unit's mark. Where there is no unit nothing changes.
@@ -63,6 +63,6 @@ impl<D: Disk> Store<D> {
         ensures disks { self.new.disks ≡ self.old.disks }
         ensures stands { (k : Key) → stands self.new k ≡ stands self.old k }
     {
-        self.book.clear_attention(addr);
+        self.space.book.clear_attention(addr);
     }
 }

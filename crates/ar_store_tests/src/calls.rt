@@ -101,10 +101,13 @@ pub fn make_call(
         Call::Place(rb) => place(store, rb),
         Call::Move(rb, class) => move_to_hole(store, rb, class),
         Call::Open(class) => open(store, class),
-        Call::Home(rb) => store.book.home(key(rb)).map_or(Answer::Nowhere, Answer::At),
-        Call::Level(rb) => Answer::Stands(store.book.level(key(rb))),
+        Call::Home(rb) => store
+            .book()
+            .home(key(rb))
+            .map_or(Answer::Nowhere, Answer::At),
+        Call::Level(rb) => Answer::Stands(store.book().level(key(rb))),
         Call::Group(number) => group(store, number),
-        Call::Room => Answer::Count(store.book.room()),
+        Call::Room => Answer::Count(store.book().room()),
         Call::Health => Answer::Now(store.health()),
         Call::Fail(disk) => fail(store, disk),
         Call::Row(place, row) => read_row(store, alloc, place, row)?,
@@ -125,7 +128,7 @@ fn key(rb: u32) -> Key {
 fn is_block(store: &Store<FuseDisk>, key: Key) -> bool
     ensures { OnTrue result (HasBlock store.now.book key) }
 {
-    key.rb < store.book.blocks(key.addr)
+    key.rb < store.book().blocks(key.addr)
 }
 
 // Whether the unit has the block, and it has no home.
@@ -133,11 +136,11 @@ fn is_homeless(store: &Store<FuseDisk>, key: Key) -> bool
     ensures block { OnTrue result (HasBlock store.now.book key) }
     ensures unplaced { OnTrue result (home store.now.book key ≡ None) }
 {
-    is_block(store, key) && store.book.home(key).is_none()
+    is_block(store, key) && store.book().home(key).is_none()
 }
 
 fn mark(store: &mut Store<FuseDisk>) -> Answer {
-    let marked = store.book.attention(unit());
+    let marked = store.book().attention(unit());
     store.clear_attention(unit());
     Answer::Is(marked)
 }
@@ -155,7 +158,7 @@ fn put(
     rb: u32,
     byte: u8,
 ) -> Result<Answer, AllocError> {
-    let from = filled(alloc, store.disks.geometry(), byte)?;
+    let from = filled(alloc, store.disks().geometry(), byte)?;
     let key = key(rb);
     Ok(if is_block(store, key) {
         answer_of(store.put(key, &from))
@@ -170,7 +173,7 @@ fn read_into(block: &Block) -> Answer {
 }
 
 fn get(store: &mut Store<FuseDisk>, alloc: Global, rb: u32) -> Result<Answer, AllocError> {
-    let mut into = filled(alloc, store.disks.geometry(), 0xDD)?;
+    let mut into = filled(alloc, store.disks().geometry(), 0xDD)?;
     Ok(match store.get(key(rb), &mut into) {
         Outcome::Done => read_into(&into),
         Outcome::Broken => Answer::Broken,
@@ -188,7 +191,7 @@ fn place(store: &mut Store<FuseDisk>, rb: u32) -> Answer {
 
 fn move_to_hole(store: &mut Store<FuseDisk>, rb: u32, class: Class) -> Answer {
     let key = key(rb);
-    let (Some(_), Some(slot)) = (store.book.home(key), store.book.hole(class)) else {
+    let (Some(_), Some(slot)) = (store.book().home(key), store.book().hole(class)) else {
         return Answer::Unfit;
     };
     match store.move_rb(key, slot) {
@@ -211,8 +214,8 @@ fn open(store: &mut Store<FuseDisk>, class: Class) -> Answer {
 }
 
 fn group(store: &Store<FuseDisk>, number: u32) -> Answer {
-    if number < store.book.groups() {
-        Answer::Used(store.book.class(number), store.book.used(number))
+    if number < store.book().groups() {
+        Answer::Used(store.book().class(number), store.book().used(number))
     } else {
         Answer::Unfit
     }
@@ -230,9 +233,9 @@ fn is_there(store: &Store<FuseDisk>, place: Place, row: u16) -> bool
     ensures extent { OnTrue result (HasExtent store.now.disks place) }
     ensures row { OnTrue result (row < rows_of store.now.disks.geometry) }
 {
-    place.disk < store.disks.count()
-        && place.extent < store.disks.extents()
-        && row < store.disks.geometry().rows()
+    place.disk < store.disks().count()
+        && place.extent < store.disks().extents()
+        && row < store.disks().geometry().rows()
 }
 
 fn read_row(
@@ -241,7 +244,7 @@ fn read_row(
     place: Place,
     row: u16,
 ) -> Result<Answer, AllocError> {
-    let mut into = filled(alloc, store.disks.geometry(), 0xDD)?;
+    let mut into = filled(alloc, store.disks().geometry(), 0xDD)?;
     if !is_there(store, place, row) {
         return Ok(Answer::Unfit);
     }

@@ -41,8 +41,32 @@ pub const PROMOTED: [Step; 15] = [
 ];
 
 fn play(rt: &impl Abort, alloc: Global, shape: Shape, steps: &[Step]) -> Result<(), Fail> {
+    tell(rt, alloc, shape, Story::Steps(steps))
+}
+
+// What is done with a store that isn't a table alone.
+#[derive(Clone, Copy)]
+enum Story<'a> {
+    Steps(&'a [Step]),
+    Squeeze,
+    WriteAgainAndRemove,
+    FillTwice,
+    Growth,
+}
+
+fn tell(rt: &impl Abort, alloc: Global, shape: Shape, story: Story) -> Result<(), Fail> {
     let mut rig = Rig::new(alloc, shape)?;
-    rig.plays(rt, steps)
+    go_on(rt, &mut rig, shape, story)
+}
+
+fn go_on(rt: &impl Abort, rig: &mut Rig, shape: Shape, story: Story) -> Result<(), Fail> {
+    match story {
+        Story::Steps(steps) => rig.plays(rt, steps),
+        Story::Squeeze => squeeze(rt, rig),
+        Story::WriteAgainAndRemove => write_again_and_remove(rt, rig),
+        Story::FillTwice => fill_twice(rt, rig, shape.geometry.sectors()),
+        Story::Growth => grow(rt, rig),
+    }
 }
 
 fn row(disk: u8, extent: u16, row: u16) -> Call {
@@ -66,8 +90,7 @@ fn squeeze(rt: &impl Abort, rig: &mut Rig) -> Result<(), Fail> {
 
 #[test]
 fn a_full_store_is_squeezed(rt: HostRuntime) -> Result<(), Fail> {
-    let mut rig = Rig::new(rt.alloc(), SMALL)?;
-    squeeze(&rt, &mut rig)
+    tell(&rt, rt.alloc(), SMALL, Story::Squeeze)
 }
 
 fn write_again_and_remove(rt: &impl Abort, rig: &mut Rig) -> Result<(), Fail> {
@@ -89,8 +112,7 @@ fn write_again_and_remove(rt: &impl Abort, rig: &mut Rig) -> Result<(), Fail> {
 
 #[test]
 fn a_full_store_is_written_in_place_and_given_back(rt: HostRuntime) -> Result<(), Fail> {
-    let mut rig = Rig::new(rt.alloc(), SMALL)?;
-    write_again_and_remove(&rt, &mut rig)
+    tell(&rt, rt.alloc(), SMALL, Story::WriteAgainAndRemove)
 }
 
 #[test]
@@ -109,11 +131,6 @@ fn fill_twice(rt: &impl Abort, rig: &mut Rig, sectors: u32) -> Result<(), Fail> 
     rig.meets(rt, Call::Health, Now(Health::Whole))
 }
 
-fn is_filled_twice(rt: &impl Abort, alloc: Global, shape: Shape) -> Result<(), Fail> {
-    let mut rig = Rig::new(alloc, shape)?;
-    fill_twice(rt, &mut rig, shape.geometry.sectors())
-}
-
 #[test]
 fn every_block_that_there_is_room_for_is_written(rt: HostRuntime) -> Result<(), Fail> {
     for disks in [4, 5] {
@@ -124,7 +141,7 @@ fn every_block_that_there_is_room_for_is_written(rt: HostRuntime) -> Result<(), 
                 extents,
                 ..SMALL
             };
-            is_filled_twice(&rt, rt.alloc(), shape)?;
+            tell(&rt, rt.alloc(), shape, Story::FillTwice)?;
         }
     }
     Ok(())
@@ -238,8 +255,7 @@ fn grow(rt: &impl Abort, rig: &mut Rig) -> Result<(), Fail> {
 
 #[test]
 fn a_unit_grows(rt: HostRuntime) -> Result<(), Fail> {
-    let mut rig = Rig::new(rt.alloc(), FOUR_EXTENTS)?;
-    grow(&rt, &mut rig)
+    tell(&rt, rt.alloc(), FOUR_EXTENTS, Story::Growth)
 }
 
 // Of 2,048 groups, each of six blocks with parity, all but one can be used: 12,282 blocks.

@@ -78,7 +78,7 @@ impl Rig {
 
     /// How many blocks units may have in all.
     pub fn room(&self) -> u32 {
-        self.store.book.room()
+        self.store.book().room()
     }
 
     /// A unit of twelve blocks takes all the room of three groups. Its blocks are written in order, so that two squeezes leave them

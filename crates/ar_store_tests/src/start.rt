@@ -1,13 +1,14 @@
 // How stores begin, with groups worked by hand. Of the memory that is taken any one allocation may be refused, as a run with
 // `--fail-alloc` does: the disks come back, and a second start takes them.
-ghost use Rattle.std.specs.Prelude.{◌≤◌, length};
+ghost use Rattle.std.specs.Prelude.{◌≤◌, All, map, IfOk, length};
+ghost use Rattle.ar_extents.specs.Set.{CanCount};
 
 use crate::fixtures::{SMALL, Shape, fused_disk, fused_disks};
 use ar_book::Book;
 use ar_disks::{Disk, FuseDisk, Geometry, Members, Place};
 use ar_extents::{Health, StartFault};
 use ar_store::{FourDisks, Store, four_fullest};
-use std::alloc::Global;
+use std::alloc::{AllocError, Global};
 use std::process::Abort;
 use std::test::Fail;
 
@@ -70,102 +71,106 @@ fn has_groups(rt: &impl Abort, book: &Book, groups: u32) {
 
 // How many extents of a disk are loose.
 fn has_loose(rt: &impl Abort, store: &Store<FuseDisk>, disk: u8, wanted: u16) {
-    assert!(rt; disk < store.disks.count(), "disk {disk} isn't there");
+    assert!(rt; disk < store.disks().count(), "disk {disk} isn't there");
     assert!(rt;
-        store.disks.loose(disk) == wanted,
+        store.disks().loose(disk) == wanted,
         "loose extents of disk {disk}"
     );
 }
 
 fn is_new(rt: &impl Abort, store: &Store<FuseDisk>) {
     assert!(rt; store.health() == Health::Whole, "health");
-    assert!(rt; store.book.geometry() == Geometry::SMALL, "geometry");
-    assert!(rt; store.book.units() == 0, "units");
+    assert!(rt; store.book().geometry() == Geometry::SMALL, "geometry");
+    assert!(rt; store.book().units() == 0, "units");
 }
 
-// A store of so many groups, of which these have these members, has so many loose extents on these disks.
-fn is_formed(
-    rt: &impl Abort,
-    store: &Store<FuseDisk>,
+/// What a store is formed of.
+#[derive(Clone, Copy)]
+struct Formed<'a> {
     groups: u32,
-    members: &[(u32, [(u8, u16); 4])],
-    loose: &[(u8, u16)],
-) {
+    /// Members of some of its groups: a disk and an extent each.
+    members: &'a [(u32, [(u8, u16); 4])],
+    /// How many extents of some disks are loose.
+    loose: &'a [(u8, u16)],
+}
+
+fn is_formed(rt: &impl Abort, store: &Store<FuseDisk>, formed: Formed) {
     is_new(rt, store);
-    has_groups(rt, &store.book, groups);
-    for (group, places) in members {
-        has_group(rt, &store.book, *group, four(*places));
+    has_groups(rt, store.book(), formed.groups);
+    for (group, places) in formed.members {
+        has_group(rt, store.book(), *group, four(*places));
     }
-    for (disk, extents) in loose {
+    for (disk, extents) in formed.loose {
         has_loose(rt, store, *disk, *extents);
     }
 }
 
-#[test]
-fn four_disks_form_a_group_of_each_extent(rt: HostRuntime) -> Result<(), Fail> {
-    let store = begin(&rt, rt.alloc(), of(4, 3))?;
-    is_formed(
-        &rt,
-        &store,
-        3,
-        &[
-            (0, [(0, 0), (1, 0), (2, 0), (3, 0)]),
-            (1, [(0, 1), (1, 1), (2, 1), (3, 1)]),
-            (2, [(0, 2), (1, 2), (2, 2), (3, 2)]),
-        ],
-        &[(0, 0), (1, 0), (2, 0), (3, 0)],
-    );
+fn forms(rt: &impl Abort, alloc: Global, shape: Shape, formed: Formed) -> Result<(), Fail> {
+    let store = begin(rt, alloc, shape)?;
+    is_formed(rt, &store, formed);
     Ok(())
 }
 
 #[test]
+fn four_disks_form_a_group_of_each_extent(rt: HostRuntime) -> Result<(), Fail> {
+    let formed = Formed {
+        groups: 3,
+        members: &[
+            (0, [(0, 0), (1, 0), (2, 0), (3, 0)]),
+            (1, [(0, 1), (1, 1), (2, 1), (3, 1)]),
+            (2, [(0, 2), (1, 2), (2, 2), (3, 2)]),
+        ],
+        loose: &[(0, 0), (1, 0), (2, 0), (3, 0)],
+    };
+    forms(&rt, rt.alloc(), of(4, 3), formed)
+}
+
+#[test]
 fn five_disks_form_groups_in_turn(rt: HostRuntime) -> Result<(), Fail> {
-    let store = begin(&rt, rt.alloc(), of(5, 4))?;
-    is_formed(
-        &rt,
-        &store,
-        5,
-        &[
+    let formed = Formed {
+        groups: 5,
+        members: &[
             (0, [(0, 0), (1, 0), (2, 0), (3, 0)]),
             (1, [(0, 1), (1, 1), (2, 1), (4, 0)]),
             (2, [(0, 2), (1, 2), (3, 1), (4, 1)]),
             (3, [(0, 3), (2, 2), (3, 2), (4, 2)]),
             (4, [(1, 3), (2, 3), (3, 3), (4, 3)]),
         ],
-        &[(0, 0), (1, 0), (2, 0), (3, 0), (4, 0)],
-    );
-    Ok(())
+        loose: &[(0, 0), (1, 0), (2, 0), (3, 0), (4, 0)],
+    };
+    forms(&rt, rt.alloc(), of(5, 4), formed)
 }
 
 #[test]
 fn extents_that_no_four_disks_have_stay_loose(rt: HostRuntime) -> Result<(), Fail> {
-    let store = begin(&rt, rt.alloc(), of(7, 1))?;
-    is_formed(
-        &rt,
-        &store,
-        1,
-        &[(0, [(0, 0), (1, 0), (2, 0), (3, 0)])],
-        &[(0, 0), (1, 0), (2, 0), (3, 0), (4, 1), (5, 1), (6, 1)],
-    );
-    Ok(())
+    let formed = Formed {
+        groups: 1,
+        members: &[(0, [(0, 0), (1, 0), (2, 0), (3, 0)])],
+        loose: &[(0, 0), (1, 0), (2, 0), (3, 0), (4, 1), (5, 1), (6, 1)],
+    };
+    forms(&rt, rt.alloc(), of(7, 1), formed)
 }
 
 // The most disks that there may be.
 #[test]
 fn the_widest_store_begins(rt: HostRuntime) -> Result<(), Fail> {
-    let store = begin(&rt, rt.alloc(), of(12, 1))?;
-    let last = (2, [(8, 0), (9, 0), (10, 0), (11, 0)]);
-    is_formed(&rt, &store, 3, &[last], &[(0, 0), (11, 0)]);
-    Ok(())
+    let formed = Formed {
+        groups: 3,
+        members: &[(2, [(8, 0), (9, 0), (10, 0), (11, 0)])],
+        loose: &[(0, 0), (11, 0)],
+    };
+    forms(&rt, rt.alloc(), of(12, 1), formed)
 }
 
 // The most extents.
 #[test]
 fn the_longest_store_begins(rt: HostRuntime) -> Result<(), Fail> {
-    let store = begin(&rt, rt.alloc(), of(4, 1_024))?;
-    let last = (1_023, [(0, 1_023), (1, 1_023), (2, 1_023), (3, 1_023)]);
-    is_formed(&rt, &store, 1_024, &[last], &[(0, 0), (3, 0)]);
-    Ok(())
+    let formed = Formed {
+        groups: 1_024,
+        members: &[(1_023, [(0, 1_023), (1, 1_023), (2, 1_023), (3, 1_023)])],
+        loose: &[(0, 0), (3, 0)],
+    };
+    forms(&rt, rt.alloc(), of(4, 1_024), formed)
 }
 
 // Disks that make no store are handed back.
@@ -197,16 +202,25 @@ fn disks_that_make_no_store_are_handed_back(rt: HostRuntime) -> Result<(), Fail>
 }
 
 // The last disk is longer.
-#[test]
-fn a_disk_of_another_length_is_handed_back(rt: HostRuntime) -> Result<(), Fail> {
-    let alloc = rt.alloc();
+fn unlike(alloc: Global) -> Result<Vec<FuseDisk>, AllocError>
+    ensures { IfOk result (λ disks. All CanCount (map (λ disk. disk.disk) disks.items)) }
+{
     let mut unlike = fused_disks(alloc, of(3, 2))?;
     unlike.push(fused_disk(alloc, of(4, 3), 0)?)?;
-    match Store::start(alloc, unlike) {
+    Ok(unlike)
+}
+
+fn extents_of_last(disks: &[FuseDisk]) -> Option<u16> {
+    disks.last().map(Disk::extents)
+}
+
+#[test]
+fn a_disk_of_another_length_is_handed_back(rt: HostRuntime) -> Result<(), Fail> {
+    match Store::start(rt.alloc(), unlike(rt.alloc())?) {
         Ok(_) => Err(Fail::new("a store was made of unlike disks")),
         Err((met, back)) => {
             is_refused(&rt, of(4, 2), (met, back.len()), StartFault::WrongSize);
-            assert!(rt; back.last().map(Disk::extents) == Some(3));
+            assert!(rt; extents_of_last(&back) == Some(3), "the last disk");
             Ok(())
         }
     }

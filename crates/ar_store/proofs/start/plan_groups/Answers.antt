@@ -1,30 +1,21 @@
-use Rattle.std.proofs.Common.{List, ℕ, subst, rules}
-use Rattle.ar_store.specs.Fullest.{HasFewCounts}
-use Rattle.ar_store.proofs.Planning.{planning_start, planning_step, planning_unused, planning_less, planning_end}
+use Rattle.std.proofs.Common.{◌≡◌, ◌≤◌, ℕ, List, length, replicate, sym, ap, subst, ◌∙◌, rules}
+use Rattle.std.proofs.Math.ListN.{length-replicate}
+use Rattle.ar_store.proofs.Planning.{plan_of}
 use Rattle.ar_store.proofs.start.plan_groups.Goals as goal
 
-pub loop-four-init : goal.loop-four-init
-loop-four-init c =
-    planning_start c.args.geometry c.args.disks c.args.extents c.new-book.result c.in_ok-counts.counts.items c.new-book.ensures
-    (c.in_ok-counts.ensures.items_if_clones_equal (search rules))
-
-pub form_group-requires-clause-unused : goal.form_group-requires-clause-unused
-form_group-requires-clause-unused c =
-    planning_unused c.args.geometry c.args.disks c.args.extents c.loop-four.book c.loop-four.counts.items c.deref-in-Some.result.now c.in-Some.four
-    c.next_members-members.result c.loop-four.invariant c.deref-in-Some.ensures.value c.next_members-members.ensures
-
-pub loop-four-smaller : goal.loop-four-smaller
-loop-four-smaller c =
-    planning_less c.loop-four.counts.items c.four_fewer.new.counts.items c.deref.result.now c.in-Some.four c.deref.ensures.value c.in-Some.ensures.found
-    c.four_fewer.ensures
-
-pub loop-four-preserved : goal.loop-four-preserved
-loop-four-preserved c =
-    planning_step c.args.geometry c.args.disks c.args.extents c.loop-four.book c.form_group.new.self c.loop-four.counts.items c.four_fewer.new.counts.items
-    c.deref.result.now c.deref-in-Some.result.now c.in-Some.four c.next_members-members.result c.loop-four.invariant c.deref.ensures.value c.in-Some.ensures.found
-    c.deref-in-Some.ensures.value c.next_members-members.ensures c.in_ok-form_group.ensures.formed c.four_fewer.ensures
+pub form_groups-requires : goal.form_groups-requires
+form_groups-requires c =
+    let counts = c.in_ok-counts.counts.items in
+    let are : counts ≡ replicate c.args.disks c.args.extents = c.in_ok-counts.ensures.items_if_clones_equal (search rules) in
+    let size : length counts ≡ c.args.disks = ap (λ (xs : List ℕ). length xs) are ∙ length-replicate c.args.disks c.args.extents in
+    record {
+      few = subst (λ n. n ≤ 255) (sym size) c.requires;
+      all = are ∙ ap (λ n. replicate n c.args.extents) (sym size);
+    }
 
 pub returns : goal.returns
 returns c =
-    planning_end c.args.geometry c.args.disks c.args.extents c.loop-four.book c.loop-four.counts.items c.loop-four.invariant
-    (subst (λ (xs : List ℕ). HasFewCounts xs) c.deref.ensures.value c.in_default.ensures.none)
+    let counts = c.in_ok-counts.counts.items in
+    let are : counts ≡ replicate c.args.disks c.args.extents = c.in_ok-counts.ensures.items_if_clones_equal (search rules) in
+    plan_of c.form_groups.result c.args.geometry (length counts) c.args.disks c.args.extents
+    (ap (λ (xs : List ℕ). length xs) are ∙ length-replicate c.args.disks c.args.extents) c.form_groups.ensures

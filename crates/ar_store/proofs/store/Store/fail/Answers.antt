@@ -9,18 +9,18 @@ use Rattle.ar_store.proofs.store.Store.fail.Goals as goal
 
 pub invariant_of-self : goal.invariant_of-self
 invariant_of-self g c =
-    let a = c.self.inside.disks in
-    let t = c.self.inside.book in
+    let a = c.self.inside.space.disks in
+    let t = c.self.inside.space.book in
     let call = c.fail.ensures in
-    after_failing c.fail.result (λ (s : SetState). FieldsAgree (store_of s t) c.self.inside.block c.self.inside.scratch.geometry)
+    after_failing c.fail.result (λ (s : SetState). FieldsAgree (store_of s t) c.self.inside.block c.self.inside.space.scratch.geometry)
     a c.fail.new.self (failed a c.args.disk) call.failed call.unchanged
-    (fields_failed a t c.args.disk c.self.inside.block c.self.inside.scratch.geometry c.self.invariant)
+    (fields_failed a t c.args.disk c.self.inside.block c.self.inside.space.scratch.geometry c.self.invariant)
     c.self.invariant
 
 pub returns-clause-stands : goal.returns-clause-stands
 returns-clause-stands g c =
-    let a = c.self.inside.disks in
-    let t = c.self.inside.book in
+    let a = c.self.inside.space.disks in
+    let t = c.self.inside.space.book in
     let call = c.fail.ensures in
     subst (λ (s : StoreState). AllStand s (store_of c.fail.new.self t)) c.self.view_is
     (after_failing c.fail.result (λ (s : SetState). AllStand (store_of a t) (store_of s t)) a c.fail.new.self (failed a c.args.disk)

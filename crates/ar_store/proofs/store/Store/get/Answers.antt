@@ -1,48 +1,89 @@
-use Rattle.std.proofs.Common.{◌≡◌, ◌≢◌, refl, sym, ap, subst, ◌∙◌, None, arith}
+use Rattle.std.proofs.Common.{◌≡◌, None, refl, sym, ap, subst, ◌∙◌, arith}
+use Rattle.std.proofs.lemmas.Option.{none-some}
 use Rattle.ar_disks.specs.Block.{zeros}
 use Rattle.ar_disks.specs.Geometry.{block_len_of}
+use Rattle.ar_extents.specs.Groups.{outcome_of}
+use Rattle.ar_extents.specs.Follows.{Keeps, Anywhere}
 use Rattle.ar_book.specs.Tables.{home}
 use Rattle.ar_book.proofs.Homes.{home_slot}
-use Rattle.ar_store.specs.Store.{StoreState, store_of}
-use Rattle.ar_store.specs.Slots.{AllStand, stands}
-use Rattle.ar_store.proofs.Standing.{all_stand, stands_nowhere}
-use Rattle.ar_store.proofs.Fields.{fields_then, free_then, given_stands, given_done}
+use Rattle.ar_store.specs.Store.{StoreState}
+use Rattle.ar_store.specs.Slots.{AllStand}
+use Rattle.ar_store.specs.Calls.{IsAccessed}
+use Rattle.ar_store.specs.Spaces.{store_in}
+use Rattle.ar_store.proofs.Standing.{stands_nowhere}
+use Rattle.ar_store.proofs.Fields.{ready_in, fields_stay, free_then, given_stands, given_done}
+use Rattle.ar_store.proofs.Fills.{accessed_refl, same_free, done_not_broken}
 use Rattle.ar_store.proofs.store.Store.get.Goals as goal
 
-pub read_at-requires-clause-slot : goal.read_at-requires-clause-slot
-read_at-requires-clause-slot g c =
-    home_slot c.self.inside.book c.self.invariant.kept.space.tables c.args.key c.in-Some.slot (sym c.home.ensures ∙ c.in-Some.is)
+pub read_at-requires : goal.read_at-requires
+read_at-requires g c =
+    let a = c.self.inside.space in
+    record {
+      ready = ready_in a c.self.inside.block c.self.invariant;
+      slot = home_slot a.book c.self.invariant.kept.space.tables c.args.key c.in-Some.slot (sym c.home.ensures ∙ c.in-Some.is);
+      whole = c.requires.whole ∙ ap (λ (s : StoreState). block_len_of s.disks.geometry) (sym c.self.view_is);
+    }
 
 pub invariant_of-self : goal.invariant_of-self
 invariant_of-self g c =
-    let a = c.self.inside.disks in
-    let b = c.read_at.new.disks in
-    let t = c.self.inside.book in
+    let a = c.self.inside.space in
+    let b = c.read_at.new.self in
     let read = c.read_at.ensures in
-    fields_then a b t t c.self.inside.block c.self.inside.block c.self.inside.scratch.geometry c.read_at.new.scratch.geometry c.self.invariant read.space read.accessed.follows
-    (free_then a b t t c.self.invariant.kept.free read.accessed.follows (omega arith)) refl read.geometry
+    fields_stay a b c.self.inside.block c.self.inside.block c.self.invariant read.stays
+    (free_then a b c.self.invariant.kept.free read.stays (same_free a.book b.book read.book)) refl
 
-pub returns-in_default-health-clause-given : goal.returns-in_default-health-clause-given
-returns-in_default-health-clause-given g c = λ done sound.
+pub returns-in_default-health : goal.returns-in_default-health
+returns-in_default-health g c =
+    let a = c.self.inside.space in
+    let b = c.read_at.new.self in
+    let view = c.self.view_is in
     let read = c.read_at.ensures in
-    given_stands c.args.self.now c.self.inside.disks c.read_at.new.disks c.self.inside.book c.args.key c.in-Some.slot c.read_at.new.into c.self.view_is
-    c.self.invariant.kept.space (sym c.home.ensures ∙ c.in-Some.is) read.accessed.follows sound (given_done c.read_at.result _ done read.given)
+    let is = sym c.home.ensures ∙ c.in-Some.is in
+    record {
+      given = λ done sound.
+          given_stands c.args.self.now a.disks b.disks a.book c.args.key c.in-Some.slot c.read_at.new.into view c.self.invariant.kept.space is
+          read.stays.accessed.follows sound (given_done c.read_at.result _ done read.given);
+      zeros = λ none. absurd (none-some c.in-Some.slot (sym none ∙ ap (λ (s : StoreState). home s.book c.args.key) (sym view) ∙ is));
+      outcome = λ _. read.outcome;
+      stands = subst (λ (s : StoreState). AllStand s (store_in b)) view read.stand;
+      keeps = subst (λ (s : StoreState). Keeps Anywhere s.disks b.disks) view read.keeps;
+      book = read.book ∙ ap (λ (s : StoreState). s.book) view;
+      accessed = subst (λ (s : StoreState). IsAccessed s.disks b.disks) view read.stays.accessed;
+      broken = λ is. absurd (c.in_default-health.not-Broken (c.health.ensures.same ∙ ap (λ (s : StoreState). s.disks.health) view ∙ is));
+      len = read.len;
+    }
 
-pub returns-in_default-health-clause-stands : goal.returns-in_default-health-clause-stands
-returns-in_default-health-clause-stands g c =
-    let a = c.self.inside.disks in
-    let b = c.read_at.new.disks in
-    let t = c.self.inside.book in
-    let read = c.read_at.ensures in
-    subst (λ (s : StoreState). AllStand s (store_of b t)) c.self.view_is
-    (all_stand a b t c.self.invariant.kept.space read.space read.accessed.follows read.slots)
+pub returns-in-Broken : goal.returns-in-Broken
+returns-in-Broken g c =
+    let s = c.args.self.now in
+    let view = c.self.view_is in
+    let broken = ap (λ (x : StoreState). x.disks.health) (sym view) ∙ sym c.health.ensures.same ∙ c.in-Broken.is in
+    let is = ap (λ (x : StoreState). home x.book c.args.key) (sym view) ∙ sym c.home.ensures ∙ c.in-Some.is in
+    record {
+      given = λ done. absurd (done_not_broken (sym done));
+      zeros = λ none. absurd (none-some c.in-Some.slot (sym none ∙ is));
+      outcome = λ _. sym (ap outcome_of broken);
+      stands = record { blocks = λ _ k. refl };
+      keeps = record { rows = λ _ _ _. refl };
+      book = refl;
+      accessed = accessed_refl s.disks;
+      broken = λ _. refl;
+      len = refl;
+    }
 
-pub returns-in_default-health-clause-broken : goal.returns-in_default-health-clause-broken
-returns-in_default-health-clause-broken g c = λ is.
-    absurd (c.in_default-health.not-Broken (c.health.ensures.same ∙ ap (λ (s : StoreState). s.disks.health) c.self.view_is ∙ is))
-
-pub returns-in_default-clause-given : goal.returns-in_default-clause-given
-returns-in_default-clause-given g c = λ _ sound.
+pub returns-in_default : goal.returns-in_default
+returns-in_default g c =
     let s = c.args.self.now in
     let none : home s.book c.args.key ≡ None = ap (λ (x : StoreState). home x.book c.args.key) (sym c.self.view_is) ∙ sym c.home.ensures ∙ c.in_default.is in
-    c.zero.ensures.zero ∙ ap zeros c.requires.whole ∙ sym (stands_nowhere s c.args.key none)
+    let zero = c.zero.ensures.zero ∙ ap zeros c.requires.whole in
+    record {
+      given = λ _ _. zero ∙ sym (stands_nowhere s c.args.key none);
+      zeros = λ _. (refl, refl, zero);
+      outcome = λ placed. absurd (placed none);
+      stands = record { blocks = λ _ k. refl };
+      keeps = record { rows = λ _ _ _. refl };
+      book = refl;
+      accessed = accessed_refl s.disks;
+      broken = λ _. refl;
+      len = c.zero.ensures.len;
+    }

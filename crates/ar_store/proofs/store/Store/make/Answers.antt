@@ -10,21 +10,21 @@ use Rattle.ar_store.proofs.store.Store.make.Goals as goal
 
 pub invariant_of-self : goal.invariant_of-self
 invariant_of-self g c =
-    let a = c.self.inside.disks in
-    let t = c.self.inside.book in
+    let a = c.self.inside.space.disks in
+    let t = c.self.inside.space.book in
     let call = c.make.ensures in
-    after_call c.make.result (λ (u : Tables). FieldsAgree (store_of a u) c.self.inside.block c.self.inside.scratch.geometry)
+    after_call c.make.result (λ (u : Tables). FieldsAgree (store_of a u) c.self.inside.block c.self.inside.space.scratch.geometry)
     (make_refusal t c.args.addr c.args.sectors ≡ None) t c.make.new.self (made t c.args.addr c.args.sectors)
     call.made call.unchanged call.granted
     (λ granted.
-    fields_same a t (made t c.args.addr c.args.sectors) c.self.inside.block c.self.inside.scratch.geometry c.self.invariant
+    fields_same a t (made t c.args.addr c.args.sectors) c.self.inside.block c.self.inside.space.scratch.geometry c.self.invariant
     (space_made a t c.args.addr c.args.sectors c.self.invariant.kept.space granted) (omega arith))
     c.self.invariant
 
 pub returns-clause-stands : goal.returns-clause-stands
 returns-clause-stands g c = λ k.
-    let a = c.self.inside.disks in
-    let t = c.self.inside.book in
+    let a = c.self.inside.space.disks in
+    let t = c.self.inside.space.book in
     let call = c.make.ensures in
     subst (λ (s : StoreState). stands (store_of a c.make.new.self) k ≡ stands s k) c.self.view_is
     (after_call c.make.result (λ (u : Tables). stands (store_of a u) k ≡ stands (store_of a t) k)

@@ -1,13 +1,38 @@
-use Rattle.std.proofs.Common.{◌≡◌, ◌≢◌, ◌<◌, ◌≤◌, sym, subst, ap, ◌∙◌, refl, arith}
-use Rattle.ar_store.proofs.Fields.{fields_then, free_then}
+use Rattle.std.proofs.Common.{◌≡◌, IsSome, refl, sym, ap, subst, ◌∙◌}
+use Rattle.ar_extents.specs.Groups.{outcome_of}
+use Rattle.ar_book.specs.Tables.{home}
+use Rattle.ar_store.specs.Store.{StoreState}
+use Rattle.ar_store.specs.Placing.{IsVacant}
+use Rattle.ar_store.proofs.Changes.{units_refl}
+use Rattle.ar_store.proofs.Fills.{accessed_refl, done_not_broken}
+use Rattle.ar_store.proofs.Fields.{ready_in, fields_stay, free_then}
 use Rattle.ar_store.proofs.store.Store.move_rb.Goals as goal
+
+pub move_block-requires : goal.move_block-requires
+move_block-requires g c = record {
+  ready = ready_in c.self.inside.space c.self.inside.block c.self.invariant;
+  placed = subst (λ (s : StoreState). IsSome (home s.book c.args.key)) (sym c.self.view_is) c.requires.placed;
+  hole = subst (λ (s : StoreState). IsVacant s.book c.args.slot) (sym c.self.view_is) c.requires.hole;
+  whole = c.self.invariant.block_len;
+}
 
 pub invariant_of-self : goal.invariant_of-self
 invariant_of-self g c =
-    let a = c.self.inside.disks in
-    let b = c.move_block.new.disks in
-    let t = c.self.inside.book in
-    let u = c.move_block.new.book in
+    let a = c.self.inside.space in
+    let b = c.move_block.new.self in
     let moved = c.move_block.ensures in
-    fields_then a b t u c.self.inside.block c.move_block.new.block c.self.inside.scratch.geometry c.move_block.new.scratch.geometry c.self.invariant moved.space
-    moved.accessed.follows (free_then a b t u c.self.invariant.kept.free moved.accessed.follows moved.free) moved.len moved.geometry
+    fields_stay a b c.self.inside.block c.move_block.new.block c.self.invariant moved.stays (free_then a b c.self.invariant.kept.free moved.stays moved.free) moved.len
+
+pub returns-in-Broken : goal.returns-in-Broken
+returns-in-Broken g c =
+    let s = c.args.self.now in
+    let broken = ap (λ (x : StoreState). x.disks.health) (sym c.self.view_is) ∙ sym c.health.ensures.same ∙ c.in-Broken.is in
+    record {
+      outcome = sym (ap outcome_of broken);
+      moved = λ done. absurd (done_not_broken (sym done));
+      unmoved = λ _. refl;
+      stands = record { blocks = λ _ k. refl };
+      units = units_refl s.book;
+      accessed = accessed_refl s.disks;
+      broken = λ _. refl;
+    }

@@ -1,0 +1,83 @@
+-- What the calls on a mirrored group and on one with parity do to the slots of a space.
+use Rattle.std.proofs.Common.{◌≡◌, ◌≢◌, ℕ, ◌*◌, ◌<◌, List, refl, sym, ap, subst, ◌∙◌, arith}
+use Rattle.ar_disks.specs.declared.address.Members.{Members}
+use Rattle.ar_disks.specs.Geometry.{rows_of}
+use Rattle.ar_extents.specs.declared.outcome.Outcome.{Outcome}
+use Rattle.ar_extents.specs.declared.outcome.Outcome.TheVariants.{Done, Broken}
+use Rattle.ar_extents.specs.Set.{SetState}
+use Rattle.ar_extents.specs.Groups.{IsGroup}
+use Rattle.ar_extents.specs.Follows.{Follows, Keeps, Anywhere}
+use Rattle.ar_mirror.specs.Calls.{Gives, KeepsButSlot, OtherSlotsHold as OtherMirrorSlotsHold}
+use Rattle.ar_mirror.specs.Holds.{Holds as MirrorHolds}
+use Rattle.ar_parity.specs.Group.{Holds as ParityHolds, KeepsButRow}
+use Rattle.ar_parity.specs.Row.{row_of as parity_row_of}
+use Rattle.ar_book.specs.declared.class.Class.{Class}
+use Rattle.ar_book.specs.declared.class.Class.TheVariants.{Free, Mirrored, Parity}
+use Rattle.ar_book.specs.declared.class.Slot.{Slot}
+use Rattle.ar_book.specs.Tables.{Tables, slots_of, HasSlot}
+use Rattle.ar_store.specs.Store.{StoreState, store_of, members_of, class_in}
+use Rattle.ar_store.specs.Slots.{ClassHolds, SlotHolds, HoldsAny, CanWrite, IsWritten, AllStand, OtherSlotsHold}
+use Rattle.ar_store.specs.Kept.{IsSpace}
+use Rattle.ar_store.specs.Calls.{IsAccessed, OnDone}
+use Rattle.ar_store.proofs.Classes.{mirror_written, parity_written}
+use Rattle.ar_store.proofs.Spaces.{slot_group, slot_inside, slot_ready, space_read, slots_read}
+use Rattle.ar_store.proofs.Standing.{all_stand}
+
+-- A slot of a group whose extents and class were asked for.
+module _ (s : StoreState) (slot : Slot) (m : Members) (space : IsSpace s) (has : HasSlot s.book slot) (is_m : m ≡ members_of s slot.group) where
+  pub asked_group : IsGroup s.disks m
+  asked_group = subst (λ (x : Members). IsGroup s.disks x) (sym is_m) (slot_group s slot.group space has.0)
+
+  pub asked_slot : (c : Class) → c ≡ class_in s slot.group → slot.slot < slots_of s.disks.geometry c
+  asked_slot c is_c = subst (λ (x : Class). slot.slot < slots_of s.disks.geometry x) (sym is_c) (slot_inside s slot space has)
+
+  -- no slot is in a free group
+  pub never_free : Free ≢ class_in s slot.group
+  never_free is = (let none : slot.slot < 0 = asked_slot Free is in omega arith)
+
+  -- what was read is the block that the slot held
+  pub given_in : (c : Class) (bytes : List ℕ) (o : Outcome) → c ≡ class_in s slot.group
+      → OnDone o ((block : List ℕ) → ClassHolds c s.disks m slot.slot block → bytes ≡ block)
+      → OnDone o ((block : List ℕ) → SlotHolds s slot block → bytes ≡ block)
+  given_in c bytes o is_c given =
+      subst (λ (x : Members). OnDone o ((block : List ℕ) → ClassHolds (class_in s slot.group) s.disks x slot.slot block → bytes ≡ block)) is_m
+      (subst (λ (x : Class). OnDone o ((block : List ℕ) → ClassHolds x s.disks m slot.slot block → bytes ≡ block)) is_c given)
+
+  -- the slot was written
+  written_in : (c : Class) (b : SetState) (block : List ℕ) → c ≡ class_in s slot.group → IsWritten c s.disks b m slot.slot block
+      → IsWritten (class_in s slot.group) s.disks b (members_of s slot.group) slot.slot block
+  written_in c b block is_c written =
+      subst (λ (x : Members). IsWritten (class_in s slot.group) s.disks b x slot.slot block) is_m
+      (subst (λ (x : Class). IsWritten x s.disks b m slot.slot block) is_c written)
+
+  pub written_mirrored : (b : SetState) (block : List ℕ) → Mirrored ≡ class_in s slot.group → MirrorHolds b m slot.slot block
+      → OtherMirrorSlotsHold m slot.slot s.disks b → KeepsButSlot m slot.slot s.disks b
+      → IsWritten (class_in s slot.group) s.disks b (members_of s slot.group) slot.slot block
+  written_mirrored b block is_c here slots keeps =
+      written_in Mirrored b block is_c (mirror_written s.disks b m slot.slot block here slots keeps)
+
+  pub written_parity : (b : SetState) (block : List ℕ) → Parity ≡ class_in s slot.group
+      → ((held : List ℕ) → ParityHolds s.disks m slot.slot held → ParityHolds b m slot.slot block)
+      → ((k : ℕ) → k ≢ slot.slot → (held : List ℕ) → ParityHolds s.disks m k held → ParityHolds b m k held)
+      → KeepsButRow m (parity_row_of slot.slot) s.disks b
+      → IsWritten (class_in s slot.group) s.disks b (members_of s slot.group) slot.slot block
+  written_parity b block is_c here others keeps =
+      let ready = subst (λ (x : Members). HoldsAny s.disks x slot.slot) (sym is_m)
+      (subst (λ (x : Class). CanWrite x s.disks (members_of s slot.group) slot.slot) (sym is_c) (slot_ready s slot space has)) in
+      written_in Parity b block is_c (parity_written s.disks b m slot.slot block ready here others keeps)
+
+-- what a read of a mirrored slot gives
+pub mirror_given : (a b : SetState) (m : Members) (i : ℕ) (bytes : List ℕ) (o : Outcome) → Gives a b m i bytes o
+    → OnDone o ((block : List ℕ) → MirrorHolds a m i block → bytes ≡ block)
+mirror_given a b m i bytes Done gives = gives.held
+mirror_given a b m i bytes Broken gives = tt
+
+-- a read leaves every block as it stood
+pub record IsRead (a b : SetState) (t : Tables) : Type 0 where
+  pub space : IsSpace (store_of b t)
+  pub stand : AllStand (store_of a t) (store_of b t)
+
+pub read_leaves : (a b : SetState) (t : Tables) → IsSpace (store_of a t) → IsAccessed a b → Keeps Anywhere a b → IsRead a b t
+read_leaves a b t space access keeps =
+    let after = space_read a b t space access keeps in
+    record { space = after; stand = all_stand a b t space after access.follows (slots_read a b t access.follows keeps) }

@@ -1,0 +1,93 @@
+use Rattle.std.proofs.Common.{◌≡◌, ◌≢◌, ℕ, ◌+◌, ◌*◌, ◌<◌, ◌≤◌, Option, length, IsSome, refl, sym, ap, subst, ◌∙◌, arith}
+use Rattle.ar_disks.specs.declared.address.Key.{Key}
+use Rattle.ar_disks.specs.Geometry.{block_len_of}
+use Rattle.ar_book.specs.declared.class.Class.TheVariants.{Mirrored}
+use Rattle.ar_book.specs.Tables.{Tables, home, slots_of}
+use Rattle.ar_book.proofs.Homes.{key_home}
+use Rattle.ar_extents.proofs.Outcomes.{done_sound, sound_done}
+use Rattle.ar_store.specs.Placing.{slot_at, moved_first, IsVacant}
+use Rattle.ar_store.proofs.Options.{some_is, none_not_some}
+use Rattle.ar_store.proofs.Fills.{done_not_broken}
+use Rattle.ar_store.proofs.Stays.{stays_then, all_then}
+use Rattle.ar_store.proofs.Squeezing.{squeezing_start, squeezing_then, move_vacant, move_next, moving_end, slots_end}
+use Rattle.ar_store.proofs.space.Space.move_all.Goals as goal
+
+pub loop-slot-init : goal.loop-slot-init
+loop-slot-init g c = record {
+  squeezing = squeezing_start c.args.self.now c.args.from c.args.to c.requires.ready c.requires.can c.requires.sound;
+  whole = refl;
+}
+
+pub unreachable-requires : goal.unreachable-requires
+unreachable-requires g c =
+    let t = c.args.self.now.book in
+    let now = c.loop-slot.invariant.squeezing in
+    let end = slots_end c.rows-slot-end.result c.geometry.result t.geometry c.rows-slot-end.ensures (c.geometry.ensures ∙ sym c.requires.ready.space.geometry) in
+    let names = move_next t c.loop-slot.self.book c.args.from c.args.to c.loop-slot.slot c.requires.can now.moving (omega arith) in
+    none_not_some c.key_at.result (subst (λ (o : Option Key). IsSome o) (sym c.key_at.ensures) names) c.in_default.is
+
+pub move_block-requires : goal.move_block-requires
+move_block-requires g c =
+    let t = c.args.self.now.book in
+    let u = c.loop-slot.self.book in
+    let so_far = c.loop-slot.invariant in
+    let now = so_far.squeezing in
+    let end = slots_end c.rows-slot-end.result c.geometry.result t.geometry c.rows-slot-end.ensures (c.geometry.ensures ∙ sym c.requires.ready.space.geometry) in
+    let names = sym c.key_at.ensures ∙ c.in-Some.is in
+    let ok = now.stays.ready.space.tables in
+    record {
+      ready = now.stays.ready;
+      placed = some_is (home u c.in-Some.key) (slot_at c.args.from c.loop-slot.slot) (key_home u ok (slot_at c.args.from c.loop-slot.slot) c.in-Some.key names);
+      hole = move_vacant t u c.args.from c.args.to c.loop-slot.slot c.in-Some.key c.requires.ready.space.tables ok c.requires.can now.moving (omega arith) names;
+      whole = so_far.whole ∙ c.requires.whole ∙ ap block_len_of (sym now.stays.accessed.follows.geometry);
+    }
+
+pub loop-slot-preserved : goal.loop-slot-preserved
+loop-slot-preserved g c =
+    let t = c.args.self.now.book in
+    let so_far = c.loop-slot.invariant in
+    let moved = c.move_block.ensures in
+    let new = c.move_block.new.self in
+    let end = slots_end c.rows-slot-end.result c.geometry.result t.geometry c.rows-slot-end.ensures (c.geometry.ensures ∙ sym c.requires.ready.space.geometry) in
+    record {
+      squeezing = squeezing_then c.args.self.now c.loop-slot.self new c.args.from c.args.to c.loop-slot.slot c.in-Some.key c.requires.ready c.requires.can
+          so_far.squeezing (omega arith) (sym c.key_at.ensures ∙ c.in-Some.is) (moved.moved c.in-Done.is) moved.stand moved.stays
+          (done_sound new.disks.health (sym c.in-Done.is ∙ moved.outcome));
+      whole = moved.len ∙ so_far.whole;
+    }
+
+pub returns-in-Broken : goal.returns-in-Broken
+returns-in-Broken g c =
+    let so_far = c.loop-slot.invariant in
+    let now = so_far.squeezing in
+    let moved = c.move_block.ensures in
+    record {
+      outcome = sym c.in-Broken.is ∙ moved.outcome;
+      moved = λ done. absurd (done_not_broken (sym done));
+      emptied = λ done. absurd (done_not_broken (sym done));
+      hole = λ done. absurd (done_not_broken (sym done));
+      unplaced = λ k is. ap (λ (x : Tables). home x k) (moved.unmoved c.in-Broken.is) ∙ now.moving.unplaced k is;
+      stand = all_then c.args.self.now c.loop-slot.self c.move_block.new.self moved.stays now.stand moved.stand;
+      stays = stays_then c.args.self.now c.loop-slot.self c.move_block.new.self now.stays moved.stays;
+      len = moved.len ∙ so_far.whole;
+    }
+
+pub returns : goal.returns
+returns g c =
+    let t = c.args.self.now.book in
+    let u = c.loop-slot.self.book in
+    let so_far = c.loop-slot.invariant in
+    let now = so_far.squeezing in
+    let end = slots_end c.rows-slot-end.result c.geometry.result t.geometry c.rows-slot-end.ensures (c.geometry.ensures ∙ sym c.requires.ready.space.geometry) in
+    let all : c.loop-slot.slot ≡ slots_of t.geometry Mirrored = omega arith in
+    record {
+      outcome = sym (sound_done c.loop-slot.self.disks.health now.sound);
+      moved = λ _. subst (λ n. u ≡ moved_first t c.args.from c.args.to n) all now.moving.tables;
+      emptied = λ _. now.moving.freed (omega arith);
+      hole = λ _. subst (λ n. IsVacant u (slot_at c.args.to n)) all
+          (moving_end t u c.args.from c.args.to c.loop-slot.slot c.requires.can now.moving all);
+      unplaced = now.moving.unplaced;
+      stand = now.stand;
+      stays = now.stays;
+      len = so_far.whole;
+    }

@@ -1,0 +1,71 @@
+use Rattle.std.proofs.Common.{◌≡◌, ◌≤◌, sym, refl, ap, subst, ◌∙◌}
+use Rattle.ar_disks.specs.Geometry.{block_len_of}
+use Rattle.ar_book.specs.Tables.{Tables, home, free_groups, HasBlock}
+use Rattle.ar_book.specs.Changes.{assigned}
+use Rattle.ar_book.proofs.Homes.{home_slot, home_block}
+use Rattle.ar_extents.proofs.Outcomes.{sound_done}
+use Rattle.ar_store.specs.Placing.{IsVacant}
+use Rattle.ar_store.specs.Spaces.{store_in}
+use Rattle.ar_store.proofs.Fills.{moved_stand, done_not_broken, same_free}
+use Rattle.ar_store.proofs.Options.{none_not_some}
+use Rattle.ar_store.proofs.Stays.{stays_then}
+use Rattle.ar_store.proofs.space.Space.move_block.Goals as goal
+
+pub read_at-requires : goal.read_at-requires
+read_at-requires g c =
+    let t = c.args.self.now.book in
+    record {
+      ready = c.requires.ready;
+      slot = home_slot t c.requires.ready.space.tables c.args.key c.in-Some.from (sym c.home.ensures ∙ c.in-Some.is);
+      whole = c.requires.whole;
+    }
+
+pub fill-requires : goal.fill-requires
+fill-requires g c =
+    let t = c.args.self.now.book in
+    let new = c.read_at.new.self in
+    let read = c.read_at.ensures in
+    record {
+      ready = read.stays.ready;
+      block = subst (λ (x : Tables). HasBlock x c.args.key) (sym read.book)
+          (home_block t c.args.key c.in-Some.from (sym c.home.ensures ∙ c.in-Some.is));
+      hole = subst (λ (x : Tables). IsVacant x c.args.to) (sym read.book) c.requires.hole;
+      whole = read.len ∙ c.requires.whole ∙ ap block_len_of (sym read.stays.accessed.follows.geometry);
+    }
+
+pub returns-in-Done : goal.returns-in-Done
+returns-in-Done g c =
+    let s = c.args.self.now in
+    let read = c.read_at.ensures in
+    let mid = c.read_at.new.self in
+    let fill = c.fill.ensures in
+    let new = c.fill.new.self in
+    record {
+      outcome = fill.outcome;
+      moved = λ done. fill.filled done ∙ ap (λ (x : Tables). assigned x c.args.key c.args.to) read.book;
+      unmoved = λ broke. fill.unfilled broke ∙ read.book;
+      free = subst (λ (x : Tables). free_groups x ≤ free_groups new.book) read.book fill.free;
+      stand = moved_stand (store_in s) (store_in mid) (store_in new) c.args.key c.in-Some.from c.read_at.new.into c.requires.ready.space
+          (sym c.home.ensures ∙ c.in-Some.is) read.stays.accessed.follows fill.stays.accessed.follows read.stand c.in-Done.ensures.given
+          (λ sound. fill.here (fill.outcome ∙ sound_done new.disks.health sound)) fill.others;
+      stays = stays_then s mid new read.stays fill.stays;
+      len = read.len;
+    }
+
+pub returns-in-Broken : goal.returns-in-Broken
+returns-in-Broken g c =
+    let read = c.read_at.ensures in
+    let mid = c.read_at.new.self in
+    record {
+      outcome = sym c.in-Broken.is ∙ read.outcome;
+      moved = λ done. absurd (done_not_broken (sym done));
+      unmoved = λ _. read.book;
+      free = same_free c.args.self.now.book mid.book read.book;
+      stand = read.stand;
+      stays = read.stays;
+      len = read.len;
+    }
+
+pub unreachable-requires : goal.unreachable-requires
+unreachable-requires g c =
+    none_not_some (home c.args.self.now.book c.args.key) c.requires.placed (sym c.home.ensures ∙ c.in_default.is)

@@ -1,0 +1,39 @@
+use Rattle.std.proofs.Common.{◌≡◌, sym, ◌∙◌}
+use Rattle.ar_book.specs.declared.class.Class.TheVariants.{Parity}
+use Rattle.ar_store.specs.Calls.{IsAccessed}
+use Rattle.ar_store.proofs.Openings.{zeroed, opened_group, opened_there}
+use Rattle.ar_store.proofs.space.Space.open_last.Goals as goal
+
+pub members-members-requires : goal.members-members-requires
+members-members-requires g c =
+    let opening = c.open_last-group.ensures in
+    opened_there c.args.self.now.book c.open_last-group.new.self c.open_last-group.result Parity opening.lowest opening.opened
+
+pub open_zero-requires : goal.open_zero-requires
+open_zero-requires g c =
+    let opening = c.open_last-group.ensures in
+    record {
+      group = opened_group c.args.self.now.disks c.args.self.now.book c.open_last-group.new.self c.open_last-group.result Parity c.members-members.result
+          c.requires.ready.space opening.lowest opening.opened c.members-members.ensures;
+      scratch = c.requires.ready.scratch;
+    }
+
+pub returns : goal.returns
+returns g c =
+    let s = c.args.self.now in
+    let b = c.open_zero.new.set in
+    let opening = c.open_last-group.ensures in
+    let zero = c.open_zero.ensures in
+    let access : IsAccessed s.disks b = record { follows = zero.follows; loose = zero.loose } in
+    let zeros = zeroed s.disks b s.book c.open_last-group.new.self c.open_last-group.result c.members-members.result c.requires.ready.space opening.lowest
+    opening.opened c.members-members.ensures access zero.keeps zero.slots in
+    record {
+      lowest = opening.lowest;
+      opened = opening.opened;
+      stand = zeros.stand;
+      stays = record {
+        ready = record { space = zeros.space; scratch = zero.scratch ∙ c.requires.ready.scratch ∙ sym zero.follows.geometry };
+        units = zeros.units;
+        accessed = access;
+      };
+    }

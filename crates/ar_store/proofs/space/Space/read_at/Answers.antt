@@ -1,0 +1,81 @@
+use Rattle.std.proofs.Common.{◌≡◌, sym, refl, ◌∙◌}
+use Rattle.ar_book.specs.declared.class.Class.TheVariants.{Free, Mirrored, Parity}
+use Rattle.ar_store.specs.Calls.{IsAccessed}
+use Rattle.ar_store.specs.Spaces.{store_in}
+use Rattle.ar_store.proofs.Changes.{units_refl}
+use Rattle.ar_store.proofs.SlotCalls.{asked_group, asked_slot, never_free, given_in, mirror_given, read_leaves}
+use Rattle.ar_store.proofs.space.Space.read_at.Goals as goal
+
+pub unreachable-requires : goal.unreachable-requires
+unreachable-requires g c =
+    never_free (store_in c.args.self.now) c.args.slot c.members-members.result c.requires.ready.space c.requires.slot c.members-members.ensures
+    (sym c.in-Free.is ∙ c.class.ensures)
+
+pub get-requires : goal.get-requires
+get-requires g c =
+    let s = store_in c.args.self.now in
+    let m = c.members-members.result in
+    let is = sym c.in-Mirrored.is ∙ c.class.ensures in
+    record {
+      group = asked_group s c.args.slot m c.requires.ready.space c.requires.slot c.members-members.ensures;
+      slot = asked_slot s c.args.slot m c.requires.ready.space c.requires.slot c.members-members.ensures Mirrored is;
+      whole = c.requires.whole;
+    }
+
+pub returns-in-Mirrored : goal.returns-in-Mirrored
+returns-in-Mirrored g c =
+    let s = store_in c.args.self.now in
+    let m = c.members-members.result in
+    let b = c.get.new.set in
+    let read = c.get.ensures in
+    let access : IsAccessed s.disks b = record { follows = read.follows; loose = read.loose } in
+    let leaves = read_leaves s.disks b s.book c.requires.ready.space access read.keeps in
+    record {
+      outcome = read.outcome;
+      given = given_in s c.args.slot m c.requires.ready.space c.requires.slot c.members-members.ensures Mirrored c.get.new.into c.get.result (sym c.in-Mirrored.is ∙ c.class.ensures)
+          (mirror_given s.disks b m c.args.slot.slot c.get.new.into c.get.result read.gives);
+      book = refl;
+      keeps = read.keeps;
+      stand = leaves.stand;
+      stays = record {
+        ready = record { space = leaves.space; scratch = c.requires.ready.scratch ∙ sym read.follows.geometry };
+        units = units_refl s.book;
+        accessed = access;
+      };
+      len = read.len;
+    }
+
+pub get-requires-in-Parity : goal.get-requires-in-Parity
+get-requires-in-Parity g c =
+    let s = store_in c.args.self.now in
+    let m = c.members-members.result in
+    let is = sym c.in-Parity.is ∙ c.class.ensures in
+    record {
+      group = asked_group s c.args.slot m c.requires.ready.space c.requires.slot c.members-members.ensures;
+      slot = asked_slot s c.args.slot m c.requires.ready.space c.requires.slot c.members-members.ensures Parity is;
+      whole = c.requires.whole;
+      scratch = c.requires.ready.scratch;
+    }
+
+pub returns-in-Parity : goal.returns-in-Parity
+returns-in-Parity g c =
+    let s = store_in c.args.self.now in
+    let m = c.members-members.result in
+    let b = c.get-in-Parity.new.set in
+    let read = c.get-in-Parity.ensures in
+    let access : IsAccessed s.disks b = record { follows = read.follows; loose = read.loose } in
+    let leaves = read_leaves s.disks b s.book c.requires.ready.space access read.keeps in
+    record {
+      outcome = read.outcome;
+      given = given_in s c.args.slot m c.requires.ready.space c.requires.slot c.members-members.ensures Parity c.get-in-Parity.new.into c.get-in-Parity.result
+          (sym c.in-Parity.is ∙ c.class.ensures) read.gives;
+      book = refl;
+      keeps = read.keeps;
+      stand = leaves.stand;
+      stays = record {
+        ready = record { space = leaves.space; scratch = read.scratch ∙ c.requires.ready.scratch ∙ sym read.follows.geometry };
+        units = units_refl s.book;
+        accessed = access;
+      };
+      len = read.len;
+    }

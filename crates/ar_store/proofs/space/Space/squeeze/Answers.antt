@@ -1,0 +1,91 @@
+use Rattle.std.proofs.Common.{◌*◌, ◌<◌, length, ◌≡◌, ◌≢◌, sym, subst, ap, ◌∙◌, refl}
+use Rattle.ar_disks.specs.Geometry.{block_len_of}
+use Rattle.ar_book.specs.Tables.{Tables}
+use Rattle.ar_book.specs.Changes.{opened}
+use Rattle.ar_book.specs.declared.class.Class.TheVariants.{Parity}
+use Rattle.ar_extents.proofs.Outcomes.{broken_is}
+use Rattle.ar_store.specs.Placing.{CanMove}
+use Rattle.ar_store.proofs.Stays.{stays_then, all_then}
+use Rattle.ar_store.proofs.Squeezing.{can_move, squeezed_is, free_counted, slots_end, homes_opened}
+use Rattle.ar_store.proofs.space.Space.squeeze.Goals as goal
+
+pub full_mirrored-from-requires : goal.full_mirrored-from-requires
+full_mirrored-from-requires g c = record {
+  waiting = c.requires.waiting;
+  mirrored = c.requires.mirrored.none;
+  parity = c.requires.parity.none;
+  free = c.requires.free;
+}
+
+pub open_last-to-requires : goal.open_last-to-requires
+open_last-to-requires g c = record { ready = c.requires.ready; free = c.requires.free }
+
+pub move_all-requires : goal.move_all-requires
+move_all-requires g c =
+    let t = c.args.self.now.book in
+    let from = c.full_mirrored-from.result in
+    let to = c.open_last-to.result in
+    let opening = c.open_last-to.ensures in
+    record {
+      ready = opening.stays.ready;
+      can = subst (λ (u : Tables). CanMove u from to) (sym opening.opened)
+          (can_move t from to c.requires.ready.space.tables c.full_mirrored-from.ensures opening.lowest);
+      sound = λ broken. c.in_default.not-Broken (c.health.ensures.same ∙ broken);
+      whole = c.requires.whole ∙ ap block_len_of (sym opening.stays.accessed.follows.geometry);
+    }
+
+pub returns-in-Done : goal.returns-in-Done
+returns-in-Done g c =
+    let s = c.args.self.now in
+    let t = s.book in
+    let mid = c.open_last-to.new.self in
+    let new = c.move_all.new.self in
+    let from = c.full_mirrored-from.result in
+    let to = c.open_last-to.result in
+    let opening = c.open_last-to.ensures in
+    let moved = c.move_all.ensures in
+    let both = stays_then s mid new opening.stays moved.stays in
+    record {
+      squeezed = squeezed_is t mid.book new.book from to (2 * c.rows.result) c.full_mirrored-from.ensures opening.lowest opening.opened
+          (moved.moved c.in-Done.is)
+          (slots_end c.rows.result c.geometry.result t.geometry c.rows.ensures
+          (c.geometry.ensures ∙ both.accessed.follows.geometry ∙ sym c.requires.ready.space.geometry))
+          (moved.hole c.in-Done.is);
+      free = free_counted new.book from both.ready.space.tables (subst (λ n. from < n) (sym both.units.groups) c.full_mirrored-from.ensures.there)
+          (moved.emptied c.in-Done.is);
+      none = tt;
+      unplaced = λ k is. moved.unplaced k (homes_opened t mid.book to k opening.opened is);
+      stand = all_then s mid new moved.stays opening.stand moved.stand;
+      stays = both;
+      len = moved.len;
+    }
+
+pub returns-in-Broken-move_all : goal.returns-in-Broken-move_all
+returns-in-Broken-move_all g c =
+    let s = c.args.self.now in
+    let mid = c.open_last-to.new.self in
+    let new = c.move_all.new.self in
+    let opening = c.open_last-to.ensures in
+    let moved = c.move_all.ensures in
+    record {
+      squeezed = tt;
+      free = tt;
+      none = broken_is new.disks.health (sym c.in-Broken-move_all.is ∙ moved.outcome);
+      unplaced = λ k is. moved.unplaced k (homes_opened s.book mid.book c.open_last-to.result k opening.opened is);
+      stand = all_then s mid new moved.stays opening.stand moved.stand;
+      stays = stays_then s mid new opening.stays moved.stays;
+      len = moved.len;
+    }
+
+pub returns-in-Broken : goal.returns-in-Broken
+returns-in-Broken g c =
+    let opening = c.open_last-to.ensures in
+    record {
+      squeezed = tt;
+      free = tt;
+      none = sym c.health.ensures.same ∙ c.in-Broken.is;
+      unplaced = λ k is. homes_opened c.args.self.now.book c.open_last-to.new.self.book c.open_last-to.result k opening.opened is;
+      stand = opening.stand;
+      stays = opening.stays;
+      len = refl;
+    }

@@ -1,9 +1,0 @@
-use Rattle.std.proofs.Common.{sum_by}
-use Rattle.ar_store.proofs.Planning.{IsPlanning}
-use Rattle.ar_store.proofs.start.plan_groups.Given as goal
-
-abbrev pub invariant-loop-four : goal.invariant-loop-four
-invariant-loop-four l = IsPlanning l.fn.geometry l.disks l.extents l.book l.counts.items
-
-abbrev pub decreases-loop-four : goal.decreases-loop-four
-decreases-loop-four l = sum_by (λ n. n) l.counts.items
