@@ -1,0 +1,96 @@
+// Streams of std: interruptions, and a write that takes no byte.
+use crate::fakes::Fake;
+use ar_frames::{Linked, Sink, Source, Why, serve};
+use std::alloc::Global;
+use std::io::{self, ErrorKind, Read, Write};
+use std::process::Abort;
+
+// Is interrupted so many times before each read and write, and then gives one byte or takes as many as it may.
+#[derive(Drop)]
+struct Noisy<'a> {
+    bytes: &'a [u8],
+    most: usize,
+    interruptions: u32,
+    left: u32,
+}
+
+impl Noisy<'_> {
+    // Whether this call is interrupted.
+    fn is_interrupted(&mut self) -> bool {
+        if self.left == 0 {
+            self.left = self.interruptions;
+            false
+        } else {
+            self.left -= 1;
+            true
+        }
+    }
+}
+
+impl Read for Noisy<'_> {
+    fn read(&mut self, into: &mut [u8]) -> io::Result<usize> {
+        if self.is_interrupted() {
+            return Err(io::Error::from(ErrorKind::Interrupted));
+        }
+        let few = self.bytes.len().min(self.most);
+        let mut first = &self.bytes[..few];
+        let count = first.read(into)?;
+        self.bytes = &self.bytes[count.min(few)..];
+        Ok(count)
+    }
+}
+
+impl Write for Noisy<'_> {
+    fn write(&mut self, from: &[u8]) -> io::Result<usize> {
+        if self.is_interrupted() {
+            return Err(io::Error::from(ErrorKind::Interrupted));
+        }
+        Ok(from.len().min(self.most))
+    }
+
+    fn flush(&mut self) -> io::Result<()> {
+        Ok(())
+    }
+}
+
+fn make_noisy(bytes: &[u8], interruptions: u32, most: usize) -> Linked<Noisy<'_>> {
+    Linked::new(Noisy {
+        bytes,
+        most,
+        interruptions,
+        left: interruptions,
+    })
+}
+
+fn ends(rt: &impl Abort, alloc: Global, reads: u32, writes: u32, most: usize, why: Why) {
+    let mut reader = make_noisy(b"ARAIDHO1\x00", reads, 1);
+    let mut writer = make_noisy(b"", writes, most);
+    let mut port = Fake::new();
+    let end = serve(alloc, &mut reader, &mut writer, &mut port);
+    assert!(rt;
+        end.why == why,
+        "{end:?} after {reads} and {writes} interruptions"
+    );
+    assert!(rt;
+        Source::faults(&reader) == u64::from(why == Why::Read),
+        "{end:?}"
+    );
+    assert!(rt;
+        Sink::faults(&writer) == u64::from(why == Why::Write),
+        "{end:?}"
+    );
+}
+
+#[test]
+fn interruptions_and_writes_of_no_byte(rt: HostRuntime) {
+    let alloc = rt.alloc();
+    for (reads, writes, most, why) in [
+        (0, 0, 9, Why::End),
+        (1000, 1000, 1, Why::End),
+        (1001, 0, 9, Why::Read),
+        (0, 1001, 9, Why::Write),
+        (0, 0, 0, Why::Write),
+    ] {
+        ends(&rt, alloc, reads, writes, most, why);
+    }
+}

@@ -1,0 +1,288 @@
+// Sessions, byte for byte.
+use crate::fakes::{Counter, Fake, Pieces, Repeats, Taker};
+use ar_frames::{AskFault, MemSink, MemSource, SessionEnd, Why, ask, hello, serve};
+use ar_scsi::{Reply, Sense};
+use std::alloc::Global;
+use std::process::Abort;
+use std::test::Fail;
+
+const LOGIN: &[u8] = b"ARAIDHO1\x00";
+
+// TEST UNIT READY of tag 1 to LUN 0, where no unit is.
+const ABSENT: &[u8] =
+    b"\x00\x00\x00\x19\x00\x00\x00\x00\x00\x00\x00\x01\x00\x00\x00\x00\x00\x00\x00\x00\x00\x00\x00\x00\x00\x00\x00\x00\x00";
+
+// Its reply: CHECK CONDITION with 05/25/00.
+const REFUSED: &[u8] =
+    b"\x00\x00\x00\x1C\x00\x00\x00\x00\x00\x00\x00\x01\x02\x12\x70\x00\x05\x00\x00\x00\x00\x0A\x00\x00\x00\x00\x25\x00\x00\x00\x00\x00";
+
+// A command of tag 2 to LUN 7 with four bytes, and its reply, which gives them back.
+const ECHO: &[u8] =
+    b"\x00\x00\x00\x1D\x00\x00\x00\x00\x00\x00\x00\x02\x07\x00\x00\x00\x00\x00\x00\x00\x00\x00\x00\x00\x00\x00\x00\x00\x00\xA1\xA2\xA3\xA4";
+
+const ECHOED: &[u8] = b"\x00\x00\x00\x0E\x00\x00\x00\x00\x00\x00\x00\x02\x00\x00\xA1\xA2\xA3\xA4";
+
+// Plays a session over these bytes, and compares its end, what it wrote, and how much was left unread.
+fn plays(
+    rt: &impl Abort,
+    alloc: Global,
+    input: &[u8],
+    frames: u64,
+    why: Why,
+    written: &[u8],
+    left: usize,
+) {
+    let mut reader = MemSource::new(input.to_vec(alloc).expect(rt, "memory"));
+    let mut writer = MemSink::new(vec![in alloc; 0; 256].expect(rt, "memory"));
+    let mut port = Fake::new();
+    let end = serve(alloc, &mut reader, &mut writer, &mut port);
+    ends(rt, input, end, frames, why);
+    wrote(rt, input, writer.written(), written);
+    was_left(rt, input, reader.len(), left);
+}
+
+fn ends(rt: &impl Abort, input: &[u8], end: SessionEnd, frames: u64, why: Why) {
+    assert!(rt; end == SessionEnd { frames, why }, "{end:?} over {input:?}");
+}
+
+fn wrote(rt: &impl Abort, input: &[u8], written: &[u8], wanted: &[u8]) {
+    assert!(rt; written == wanted, "{written:?} over {input:?}");
+}
+
+fn was_left(rt: &impl Abort, input: &[u8], left: usize, wanted: usize) {
+    assert!(rt; left == wanted, "{left} left of {input:?}");
+}
+
+// These pieces one after the other.
+fn joined(rt: &impl Abort, alloc: Global, pieces: &[&[u8]]) -> Vec<u8> {
+    let mut all = Vec::new(alloc);
+    for piece in pieces {
+        all.extend_from_slice(piece).expect(rt, "memory");
+    }
+    all
+}
+
+#[test]
+fn a_short_length_ends_the_session(rt: HostRuntime) {
+    let alloc = rt.alloc();
+    let input = joined(&rt, alloc, &[LOGIN, ABSENT, b"\x00\x00\x00\x18", ABSENT]);
+    let output = joined(&rt, alloc, &[b"\x00", REFUSED]);
+    plays(&rt, alloc, &input, 1, Why::TooShort(24), &output, 29);
+}
+
+#[test]
+fn a_long_length_ends_the_session(rt: HostRuntime) {
+    let alloc = rt.alloc();
+    let input = joined(&rt, alloc, &[LOGIN, b"\x01\xFF\xFE\x1A", ABSENT]);
+    plays(&rt, alloc, &input, 0, Why::TooLong(33_553_946), b"\x00", 29);
+}
+
+#[test]
+fn logins(rt: HostRuntime) {
+    let alloc = rt.alloc();
+    for (input, why, output, left) in [
+        (&b"ARAIDHO1\x04\x00"[..], Why::BadLogin, &b"\x01"[..], 1),
+        (b"ARAIDHO1\xFF\x00", Why::BadLogin, b"\x01", 1),
+        (b"ARAIDHO2\x00\x00", Why::BadLogin, b"\x01", 1),
+        (b"ARAIDHO1\x02\x00", Why::HostInUse, b"\x01", 1),
+        (b"ARAIDHO1\x03", Why::End, b"\x00", 0),
+    ] {
+        plays(&rt, alloc, input, 0, why, output, left);
+    }
+}
+
+// Where a session ends whose input ends after so many bytes of login, a frame without data and one with four bytes.
+fn end_of(cut: usize) -> SessionEnd {
+    let (frames, why) = match cut {
+        0..=8 => (0, Why::Cut),
+        9 => (0, Why::End),
+        10..=37 => (0, Why::Cut),
+        38 => (1, Why::End),
+        39..=70 => (1, Why::Cut),
+        _ => (2, Why::End),
+    };
+    SessionEnd { frames, why }
+}
+
+// How much such a session writes.
+fn written_of(cut: usize) -> usize {
+    match cut {
+        0..=8 => 0,
+        9..=37 => 1,
+        38..=70 => 33,
+        _ => 51,
+    }
+}
+
+#[test]
+fn input_cut_at_each_byte(rt: HostRuntime) {
+    let alloc = rt.alloc();
+    let input = joined(&rt, alloc, &[LOGIN, ABSENT, ECHO]);
+    let output = joined(&rt, alloc, &[b"\x00", REFUSED, ECHOED]);
+    was_left(&rt, &input, input.len(), 71);
+    was_left(&rt, &output, output.len(), 51);
+    for cut in 0..=71 {
+        let SessionEnd { frames, why } = end_of(cut);
+        let first = &input[..cut.min(input.len())];
+        let answers = &output[..written_of(cut).min(output.len())];
+        plays(&rt, alloc, first, frames, why, answers, 0);
+    }
+}
+
+// Plays a session over streams that give and take few bytes at once, and of which one call faults.
+fn plays_faulty(
+    rt: &impl Abort,
+    alloc: Global,
+    input: &[u8],
+    output: &[u8],
+    most: usize,
+    read: u64,
+    write: u64,
+) -> Why {
+    let mut reader = Pieces {
+        bytes: input,
+        most,
+        fails: read,
+        calls: 0,
+        faults: 0,
+    };
+    let mut writer = Taker {
+        taken: Vec::new(alloc),
+        most,
+        fails: write,
+        calls: 0,
+        faults: 0,
+    };
+    let mut port = Fake::new();
+    let end = serve(alloc, &mut reader, &mut writer, &mut port);
+    let is_prefix = output.starts_with(&writer.taken);
+    assert!(rt; is_prefix, "{end:?} at read {read}, write {write}");
+    assert!(rt;
+        (end.why == Why::Read) == (reader.faults == 1),
+        "{end:?} at read {read}, write {write}"
+    );
+    assert!(rt;
+        (end.why == Why::Write) == (writer.faults == 1),
+        "{end:?} at read {read}, write {write}"
+    );
+    end.why
+}
+
+fn is(rt: &impl Abort, call: u64, why: Why, wanted: Why) {
+    assert!(rt; why == wanted, "{why:?} at call {call}");
+}
+
+// 3 pieces of login, 1 and 7 of the first frame, 1, 7 and 1 of the second, and one call that finds the end.
+#[test]
+fn a_reader_that_fails_at_each_call(rt: HostRuntime) {
+    let alloc = rt.alloc();
+    let input = joined(&rt, alloc, &[LOGIN, ABSENT, ECHO]);
+    let output = joined(&rt, alloc, &[b"\x00", REFUSED, ECHOED]);
+    for call in 0..21 {
+        is(
+            &rt,
+            call,
+            plays_faulty(&rt, alloc, &input, &output, 4, call, 1000),
+            Why::Read,
+        );
+    }
+    for call in 21..25 {
+        is(
+            &rt,
+            call,
+            plays_faulty(&rt, alloc, &input, &output, 4, call, 1000),
+            Why::End,
+        );
+    }
+}
+
+// 1 piece of greeting, 8 of the first reply, 5 of the second.
+#[test]
+fn a_writer_that_fails_at_each_call(rt: HostRuntime) {
+    let alloc = rt.alloc();
+    let input = joined(&rt, alloc, &[LOGIN, ABSENT, ECHO]);
+    let output = joined(&rt, alloc, &[b"\x00", REFUSED, ECHOED]);
+    for call in 0..14 {
+        is(
+            &rt,
+            call,
+            plays_faulty(&rt, alloc, &input, &output, 4, 1000, call),
+            Why::Write,
+        );
+    }
+    for call in 14..18 {
+        is(
+            &rt,
+            call,
+            plays_faulty(&rt, alloc, &input, &output, 4, 1000, call),
+            Why::End,
+        );
+    }
+}
+
+// A million frames are answered, each in one write, and of the next one no byte is read.
+#[test]
+fn the_most_frames(rt: HostRuntime) {
+    let mut reader = Repeats {
+        front: LOGIN,
+        frame: ABSENT,
+        at: 0,
+        end: 9 + 29 * 1_000_001,
+    };
+    let mut writer = Counter { bytes: 0, calls: 0 };
+    let mut port = Fake::new();
+    let end = serve(rt.alloc(), &mut reader, &mut writer, &mut port);
+    ends(&rt, ABSENT, end, 1_000_000, Why::Bound);
+    counts(&rt, reader.at, 9 + 29 * 1_000_000);
+    counts(&rt, writer.bytes, 1 + 32 * 1_000_000);
+    counts(&rt, writer.calls, 1 + 1_000_000);
+    counts(&rt, port.commands, 1_000_000);
+}
+
+fn counts(rt: &impl Abort, count: u64, wanted: u64) {
+    assert!(rt; count == wanted, "{count} for {wanted}");
+}
+
+// 65,535 sectors are given to the port, and the next frame is answered.
+#[test]
+fn the_largest_frame(rt: HostRuntime) {
+    let alloc = rt.alloc();
+    let largest =
+        b"\x01\xFF\xFE\x19\x00\x00\x00\x00\x00\x00\x00\x01\x00\x2A\x00\x00\x00\x00\x00\x00\xFF\xFF\x00\x00\x00\x00\x00\x00\x00";
+    let front = joined(&rt, alloc, &[LOGIN, largest]);
+    let mut reader = Repeats {
+        front: &front,
+        frame: ABSENT,
+        at: 0,
+        end: 9 + 29 + 33_553_920,
+    };
+    let mut writer = Counter { bytes: 0, calls: 0 };
+    let mut port = Fake::new();
+    let end = serve(alloc, &mut reader, &mut writer, &mut port);
+    ends(&rt, largest, end, 1, Why::End);
+    counts(&rt, writer.bytes, 33);
+    counts(&rt, port.bytes, 33_553_920);
+}
+
+// The client's login and command are those bytes, and the session's output is its input.
+#[test]
+fn a_client_and_a_session_understand_each_other(rt: HostRuntime) -> Result<(), Fail> {
+    let alloc = rt.alloc();
+    let output = joined(&rt, alloc, &[b"\x00", REFUSED]);
+    let mut reader = MemSource::new(output);
+    let mut writer = MemSink::new(vec![in alloc; 0; 64].expect(&rt, "memory"));
+    let greeting = hello(&mut reader, &mut writer, 0);
+    assert!(rt; greeting == Ok(true), "{greeting:?}");
+    let reply = ask(alloc, &mut reader, &mut writer, 1, 0, &[0; 16], &[]);
+    refuses(&rt, reply);
+    let wanted = joined(&rt, alloc, &[LOGIN, ABSENT]);
+    wrote(&rt, ABSENT, writer.written(), &wanted);
+    Ok(())
+}
+
+fn refuses(rt: &impl Abort, reply: Result<Reply, AskFault>) {
+    assert!(rt;
+        reply == Ok(Reply::check(Sense::LOGICAL_UNIT_NOT_SUPPORTED)),
+        "{reply:?}"
+    );
+}

@@ -1,0 +1,181 @@
+-- How the frames of a session join: one more at the end of those served so far.
+use Rattle.std.proofs.Common.{◌≡◌, ℕ, ◌+◌, ◌<◌, true, false, List, [], ◌∷◌, ◌++◌, refl, sym, ap, subst, ◌∙◌, append_assoc, append-nil, length, length-append, take, arith}
+use Rattle.ar_scsi.specs.declared.reply.Reply.{Reply}
+use Rattle.ar_frames.specs.declared.frame.Request.{Request}
+use Rattle.ar_frames.specs.declared.turn.Turn.TheVariants.{Answered, Unsent}
+use Rattle.ar_frames.specs.declared.end.Why.{Why}
+use Rattle.ar_frames.specs.declared.end.Why.TheVariants as why
+use Rattle.ar_frames.specs.declared.end.SessionEnd.{SessionEnd}
+use Rattle.ar_frames.specs.Stream.{SourceState, SinkState, Writing}
+use Rattle.ar_frames.specs.Frame.{IsFrame, IsReplyFrame}
+use Rattle.ar_frames.specs.Talk.{Commands, Answers, Talk, AreFrames, AreReplyFrames, Conversation}
+use Rattle.ar_frames.specs.Port.{Logins}
+use Rattle.ar_frames.specs.Session.{admitted, most_frames, is_read, WritesAnswers, WritesPart, Session}
+use Rattle.ar_frames.specs.Turn.{ServesFrame, EndsTurn, Served, ServesAll}
+use Rattle.ar_frames.specs.Entry.{IsAdmitted}
+use Rattle.ar_frames.proofs.Streams.{Reading-trans, Reading-same, Reading-none, Writing-trans, Writing-same, Writing-none, take-append_more}
+use Rattle.ar_frames.proofs.Entering.{no_frames}
+
+-- a talk and one more answer
+talk_more : {P : Type 0} (commands : Commands P) (old mid new : P) (requests : List Request) (replies : List Reply) (request : Request) (reply : Reply)
+    → Talk commands old requests replies mid → Answers commands mid request reply new
+    → Talk commands old (requests ++ request ∷ []) (replies ++ reply ∷ []) new
+talk_more commands old mid new [] [] request reply talk answer =
+    (new, subst (λ p. Answers commands p request reply new) talk answer, refl)
+talk_more commands old mid new [] (r ∷ rs) request reply talk answer = absurd talk
+talk_more commands old mid new (q ∷ qs) [] request reply talk answer = absurd talk
+talk_more commands old mid new (q ∷ qs) (r ∷ rs) request reply talk answer =
+    (talk.0, talk.1, talk_more commands talk.0 mid new qs rs request reply talk.2 answer)
+
+-- frames and one more
+frames_more : (requests : List Request) (read : List ℕ) (request : Request) (frame : List ℕ) → AreFrames requests read → IsFrame request frame
+    → AreFrames (requests ++ request ∷ []) (read ++ frame)
+frames_more [] read request frame are is =
+    (frame, [], ap (λ (l : List ℕ). l ++ frame) are ∙ sym (append-nil frame), is, refl)
+frames_more (q ∷ qs) read request frame are is = (
+  are.0,
+  are.1 ++ frame,
+  ap (λ (l : List ℕ). l ++ frame) are.2 ∙ append_assoc are.0 are.1 frame,
+  are.3,
+  frames_more qs are.1 request frame are.4 is,
+)
+
+-- reply frames and one more
+replies_more : (requests : List Request) (replies : List Reply) (answers : List ℕ) (request : Request) (reply : Reply) (frame : List ℕ)
+    → AreReplyFrames requests replies answers → IsReplyFrame request.tag reply frame
+    → AreReplyFrames (requests ++ request ∷ []) (replies ++ reply ∷ []) (answers ++ frame)
+replies_more [] [] answers request reply frame are is =
+    (frame, [], ap (λ (l : List ℕ). l ++ frame) are ∙ sym (append-nil frame), is, refl)
+replies_more [] (r ∷ rs) answers request reply frame are is = absurd are
+replies_more (q ∷ qs) [] answers request reply frame are is = absurd are
+replies_more (q ∷ qs) (r ∷ rs) answers request reply frame are is = (
+  are.0,
+  are.1 ++ frame,
+  ap (λ (l : List ℕ). l ++ frame) are.2 ∙ append_assoc are.0 are.1 frame,
+  are.3,
+  replies_more qs rs are.1 request reply frame are.4 is,
+)
+
+-- a conversation and one more frame
+talks_more : {P : Type 0} (commands : Commands P) (old mid new : P) (read answers frame reply_frame : List ℕ) (count : ℕ) (request : Request) (reply : Reply)
+    → Conversation commands old mid read answers count → IsFrame request frame → Answers commands mid request reply new → IsReplyFrame request.tag reply reply_frame
+    → Conversation commands old new (read ++ frame) (answers ++ reply_frame) (count + 1)
+talks_more commands old mid new read answers frame reply_frame count request reply talk is_frame answer is_reply = record {
+  requests = talk.requests ++ request ∷ [];
+  replies = talk.replies ++ reply ∷ [];
+  talk = talk_more commands old mid new talk.requests talk.replies request reply talk.talk answer;
+  read_is = frames_more talk.requests read request frame talk.read_is is_frame;
+  answers_are = replies_more talk.requests talk.replies answers request reply reply_frame talk.answers_are is_reply;
+  frames_is = ap (λ (n : ℕ). n + 1) talk.frames_is ∙ sym (length-append talk.requests (request ∷ []));
+}
+
+-- nothing was served yet
+pub served_none : {P : Type 0} (commands : Commands P) (source : SourceState) (sink : SinkState) (port : P)
+    → Served commands source source sink sink port port 0
+served_none commands source sink port = record {
+  frames = [];
+  answers = [];
+  conversation = no_frames commands port;
+  read = Reading-none source;
+  written = Writing-none sink;
+}
+
+-- one more frame was served
+pub served_more : {P : Type 0} (commands : Commands P) (s0 s1 s2 : SourceState) (w0 w1 w2 : SinkState) (p0 p1 p2 : P) (count : ℕ)
+    → Served commands s0 s1 w0 w1 p0 p1 count → ServesFrame commands s1 s2 w1 w2 p1 p2 Answered → Served commands s0 s2 w0 w2 p0 p2 (count + 1)
+served_more commands s0 s1 s2 w0 w1 w2 p0 p1 p2 count served turn = record {
+  frames = served.frames ++ turn.reads.body;
+  answers = served.answers ++ turn.answers.frame;
+  conversation = talks_more commands p0 p1 p2 served.frames served.answers turn.reads.body turn.answers.frame count turn.request turn.answers.reply
+      served.conversation turn.reads.is_frame turn.answers.answers turn.answers.is_frame;
+  read = Reading-trans s0 s1 s2 served.frames turn.reads.body false served.read turn.reads.read;
+  written = Writing-trans w0 w1 w2 served.answers turn.answers.frame false served.written turn.answers.written;
+}
+
+-- what was written whole, and then a proper prefix
+part_after : (a b c : SinkState) (xs ys : List ℕ) → Writing a b xs false → WritesPart b c ys → WritesPart a c (xs ++ ys)
+part_after a b c xs ys first part = record {
+  n = length xs + part.n;
+  proper = omega (arith, length-append xs ys, part.proper);
+  written = Writing-same a c (xs ++ take part.n ys) (take (length xs + part.n) (xs ++ ys)) true (sym (take-append_more xs ys part.n))
+      (Writing-trans a b c xs (take part.n ys) true first part.written);
+}
+
+-- what was written whole, and then answers as far as the end says
+pub answers_after : (end : Why) (a b c : SinkState) (xs ys : List ℕ) → Writing a b xs false → WritesAnswers end b c ys → WritesAnswers end a c (xs ++ ys)
+answers_after why.End a b c xs ys first rest = Writing-trans a b c xs ys false first rest
+answers_after why.BadLogin a b c xs ys first rest = Writing-trans a b c xs ys false first rest
+answers_after why.HostInUse a b c xs ys first rest = Writing-trans a b c xs ys false first rest
+answers_after (why.TooShort n) a b c xs ys first rest = Writing-trans a b c xs ys false first rest
+answers_after (why.TooLong n) a b c xs ys first rest = Writing-trans a b c xs ys false first rest
+answers_after why.Cut a b c xs ys first rest = Writing-trans a b c xs ys false first rest
+answers_after why.Read a b c xs ys first rest = Writing-trans a b c xs ys false first rest
+answers_after why.Write a b c xs ys first rest = part_after a b c xs ys first rest
+answers_after why.Bound a b c xs ys first rest = Writing-trans a b c xs ys false first rest
+
+-- the reply to the last frame wasn't written whole
+pub serves_unsent : {P : Type 0} (commands : Commands P) (s0 s1 s2 : SourceState) (w0 w1 w2 : SinkState) (p0 p1 p2 : P) (count : ℕ)
+    → Served commands s0 s1 w0 w1 p0 p1 count → count < most_frames → ServesFrame commands s1 s2 w1 w2 p1 p2 Unsent
+    → ServesAll commands s0 s2 w0 w2 p0 p2 (record { frames = count + 1; why = why.Write })
+serves_unsent commands s0 s1 s2 w0 w1 w2 p0 p1 p2 count served below turn = record {
+  frames = served.frames ++ turn.reads.body;
+  answers = served.answers ++ turn.answers.frame;
+  rest = [];
+  conversation = talks_more commands p0 p1 p2 served.frames served.answers turn.reads.body turn.answers.frame count turn.request turn.answers.reply
+      served.conversation turn.reads.is_frame turn.answers.answers turn.answers.is_frame;
+  closes = (omega (arith, below), refl);
+  read = Reading-same s0 s2 _ _ false (sym (append-nil (served.frames ++ turn.reads.body)))
+      (Reading-trans s0 s1 s2 served.frames turn.reads.body false served.read turn.reads.read);
+  ended = tt;
+  written = part_after w0 w1 w2 served.answers turn.answers.frame served.written turn.answers.written;
+}
+
+-- no whole frame came after those served
+pub serves_ended : {P : Type 0} (commands : Commands P) (s0 s1 s2 : SourceState) (w0 w1 w2 : SinkState) (p0 p1 p2 : P) (count : ℕ) (end : Why)
+    → Served commands s0 s1 w0 w1 p0 p1 count → count < most_frames → EndsTurn s1 s2 w1 w2 p1 p2 end
+    → ServesAll commands s0 s2 w0 w2 p0 p2 (record { frames = count; why = end })
+serves_ended commands s0 s1 s2 w0 w1 w2 p0 p1 p2 count end served below turn = record {
+  frames = served.frames;
+  answers = served.answers;
+  rest = turn.stops.body;
+  conversation = subst (λ p. Conversation commands p0 p served.frames served.answers count) (sym turn.same_port) served.conversation;
+  closes = turn.stops.closes count below;
+  read = Reading-trans s0 s1 s2 served.frames turn.stops.body (is_read end) served.read turn.stops.read;
+  ended = turn.stops.ended;
+  written = subst (λ (l : List ℕ). WritesAnswers end w0 w2 l) (append-nil served.answers)
+      (answers_after end w0 w1 w2 served.answers [] served.written (subst (λ (w : SinkState). WritesAnswers end w1 w []) (sym turn.same_sink) (turn.stops.unwritten w1)));
+}
+
+-- as many frames as may come were served
+pub serves_bound : {P : Type 0} (commands : Commands P) (s0 s1 : SourceState) (w0 w1 : SinkState) (p0 p1 : P) (count : ℕ)
+    → Served commands s0 s1 w0 w1 p0 p1 count → count ≡ most_frames
+    → ServesAll commands s0 s1 w0 w1 p0 p1 (record { frames = most_frames; why = why.Bound })
+serves_bound commands s0 s1 w0 w1 p0 p1 count served all = record {
+  frames = served.frames;
+  answers = served.answers;
+  rest = [];
+  conversation = subst (λ (n : ℕ). Conversation commands p0 p1 served.frames served.answers n) all served.conversation;
+  closes = (refl, refl, refl);
+  read = Reading-same s0 s1 _ _ false (sym (append-nil served.frames)) served.read;
+  ended = tt;
+  written = served.written;
+}
+
+-- a login, and then frames
+pub session_of : {P : Type 0} (logins : Logins P) (commands : Commands P) (s0 s1 s2 : SourceState) (w0 w1 w2 : SinkState) (p0 p1 p2 : P) (end : SessionEnd)
+    → IsAdmitted logins s0 s1 w0 w1 p0 p1 → ServesAll commands s1 s2 w1 w2 p1 p2 end → Session logins commands s0 s2 w0 w2 p0 p2 end
+session_of logins commands s0 s1 s2 w0 w1 w2 p0 p1 p2 end entry all = record {
+  stage = admitted;
+  login = entry.login;
+  greeting = 0x00 ∷ [];
+  mid = p1;
+  frames = all.frames;
+  answers = all.answers;
+  rest = all.rest;
+  opening = entry.opening;
+  conversation = all.conversation;
+  closes = all.closes;
+  read = Reading-trans s0 s1 s2 entry.login (all.frames ++ all.rest) (is_read end.why) entry.read all.read;
+  ended = all.ended;
+  written = answers_after end.why w0 w1 w2 (0x00 ∷ []) all.answers entry.written all.written;
+}

@@ -1,0 +1,55 @@
+-- How a login is answered.
+use Rattle.std.specs.Prelude.{◌≡◌, ℕ, true, false, List, [], ◌∷◌}
+use Rattle.ar_frames.specs.declared.login.Admission.{Admission}
+use Rattle.ar_frames.specs.declared.login.Admission.TheVariants.{Admitted, BadLogin, HostInUse}
+use Rattle.ar_frames.specs.declared.login.Entry.{Entry}
+use Rattle.ar_frames.specs.declared.login.Entry.TheVariants.{Admitted as EntryAdmitted, Ended as EntryEnded}
+use Rattle.ar_frames.specs.declared.end.Why.TheVariants as why
+use Rattle.ar_frames.specs.Stream.{SourceState, SinkState, Reading, Writing}
+use Rattle.ar_frames.specs.Talk.{Commands}
+use Rattle.ar_frames.specs.Port.{Logins}
+use Rattle.ar_frames.specs.Session.{Stage, refused, in_use, admitted, Opening, Session}
+
+-- the stage that an admission leads to
+abbrev pub stage_of : Admission → Stage
+stage_of (Admitted host) = admitted
+stage_of BadLogin = refused
+stage_of HostInUse = in_use
+
+-- the byte that tells it
+abbrev pub greeting_of : Admission → ℕ
+greeting_of (Admitted host) = 0x00
+greeting_of BadLogin = 0x01
+greeting_of HostInUse = 0x01
+
+-- how a session begins after it was told
+abbrev pub entry_after : Admission → Entry
+entry_after (Admitted host) = EntryAdmitted host
+entry_after BadLogin = EntryEnded why.BadLogin
+entry_after HostInUse = EntryEnded why.HostInUse
+
+-- an admission was told, or wasn't: one byte
+abbrev pub Tells : SinkState → SinkState → Admission → Entry → Type 0
+Tells old new admission (EntryAdmitted host) = (admission ≡ Admitted host) × Writing old new (0x00 ∷ []) false
+Tells old new admission (EntryEnded why.BadLogin) = (admission ≡ BadLogin) × Writing old new (0x01 ∷ []) false
+Tells old new admission (EntryEnded why.HostInUse) = (admission ≡ HostInUse) × Writing old new (0x01 ∷ []) false
+Tells old new admission (EntryEnded why.Write) = Writing old new [] true
+Tells old new admission (EntryEnded why.End) = ⊥
+Tells old new admission (EntryEnded (why.TooShort n)) = ⊥
+Tells old new admission (EntryEnded (why.TooLong n)) = ⊥
+Tells old new admission (EntryEnded why.Cut) = ⊥
+Tells old new admission (EntryEnded why.Read) = ⊥
+Tells old new admission (EntryEnded why.Bound) = ⊥
+
+-- a login was taken, and that was told
+pub record IsAdmitted {P : Type 0} (logins : Logins P) (source source' : SourceState) (sink sink' : SinkState) (port port' : P) : Type 0 where
+  pub login : List ℕ
+  pub opening : Opening logins port login (0x00 ∷ []) admitted port'
+  pub read : Reading source source' login false
+  pub written : Writing sink sink' (0x00 ∷ []) false
+
+-- a login was taken, or the session is over
+abbrev pub Enters : {P : Type 0} → Logins P → Commands P → SourceState → SourceState → SinkState → SinkState → P → P → Entry → Type 0
+Enters logins commands source source' sink sink' port port' (EntryAdmitted host) = IsAdmitted logins source source' sink sink' port port'
+Enters logins commands source source' sink sink' port port' (EntryEnded end) =
+    Session logins commands source source' sink sink' port port' (record { frames = 0; why = end })

@@ -1,0 +1,143 @@
+-- What a session reads, asks of its port, writes, and how it ends.
+use Rattle.std.specs.Prelude.{◌≡◌, ◌≢◌, ◌<◌, ◌≤◌, ◌+◌, ℕ, Bool, true, false, List, [], ◌∷◌, ◌++◌, length, take, Option, ⊤}
+use Rattle.std.specs.Io.KnownBytes.{IsAtEnd}
+use Rattle.byteorder.specs.Endian.{big_number}
+use Rattle.ar_frames.specs.declared.port.Login.TheVariants.{Taken, BadHost, InUse}
+use Rattle.ar_frames.specs.declared.end.Why.{Why}
+use Rattle.ar_frames.specs.declared.end.Why.TheVariants as why
+use Rattle.ar_frames.specs.declared.end.SessionEnd.{SessionEnd}
+use Rattle.ar_frames.specs.Stream.{SourceState, SinkState, Reading, Writing}
+use Rattle.ar_frames.specs.Frame.{IsCutRequest, most_data}
+use Rattle.ar_frames.specs.Talk.{Commands, Conversation}
+use Rattle.ar_frames.specs.Port.{Logins}
+
+-- the most frames of a session
+abbrev pub most_frames : ℕ
+most_frames = 1000000
+
+-- the first eight bytes of a login: ARAIDHO1
+abbrev pub login_name : List ℕ
+login_name = 0x41 ∷ 0x52 ∷ 0x41 ∷ 0x49 ∷ 0x44 ∷ 0x48 ∷ 0x4F ∷ 0x31 ∷ []
+
+-- the nine bytes of a host's login
+abbrev pub login_bytes : ℕ → List ℕ
+login_bytes host = login_name ++ host ∷ []
+
+-- how far a session came before its frames: its login didn't come whole, was refused, was of a host in use, was taken
+pub data Stage : Type 0 where
+  silent : Stage
+  refused : Stage
+  in_use : Stage
+  admitted : Stage
+
+-- What a login brings: the port before, the bytes that came of it, the answer that is due, and the port after.
+pub data Opening {P : Type 0} (logins : Logins P) (old : P) : List ℕ → List ℕ → Stage → P → Type 0 where
+  cut : (login : List ℕ) → length login < 9 → Opening logins old login [] silent old
+  other_name : (login : List ℕ) → length login ≡ 9 → take 8 login ≢ login_name → Opening logins old login (0x01 ∷ []) refused old
+  bad_host : (host : ℕ) (new : P) → 3 < host → logins old host BadHost new → Opening logins old (login_bytes host) (0x01 ∷ []) refused new
+  host_in_use : (host : ℕ) (new : P) → host ≤ 3 → logins old host InUse new → Opening logins old (login_bytes host) (0x01 ∷ []) in_use new
+  taken : (host : ℕ) (new : P) → host ≤ 3 → logins old host Taken new → Opening logins old (login_bytes host) (0x00 ∷ []) admitted new
+
+-- the login didn't come whole, or after so many frames a part of the next did; of these two only the second may have a rest
+abbrev pub IsInside : Stage → ℕ → List ℕ → Type 0
+IsInside silent frames rest = (frames ≡ 0) × (rest ≡ [])
+IsInside refused frames rest = ⊥
+IsInside in_use frames rest = ⊥
+IsInside admitted frames rest = (frames < most_frames) × IsCutRequest rest
+
+-- an answer that was due wasn't written whole: that to the login, or that to the last frame
+abbrev pub IsUnsent : Stage → ℕ → Type 0
+IsUnsent silent frames = ⊥
+IsUnsent refused frames = frames ≡ 0
+IsUnsent in_use frames = frames ≡ 0
+IsUnsent admitted frames = frames ≤ most_frames
+
+-- the login was taken, and fewer frames came than may come
+pub record IsWaiting (stage : Stage) (frames : ℕ) : Type 0 where
+  pub taken : stage ≡ admitted
+  pub below : frames < most_frames
+
+-- the N of the next frame came, and is this number
+pub record CountCame (rest : List ℕ) (n : ℕ) : Type 0 where
+  pub len : length rest ≡ 4
+  pub is : n ≡ big_number 4 rest
+
+-- when each end comes: by the stage, the number of whole frames, and what was read after them
+abbrev pub Closes : Why → Stage → ℕ → List ℕ → Type 0
+-- input ended right after the login or a whole frame
+Closes why.End stage frames rest = IsWaiting stage frames × (rest ≡ [])
+-- the name or the host's number is wrong
+Closes why.BadLogin stage frames rest = (stage ≡ refused) × (frames ≡ 0) × (rest ≡ [])
+-- the port said so
+Closes why.HostInUse stage frames rest = (stage ≡ in_use) × (frames ≡ 0) × (rest ≡ [])
+-- N is too small or too large: nothing after it is read
+Closes (why.TooShort n) stage frames rest = IsWaiting stage frames × CountCame rest n × (n < 25)
+Closes (why.TooLong n) stage frames rest = IsWaiting stage frames × CountCame rest n × (25 + most_data < n)
+-- input ended inside the login or a frame
+Closes why.Cut stage frames rest = IsInside stage frames rest × (stage ≡ admitted → 0 < length rest)
+-- a read faulted, before or inside the login or a frame
+Closes why.Read stage frames rest = IsInside stage frames rest
+-- a write of the last answer faulted
+Closes why.Write stage frames rest = IsUnsent stage frames × (rest ≡ [])
+-- as many frames as may come were answered
+Closes why.Bound stage frames rest = (stage ≡ admitted) × (frames ≡ most_frames) × (rest ≡ [])
+
+-- the end is a read's fault
+abbrev pub is_read : Why → Bool
+is_read why.End = false
+is_read why.BadLogin = false
+is_read why.HostInUse = false
+is_read (why.TooShort n) = false
+is_read (why.TooLong n) = false
+is_read why.Cut = false
+is_read why.Read = true
+is_read why.Write = false
+is_read why.Bound = false
+
+-- where input is said to have ended, none is left
+abbrev pub EndsInput : Why → Option (List ℕ) → Type 0
+EndsInput why.End left = IsAtEnd left
+EndsInput why.BadLogin left = ⊤
+EndsInput why.HostInUse left = ⊤
+EndsInput (why.TooShort n) left = ⊤
+EndsInput (why.TooLong n) left = ⊤
+EndsInput why.Cut left = IsAtEnd left
+EndsInput why.Read left = ⊤
+EndsInput why.Write left = ⊤
+EndsInput why.Bound left = ⊤
+
+-- a proper prefix was written, and then a write faulted
+pub record WritesPart (old new : SinkState) (answers : List ℕ) : Type 0 where
+  pub n : ℕ
+  pub proper : n < length answers
+  pub written : Writing old new (take n answers) true
+
+-- all answers that are due are written, and at a write's fault a proper prefix of them
+abbrev pub WritesAnswers : Why → SinkState → SinkState → List ℕ → Type 0
+WritesAnswers why.End old new answers = Writing old new answers false
+WritesAnswers why.BadLogin old new answers = Writing old new answers false
+WritesAnswers why.HostInUse old new answers = Writing old new answers false
+WritesAnswers (why.TooShort n) old new answers = Writing old new answers false
+WritesAnswers (why.TooLong n) old new answers = Writing old new answers false
+WritesAnswers why.Cut old new answers = Writing old new answers false
+WritesAnswers why.Read old new answers = Writing old new answers false
+WritesAnswers why.Write old new answers = WritesPart old new answers
+WritesAnswers why.Bound old new answers = Writing old new answers false
+
+-- A whole session, from the streams and the port before it to those after it: it reads a login, so many frames and a rest,
+-- and writes the answer to the login and the frames of the port's replies.
+pub record Session {P : Type 0} (logins : Logins P) (commands : Commands P) (source source' : SourceState) (sink sink' : SinkState)
+    (port port' : P) (end : SessionEnd) : Type 0 where
+  pub stage : Stage
+  pub login : List ℕ
+  pub greeting : List ℕ
+  pub mid : P
+  pub frames : List ℕ
+  pub answers : List ℕ
+  pub rest : List ℕ
+  pub opening : Opening logins port login greeting stage mid
+  pub conversation : Conversation commands mid port' frames answers end.frames
+  pub closes : Closes end.why stage end.frames rest
+  pub read : Reading source source' (login ++ (frames ++ rest)) (is_read end.why)
+  pub ended : EndsInput end.why source'.left
+  pub written : WritesAnswers end.why sink sink' (greeting ++ answers)

@@ -1,0 +1,127 @@
+-- What contracts see of a stream: its bytes, where it tells them, and how often it has faulted.
+use Rattle.std.specs.Prelude.{◌≡◌, ℕ, ◌<◌, Bool, true, false, if◌then◌else◌, List, [], length, take, Option, Some, None, ⊤}
+use Rattle.std.specs.Io.KnownBytes.{Consumes, Appends, IsAtEnd}
+use Rattle.ar_disks.specs.Disk.{counted}
+use Rattle.ar_frames.specs.declared.fill.Filled.{Filled}
+use Rattle.ar_frames.specs.declared.fill.Filled.TheVariants.{Full, Ended, Failed}
+use Rattle.ar_frames.specs.declared.hold.Passed.{Passed}
+use Rattle.ar_frames.specs.declared.hold.Passed.TheVariants.{All, Ended as PassEnded, Failed as PassFailed}
+use Rattle.ar_frames.specs.declared.hold.Held.{Held}
+use Rattle.ar_frames.specs.declared.hold.Held.TheVariants.{Kept, Refused, Lost, Ended as HoldEnded, Failed as HoldFailed}
+use Rattle.ar_frames.specs.declared.hold.Fetched.{Fetched}
+use Rattle.ar_frames.specs.declared.hold.Fetched.TheVariants.{Kept as FetchKept, Lost as FetchLost, Ended as FetchEnded, Failed as FetchFailed}
+use Rattle.ar_frames.specs.declared.fill.Sent.{Sent}
+use Rattle.ar_frames.specs.declared.fill.Sent.TheVariants.{Whole, Part}
+
+-- a stream to read from: the bytes that are left, if it tells them, and the number of its faults
+pub record SourceState : Type 0 where
+  pub left : Option (List ℕ)
+  pub faults : ℕ
+
+-- a stream to write to: the bytes that it took, if it tells them, and the number of its faults
+pub record SinkState : Type 0 where
+  pub taken : Option (List ℕ)
+  pub faults : ℕ
+
+-- the first bytes of a piece that a call of read gave or one of write took
+abbrev pub moved : Option ℕ → List ℕ → List ℕ
+moved None piece = []
+moved (Some n) piece = take n piece
+
+-- the faults after calls of which the last one faulted, or none
+abbrev pub faults_after : Bool → ℕ → ℕ
+faults_after faulted faults = if faulted then counted faults else faults
+
+-- calls of read gave these bytes, and the last of them faulted, or none
+pub record Reading (old new : SourceState) (bytes : List ℕ) (faulted : Bool) : Type 0 where
+  pub given : Consumes old.left new.left bytes
+  pub faults : new.faults ≡ faults_after faulted old.faults
+
+-- calls of write took these bytes, and the last of them faulted, or none
+pub record Writing (old new : SinkState) (bytes : List ℕ) (faulted : Bool) : Type 0 where
+  pub took : Appends old.taken new.taken bytes
+  pub faults : new.faults ≡ faults_after faulted old.faults
+
+-- the bytes that came of those that were wanted
+abbrev pub filled_bytes : Filled → List ℕ → List ℕ
+filled_bytes Full piece = piece
+filled_bytes (Ended n) piece = take n piece
+filled_bytes (Failed n) piece = take n piece
+
+-- a read faulted
+abbrev pub is_failed : Filled → Bool
+is_failed Full = false
+is_failed (Ended n) = false
+is_failed (Failed n) = true
+
+-- fewer bytes came than were wanted, unless all did; where no more came without a fault, none is left
+abbrev pub StopsShort : Filled → ℕ → Option (List ℕ) → Type 0
+StopsShort Full wanted left = ⊤
+StopsShort (Ended n) wanted left = (n < wanted) × IsAtEnd left
+StopsShort (Failed n) wanted left = n < wanted
+
+-- a piece was filled as far as the stream allowed
+pub record Filling (old new : SourceState) (piece : List ℕ) (filled : Filled) : Type 0 where
+  pub read : Reading old new (filled_bytes filled piece) (is_failed filled)
+  pub stops : StopsShort filled (length piece) new.left
+
+-- so many bytes came
+pub record CameAll (old new : SourceState) (wanted : ℕ) : Type 0 where
+  pub bytes : List ℕ
+  pub len : length bytes ≡ wanted
+  pub read : Reading old new bytes false
+
+-- fewer came than were wanted, and then a read faulted or found none
+pub record CamePart (old new : SourceState) (wanted : ℕ) (faulted : Bool) : Type 0 where
+  pub bytes : List ℕ
+  pub short : length bytes < wanted
+  pub read : Reading old new bytes faulted
+
+-- bytes were passed over
+abbrev pub Passes : SourceState → SourceState → ℕ → Passed → Type 0
+Passes old new wanted All = CameAll old new wanted
+Passes old new wanted PassEnded = CamePart old new wanted false × IsAtEnd new.left
+Passes old new wanted PassFailed = CamePart old new wanted true
+
+-- bytes are shared, or no memory is there to share them
+abbrev pub Shares : List ℕ → Held → Type 0
+Shares bytes (Kept shared) = shared ≡ bytes
+Shares bytes Refused = ⊥
+Shares bytes Lost = ⊤
+Shares bytes HoldEnded = ⊥
+Shares bytes HoldFailed = ⊥
+
+-- bytes were read into memory of their own, which may have been refused before any was read or after all were
+abbrev pub Holds : SourceState → SourceState → ℕ → Held → Type 0
+Holds old new wanted (Kept bytes) = (length bytes ≡ wanted) × Reading old new bytes false
+Holds old new wanted Refused = (0 < wanted) × (new ≡ old)
+Holds old new wanted Lost = (0 < wanted) × CameAll old new wanted
+Holds old new wanted HoldEnded = CamePart old new wanted false × IsAtEnd new.left
+Holds old new wanted HoldFailed = CamePart old new wanted true
+
+-- the same, and where memory was refused before, the bytes were passed over
+abbrev pub Fetches : SourceState → SourceState → ℕ → Fetched → Type 0
+Fetches old new wanted (FetchKept bytes) = (length bytes ≡ wanted) × Reading old new bytes false
+Fetches old new wanted FetchLost = (0 < wanted) × CameAll old new wanted
+Fetches old new wanted FetchEnded = CamePart old new wanted false × IsAtEnd new.left
+Fetches old new wanted FetchFailed = CamePart old new wanted true
+
+-- the bytes that were taken of a piece
+abbrev pub sent_bytes : Sent → List ℕ → List ℕ
+sent_bytes Whole piece = piece
+sent_bytes (Part n) piece = take n piece
+
+-- a write faulted
+abbrev pub is_part : Sent → Bool
+is_part Whole = false
+is_part (Part n) = true
+
+-- where a write faulted, what was taken is a proper prefix
+abbrev pub IsProper : Sent → ℕ → Type 0
+IsProper Whole wanted = ⊤
+IsProper (Part n) wanted = n < wanted
+
+-- a piece was written as far as the stream allowed
+pub record Sending (old new : SinkState) (piece : List ℕ) (sent : Sent) : Type 0 where
+  pub written : Writing old new (sent_bytes sent piece) (is_part sent)
+  pub proper : IsProper sent (length piece)

@@ -1,0 +1,49 @@
+-- What a port may answer, frame by frame.
+use Rattle.std.specs.Prelude.{◌≡◌, ◌<◌, ◌⊎◌, ℕ, List, [], ◌∷◌, ◌++◌, length}
+use Rattle.ar_scsi.specs.declared.reply.Reply.{Reply}
+use Rattle.ar_scsi.specs.Reply.{busy}
+use Rattle.ar_frames.specs.declared.frame.Request.{Request}
+use Rattle.ar_frames.specs.Frame.{IsFrame, IsReplyFrame}
+
+-- a port's own relation of a command: the port before, the LUN, the command block, the data, the reply, the port after
+abbrev pub Commands : Type 0 → Type 1
+Commands P = P → ℕ → List ℕ → List ℕ → Reply → P → Type 0
+
+-- one answer: a command of the port, or BUSY, the port not being asked, where the request has data
+abbrev pub Answers : {P : Type 0} → Commands P → P → Request → Reply → P → Type 0
+Answers commands old request reply new =
+    commands old request.lun request.cdb request.payload reply new
+    ⊎ ((0 < length request.payload) × (reply ≡ busy) × (new ≡ old))
+
+-- the port may answer these requests by these replies, in order
+abbrev pub Talk : {P : Type 0} → Commands P → P → List Request → List Reply → P → Type 0
+Talk commands old [] [] new = new ≡ old
+Talk {P = P} commands old (request ∷ requests) (reply ∷ replies) new =
+    (mid : P) × Answers commands old request reply mid × Talk commands mid requests replies new
+Talk commands old [] (reply ∷ replies) new = ⊥
+Talk commands old (request ∷ requests) [] new = ⊥
+
+-- the bytes are the frames of these requests, one after the other
+abbrev pub AreFrames : List Request → List ℕ → Type 0
+AreFrames [] bytes = bytes ≡ []
+AreFrames (request ∷ requests) bytes =
+    (frame : List ℕ) × (rest : List ℕ) × (bytes ≡ frame ++ rest) × IsFrame request frame × AreFrames requests rest
+
+-- the bytes are the frames of these replies, each with the tag of its request
+abbrev pub AreReplyFrames : List Request → List Reply → List ℕ → Type 0
+AreReplyFrames [] [] bytes = bytes ≡ []
+AreReplyFrames (request ∷ requests) (reply ∷ replies) bytes =
+    (frame : List ℕ) × (rest : List ℕ) × (bytes ≡ frame ++ rest) × IsReplyFrame request.tag reply frame
+    × AreReplyFrames requests replies rest
+AreReplyFrames [] (reply ∷ replies) bytes = ⊥
+AreReplyFrames (request ∷ requests) [] bytes = ⊥
+
+-- So many whole frames were read and answered: the bytes read are theirs, the bytes of the answers are those of the replies.
+pub record Conversation {P : Type 0} (commands : Commands P) (old new : P)
+    (read answers : List ℕ) (frames : ℕ) : Type 0 where
+  pub requests : List Request
+  pub replies : List Reply
+  pub talk : Talk commands old requests replies new
+  pub read_is : AreFrames requests read
+  pub answers_are : AreReplyFrames requests replies answers
+  pub frames_is : frames ≡ length requests

@@ -1,0 +1,118 @@
+-- One frame of a session: how it is read, asked of the port, and answered.
+use Rattle.std.specs.Prelude.{◌≡◌, ◌<◌, ℕ, false, List, [], ◌++◌, length}
+use Rattle.ar_scsi.specs.declared.reply.Reply.{Reply}
+use Rattle.ar_scsi.specs.Reply.{busy}
+use Rattle.ar_frames.specs.declared.frame.Request.{Request}
+use Rattle.ar_frames.specs.declared.fill.Sent.{Sent}
+use Rattle.ar_frames.specs.declared.fill.Sent.TheVariants as sent
+use Rattle.ar_frames.specs.declared.receive.Incoming.{Incoming}
+use Rattle.ar_frames.specs.declared.receive.Incoming.TheVariants.{Whole, Lost, Ended}
+use Rattle.ar_frames.specs.declared.turn.Turn.{Turn}
+use Rattle.ar_frames.specs.declared.turn.Turn.TheVariants.{Answered, Unsent, Ended as TurnEnded}
+use Rattle.ar_frames.specs.declared.end.Why.{Why}
+use Rattle.ar_frames.specs.declared.end.SessionEnd.{SessionEnd}
+use Rattle.ar_frames.specs.Stream.{SourceState, SinkState, Reading, Writing, Sending}
+use Rattle.ar_frames.specs.Frame.{IsFrame, IsReplyFrame}
+use Rattle.ar_frames.specs.Talk.{Commands, Answers, Conversation}
+use Rattle.ar_frames.specs.Session.{admitted, most_frames, Closes, EndsInput, WritesAnswers, WritesPart, is_read}
+
+-- after these first bytes of a frame the rest of it was read
+pub record ReadsFrame (front : List ℕ) (source source' : SourceState) (request : Request) : Type 0 where
+  pub body : List ℕ
+  pub is_frame : IsFrame request (front ++ body)
+  pub read : Reading source source' body false
+
+-- the same, of some request with this tag and with data, which found no memory
+pub record LosesData (front : List ℕ) (source source' : SourceState) (tag : ℕ) : Type 0 where
+  pub request : Request
+  pub tag_is : request.tag ≡ tag
+  pub some : 0 < length request.payload
+  pub reads : ReadsFrame front source source' request
+
+-- after these first bytes no whole frame came, and so the session ends, whatever was written before
+pub record StopsAfter (front : List ℕ) (source source' : SourceState) (end : Why) : Type 0 where
+  pub body : List ℕ
+  pub closes : (frames : ℕ) → frames < most_frames → Closes end admitted frames (front ++ body)
+  pub read : Reading source source' body (is_read end)
+  pub ended : EndsInput end source'.left
+  pub unwritten : (sink : SinkState) → WritesAnswers end sink sink []
+
+-- what came after these first bytes of a frame
+abbrev pub Receives : List ℕ → SourceState → SourceState → Incoming → Type 0
+Receives front source source' (Whole request) = ReadsFrame front source source' request
+Receives front source source' (Lost tag) = LosesData front source source' tag
+Receives front source source' (Ended end) = StopsAfter front source source' end
+
+-- a reply frame was written as far as the stream allowed
+pub record SendsReply (sink sink' : SinkState) (tag : ℕ) (reply : Reply) (sent : Sent) : Type 0 where
+  pub frame : List ℕ
+  pub is_frame : IsReplyFrame tag reply frame
+  pub sending : Sending sink sink' frame sent
+
+-- a request frame was written as far as the stream allowed
+pub record SendsRequest (sink sink' : SinkState) (request : Request) (sent : Sent) : Type 0 where
+  pub frame : List ℕ
+  pub is_frame : IsFrame request frame
+  pub sending : Sending sink sink' frame sent
+
+-- what an answer's writing leaves to do
+abbrev pub WritesReply : SinkState → SinkState → List ℕ → Turn → Type 0
+WritesReply sink sink' frame Answered = Writing sink sink' frame false
+WritesReply sink sink' frame Unsent = WritesPart sink sink' frame
+WritesReply sink sink' frame (TurnEnded end) = ⊥
+
+-- what becomes of a frame whose reply was written so far
+abbrev pub turn_after : Sent → Turn
+turn_after sent.Whole = Answered
+turn_after (sent.Part n) = Unsent
+
+-- BUSY was written under this tag as far as the stream allowed
+pub record RefusesRequest (sink sink' : SinkState) (tag : ℕ) (turn : Turn) : Type 0 where
+  pub frame : List ℕ
+  pub is_frame : IsReplyFrame tag busy frame
+  pub written : WritesReply sink sink' frame turn
+
+-- a request was answered, and the reply written as far as the stream allowed
+pub record AnswersRequest {P : Type 0} (commands : Commands P) (sink sink' : SinkState) (port port' : P) (request : Request) (turn : Turn) : Type 0 where
+  pub reply : Reply
+  pub frame : List ℕ
+  pub answers : Answers commands port request reply port'
+  pub is_frame : IsReplyFrame request.tag reply frame
+  pub written : WritesReply sink sink' frame turn
+
+-- a whole frame was read and answered
+pub record ServesFrame {P : Type 0} (commands : Commands P) (source source' : SourceState) (sink sink' : SinkState) (port port' : P) (turn : Turn) : Type 0 where
+  pub request : Request
+  pub reads : ReadsFrame [] source source' request
+  pub answers : AnswersRequest commands sink sink' port port' request turn
+
+-- no whole frame came
+pub record EndsTurn {P : Type 0} (source source' : SourceState) (sink sink' : SinkState) (port port' : P) (end : Why) : Type 0 where
+  pub stops : StopsAfter [] source source' end
+  pub same_sink : sink' ≡ sink
+  pub same_port : port' ≡ port
+
+-- one frame of a session
+abbrev pub Turns : {P : Type 0} → Commands P → SourceState → SourceState → SinkState → SinkState → P → P → Turn → Type 0
+Turns commands source source' sink sink' port port' Answered = ServesFrame commands source source' sink sink' port port' Answered
+Turns commands source source' sink sink' port port' Unsent = ServesFrame commands source source' sink sink' port port' Unsent
+Turns commands source source' sink sink' port port' (TurnEnded end) = EndsTurn source source' sink sink' port port' end
+
+-- so many frames were read and answered whole
+pub record Served {P : Type 0} (commands : Commands P) (source source' : SourceState) (sink sink' : SinkState) (port port' : P) (count : ℕ) : Type 0 where
+  pub frames : List ℕ
+  pub answers : List ℕ
+  pub conversation : Conversation commands port port' frames answers count
+  pub read : Reading source source' frames false
+  pub written : Writing sink sink' answers false
+
+-- a session from its first frame to its end
+pub record ServesAll {P : Type 0} (commands : Commands P) (source source' : SourceState) (sink sink' : SinkState) (port port' : P) (end : SessionEnd) : Type 0 where
+  pub frames : List ℕ
+  pub answers : List ℕ
+  pub rest : List ℕ
+  pub conversation : Conversation commands port port' frames answers end.frames
+  pub closes : Closes end.why admitted end.frames rest
+  pub read : Reading source source' (frames ++ rest) (is_read end.why)
+  pub ended : EndsInput end.why source'.left
+  pub written : WritesAnswers end.why sink sink' answers

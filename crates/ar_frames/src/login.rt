@@ -1,0 +1,108 @@
+// The login of a session.
+ghost use Rattle.std.specs.Prelude.{◌≡◌, ◌↔◌, ◌<◌, IsTrue, take, ◌∷◌, [], false, true};
+ghost use Rattle.ar_frames.specs.Session.{Opening, login_name};
+ghost use Rattle.ar_frames.specs.Entry.{Enters, Tells, stage_of, greeting_of, entry_after};
+ghost use Rattle.ar_disks.specs.declared.address.Host.{Host};
+
+use crate::end::Why;
+use crate::fill::{Filled, Sent, fill, send};
+use crate::port::{Login, Port};
+use crate::stream::{Sink, Source};
+use ar_disks::Host;
+
+/// The first eight bytes of a login.
+pub const LOGIN_NAME: [u8; 8] = *b"ARAIDHO1";
+
+// What a whole login brings.
+#[derive(Clone, Copy)]
+pub enum Admission {
+    Admitted(Host),
+    BadLogin,
+    HostInUse,
+}
+
+// How a session begins.
+#[derive(Clone, Copy)]
+pub enum Entry {
+    Admitted(Host),
+    Ended(Why),
+}
+
+// Reads a login and answers it.
+pub fn enter<R: Source, W: Sink, P: Port>(reader: &mut R, writer: &mut W, port: &mut P) -> Entry
+    requires { P.has_login port.old ≡ false }
+    ensures enters { Enters P.logins P.commands (R.state reader.old) (R.state reader.new)
+        (W.state writer.old) (W.state writer.new) port.old port.new result }
+    ensures logged { (host : Host) → result ≡ Entry.Admitted host → P.has_login port.new ≡ true }
+{
+    let mut login = [0; 9];
+    match fill(reader, &mut login) {
+        Filled::Full => tell(writer, admit(port, &login)),
+        Filled::Ended(_) => Entry::Ended(Why::Cut),
+        Filled::Failed(_) => Entry::Ended(Why::Read),
+    }
+}
+
+// Asks the port, unless the name is another.
+fn admit<P: Port>(port: &mut P, login: &[u8; 9]) -> Admission
+    requires { P.has_login port.old ≡ false }
+    ensures opening { Opening P.logins port.old login.now (greeting_of result ∷ []) (stage_of result) port.new }
+    ensures logged { (host : Host) → result ≡ Admission.Admitted host → P.has_login port.new ≡ true }
+{
+    if !has_name(login) {
+        return Admission::BadLogin;
+    }
+    let number = login[8];
+    match port.login(number) {
+        Login::Taken => admitted(number),
+        Login::BadHost => Admission::BadLogin,
+        Login::InUse => Admission::HostInUse,
+    }
+}
+
+// Whether a login begins with the name.
+fn has_name(login: &[u8; 9]) -> bool
+    ensures { IsTrue result ↔ (take 8 login.now ≡ login_name) }
+{
+    login[..8] == LOGIN_NAME[..]
+}
+
+// The host of a number that a port has taken.
+fn admitted(number: u8) -> Admission
+    requires { number < 4 }
+    ensures { (host : Host) × (result ≡ Admission.Admitted host) }
+{
+    match Host::new(number) {
+        Some(host) => Admission::Admitted(host),
+        None => unreachable!(),
+    }
+}
+
+// Writes the byte that tells an admission.
+fn tell<W: Sink>(writer: &mut W, admission: Admission) -> Entry
+    ensures { Tells (W.state writer.old) (W.state writer.new) admission result }
+{
+    match send(writer, &[byte_of(admission)]) {
+        Sent::Whole => entry_of(admission),
+        Sent::Part(_) => Entry::Ended(Why::Write),
+    }
+}
+
+fn byte_of(admission: Admission) -> u8
+    ensures { result ≡ greeting_of admission }
+{
+    match admission {
+        Admission::Admitted(_) => 0x00,
+        Admission::BadLogin | Admission::HostInUse => 0x01,
+    }
+}
+
+fn entry_of(admission: Admission) -> Entry
+    ensures { result ≡ entry_after admission }
+{
+    match admission {
+        Admission::Admitted(host) => Entry::Admitted(host),
+        Admission::BadLogin => Entry::Ended(Why::BadLogin),
+        Admission::HostInUse => Entry::Ended(Why::HostInUse),
+    }
+}

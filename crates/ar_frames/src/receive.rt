@@ -1,0 +1,85 @@
+// A request frame, read off a stream.
+ghost use Rattle.std.specs.Prelude.{◌≡◌, ◌+◌, ◌≤◌, ◌++◌, ℕ, List, [], length};
+ghost use Rattle.byteorder.specs.Endian.{big_number};
+ghost use Rattle.ar_frames.specs.Frame.{most_data};
+ghost use Rattle.ar_frames.specs.Turn.{Receives};
+
+use crate::end::Why;
+use crate::fill::{Filled, fill};
+use crate::frame::{Head, MOST_DATA, Request, head_of};
+use crate::hold::{Fetched, fetch};
+use crate::stream::Source;
+use byteorder::{BigEndian, ByteOrder};
+use std::alloc::Global;
+
+// What came where a request frame may begin.
+#[derive(Drop)]
+pub enum Incoming {
+    Whole(Request),
+    // A whole frame with this tag, whose data found no memory.
+    Lost(u64),
+    // No whole frame.
+    Ended(Why),
+}
+
+// Reads a request frame. Nothing is read after an N that no frame has.
+pub fn receive<R: Source>(alloc: Global, reader: &mut R) -> Incoming
+    ensures { Receives [] (R.state reader.old) (R.state reader.new) result }
+{
+    let mut count = [0; 4];
+    match fill(reader, &mut count) {
+        Filled::Full => receive_counted(alloc, reader, &count),
+        Filled::Ended(0) => Incoming::Ended(Why::End),
+        Filled::Ended(_) => Incoming::Ended(Why::Cut),
+        Filled::Failed(_) => Incoming::Ended(Why::Read),
+    }
+}
+
+// Reads what follows N.
+fn receive_counted<R: Source>(alloc: Global, reader: &mut R, count: &[u8; 4]) -> Incoming
+    ensures { Receives count.now (R.state reader.old) (R.state reader.new) result }
+{
+    let n = BigEndian::read_u32(count);
+    if n < 25 {
+        return Incoming::Ended(Why::TooShort(n));
+    }
+    let len = n - 25;
+    if len > MOST_DATA {
+        return Incoming::Ended(Why::TooLong(n));
+    }
+    receive_head(alloc, reader, len)
+}
+
+// Reads what follows the N of a frame with so many bytes of data.
+fn receive_head<R: Source>(alloc: Global, reader: &mut R, len: u32) -> Incoming
+    requires { len ≤ most_data }
+    ensures { (count : List ℕ) → length count ≡ 4 → big_number 4 count ≡ 25 + len →
+        Receives count (R.state reader.old) (R.state reader.new) result }
+{
+    let mut head = [0; 25];
+    match fill(reader, &mut head) {
+        Filled::Full => receive_data(alloc, reader, &head, len),
+        Filled::Ended(_) => Incoming::Ended(Why::Cut),
+        Filled::Failed(_) => Incoming::Ended(Why::Read),
+    }
+}
+
+// Reads the data of a frame, of which N and these 25 bytes were read.
+fn receive_data<R: Source>(alloc: Global, reader: &mut R, head: &[u8; 25], len: u32) -> Incoming
+    requires { len ≤ most_data }
+    ensures { (count : List ℕ) → length count ≡ 4 → big_number 4 count ≡ 25 + len →
+        Receives (count ++ head.now) (R.state reader.old) (R.state reader.new) result }
+{
+    let Head { tag, lun, cdb } = head_of(head);
+    match fetch(alloc, reader, len as usize) {
+        Fetched::Kept(payload) => Incoming::Whole(Request {
+            tag,
+            lun,
+            cdb,
+            payload,
+        }),
+        Fetched::Lost => Incoming::Lost(tag),
+        Fetched::Ended => Incoming::Ended(Why::Cut),
+        Fetched::Failed => Incoming::Ended(Why::Read),
+    }
+}

@@ -1,0 +1,84 @@
+// A whole session.
+ghost use Rattle.std.specs.Prelude.{◌≡◌, true, false};
+ghost use Rattle.ar_frames.specs.Session.{Session};
+ghost use Rattle.ar_frames.specs.Turn.{ServesAll};
+
+use crate::end::{SessionEnd, Why};
+use crate::login::{Entry, enter};
+use crate::port::{Gate, NoGate, Port};
+use crate::stream::{Sink, Source};
+use crate::turn::{Turn, Work, serve_frame};
+use ar_disks::Host;
+use std::alloc::Global;
+
+/// The most frames of a session.
+pub const MOST_FRAMES: u64 = 1_000_000;
+
+/// One session over a reader, a writer and a port: reads a login and frames, gives each command to the port, and writes
+/// its reply. A frame whose data finds no memory is read to its end and answered BUSY, the port not being asked. The
+/// end says how many frames were read whole, and why no more were.
+pub fn serve<R: Source, W: Sink, P: Port>(
+    alloc: Global,
+    reader: &mut R,
+    writer: &mut W,
+    port: &mut P,
+) -> SessionEnd
+    requires { P.has_login port.old ≡ false }
+    ensures { Session P.logins P.commands (R.state reader.old) (R.state reader.new)
+        (W.state writer.old) (W.state writer.new) port.old port.new result }
+{
+    serve_gated(alloc, reader, writer, port, &NoGate)
+}
+
+/// The same, and tells a gate of each command that is given to the port.
+pub fn serve_gated<R: Source, W: Sink, P: Port, G: Gate>(
+    alloc: Global,
+    reader: &mut R,
+    writer: &mut W,
+    port: &mut P,
+    gate: &G,
+) -> SessionEnd
+    requires { P.has_login port.old ≡ false }
+    ensures { Session P.logins P.commands (R.state reader.old) (R.state reader.new)
+        (W.state writer.old) (W.state writer.new) port.old port.new result }
+{
+    match enter(reader, writer, port) {
+        Entry::Admitted(host) => serve_frames(alloc, reader, writer, port, gate, host),
+        Entry::Ended(why) => SessionEnd { frames: 0, why },
+    }
+}
+
+// Serves frames until one doesn't come whole, its answer can't be written, or as many as may come were answered.
+fn serve_frames<R: Source, W: Sink, P: Port, G: Gate>(
+    alloc: Global,
+    reader: &mut R,
+    writer: &mut W,
+    port: &mut P,
+    gate: &G,
+    host: Host,
+) -> SessionEnd
+    requires { P.has_login port.old ≡ true }
+    ensures { ServesAll P.commands (R.state reader.old) (R.state reader.new)
+        (W.state writer.old) (W.state writer.new) port.old port.new result }
+{
+    let mut work = Work {
+        buffer: Vec::new(alloc),
+        given: 0,
+    };
+    for frames in 0..MOST_FRAMES {
+        match serve_frame(alloc, reader, writer, port, gate, host, &mut work) {
+            Turn::Answered => {}
+            Turn::Unsent => {
+                return SessionEnd {
+                    frames: frames + 1,
+                    why: Why::Write,
+                };
+            }
+            Turn::Ended(why) => return SessionEnd { frames, why },
+        }
+    }
+    SessionEnd {
+        frames: MOST_FRAMES,
+        why: Why::Bound,
+    }
+}

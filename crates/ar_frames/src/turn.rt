@@ -1,0 +1,103 @@
+// One frame of a session.
+ghost use Rattle.std.specs.Prelude.{◌≡◌, ◌<◌, ◌≤◌, ◌+◌, ◌^◌, true};
+ghost use Rattle.ar_frames.specs.Turn.{AnswersRequest, RefusesRequest, Turns, turn_after};
+
+use crate::end::Why;
+use crate::fill::Sent;
+use crate::frame::Request;
+use crate::port::{Gate, Port};
+use crate::receive::{Incoming, receive};
+use crate::reply::send_reply;
+use crate::stream::{Sink, Source};
+use ar_disks::Host;
+use ar_scsi::Reply;
+use std::alloc::Global;
+
+// What became of a frame.
+#[derive(Clone, Copy)]
+pub enum Turn {
+    Answered,
+    // The frame was read and asked, and the reply wasn't written whole.
+    Unsent,
+    // No whole frame was read.
+    Ended(Why),
+}
+
+// What a session keeps from frame to frame.
+#[derive(Drop)]
+pub struct Work {
+    // Replies are put together in it.
+    pub buffer: Vec<u8>,
+    // How many commands were given to the port.
+    pub given: u64,
+}
+
+// Reads a frame, asks the port and writes the reply.
+pub fn serve_frame<R: Source, W: Sink, P: Port, G: Gate>(
+    alloc: Global,
+    reader: &mut R,
+    writer: &mut W,
+    port: &mut P,
+    gate: &G,
+    host: Host,
+    work: &mut Work,
+) -> Turn
+    requires logged { P.has_login port.old ≡ true }
+    requires room { work.old.given < 2 ^ 63 }
+    ensures turn { Turns P.commands (R.state reader.old) (R.state reader.new)
+        (W.state writer.old) (W.state writer.new) port.old port.new result }
+    ensures logged { P.has_login port.new ≡ true }
+    ensures given { work.new.given ≤ work.old.given + 1 }
+{
+    match receive(alloc, reader) {
+        Incoming::Whole(request) => answer(writer, port, gate, host, work, request),
+        Incoming::Lost(tag) => refuse(writer, work, tag),
+        Incoming::Ended(why) => Turn::Ended(why),
+    }
+}
+
+// Asks the port and writes its reply.
+fn answer<W: Sink, P: Port, G: Gate>(
+    writer: &mut W,
+    port: &mut P,
+    gate: &G,
+    host: Host,
+    work: &mut Work,
+    request: Request,
+) -> Turn
+    requires logged { P.has_login port.old ≡ true }
+    requires room { work.old.given < 2 ^ 63 }
+    ensures answers { AnswersRequest P.commands (W.state writer.old) (W.state writer.new) port.old port.new request result }
+    ensures logged { P.has_login port.new ≡ true }
+    ensures given { work.new.given ≤ work.old.given + 1 }
+{
+    let Request {
+        tag,
+        lun,
+        cdb,
+        payload,
+    } = request;
+    work.given += 1;
+    gate.before(host, work.given);
+    let reply = port.command(lun, &cdb, payload);
+    let sent = send_reply(writer, &mut work.buffer, tag, &reply);
+    gate.after(host, work.given);
+    turn_of(sent)
+}
+
+// Answers BUSY to a frame whose data found no memory.
+fn refuse<W: Sink>(writer: &mut W, work: &mut Work, tag: u64) -> Turn
+    ensures answers { RefusesRequest (W.state writer.old) (W.state writer.new) tag result }
+    ensures given { work.new.given ≡ work.old.given }
+{
+    turn_of(send_reply(writer, &mut work.buffer, tag, &Reply::busy()))
+}
+
+fn turn_of(sent: Sent) -> Turn
+    ensures { result ≡ turn_after sent }
+{
+    match sent {
+        Sent::Whole => Turn::Answered,
+        Sent::Part(_) => Turn::Unsent,
+    }
+}
