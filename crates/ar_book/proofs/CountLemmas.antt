@@ -58,7 +58,7 @@ fewer_placed test (x ∷ us) u e h = by (fewer_placed test us u) (test x.0) refl
         omega arith
 
 -- a list of slots that all name a block, and one of slots that name none
-all_used : (ks : List (Option Key)) → ((i : ℕ) → i < length ks → IsSome (get_or ks i None)) → count_by is_some ks ≡ length ks
+pub all_used : (ks : List (Option Key)) → ((i : ℕ) → i < length ks → IsSome (get_or ks i None)) → count_by is_some ks ≡ length ks
 all_used [] all = refl
 all_used (x ∷ ks) all =
     let a : count_by is_some (x ∷ ks) ≡ cond {A = ℕ} (is_some x) 1 0 + count_by is_some ks = sum_by-cons (λ (o : Option Key). cond {A = ℕ} (is_some o) 1 0) x ks in
@@ -66,7 +66,7 @@ all_used (x ∷ ks) all =
     let d = all_used ks (λ i h. all (suc i) (omega arith)) in
     omega arith
 
-none_used : (ks : List (Option Key)) → ((i : ℕ) (k : Key) → get_or ks i None ≡ Some k → ⊥) → count_by is_some ks ≡ 0
+pub none_used : (ks : List (Option Key)) → ((i : ℕ) (k : Key) → get_or ks i None ≡ Some k → ⊥) → count_by is_some ks ≡ 0
 none_used [] never = refl
 none_used (x ∷ ks) never =
     let a : count_by is_some (x ∷ ks) ≡ cond {A = ℕ} (is_some x) 1 0 + count_by is_some ks = sum_by-cons (λ (o : Option Key). cond {A = ℕ} (is_some o) 1 0) x ks in

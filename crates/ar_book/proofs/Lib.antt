@@ -11,7 +11,6 @@ pub mod GroupChanges
 pub mod RefusalLemmas
 pub mod CountLemmas
 pub mod DropLemmas
-pub mod OldestLemmas
 pub mod Homes
 pub mod AfterAssign
 pub mod AfterRelease
@@ -20,3 +19,9 @@ pub mod AfterStamp
 pub mod AfterMake
 pub mod AfterForm
 pub mod Presence
+pub mod CleaningLemmas
+pub mod IndexLemmas
+pub mod Searches
+pub mod Ages
+pub mod IndexAfter
+pub mod UnitPlaces

@@ -5,3 +5,5 @@ pub mod Changes
 pub mod Book
 pub mod Choices
 pub mod Refusals
+pub mod Cleaning
+pub mod Index

@@ -6,9 +6,10 @@ ghost use Rattle.ar_book.specs.Tables.{same_addr, unit_in, key_at, home, level, 
 ghost use Rattle.ar_book.specs.Changes.{unmarked};
 ghost use Rattle.ar_book.specs.Book.{TablesAgree};
 
-use crate::tables::{clear_mark, free_count, home_in, key_in, level_in};
+use crate::tables::{clear_mark, home_in, key_in, level_in};
 use crate::{Class, Group, Level, Slot, UnitTable};
 use ar_disks::{Addr, Geometry, Key, Members};
+use ar_index::Tree;
 use indexmap::IndexMap;
 use std::alloc::Global;
 use std::marker::Model;
@@ -25,17 +26,18 @@ pub struct Book {
     pub(crate) units: IndexMap<Addr, UnitTable>,
     pub(crate) puts: u64,
     pub(crate) reserved: u32,
+    pub(crate) index: Tree,
 }
 
 impl Model for Book {
     ghost use Rattle.ar_book.specs.Tables.{Tables};
-    ghost use Rattle.ar_book.specs.Book.{IsKept};
+    ghost use Rattle.ar_book.specs.Index.{IsIndexed};
 
     ghost Value = { Tables };
 
     ghost view = { λ b. record { geometry = b.geometry; groups = b.groups.items; units = b.units.entries; puts = b.puts } };
 
-    ghost invariant = { λ b. IsKept (record { geometry = b.geometry; groups = b.groups.items; units = b.units.entries; puts = b.puts }) b.reserved };
+    ghost invariant = { λ b. IsIndexed (record { geometry = b.geometry; groups = b.groups.items; units = b.units.entries; puts = b.puts }) b.reserved b.index };
 }
 
 impl Book {
@@ -50,6 +52,7 @@ impl Book {
             units: IndexMap::new(alloc),
             puts: 0,
             reserved: 0,
+            index: Tree::new(alloc),
         }
     }
 
@@ -96,7 +99,7 @@ impl Book {
     pub fn free_groups(&self) -> u32
         ensures { result ≡ free_groups self.now }
     {
-        free_count(&self.groups) as u32
+        self.index.free() as u32
     }
 
     /// How many more blocks units may have.

@@ -1,5 +1,5 @@
 // A group of the book.
-ghost use Rattle.std.specs.Prelude.{◌≡◌, ℕ, ◌<◌, ◌*◌, length, slice_index_or, Some, None, IfSome, IfNone, IfOk, IsSome};
+ghost use Rattle.std.specs.Prelude.{◌≡◌, ℕ, ◌+◌, ◌<◌, ◌≤◌, ◌*◌, is_some, count_by, slice_set, length, slice_index_or, Some, None, IfSome, IfNone, IfOk, IsSome};
 ghost use Rattle.ar_disks.specs.Members.{with_member};
 ghost use Rattle.ar_book.specs.Tables.{used, slots_of, is_free};
 ghost use Rattle.ar_book.specs.Changes.{with_key, without_key, free_group};
@@ -7,6 +7,7 @@ ghost use Rattle.ar_book.specs.Choices.{stands_on};
 
 use crate::Class;
 use ar_disks::{Geometry, Key, Members, Place};
+use ar_index::Steps;
 use std::alloc::{AllocError, Global};
 use std::marker::Model;
 
@@ -27,14 +28,34 @@ pub struct Group {
     class: Class,
     members: Members,
     slots: Vec<Option<Key>>,
+    used: usize,
 }
 
 impl Model for Group {
+    ghost use Rattle.std.specs.Prelude.{◌≡◌, count_by, is_some};
     ghost use Rattle.ar_book.specs.Tables.{GroupState};
 
     ghost Value = { GroupState };
 
     ghost view = { λ g. record { class = g.class; members = g.members; slots = g.slots.items } };
+
+    ghost invariant = { λ g. g.used ≡ count_by is_some g.slots.items };
+}
+
+// Changes what a slot names. So many named a block before; answers how many do then.
+fn put(slots: &mut Vec<Option<Key>>, used: usize, slot: u16, key: Option<Key>) -> usize
+    requires there { slot < length slots.old.items }
+    requires used { used ≡ count_by is_some slots.old.items }
+    ensures put { slots.new.items ≡ slice_set slots.old.items slot key }
+    ensures used { result ≡ count_by is_some slots.new.items }
+{
+    let was = slots[slot as usize].is_some();
+    slots[slot as usize] = key;
+    match (was, key.is_some()) {
+        (true, false) => used - 1,
+        (false, true) => used + 1,
+        _ => used,
+    }
 }
 
 impl Group {
@@ -46,6 +67,7 @@ impl Group {
             class: Class::Free,
             members,
             slots: vec![in alloc; None; slots as usize]?,
+            used: 0,
         })
     }
 
@@ -92,16 +114,25 @@ impl Group {
     pub(crate) fn used(&self) -> usize
         ensures { result ≡ used self.now }
     {
-        self.slots.iter().filter(|key| key.is_some()).count()
+        self.used
     }
 
-    /// The lowest slot below `end` that names no block.
-    pub(crate) fn lowest_hole(&self, end: u16) -> Option<u16>
+    /// What each slot names.
+    pub(crate) fn slots(&self) -> &[Option<Key>]
+        ensures { result.now ≡ self.now.slots }
+    {
+        &self.slots
+    }
+
+    /// The lowest slot below `end` that names no block. A step is a slot.
+    pub(crate) fn lowest_hole(&self, end: u16, steps: &mut Steps) -> Option<u16>
         ensures found { IfSome result (λ i. (i < end) × (slice_index_or self.now.slots i None ≡ None)) }
         ensures least { IfSome result (λ i. (j : ℕ) → j < i → IsSome (slice_index_or self.now.slots j None)) }
         ensures none { IfNone result ((j : ℕ) → j < end → IsSome (slice_index_or self.now.slots j None)) }
+        ensures few { steps.new.count ≤ steps.old.count + end }
     {
         for slot in 0..end {
+            steps.tick();
             if self.key(slot).is_none() {
                 return Some(slot);
             }
@@ -114,7 +145,7 @@ impl Group {
         requires { slot < length self.old.slots }
         ensures { self.new ≡ with_key self.old slot key }
     {
-        self.slots[slot as usize] = Some(key);
+        self.used = put(&mut self.slots, self.used, slot, Some(key));
     }
 
     /// Lets a slot name nothing. The group is free where it was the last that did.
@@ -122,8 +153,8 @@ impl Group {
         requires { slot < length self.old.slots }
         ensures { self.new ≡ without_key self.old slot }
     {
-        self.slots[slot as usize] = None;
-        if self.used() == 0 {
+        self.used = put(&mut self.slots, self.used, slot, None);
+        if self.used == 0 {
             self.class = Class::Free;
         }
     }

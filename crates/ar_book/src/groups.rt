@@ -1,13 +1,16 @@
 // The forming and opening of groups, and a change of one extent.
-ghost use Rattle.std.specs.Prelude.{◌≡◌, ◌≢◌, ℕ, ◌<◌, ◌≤◌, ◌↔◌, length, IsTrue, IfSome, IfOk, OnErr, IsSome, IfNone};
+ghost use Rattle.std.specs.Prelude.{◌≡◌, ◌≢◌, ℕ, ◌+◌, ◌*◌, ◌<◌, ◌≤◌, ◌↔◌, length, IsTrue, IfSome, IfOk, OnErr, IsSome, IfNone};
+ghost use Rattle.ar_disks.specs.Geometry.{rows_of};
 ghost use Rattle.ar_disks.specs.Members.{member, AreApart};
 ghost use Rattle.ar_book.specs.Tables.{group_in, free_groups};
 ghost use Rattle.ar_book.specs.Changes.{opened, formed, shifted};
 ghost use Rattle.ar_book.specs.Choices.{IsLowestFree, IsEmpty, IsUnused, AreUnused, stands_on};
 
+use crate::index::{free_leaf, refresh};
 use crate::tables::{open_class, replace_member};
 use crate::{Book, Class, Group};
 use ar_disks::{Members, Place};
+use ar_index::Steps;
 use std::alloc::AllocError;
 
 impl Book {
@@ -24,24 +27,37 @@ impl Book {
         let number = self.groups();
         let group = Group::new(self.alloc, members, 3 * self.geometry.rows())?;
         self.groups.push(group)?;
+        if self.index.push(free_leaf(number)).is_err() {
+            self.groups.truncate(number as usize);
+            return Err(AllocError);
+        }
         Ok(number)
     }
 
     /// Opens the lowest free group for mirrored blocks or for parity, and answers its number; its slots are all empty. Only while at
     /// least two groups are free: else None, and nothing changes.
-    pub fn open_group(&mut self, class: Class) -> Option<u32>
+    pub fn open_group(&mut self, class: Class, steps: &mut Steps) -> Option<u32>
         requires { class ≢ Class.Free }
         ensures when { IsSome result ↔ (2 ≤ free_groups self.old) }
         ensures lowest { IfSome result (IsLowestFree self.old) }
         ensures opened { IfSome result (λ group. self.new ≡ opened self.old group class) }
         ensures empty { IfSome result (IsEmpty self.new) }
         ensures unchanged { IfNone result (self.new ≡ self.old) }
+        ensures few { length self.old.groups ≤ 4096 → steps.new.count ≤ steps.old.count + (8 * rows_of self.old.geometry + 120) }
     {
         if self.free_groups() < 2 {
             return None;
         }
         let group = self.lowest_free();
         open_class(&mut self.groups, group, class);
+        refresh(
+            &mut self.index,
+            &self.groups,
+            &self.units,
+            self.geometry,
+            group,
+            steps,
+        );
         Some(group)
     }
 
@@ -56,6 +72,14 @@ impl Book {
     {
         let last = self.lowest_free();
         open_class(&mut self.groups, last, class);
+        refresh(
+            &mut self.index,
+            &self.groups,
+            &self.units,
+            self.geometry,
+            last,
+            &mut Steps::new(),
+        );
         last
     }
 
@@ -64,12 +88,10 @@ impl Book {
         requires { 0 < free_groups self.now }
         ensures { IsLowestFree self.now result }
     {
-        for number in 0..self.groups() {
-            if self.groups[number as usize].is_free() {
-                return number;
-            }
+        match self.index.best().free {
+            Some(number) => number,
+            None => unreachable!(),
         }
-        unreachable!()
     }
 
     /// The group that an extent is in, or None. There is at most one.

@@ -3,12 +3,15 @@
 
 mod book;
 mod class;
+mod cleaning;
 mod group;
 mod groups;
+mod index;
 mod oldest;
 mod places;
 mod refusal;
 mod search;
+mod summary;
 mod tables;
 mod unit;
 mod units;
@@ -17,4 +20,5 @@ pub use book::Book;
 pub use class::{Class, Level, Slot};
 pub use group::Group;
 pub use refusal::Refusal;
+pub use summary::Summary;
 pub use unit::UnitTable;

@@ -1,42 +1,81 @@
 // Changes of homes and stamps.
-ghost use Rattle.std.specs.Prelude.{◌≡◌, None};
+ghost use Rattle.std.specs.Prelude.{◌≡◌, ◌+◌, ◌*◌, ◌≤◌, length, None};
+ghost use Rattle.ar_disks.specs.Geometry.{rows_of};
 ghost use Rattle.ar_book.specs.Tables.{key_at, HasBlock, HasSlot};
 ghost use Rattle.ar_book.specs.Changes.{assigned, released, stamped};
 
+use crate::index::{refresh, refresh_home};
 use crate::tables::{home_in, name_slot, set_home, set_stamp, vacate_slot};
 use crate::{Book, Slot};
 use ar_disks::Key;
+use ar_index::Steps;
 
 impl Book {
     /// Makes an empty slot the home of a unit's block, which leaves the one that it had.
-    pub fn assign(&mut self, key: Key, slot: Slot)
+    pub fn assign(&mut self, key: Key, slot: Slot, steps: &mut Steps)
         requires block { HasBlock self.old key }
         requires slot { HasSlot self.old slot }
         requires empty { key_at self.old slot ≡ None }
-        ensures { self.new ≡ assigned self.old key slot }
+        ensures assigned { self.new ≡ assigned self.old key slot }
+        ensures few { length self.old.groups ≤ 4096 → steps.new.count ≤ steps.old.count + (8 * rows_of self.old.geometry + 120) }
     {
         let former = home_in(&self.units, key);
         name_slot(&mut self.groups, slot, key);
+        refresh(
+            &mut self.index,
+            &self.groups,
+            &self.units,
+            self.geometry,
+            slot.group,
+            steps,
+        );
         vacate_slot(&mut self.groups, former);
+        refresh_home(
+            &mut self.index,
+            &self.groups,
+            &self.units,
+            self.geometry,
+            former,
+            steps,
+        );
         set_home(&mut self.units, key, Some(slot));
     }
 
     /// Takes a unit's block out of its home, if it has one.
-    pub fn release(&mut self, key: Key)
+    pub fn release(&mut self, key: Key, steps: &mut Steps)
         requires { HasBlock self.old key }
-        ensures { self.new ≡ released self.old key }
+        ensures released { self.new ≡ released self.old key }
+        ensures few { length self.old.groups ≤ 4096 → steps.new.count ≤ steps.old.count + (8 * rows_of self.old.geometry + 120) }
     {
         let home = home_in(&self.units, key);
         vacate_slot(&mut self.groups, home);
+        refresh_home(
+            &mut self.index,
+            &self.groups,
+            &self.units,
+            self.geometry,
+            home,
+            steps,
+        );
         set_home(&mut self.units, key, None);
     }
 
     /// Gives a unit's block the next stamp.
-    pub fn stamp(&mut self, key: Key)
+    pub fn stamp(&mut self, key: Key, steps: &mut Steps)
         requires { HasBlock self.old key }
-        ensures { self.new ≡ stamped self.old key }
+        ensures stamped { self.new ≡ stamped self.old key }
+        ensures few { length self.old.groups ≤ 4096 → steps.new.count ≤ steps.old.count + (8 * rows_of self.old.geometry + 120) }
     {
+        let home = home_in(&self.units, key);
         self.puts = self.puts.saturating_add(1);
         set_stamp(&mut self.units, key, self.puts);
+        refresh_home(
+            &mut self.index,
+            &self.groups,
+            &self.units,
+            self.geometry,
+            home,
+            steps,
+        );
     }
 }

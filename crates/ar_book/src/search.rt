@@ -1,13 +1,56 @@
-// The searches for a hole and for a full mirrored group.
-ghost use Rattle.std.specs.Prelude.{◌≡◌, ◌<◌, ◌≤◌, ℕ, length, IfSome, IfNone};
+// The searches for a hole, a summary, and the search for a full mirrored group.
+ghost use Rattle.std.specs.Prelude.{◌≡◌, ◌+◌, ◌*◌, ◌<◌, ◌≤◌, ℕ, length, IfSome, IfNone};
+ghost use Rattle.std.specs.Option.{option_map};
+ghost use Rattle.ar_disks.specs.Geometry.{rows_of};
 ghost use Rattle.ar_book.specs.declared.class.Slot.{Slot};
-ghost use Rattle.ar_book.specs.Tables.{free_groups};
+ghost use Rattle.ar_book.specs.Tables.{class_of, group_in, free_groups, used};
 ghost use Rattle.ar_book.specs.Choices.{IsHole, IsHoleOf, IsUpTo, IsWaiting, IsFullMirrored};
+ghost use Rattle.ar_book.specs.Index.{open_in, oldest_in};
 
 use crate::group::slots_of;
-use crate::{Book, Class, Slot};
+use crate::index::choices_of;
+use crate::{Book, Class, Slot, Summary};
+use ar_index::{Choices, Steps};
+
+// The lowest group of a class that has a hole.
+fn open_of(best: &Choices, class: Class) -> Option<u32>
+    ensures { result ≡ open_in class best.now }
+{
+    match class {
+        Class::Free => None,
+        Class::Mirrored => best.mirrored,
+        Class::Parity => best.parity,
+    }
+}
 
 impl Book {
+    /// What a group holds: how many of its slots name a block, the lowest that names none, and the oldest block in it, where it is
+    /// mirrored.
+    pub fn summary(&self, group: u32) -> Summary
+        requires { group < length self.now.groups }
+        ensures used { result.used ≡ used (group_in self.now.groups group) }
+        ensures found { IfSome result.lowest_hole (IsHoleOf self.now group) }
+        ensures least { IfSome result.lowest_hole (λ slot. (i : ℕ) → IsHoleOf self.now group i → slot ≤ i) }
+        ensures none { IfNone result.lowest_hole ((i : ℕ) → IsHoleOf self.now group i → ⊥) }
+        ensures oldest { result.oldest ≡ option_map (λ age. age.key) (oldest_in self.now group) }
+    {
+        let choices = choices_of(
+            &self.groups[group as usize],
+            group,
+            self.geometry,
+            &self.units,
+            &mut Steps::new(),
+        );
+        Summary {
+            used: self.used(group),
+            lowest_hole: self.lowest_hole(group),
+            oldest: match choices.oldest {
+                Some(age) => Some(age.key),
+                None => None,
+            },
+        }
+    }
+
     /// The lowest slot of a group that names no block, or None where each of its class's slots names one.
     pub fn lowest_hole(&self, group: u32) -> Option<u16>
         requires { group < length self.now.groups }
@@ -15,37 +58,42 @@ impl Book {
         ensures least { IfSome result (λ slot. (i : ℕ) → IsHoleOf self.now group i → slot ≤ i) }
         ensures none { IfNone result ((i : ℕ) → IsHoleOf self.now group i → ⊥) }
     {
+        self.scan(group, &mut Steps::new())
+    }
+
+    // The lowest slot of a group that names no block. A step is a slot.
+    fn scan(&self, group: u32, steps: &mut Steps) -> Option<u16>
+        requires { group < length self.now.groups }
+        ensures found { IfSome result (IsHoleOf self.now group) }
+        ensures least { IfSome result (λ slot. (i : ℕ) → IsHoleOf self.now group i → slot ≤ i) }
+        ensures none { IfNone result ((i : ℕ) → IsHoleOf self.now group i → ⊥) }
+        ensures few { steps.new.count ≤ steps.old.count + 3 * rows_of self.now.geometry }
+    {
         let group = &self.groups[group as usize];
-        group.lowest_hole(slots_of(self.geometry, group.class()))
+        group.lowest_hole(slots_of(self.geometry, group.class()), steps)
     }
 
     /// The lowest hole of a class: in the lowest group of the class that has one, its lowest.
-    pub fn hole(&self, class: Class) -> Option<Slot>
+    pub fn hole(&self, class: Class, steps: &mut Steps) -> Option<Slot>
         ensures found { IfSome result (IsHole self.now class) }
         ensures least { IfSome result (λ slot. (other : Slot) → IsHole self.now class other → IsUpTo slot other) }
         ensures none { IfNone result ((other : Slot) → IsHole self.now class other → ⊥) }
+        ensures few { length self.now.groups ≤ 4096 → steps.new.count ≤ steps.old.count + (8 * rows_of self.now.geometry + 120) }
     {
-        for number in 0..self.groups() {
-            if let Some(slot) = self.hole_in(class, number) {
-                return Some(slot);
-            }
-        }
-        None
+        let group = self.open(class)?;
+        let slot = self.scan(group, steps)?;
+        Some(Slot { group, slot })
     }
 
-    // The lowest hole of a group, where it is of a class.
-    fn hole_in(&self, class: Class, group: u32) -> Option<Slot>
-        requires { group < length self.now.groups }
-        ensures found { IfSome result (IsHole self.now class) }
-        ensures group { IfSome result (λ slot. slot.group ≡ group) }
-        ensures least { IfSome result (λ slot. (other : Slot) → other.group ≡ group → IsHole self.now class other → IsUpTo slot other) }
-        ensures none { IfNone result ((other : Slot) → other.group ≡ group → IsHole self.now class other → ⊥) }
+    // The lowest group of a class that has a hole.
+    fn open(&self, class: Class) -> Option<u32>
+        ensures there { IfSome result (λ group. group < length self.now.groups) }
+        ensures class { IfSome result (λ group. class_of self.now group ≡ class) }
+        ensures some { IfSome result (λ group. ((i : ℕ) → IsHoleOf self.now group i → ⊥) → ⊥) }
+        ensures least { IfSome result (λ group. (other : Slot) → IsHole self.now class other → group ≤ other.group) }
+        ensures none { IfNone result ((other : Slot) → IsHole self.now class other → ⊥) }
     {
-        if self.class(group) != class {
-            return None;
-        }
-        let slot = self.lowest_hole(group)?;
-        Some(Slot { group, slot })
+        open_of(&self.index.best(), class)
     }
 
     /// The lowest mirrored group, where a block waits for a home, no group has a hole, and one group is free: then there is one, and

@@ -1,9 +1,9 @@
 // Reads and writes of one slot or one home in the lists that the book keeps.
-ghost use Rattle.std.specs.Prelude.{◌≡◌, ◌<◌, ◌≤◌, length, fold, count_by, ◌++◌, [], ◌∷◌, slice_set, false, None, OnOk, OnErr, IfNone, IsSome};
+ghost use Rattle.std.specs.Prelude.{◌≡◌, ◌<◌, ◌≤◌, length, fold, ◌++◌, [], ◌∷◌, slice_set, false, None, OnOk, OnErr, IfNone, IsSome};
 ghost use Rattle.std.specs.Map.{lookup, keys_of, set_value, remove_entry};
 ghost use Rattle.std.specs.List.{IsDistinct};
 ghost use Rattle.std.specs.Option.{ForSome};
-ghost use Rattle.ar_book.specs.Tables.{is_free, level_in, group_in, key_in, home_in, unit_in, blocks_of, same_addr};
+ghost use Rattle.ar_book.specs.Tables.{level_in, group_in, key_in, home_in, unit_in, blocks_of, same_addr};
 ghost use Rattle.ar_book.specs.Book.{AreHomes};
 ghost use Rattle.ar_book.specs.Changes.{named, vacated, homed, restamped, new_unit, longer, with_place_at};
 
@@ -11,13 +11,6 @@ use crate::{Class, Group, Level, Slot, UnitTable};
 use ar_disks::{Addr, Geometry, Key, Place};
 use indexmap::IndexMap;
 use std::alloc::{AllocError, Global};
-
-/// How many groups are free.
-pub(crate) fn free_count(groups: &[Group]) -> usize
-    ensures { result ≡ count_by (λ group. is_free group.class) groups.now }
-{
-    groups.iter().filter(|group| group.is_free()).count()
-}
 
 /// The block that a slot names; None where there is no such slot.
 pub(crate) fn key_in(groups: &[Group], slot: Slot) -> Option<Key>

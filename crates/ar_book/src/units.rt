@@ -9,6 +9,7 @@ ghost use Rattle.ar_book.specs.Tables.{key_at, home, level, stamp_of, has_unit, 
 ghost use Rattle.ar_book.specs.Changes.{made, grown, dropped};
 ghost use Rattle.ar_book.specs.Refusals.{make_refusal, grow_refusal};
 
+use crate::index::refresh_all;
 use crate::tables::{add_unit, grow_unit, take_unit, vacate_all};
 use crate::unit::blocks_of;
 use crate::{Book, Refusal};
@@ -125,6 +126,8 @@ impl Book {
         };
         vacate_all(&mut self.groups, unit.homes());
         self.reserved -= unit.blocks() as u32;
+        // The places of the units behind it have changed, and so has the order that the tree knows blocks by.
+        refresh_all(&mut self.index, &self.groups, &self.units, self.geometry);
         Ok(())
     }
 }

@@ -6,6 +6,7 @@ ghost use Rattle.ar_book.specs.Choices.{IsUnused, AreUnused};
 use crate::names::{Unit, addr, key, unit};
 use ar_book::{Book, Class, Level, Refusal, Slot};
 use ar_disks::{Addr, Key, Members, Place};
+use ar_index::Steps;
 use std::process::Abort;
 
 #[derive(Clone, Copy)]
@@ -138,9 +139,9 @@ fn told(rt: &impl Abort, book: &Book, call: Call) -> Answer {
         Call::Groups => number(book.groups()),
         Call::FreeGroups => number(book.free_groups()),
         Call::GroupAt(place) => some_number(book.group_at(place)),
-        Call::Hole(class) => slot(book.hole(class)),
+        Call::Hole(class) => slot(book.hole(class, &mut Steps::new())),
         Call::KeyAt(group, slot) => block(book.key_at(Slot { group, slot })),
-        Call::OldestMirrored => block(book.oldest_mirrored()),
+        Call::OldestMirrored => block(book.oldest_mirrored(&mut Steps::new())),
         Call::SectorsOfABlock => number(book.geometry().sectors()),
         Call::Room => number(book.room()),
         Call::Units => Answer::Number(book.units() as u64),
@@ -203,8 +204,8 @@ fn full_mirrored(book: &Book, waiting: Key) -> Answer {
     if waiting.rb >= book.blocks(waiting.addr) || book.home(waiting).is_some() {
         return Answer::Nothing;
     }
-    if book.hole(Class::Mirrored).is_some()
-        || book.hole(Class::Parity).is_some()
+    if book.hole(Class::Mirrored, &mut Steps::new()).is_some()
+        || book.hole(Class::Parity, &mut Steps::new()).is_some()
         || book.free_groups() != 1
     {
         return Answer::Nothing;
@@ -279,8 +280,8 @@ fn set_member(book: &mut Book, group: u32, position: u8, place: Place) -> Answer
 fn open(book: &mut Book, class: Class) -> Answer {
     match class {
         Class::Free => Answer::Nothing,
-        Class::Mirrored => some_number(book.open_group(Class::Mirrored)),
-        Class::Parity => some_number(book.open_group(Class::Parity)),
+        Class::Mirrored => some_number(book.open_group(Class::Mirrored, &mut Steps::new())),
+        Class::Parity => some_number(book.open_group(Class::Parity, &mut Steps::new())),
     }
 }
 
@@ -298,13 +299,13 @@ fn clear_attention(book: &mut Book, addr: Addr) -> Answer {
 }
 
 fn place(book: &mut Book, key: Key, class: Class) -> Answer {
-    let Some(hole) = book.hole(class) else {
+    let Some(hole) = book.hole(class, &mut Steps::new()) else {
         return Answer::Nothing;
     };
     if key.rb >= book.blocks(key.addr) {
         return Answer::Nothing;
     }
-    book.assign(key, hole);
+    book.assign(key, hole, &mut Steps::new());
     slot(Some(hole))
 }
 
@@ -337,7 +338,7 @@ fn release(book: &mut Book, key: Key) -> Answer {
     if key.rb >= book.blocks(key.addr) {
         return Answer::Nothing;
     }
-    book.release(key);
+    book.release(key, &mut Steps::new());
     Answer::Done
 }
 
@@ -345,7 +346,7 @@ fn stamp(book: &mut Book, key: Key) -> Answer {
     if key.rb >= book.blocks(key.addr) {
         return Answer::Nothing;
     }
-    book.stamp(key);
+    book.stamp(key, &mut Steps::new());
     Answer::Done
 }
 

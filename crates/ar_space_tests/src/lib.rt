@@ -8,6 +8,8 @@ mod cache;
 #[cfg(test)]
 mod calls;
 #[cfg(test)]
+mod many;
+#[cfg(test)]
 mod names;
 #[cfg(test)]
 mod plain;

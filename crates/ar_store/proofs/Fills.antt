@@ -5,20 +5,21 @@ use Rattle.ar_disks.specs.Geometry.{block_len_of}
 use Rattle.ar_extents.specs.declared.health.Health.TheVariants.{Broken}
 use Rattle.ar_extents.specs.declared.outcome.Outcome.TheVariants.{Done, Broken as NotDone}
 use Rattle.ar_extents.specs.Set.{SetState}
-use Rattle.ar_extents.specs.Follows.{Follows}
+use Rattle.ar_extents.specs.Follows.{Follows, Keeps, Anywhere}
 use Rattle.ar_extents.proofs.Follows.{follows_refl, follows_then}
 use Rattle.ar_book.specs.declared.class.Slot.{Slot}
-use Rattle.ar_book.specs.Tables.{Tables, home, free_groups, HasBlock}
+use Rattle.ar_book.specs.Tables.{Tables, home, class_of, free_groups, HasBlock, HasSlot}
 use Rattle.ar_book.specs.Changes.{assigned, stamped}
-use Rattle.ar_book.proofs.AfterAssign.{assigned_free_groups}
+use Rattle.ar_book.proofs.AfterAssign.{assigned_free_groups, assigned_members, assigned_class_here}
 use Rattle.ar_book.proofs.Homes.{home_key, home_block}
 use Rattle.ar_book.proofs.Keys.{key_tells}
 use Rattle.ar_store.specs.Store.{StoreState, store_of}
-use Rattle.ar_store.specs.Slots.{SlotHolds, HoldsBlock, stands, AllStand, OthersStand, SlotsHold, OtherSlotsHold}
+use Rattle.ar_store.specs.Slots.{SlotHolds, HoldsBlock, stands, AllStand, OthersStand, SlotsHold, OtherSlotsHold, BesideHold}
 use Rattle.ar_store.specs.Kept.{IsSpace}
 use Rattle.ar_store.specs.Calls.{IsAccessed}
 use Rattle.ar_store.specs.Placing.{IsVacant, SameUnits}
-use Rattle.ar_store.proofs.Standing.{hole_stand, others_stand, home_apart, stands_held, was_sound}
+use Rattle.ar_store.proofs.Standing.{holds_same, hole_stand, others_stand, home_apart, stands_held, was_sound}
+use Rattle.ar_store.proofs.Spaces.{slots_read}
 use Rattle.ar_store.proofs.Changes.{space_moved, others_moved, block_moved, units_assigned, space_stamped, all_stamped, others_stamped, units_stamped, units_then, block_then}
 
 -- no access
@@ -58,6 +59,36 @@ filled a b t u k s block space_a space_b has vacant len access slots here is =
             ∙ (hole_stand a b t s space_a space_b access.follows slots vacant.empty).blocks sound j;
       };
     })
+
+-- and the other slots of the hole's group hold what they held
+pub beside_filled : (a b : SetState) (t u : Tables) (k : Key) (s : Slot) → IsSpace (store_of a t) → HasBlock t k → IsVacant t s
+    → OtherSlotsHold (store_of a t) (store_of b t) s → u ≡ assigned t k s → BesideHold (store_of a t) (store_of b u) s
+beside_filled a b t u k s space has vacant slots is =
+    subst (λ (x : Tables). BesideHold (store_of a t) (store_of b x) s) (sym is) (record {
+      slots = λ slot block there same ne holds.
+          holds_same b t (assigned t k s) slot block (subst (λ n. class_of (assigned t k s) n ≡ class_of t n) (sym same)
+          (assigned_class_here t k s space.tables has vacant.there vacant.empty)) (assigned_members t k s slot.group)
+          (slots.slots slot block there ne holds);
+    })
+
+-- Where the tables are the same they do as well.
+pub beside_same : (a b : StoreState) (s : Slot) → OtherSlotsHold a b s → BesideHold a b s
+beside_same a b s slots = record { slots = λ slot block there same ne holds. slots.slots slot block there ne holds }
+
+-- So it is after a read before the write,
+pub beside_then : (a b : SetState) (t u : Tables) (c : StoreState) (s : Slot) → u ≡ t → Follows a b → Keeps Anywhere a b → BesideHold (store_of b u) c s → BesideHold (store_of a t) c s
+beside_then a b t u c s is ab keeps beside = record {
+  slots = λ slot block there same ne holds.
+      beside.slots slot block (subst (λ (x : Tables). HasSlot x slot) (sym is) there) same ne
+      (subst (λ (x : Tables). SlotHolds (store_of b x) slot block) (sym is) ((slots_read a b t ab keeps).slots slot block there holds));
+}
+
+-- and after a read alone.
+pub beside_read : (a b : SetState) (t u : Tables) (s : Slot) → u ≡ t → Follows a b → Keeps Anywhere a b → BesideHold (store_of a t) (store_of b u) s
+beside_read a b t u s is ab keeps = record {
+  slots = λ slot block there same ne holds.
+      subst (λ (x : Tables). SlotHolds (store_of b x) slot block) (sym is) ((slots_read a b t ab keeps).slots slot block there holds);
+}
 
 -- A block was written to its home.
 pub record IsRewritten (a b : SetState) (t : Tables) (k : Key) (block : List ℕ) : Type 0 where

@@ -1,5 +1,5 @@
 -- What calls answer, and what they leave as it was.
-use Rattle.std.specs.Prelude.{◌≡◌, ℕ, ◌*◌, ◌≤◌, ◌<◌}
+use Rattle.std.specs.Prelude.{◌≡◌, ℕ, ◌*◌, ◌≤◌, ◌<◌, ◌⊎◌}
 use Rattle.ar_disks.specs.Block.{zeros}
 use Rattle.ar_disks.specs.Geometry.{rows_of, block_len_of}
 use Rattle.ar_extents.specs.Set.{SetState}
@@ -38,6 +38,11 @@ pub record HasNoneToOpen (old new : StoreState) : Type 0 where
   pub few : free_groups old.book < 2
   pub same : new ≡ old
 
+-- the disks are broken: none was opened, or the one that would have been
+pub record IsCutShort (old new : StoreState) (class : Class) : Type 0 where
+  pub broken : new.disks.health ≡ AllBroken
+  pub tables : (new.book ≡ old.book) ⊎ ((group : ℕ) × IsOpened old.book new.book class group)
+
 -- each slot of a group with parity holds the zero block
 pub record HoldsZeros (s : StoreState) (group : ℕ) : Type 0 where
   pub slots : (i : ℕ) → i < 3 * rows_of s.disks.geometry → SlotHolds s (slot_at group i) (zeros (block_len_of s.disks.geometry))
@@ -52,4 +57,4 @@ IfOpened NotOpened P = Unit {0}
 abbrev pub Opens : StoreState → StoreState → Class → Opening → Type 0
 Opens old new class (Opened group) = IsOpened old.book new.book class group
 Opens old new class Idle = HasNoneToOpen old new
-Opens old new class NotOpened = new.disks.health ≡ AllBroken
+Opens old new class NotOpened = IsCutShort old new class

@@ -81,6 +81,10 @@ pub record SlotsHold (old new : StoreState) : Type 0 where
 pub record OtherSlotsHold (old new : StoreState) (written : Slot) : Type 0 where
   pub slots : (slot : Slot) (block : List ℕ) → HasSlot old.book slot → slot ≢ written → SlotHolds old slot block → SlotHolds new slot block
 
+-- every other slot of a slot's group that held a block holds it
+pub record BesideHold (old new : StoreState) (written : Slot) : Type 0 where
+  pub slots : (slot : Slot) (block : List ℕ) → HasSlot old.book slot → slot.group ≡ written.group → slot ≢ written → SlotHolds old slot block → SlotHolds new slot block
+
 -- with one disk lost, and anything on it, every block stands as it does now
 pub record SurvivesLossOf (s : StoreState) (d : ℕ) : Type 0 where
   pub blocks : (disk : DiskState) (k : Key) → stands (store_of (without_disk s.disks d disk) s.book) k ≡ stands s k

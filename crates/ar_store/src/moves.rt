@@ -5,6 +5,7 @@ use crate::way::Way;
 use ar_book::Slot;
 use ar_disks::{Block, Disk, Key};
 use ar_extents::Outcome;
+use ar_index::Steps;
 
 impl<D: Disk> Space<D> {
     ghost use Rattle.std.specs.Prelude.{◌≡◌, ◌≤◌, length, IsSome};
@@ -12,7 +13,7 @@ impl<D: Disk> Space<D> {
     ghost use Rattle.ar_extents.specs.Groups.{outcome_of};
     ghost use Rattle.ar_book.specs.Tables.{home, free_groups, HasBlock};
     ghost use Rattle.ar_book.specs.Changes.{assigned, stamped};
-    ghost use Rattle.ar_store.specs.Slots.{stands, AllStand, OthersStand};
+    ghost use Rattle.ar_store.specs.Slots.{stands, AllStand, OthersStand, BesideHold};
     ghost use Rattle.ar_store.specs.Placing.{IsVacant, IsReadyFor, placed_by};
     ghost use Rattle.ar_store.specs.Spaces.{store_in, IsReady, Stays};
 
@@ -27,6 +28,7 @@ impl<D: Disk> Space<D> {
         ensures unmoved { result ≡ Outcome.Broken → self.new.book ≡ self.old.book }
         ensures free { free_groups self.old.book ≤ free_groups self.new.book }
         ensures stand { AllStand (store_in self.old) (store_in self.new) }
+        ensures beside { BesideHold (store_in self.old) (store_in self.new) to }
         ensures stays { Stays self.old self.new }
         ensures len { length block.new ≡ length block.old }
     {
@@ -51,11 +53,12 @@ impl<D: Disk> Space<D> {
         ensures free { free_groups self.old.book ≤ free_groups self.new.book }
         ensures here { result ≡ Outcome.Done → stands (store_in self.new) key ≡ from.now }
         ensures others { OthersStand (store_in self.old) (store_in self.new) key }
+        ensures beside { BesideHold (store_in self.old) (store_in self.new) to }
         ensures stays { Stays self.old self.new }
     {
         match self.write_at(to, from) {
             Outcome::Done => {
-                self.book.assign(key, to);
+                self.book.assign(key, to, &mut Steps::new());
                 Outcome::Done
             }
             Outcome::Broken => Outcome::Broken,
@@ -78,7 +81,7 @@ impl<D: Disk> Space<D> {
     {
         match self.write_by(key, way, from) {
             Outcome::Done => {
-                self.book.stamp(key);
+                self.book.stamp(key, &mut Steps::new());
                 Outcome::Done
             }
             Outcome::Broken => Outcome::Broken,

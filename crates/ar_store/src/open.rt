@@ -4,6 +4,7 @@ use crate::space::Space;
 use ar_book::Class;
 use ar_disks::Disk;
 use ar_extents::Outcome;
+use ar_index::Steps;
 
 /// Whether a group was opened.
 #[derive(Clone, Copy, Debug, PartialEq, Eq)]
@@ -43,7 +44,7 @@ impl<D: Disk> Space<D> {
         ensures stand { AllStand (store_in self.old) (store_in self.new) }
         ensures stays { Stays self.old self.new }
     {
-        let Some(group) = self.book.open_group(class) else {
+        let Some(group) = self.book.open_group(class, &mut Steps::new()) else {
             return Opening::Idle;
         };
         match class {

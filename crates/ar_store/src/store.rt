@@ -37,7 +37,7 @@ impl<D: Disk> Store<D> {
     ghost use Rattle.ar_extents.specs.Follows.{Keeps, Anywhere};
     ghost use Rattle.ar_book.specs.Tables.{home, HasBlock};
     ghost use Rattle.ar_book.specs.Changes.{Moved};
-    ghost use Rattle.ar_store.specs.Slots.{stands, AllStand, OthersStand, SurvivesLossOf};
+    ghost use Rattle.ar_store.specs.Slots.{stands, AllStand, OthersStand, BesideHold, SurvivesLossOf};
     ghost use Rattle.ar_store.specs.Kept.{IsKept};
     ghost use Rattle.ar_store.specs.Placing.{Puts, SameUnits, IsVacant};
     ghost use Rattle.ar_store.specs.Calls.{IsAccessed, Opens, IfOpened, HoldsZeros};
@@ -139,8 +139,8 @@ impl<D: Disk> Store<D> {
         self.space.write(key, way, &self.block)
     }
 
-    /// Moves a block from its home to a slot that names none. The new slot is written before the old one is left; the stamp stays.
-    /// After `Broken` the block has its old home; of a store that was broken before nothing has changed.
+    /// Moves a block from its home to a slot that names none. The new slot is written before the old one is left; the stamp stays,
+    /// and so does what the other slots of the new one's group hold. After `Broken` the block has its old home; of a store that was broken before nothing has changed.
     pub fn move_rb(&mut self, key: Key, slot: Slot) -> Outcome
         requires placed { IsSome (home self.old.book key) }
         requires hole { IsVacant self.old.book slot }
@@ -148,6 +148,7 @@ impl<D: Disk> Store<D> {
         ensures moved { result ≡ Outcome.Done → Moved self.old.book key slot self.new.book }
         ensures unmoved { result ≡ Outcome.Broken → self.new.book ≡ self.old.book }
         ensures stands { AllStand self.old self.new }
+        ensures beside { BesideHold self.old self.new slot }
         ensures units { SameUnits self.old.book self.new.book }
         ensures accessed { IsAccessed self.old.disks self.new.disks }
         ensures broken { self.old.disks.health ≡ Health.Broken → self.new ≡ self.old }
@@ -159,7 +160,8 @@ impl<D: Disk> Store<D> {
     }
 
     /// Opens the lowest free group for mirrored blocks or for parity, while two are free. A group that is opened for parity is filled
-    /// with zeros. `Broken` says that the disks are; of a store that was broken before nothing has changed.
+    /// with zeros. `Broken` says that the disks are: the group may have been opened then, but of a store that was broken before nothing
+    /// has changed.
     pub fn open_group(&mut self, class: Class) -> Opening
         requires { class ≢ Class.Free }
         ensures opens { Opens self.old self.new class result }

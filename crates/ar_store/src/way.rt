@@ -11,6 +11,7 @@ ghost use Rattle.ar_store.specs.Spaces.{store_in, IsReady, Stays};
 use crate::space::Space;
 use ar_book::{Book, Class, Level, Slot};
 use ar_disks::{Block, Disk, Key};
+use ar_index::Steps;
 
 /// The slot that a block goes to.
 #[derive(Clone, Copy)]
@@ -60,7 +61,7 @@ fn way_in(book: &mut Book, key: Key) -> Option<Way>
         if let Some(slot) = mirrored_hole(book) {
             return Some(Way::Hole(slot));
         }
-        let slot = book.hole(Class::Parity)?;
+        let slot = book.hole(Class::Parity, &mut Steps::new())?;
         return Some(Way::Hole(slot));
     };
     match book.level(key) {
@@ -78,9 +79,9 @@ fn mirrored_hole(book: &mut Book) -> Option<Slot>
     ensures none { IfNone result (HasNoMirroredHole book.old book.new) }
     ensures opens { MayOpen book.old book.new }
 {
-    if let Some(slot) = book.hole(Class::Mirrored) {
+    if let Some(slot) = book.hole(Class::Mirrored, &mut Steps::new()) {
         return Some(slot);
     }
-    let group = book.open_group(Class::Mirrored)?;
+    let group = book.open_group(Class::Mirrored, &mut Steps::new())?;
     Some(Slot { group, slot: 0 })
 }

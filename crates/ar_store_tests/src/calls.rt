@@ -9,6 +9,7 @@ use crate::fixtures::{byte_of, filled};
 use ar_book::{Class, Level, Slot};
 use ar_disks::{Addr, Block, FuseDisk, Host, Key, Place};
 use ar_extents::{DiskRefusal, Got, Health};
+use ar_index::Steps;
 use ar_store::{Opening, Outcome, Store};
 use std::alloc::{AllocError, Global};
 use std::process::Abort;
@@ -191,7 +192,10 @@ fn place(store: &mut Store<FuseDisk>, rb: u32) -> Answer {
 
 fn move_to_hole(store: &mut Store<FuseDisk>, rb: u32, class: Class) -> Answer {
     let key = key(rb);
-    let (Some(_), Some(slot)) = (store.book().home(key), store.book().hole(class)) else {
+    let (Some(_), Some(slot)) = (
+        store.book().home(key),
+        store.book().hole(class, &mut Steps::new()),
+    ) else {
         return Answer::Unfit;
     };
     match store.move_rb(key, slot) {

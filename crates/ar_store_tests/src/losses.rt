@@ -1,14 +1,13 @@
 // A disk lost at each of its calls, and how many calls it gets.
 use crate::fixtures::{SMALL, Shape, WHOLE};
-use crate::placing::PROMOTED;
-use crate::rig::Rig;
+use crate::placing::{PROMOTED, Story, health_after};
 use ar_extents::Health;
 use std::alloc::Global;
 use std::process::Abort;
 use std::test::Fail;
 
 /// What is done with a store while a disk is lost.
-#[derive(Clone, Copy, Debug)]
+#[derive(Clone, Copy)]
 enum Doing {
     /// Twelve blocks are written on three groups, which takes two squeezes, and then read.
     Squeezes,
@@ -16,38 +15,35 @@ enum Doing {
     Promotion,
 }
 
-fn shape(doing: Doing, fuses: [u64; 4]) -> Shape {
-    let extents = match doing {
-        Doing::Squeezes => 3,
-        Doing::Promotion => 4,
-    };
-    Shape {
-        extents,
-        fuses,
-        ..SMALL
-    }
-}
-
-fn play(rt: &impl Abort, rig: &mut Rig, doing: Doing) -> Result<(), Fail> {
-    match doing {
-        Doing::Squeezes => {
-            rig.fills(rt)?;
-            rig.reads(rt, 12, 1)
+impl Doing {
+    fn extents(self) -> u16 {
+        match self {
+            Doing::Squeezes => 3,
+            Doing::Promotion => 4,
         }
-        Doing::Promotion => rig.plays(rt, &PROMOTED),
+    }
+
+    fn story(self) -> Story<'static> {
+        match self {
+            Doing::Squeezes => Story::FillAndRead,
+            Doing::Promotion => Story::Steps(&PROMOTED),
+        }
     }
 }
 
 // The health after it, where no answer is another than on sound disks.
-fn health_after(
+fn health_of(
     rt: &impl Abort,
     alloc: Global,
     doing: Doing,
     fuses: [u64; 4],
 ) -> Result<Health, Fail> {
-    let mut rig = Rig::new(alloc, shape(doing, fuses))?;
-    play(rt, &mut rig, doing)?;
-    Ok(rig.health())
+    let shape = Shape {
+        extents: doing.extents(),
+        fuses,
+        ..SMALL
+    };
+    health_after(rt, alloc, shape, doing.story())
 }
 
 // The fuses where one disk passes so many calls.
@@ -73,10 +69,10 @@ fn is_lost_at_each_call(
     calls: u64,
 ) -> Result<(), Fail> {
     for passed in 0..calls {
-        let health = health_after(rt, alloc, doing, fused(lost, passed))?;
+        let health = health_of(rt, alloc, doing, fused(lost, passed))?;
         is_health(rt, health, Health::Out(lost), passed);
     }
-    let health = health_after(rt, alloc, doing, fused(lost, calls))?;
+    let health = health_of(rt, alloc, doing, fused(lost, calls))?;
     is_health(rt, health, Health::Whole, calls);
     Ok(())
 }

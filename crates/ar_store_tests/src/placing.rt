@@ -44,10 +44,12 @@ fn play(rt: &impl Abort, alloc: Global, shape: Shape, steps: &[Step]) -> Result<
     tell(rt, alloc, shape, Story::Steps(steps))
 }
 
-// What is done with a store that isn't a table alone.
+/// What is done with a store.
 #[derive(Clone, Copy)]
-enum Story<'a> {
+pub enum Story<'a> {
     Steps(&'a [Step]),
+    /// Twelve blocks are written on three groups, which takes two squeezes, and then read.
+    FillAndRead,
     Squeeze,
     WriteAgainAndRemove,
     FillTwice,
@@ -55,18 +57,40 @@ enum Story<'a> {
 }
 
 fn tell(rt: &impl Abort, alloc: Global, shape: Shape, story: Story) -> Result<(), Fail> {
+    health_after(rt, alloc, shape, story)?;
+    Ok(())
+}
+
+/// What a new store says of its disks after a story. (Only this function owns a rig, since each that does costs its proof the more.)
+pub fn health_after(
+    rt: &impl Abort,
+    alloc: Global,
+    shape: Shape,
+    story: Story,
+) -> Result<Health, Fail> {
     let mut rig = Rig::new(alloc, shape)?;
     go_on(rt, &mut rig, shape, story)
 }
 
-fn go_on(rt: &impl Abort, rig: &mut Rig, shape: Shape, story: Story) -> Result<(), Fail> {
+fn go_on(rt: &impl Abort, rig: &mut Rig, shape: Shape, story: Story) -> Result<Health, Fail> {
+    act(rt, rig, shape, story)?;
+    Ok(rig.health())
+}
+
+fn act(rt: &impl Abort, rig: &mut Rig, shape: Shape, story: Story) -> Result<(), Fail> {
     match story {
         Story::Steps(steps) => rig.plays(rt, steps),
+        Story::FillAndRead => fill_and_read(rt, rig),
         Story::Squeeze => squeeze(rt, rig),
         Story::WriteAgainAndRemove => write_again_and_remove(rt, rig),
         Story::FillTwice => fill_twice(rt, rig, shape.geometry.sectors()),
         Story::Growth => grow(rt, rig),
     }
+}
+
+fn fill_and_read(rt: &impl Abort, rig: &mut Rig) -> Result<(), Fail> {
+    rig.fills(rt)?;
+    rig.reads(rt, 12, 1)
 }
 
 fn row(disk: u8, extent: u16, row: u16) -> Call {

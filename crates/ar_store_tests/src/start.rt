@@ -1,6 +1,6 @@
 // How stores begin, with groups worked by hand. Of the memory that is taken any one allocation may be refused, as a run with
 // `--fail-alloc` does: the disks come back, and a second start takes them.
-ghost use Rattle.std.specs.Prelude.{◌≤◌, All, map, IfOk, length};
+ghost use Rattle.std.specs.Prelude.{◌≡◌, ◌≤◌, All, map, IfOk, IfSome, length};
 ghost use Rattle.ar_extents.specs.Set.{CanCount};
 
 use crate::fixtures::{SMALL, Shape, fused_disk, fused_disks};
@@ -18,20 +18,6 @@ fn of(disks: u8, extents: u16) -> Shape {
         disks,
         extents,
         ..SMALL
-    }
-}
-
-// Starts a store, a second time where memory is refused at first.
-fn begin(rt: &impl Abort, alloc: Global, shape: Shape) -> Result<Store<FuseDisk>, Fail> {
-    match Store::start(alloc, fused_disks(alloc, shape)?) {
-        Ok(store) => Ok(store),
-        Err((fault, back)) => {
-            is_refused(rt, shape, (fault, back.len()), StartFault::NoMemory);
-            match Store::start(alloc, back) {
-                Ok(store) => Ok(store),
-                Err((fault, _)) => Err(Fail::new(fault)),
-            }
-        }
     }
 }
 
@@ -105,10 +91,39 @@ fn is_formed(rt: &impl Abort, store: &Store<FuseDisk>, formed: Formed) {
     }
 }
 
+// Starts a store, and compares what it is formed of where that is given. Disks of which none is made come back, with the reason. (Only
+// this function owns a store, since each that does costs its proof the more.)
+fn begin(
+    rt: &impl Abort,
+    alloc: Global,
+    disks: Vec<FuseDisk>,
+    formed: Option<Formed>,
+) -> Option<(StartFault, Vec<FuseDisk>)>
+    requires { All CanCount (map (λ disk. disk.disk) disks.items) }
+    ensures { IfSome result (λ back. back.1 ≡ disks) }
+{
+    match Store::start(alloc, disks) {
+        Ok(store) => {
+            if let Some(formed) = formed {
+                is_formed(rt, &store, formed);
+            }
+            None
+        }
+        Err(back) => Some(back),
+    }
+}
+
+// Starts a store, a second time where memory is refused at first.
 fn forms(rt: &impl Abort, alloc: Global, shape: Shape, formed: Formed) -> Result<(), Fail> {
-    let store = begin(rt, alloc, shape)?;
-    is_formed(rt, &store, formed);
-    Ok(())
+    let disks = fused_disks(alloc, shape)?;
+    let Some((fault, back)) = begin(rt, alloc, disks, Some(formed)) else {
+        return Ok(());
+    };
+    is_refused(rt, shape, (fault, back.len()), StartFault::NoMemory);
+    match begin(rt, alloc, back, Some(formed)) {
+        None => Ok(()),
+        Some((fault, _)) => Err(Fail::new(fault)),
+    }
 }
 
 #[test]
@@ -180,9 +195,9 @@ fn start_refuses(
     shape: Shape,
     fault: StartFault,
 ) -> Result<(), Fail> {
-    match Store::start(alloc, fused_disks(alloc, shape)?) {
-        Ok(_) => Err(Fail::new("a store was made of too few disks, too many or none")),
-        Err((met, back)) => {
+    match begin(rt, alloc, fused_disks(alloc, shape)?, None) {
+        None => Err(Fail::new("a store was made of too few disks, too many or none")),
+        Some((met, back)) => {
             is_refused(rt, shape, (met, back.len()), fault);
             Ok(())
         }
@@ -210,17 +225,21 @@ fn unlike(alloc: Global) -> Result<Vec<FuseDisk>, AllocError>
     Ok(unlike)
 }
 
-fn extents_of_last(disks: &[FuseDisk]) -> Option<u16> {
-    disks.last().map(Disk::extents)
+// How long the last disk is.
+fn has_last_of(rt: &impl Abort, disks: &[FuseDisk], extents: u16) {
+    assert!(rt;
+        disks.last().map(Disk::extents) == Some(extents),
+        "the last disk"
+    );
 }
 
 #[test]
 fn a_disk_of_another_length_is_handed_back(rt: HostRuntime) -> Result<(), Fail> {
-    match Store::start(rt.alloc(), unlike(rt.alloc())?) {
-        Ok(_) => Err(Fail::new("a store was made of unlike disks")),
-        Err((met, back)) => {
+    match begin(&rt, rt.alloc(), unlike(rt.alloc())?, None) {
+        None => Err(Fail::new("a store was made of unlike disks")),
+        Some((met, back)) => {
             is_refused(&rt, of(4, 2), (met, back.len()), StartFault::WrongSize);
-            assert!(rt; extents_of_last(&back) == Some(3), "the last disk");
+            has_last_of(&rt, &back, 3);
             Ok(())
         }
     }

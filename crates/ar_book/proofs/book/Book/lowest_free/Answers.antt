@@ -1,8 +1,18 @@
-use Rattle.std.proofs.Common.{arith}
-use Rattle.ar_book.proofs.GroupLemmas.{no_free}
+use Rattle.std.proofs.Common.{◌≡◌, ◌∙◌, sym, ap, subst, arith}
+use Rattle.ar_index.specs.Choices.{search_all}
+use Rattle.ar_book.specs.Tables.{Tables, free_groups}
+use Rattle.ar_book.specs.Choices.{IsLowestFree}
+use Rattle.ar_book.proofs.Searches.{lowest_found, lowest_none}
+use Rattle.ar_book.specs.contracts.book.Book.{the_view}
 use Rattle.ar_book.proofs.book.Book.lowest_free.Goals as goal
 
 pub unreachable-requires : goal.unreachable-requires
 unreachable-requires c =
-    let none = no_free c.args.self.now.groups (λ h l e. c.loop-number.invariant h (omega (arith, l, c.groups-number-end.ensures.count)) e) in
+    let none : free_groups (the_view c.self.inside) ≡ 0 = lowest_none (the_view c.self.inside) (ap (λ l. (search_all l).free) (sym c.self.invariant.leaves) ∙ ap (λ x. x.free) (sym c.best.ensures) ∙ c.in-None.is) in
+    let same : free_groups (the_view c.self.inside) ≡ free_groups c.args.self.now = ap free_groups c.self.view_is in
     omega (arith, c.requires)
+
+pub returns : goal.returns
+returns c =
+    subst (λ (x : Tables). IsLowestFree x c.in-Some.number) c.self.view_is
+    (lowest_found (the_view c.self.inside) c.in-Some.number (ap (λ l. (search_all l).free) (sym c.self.invariant.leaves) ∙ ap (λ x. x.free) (sym c.best.ensures) ∙ c.in-Some.is))

@@ -1,3 +1,4 @@
+use Rattle.ar_book.proofs.IndexAfter.{made_leaves}
 use Rattle.std.proofs.Common.{sym, ap, ◌∙◌, arith}
 use Rattle.ar_book.specs.contracts.book.Book.{the_view}
 use Rattle.ar_book.specs.Tables.{Tables}
@@ -9,16 +10,16 @@ use Rattle.ar_book.proofs.book.Book.make.Goals as goal
 pub overflow_add-self : goal.overflow_add-self
 overflow_add-self c =
     let t : Tables = the_view c.self.inside in
-    let can : CanMake t c.args.addr c.args.sectors = can_make t c.args.addr c.args.sectors c.self.invariant.tables
+    let can : CanMake t c.args.addr c.args.sectors = can_make t c.args.addr c.args.sectors c.self.invariant.kept.tables
     (ap (λ x. make_refusal x c.args.addr c.args.sectors) c.self.view_is ∙ sym c.make_refusal.ensures ∙ c.in_default.is) in
-    omega (arith, reserved_fits t _ c.self.invariant.tables can.room, c.self.invariant.total, c.blocks_of-blocks.ensures)
+    omega (arith, reserved_fits t _ c.self.invariant.kept.tables can.room, c.self.invariant.kept.total, c.blocks_of-blocks.ensures)
 
 pub invariant_of-self-2 : goal.invariant_of-self-2
 invariant_of-self-2 c =
     let t : Tables = the_view c.self.inside in
-    let can : CanMake t c.args.addr c.args.sectors = can_make t c.args.addr c.args.sectors c.self.invariant.tables
+    let can : CanMake t c.args.addr c.args.sectors = can_make t c.args.addr c.args.sectors c.self.invariant.kept.tables
     (ap (λ x. make_refusal x c.args.addr c.args.sectors) c.self.view_is ∙ sym c.make_refusal.ensures ∙ c.in_default.is) in
     let ok = at_ok c.add_unit.result _ (sym c.is_err.ensures.value ∙ c.if-is_err.false) c.add_unit.ensures.ok in
     let distinct = at_ok c.add_unit.result _ (sym c.is_err.ensures.value ∙ c.if-is_err.false) c.add_unit.ensures.distinct in
     rw (c.blocks_of-blocks.ensures, ok)
-    (made_kept t c.self.inside.reserved c.args.addr c.args.sectors c.self.invariant can.some can.few can.room (rw ok at distinct))
+    (record { kept = made_kept t c.self.inside.reserved c.args.addr c.args.sectors c.self.invariant.kept can.some can.few can.room (rw ok at distinct); leaves = c.self.invariant.leaves ∙ sym (made_leaves t c.self.invariant.kept.tables c.args.addr c.args.sectors) })

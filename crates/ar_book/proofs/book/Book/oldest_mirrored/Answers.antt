@@ -1,17 +1,26 @@
-use Rattle.std.proofs.Common.{length, ap, subst, arith}
+use Rattle.std.proofs.Common.{◌≡◌, ◌∙◌, sym, ap, subst}
+use Rattle.ar_disks.specs.declared.address.Key.{Key}
+use Rattle.ar_index.specs.Choices.{search_all}
 use Rattle.ar_book.specs.Tables.{Tables}
-use Rattle.ar_book.specs.Book.{UnitsStand}
-use Rattle.ar_book.proofs.OldestLemmas.{oldest_of_all, none_of_all}
+use Rattle.ar_book.specs.Choices.{IsMirrored, IsNoNewer}
+use Rattle.ar_book.proofs.Ages.{oldest_found, oldest_first, oldest_none}
+use Rattle.ar_book.specs.contracts.book.Book.{the_view}
 use Rattle.ar_book.proofs.book.Book.oldest_mirrored.Goals as goal
 
-pub returns-clause-oldest : goal.returns-clause-oldest
-returns-clause-oldest c =
-    let size = ap (λ (x : Tables). length x.units) c.self.view_is in
-    oldest_of_all c.args.self.now c.loop-place.place c.loop-place.oldest (subst (λ (x : Tables). UnitsStand x.geometry x.units) c.self.view_is c.self.invariant.tables.units)
-    (omega (arith, size, c.len-place-end.ensures.len)) c.loop-place.invariant
+pub returns-in-Some-clause-found : goal.returns-in-Some-clause-found
+returns-in-Some-clause-found c =
+    subst (λ (x : Tables). IsMirrored x c.in-Some.age.key) c.self.view_is
+    (oldest_found (the_view c.self.inside) c.self.invariant.kept.tables c.in-Some.age
+    (ap (λ l. (search_all l).oldest) (sym c.self.invariant.leaves) ∙ ap (λ x. x.oldest) (sym c.best.ensures) ∙ c.in-Some.is))
 
-pub returns-clause-none : goal.returns-clause-none
-returns-clause-none c =
-    let size = ap (λ (x : Tables). length x.units) c.self.view_is in
-    none_of_all c.args.self.now c.loop-place.place c.loop-place.oldest (subst (λ (x : Tables). UnitsStand x.geometry x.units) c.self.view_is c.self.invariant.tables.units)
-    (omega (arith, size, c.len-place-end.ensures.len)) c.loop-place.invariant
+pub returns-in-Some-clause-oldest : goal.returns-in-Some-clause-oldest
+returns-in-Some-clause-oldest c =
+    subst (λ (x : Tables). (other : Key) → IsMirrored x other → IsNoNewer x c.in-Some.age.key other) c.self.view_is
+    (oldest_first (the_view c.self.inside) c.self.invariant.kept.tables c.in-Some.age
+    (ap (λ l. (search_all l).oldest) (sym c.self.invariant.leaves) ∙ ap (λ x. x.oldest) (sym c.best.ensures) ∙ c.in-Some.is))
+
+pub returns-in-None-clause-none : goal.returns-in-None-clause-none
+returns-in-None-clause-none c =
+    subst (λ (x : Tables). (other : Key) → IsMirrored x other → ⊥) c.self.view_is
+    (oldest_none (the_view c.self.inside) c.self.invariant.kept.tables
+    (ap (λ l. (search_all l).oldest) (sym c.self.invariant.leaves) ∙ ap (λ x. x.oldest) (sym c.best.ensures) ∙ c.in-None.is))

@@ -1,14 +1,40 @@
-use Rattle.std.proofs.Common.{sym, subst}
+use Rattle.std.proofs.Common.{◌≡◌, ◌<◌, ◌≤◌, ◌+◌, ◌*◌, ◌∙◌, Some, length, sym, ap, subst, arith}
+use Rattle.std.specs.Option.{ForSome}
+use Rattle.ar_disks.specs.Geometry.{rows_of}
 use Rattle.ar_book.specs.contracts.book.Book.{the_view}
-use Rattle.ar_book.specs.Tables.{HasBlock}
+use Rattle.ar_book.specs.Tables.{Tables, HasBlock, group_in}
+use Rattle.ar_book.proofs.GroupLemmas.{there_group}
 use Rattle.ar_book.proofs.UnitChanges.{restamped_kept, stamps_long}
+use Rattle.ar_book.proofs.IndexLemmas.{index_length}
+use Rattle.ar_book.proofs.IndexAfter.{stamped_leaves, few_home}
 use Rattle.ar_book.proofs.book.Book.stamp.Goals as goal
 
 pub set_stamp-requires : goal.set_stamp-requires
-set_stamp-requires c = stamps_long (the_view c.self.inside) c.self.inside.reserved c.args.key c.self.invariant (subst (λ x. HasBlock x c.args.key) (sym c.self.view_is) c.requires)
+set_stamp-requires c = stamps_long (the_view c.self.inside) c.self.inside.reserved c.args.key c.self.invariant.kept (subst (λ x. HasBlock x c.args.key) (sym c.self.view_is) c.requires)
+
+pub refresh_home-requires-clause-there : goal.refresh_home-requires-clause-there
+refresh_home-requires-clause-there c = λ q e.
+    there_group c.self.inside.groups.items q c.args.key (c.self.invariant.kept.tables.agree.to_slot c.args.key q (sym c.home_in-home.ensures ∙ e))
+
+pub refresh_home-requires-clause-leaves : goal.refresh_home-requires-clause-leaves
+refresh_home-requires-clause-leaves c = index_length (the_view c.self.inside) _ _ c.self.invariant
 
 pub invariant_of-self : goal.invariant_of-self
 invariant_of-self c =
+    let t : Tables = the_view c.self.inside in
+    let block : HasBlock t c.args.key = subst (λ x. HasBlock x c.args.key) (sym c.self.view_is) c.requires in
     rw c.set_stamp.ensures
-    (restamped_kept (the_view c.self.inside) c.self.inside.reserved c.saturating_add-self-inside.result c.saturating_add-self-inside.result c.args.key c.self.invariant
-    (subst (λ x. HasBlock x c.args.key) (sym c.self.view_is) c.requires))
+    (record {
+      kept = restamped_kept t c.self.inside.reserved c.saturating_add-self-inside.result c.saturating_add-self-inside.result c.args.key c.self.invariant.kept block;
+      leaves = stamped_leaves t c.args.key c.saturating_add-self-inside.result c.self.invariant.kept.tables block _ _ _ c.home_in-home.ensures c.self.invariant.leaves
+          (rw c.set_stamp.ensures at c.refresh_home.ensures.set);
+    })
+
+pub returns-clause-few : goal.returns-clause-few
+returns-clause-few c most =
+    let t : Tables = the_view c.self.inside in
+    let groups : length t.groups ≤ 4096 = subst (λ (x : Tables). length x.groups ≤ 4096) (sym c.self.view_is) most in
+    let here : ForSome c.home_in-home.result (λ q. q.group < length t.groups) = λ q e. there_group t.groups q c.args.key (c.self.invariant.kept.tables.agree.to_slot c.args.key q (sym c.home_in-home.ensures ∙ e)) in
+    let few = few_home t.geometry t.groups _ _ c.home_in-home.result (λ q e. c.self.invariant.kept.tables.groups.long q.group (here q e)) (c.refresh_home.ensures.few groups) in
+    let rows = ap (λ (x : Tables). rows_of x.geometry) c.self.view_is in
+    omega (arith, few)

@@ -7,7 +7,7 @@ use Rattle.ar_store.specs.Slots.{OtherSlotsHold, SlotHolds}
 use Rattle.ar_store.specs.Placing.{IsVacant}
 use Rattle.ar_store.specs.Kept.{IsSpace}
 use Rattle.ar_store.specs.Spaces.{store_in}
-use Rattle.ar_store.proofs.Fills.{filled, none_stands, done_not_broken, same_free}
+use Rattle.ar_store.proofs.Fills.{filled, beside_filled, beside_same, none_stands, done_not_broken, same_free}
 use Rattle.ar_store.proofs.space.Space.fill.Goals as goal
 
 pub write_at-requires : goal.write_at-requires
@@ -27,7 +27,7 @@ returns-in-Done g c =
     let wrote = c.write_at.ensures in
     let answer = sym c.in-Done.is ∙ wrote.outcome in
     let now = ap (λ (x : Tables). store_of b x) wrote.book in
-    let tables = c.assign.ensures ∙ ap (λ (x : Tables). assigned x c.args.key c.args.to) wrote.book in
+    let tables = c.assign.ensures.assigned ∙ ap (λ (x : Tables). assigned x c.args.key c.args.to) wrote.book in
     let fills = filled s.disks b s.book c.assign.new.self c.args.key c.args.to c.args.from.now c.requires.ready.space
     (subst (λ (x : StoreState). IsSpace x) now wrote.stays.ready.space) c.requires.block c.requires.hole c.requires.whole wrote.stays.accessed
     (subst (λ (x : StoreState). OtherSlotsHold (store_in s) x c.args.to) now wrote.others)
@@ -39,6 +39,8 @@ returns-in-Done g c =
       free = fills.free;
       here = λ _. fills.here (done_sound b.health answer);
       others = fills.others;
+      beside = beside_filled s.disks b s.book c.assign.new.self c.args.key c.args.to c.requires.ready.space c.requires.block c.requires.hole
+          (subst (λ (x : StoreState). OtherSlotsHold (store_in s) x c.args.to) now wrote.others) tables;
       stays = record {
         ready = record { space = fills.space; scratch = wrote.stays.ready.scratch };
         units = fills.units;
@@ -59,5 +61,6 @@ returns-in-Broken g c =
       free = same_free s.book new.book wrote.book;
       here = λ done. absurd (done_not_broken (sym done));
       others = none_stands (store_in s) (store_in new) c.args.key (broken_is new.disks.health answer);
+      beside = beside_same (store_in s) (store_in new) c.args.to wrote.others;
       stays = wrote.stays;
     }

@@ -6,7 +6,7 @@ use Rattle.ar_book.proofs.Homes.{home_slot, home_block}
 use Rattle.ar_extents.proofs.Outcomes.{sound_done}
 use Rattle.ar_store.specs.Placing.{IsVacant}
 use Rattle.ar_store.specs.Spaces.{store_in}
-use Rattle.ar_store.proofs.Fills.{moved_stand, done_not_broken, same_free}
+use Rattle.ar_store.proofs.Fills.{moved_stand, beside_then, beside_read, done_not_broken, same_free}
 use Rattle.ar_store.proofs.Options.{none_not_some}
 use Rattle.ar_store.proofs.Stays.{stays_then}
 use Rattle.ar_store.proofs.space.Space.move_block.Goals as goal
@@ -48,6 +48,7 @@ returns-in-Done g c =
       stand = moved_stand (store_in s) (store_in mid) (store_in new) c.args.key c.in-Some.from c.read_at.new.into c.requires.ready.space
           (sym c.home.ensures ∙ c.in-Some.is) read.stays.accessed.follows fill.stays.accessed.follows read.stand c.in-Done.ensures.given
           (λ sound. fill.here (fill.outcome ∙ sound_done new.disks.health sound)) fill.others;
+      beside = beside_then s.disks mid.disks s.book mid.book (store_in new) c.args.to read.book read.stays.accessed.follows read.keeps fill.beside;
       stays = stays_then s mid new read.stays fill.stays;
       len = read.len;
     }
@@ -62,6 +63,7 @@ returns-in-Broken g c =
       unmoved = λ _. read.book;
       free = same_free c.args.self.now.book mid.book read.book;
       stand = read.stand;
+      beside = beside_read c.args.self.now.disks mid.disks c.args.self.now.book mid.book c.args.to read.book read.stays.accessed.follows read.keeps;
       stays = read.stays;
       len = read.len;
     }

@@ -116,7 +116,10 @@ returns-in-Broken g c =
     let zeros = zeroed s.disks b s.book u c.in-Some.group c.members-members.result c.requires.ready.space opening.lowest tables c.members-members.ensures
     access zero.keeps zero.slots in
     record {
-      opens = broken;
+      opens = record {
+        broken = broken;
+        tables = inr (c.in-Some.group, record { many = opening.when.0 refl; lowest = opening.lowest; tables = opening.opened });
+      };
       answer = (λ _. broken, λ _. refl);
       mirrored = λ is. absurd (mirrored_not_parity (sym is ∙ c.in-Parity.is));
       parity = λ _. tt;

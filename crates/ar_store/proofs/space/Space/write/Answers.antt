@@ -18,12 +18,12 @@ returns-in-Done g c =
     let new = c.write_by.new.self in
     let wrote = c.write_by.ensures in
     let stamps = stamped_then (store_in s) new.disks s.book new.book c.stamp.new.self c.args.key c.args.from.now wrote.stays.ready.space c.requires.block
-    wrote.stays.units (wrote.here c.in-Done.is) wrote.others c.stamp.ensures in
+    wrote.stays.units (wrote.here c.in-Done.is) wrote.others c.stamp.ensures.stamped in
     record {
       outcome = sym c.in-Done.is ∙ wrote.outcome;
-      tables = λ _. c.stamp.ensures ∙ ap (λ (x : Tables). stamped x c.args.key) (wrote.tables c.in-Done.is);
+      tables = λ _. c.stamp.ensures.stamped ∙ ap (λ (x : Tables). stamped x c.args.key) (wrote.tables c.in-Done.is);
       unwritten = λ broke. absurd (done_not_broken broke);
-      free = subst (λ (x : Tables). free_groups s.book ≤ free_groups x) (sym c.stamp.ensures) wrote.free;
+      free = subst (λ (x : Tables). free_groups s.book ≤ free_groups x) (sym c.stamp.ensures.stamped) wrote.free;
       here = λ _. stamps.here;
       others = stamps.others;
       stays = record {

@@ -32,6 +32,7 @@ returns-in-Broken g c =
       moved = λ done. absurd (done_not_broken (sym done));
       unmoved = λ _. refl;
       stands = record { blocks = λ _ k. refl };
+      beside = record { slots = λ slot block there same ne holds. holds };
       units = units_refl s.book;
       accessed = accessed_refl s.disks;
       broken = λ _. refl;

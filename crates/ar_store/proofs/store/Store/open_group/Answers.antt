@@ -1,4 +1,4 @@
-use Rattle.std.proofs.Common.{◌≡◌, sym, ap, subst, ◌∙◌, refl}
+use Rattle.std.proofs.Common.{◌≡◌, inl, sym, ap, subst, ◌∙◌, refl}
 use Rattle.ar_store.specs.Store.{StoreState}
 use Rattle.ar_store.proofs.Standing.{was_sound}
 use Rattle.ar_store.proofs.Changes.{units_refl}
@@ -26,7 +26,7 @@ returns-in-Broken g c =
     let s = c.args.self.now in
     let broken = ap (λ (x : StoreState). x.disks.health) (sym c.self.view_is) ∙ sym c.health.ensures.same ∙ c.in-Broken.is in
     record {
-      opens = broken;
+      opens = record { broken = broken; tables = inl refl };
       answer = (λ _. broken, λ _. refl);
       mirrored = λ _. refl;
       parity = λ _. tt;

@@ -1,7 +1,0 @@
-use Rattle.std.proofs.Common.{◌≡◌, ◌<◌, ℕ}
-use Rattle.ar_book.specs.declared.class.Class.TheVariants.{Free}
-use Rattle.ar_book.specs.Tables.{class_of}
-use Rattle.ar_book.proofs.book.Book.lowest_free.Given as goal
-
-abbrev pub invariant-loop-number : goal.invariant-loop-number
-invariant-loop-number l = (h : ℕ) → h < l.number → class_of l.self h ≡ Free → ⊥

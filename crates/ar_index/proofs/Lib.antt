@@ -1,0 +1,6 @@
+pub mod Climb
+pub mod Empty
+pub mod Joins
+pub mod Leaves
+pub mod Search
+pub mod Spread

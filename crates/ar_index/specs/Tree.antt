@@ -1,0 +1,48 @@
+-- The tree over the groups.
+use Rattle.std.specs.Prelude.{◌≡◌, ◌≢◌, ℕ, zero, suc, ◌+◌, ◌*◌, ◌<◌, ◌≤◌, List, length, take, drop, slice_index_or, count_by, is_some}
+use Rattle.ar_index.specs.declared.choices.Choices.{Choices}
+use Rattle.ar_index.specs.Choices.{nothing, join}
+
+-- the node with a number: the root is 1, and the children of a node are twice it and the next
+abbrev pub node_at : List Choices → ℕ → Choices
+node_at nodes i = slice_index_or nodes i nothing
+
+-- the node is the join of its children
+abbrev pub IsJoined : List Choices → ℕ → Type 0
+IsJoined nodes i = node_at nodes i ≡ join (node_at nodes (2 * i)) (node_at nodes (2 * i + 1))
+
+-- each node below so many is the join of its children, but perhaps for one
+abbrev pub AreJoinedBut : ℕ → List Choices → ℕ → Type 0
+AreJoinedBut size nodes but = (i : ℕ) → 0 < i → i < size → i ≢ but → IsJoined nodes i
+
+-- so many leaves stand behind as many inner nodes, each the join of its children
+pub record IsTree (size : ℕ) (nodes : List Choices) : Type 0 where
+  pub twice : length nodes ≡ 2 * size
+  pub joined : AreJoinedBut size nodes 0
+
+-- how many leaves stand under a node of a height
+abbrev pub leaves_under : ℕ → ℕ
+leaves_under zero = 1
+leaves_under (suc h) = 2 * leaves_under h
+
+-- the leaves that are in use
+abbrev pub leaves_in : ℕ → ℕ → List Choices → List Choices
+leaves_in size count nodes = take count (drop size nodes)
+
+-- how many of these groups are free
+abbrev pub free_in : List Choices → ℕ
+free_in leaves = count_by (λ c. is_some c.free) leaves
+
+-- a tree of so many leaves, a power of two, of which so many are in use
+pub record IsGrown (size count : ℕ) (nodes : List Choices) : Type 0 where
+  pub tree : IsTree size nodes
+  pub height : 0 < size → (h : ℕ) × (leaves_under h ≡ size)
+  pub within : count ≤ size
+  -- the leaves behind those in use have nothing
+  pub empty : (i : ℕ) → size + count ≤ i → node_at nodes i ≡ nothing
+
+-- a tree that has grown no further than it had to, of whose leaves so many are free
+pub record IsKept (size count free : ℕ) (nodes : List Choices) : Type 0 where
+  pub grown : IsGrown size count nodes
+  pub close : size ≤ 2 * count
+  pub counted : free ≡ free_in (leaves_in size count nodes)

@@ -1,0 +1,156 @@
+// Drawn events on a book of 1,024 groups, after each of which every search is compared with a plain scan.
+use crate::calls::{Call, ask, form_groups};
+use crate::names::Unit;
+use ar_book::{Book, Class, Level, Slot};
+use ar_disks::{Addr, Geometry, Key};
+use ar_index::Steps;
+use std::process::Abort;
+
+const GROUPS: u16 = 1_024;
+
+const EVENTS: u32 = 200;
+
+// The next of a run of numbers that look drawn.
+fn draw(seed: &mut u64) -> u32 {
+    *seed = seed
+        .wrapping_mul(6_364_136_223_846_793_005)
+        .wrapping_add(1_442_695_040_888_963_407);
+    (*seed >> 40) as u32
+}
+
+fn unit_of(number: u32) -> Unit {
+    match number % 4 {
+        0 => (0, 0),
+        1 => (1, 0),
+        2 => (0, 1),
+        _ => (3, 7),
+    }
+}
+
+fn class_of(number: u32) -> Class {
+    if number % 2 == 0 {
+        Class::Mirrored
+    } else {
+        Class::Parity
+    }
+}
+
+fn event(seed: &mut u64) -> Call {
+    let kind = draw(seed) % 64;
+    let unit = unit_of(draw(seed));
+    let rb = draw(seed) % 1_000;
+    let class = class_of(draw(seed));
+    match kind {
+        0..=3 => Call::Make(unit, 3_000),
+        4 => Call::Drop(unit),
+        5..=20 => Call::Open(class),
+        21..=28 => Call::Release(unit, rb),
+        29..=36 => Call::Stamp(unit, rb),
+        37..=40 => Call::PlaceAll(unit, rb, 50, class),
+        _ => Call::Place(unit, rb, class),
+    }
+}
+
+fn hole_in(book: &Book, group: u32, slots: u16) -> Option<Slot> {
+    for slot in 0..slots {
+        let slot = Slot { group, slot };
+        if book.key_at(slot).is_none() {
+            return Some(slot);
+        }
+    }
+    None
+}
+
+fn plain_hole(book: &Book, class: Class, slots: u16) -> Option<Slot> {
+    for group in 0..book.groups() {
+        if book.class(group) == class {
+            if let Some(slot) = hole_in(book, group, slots) {
+                return Some(slot);
+            }
+        }
+    }
+    None
+}
+
+fn plain_free(book: &Book) -> u32 {
+    let mut free: u32 = 0;
+    for group in 0..book.groups() {
+        if book.class(group) == Class::Free {
+            free = free.wrapping_add(1);
+        }
+    }
+    free
+}
+
+fn older(book: &Book, oldest: Option<Key>, key: Key) -> Option<Key> {
+    if !matches!(book.level(key), Level::Mirrored) {
+        return oldest;
+    }
+    match oldest {
+        Some(first) if book.stamp_of(first) <= book.stamp_of(key) => oldest,
+        _ => Some(key),
+    }
+}
+
+fn older_of_unit(book: &Book, addr: Addr, oldest: Option<Key>) -> Option<Key> {
+    let mut oldest = oldest;
+    for rb in 0..book.blocks(addr) {
+        oldest = older(book, oldest, Key { addr, rb });
+    }
+    oldest
+}
+
+fn plain_oldest(book: &Book) -> Option<Key> {
+    let mut oldest = None;
+    for place in 0..book.units() {
+        if let Some(addr) = book.unit_at(place) {
+            oldest = older_of_unit(book, addr, oldest);
+        }
+    }
+    oldest
+}
+
+fn check_hole(rt: &impl Abort, book: &Book, class: Class, slots: u16, event: u32) {
+    let hole = book.hole(class, &mut Steps::new());
+    let wanted = plain_hole(book, class, slots);
+    assert!(rt;
+        hole == wanted,
+        "hole {hole:?} after event {event}, not {wanted:?}"
+    );
+}
+
+fn check_free(rt: &impl Abort, book: &Book, event: u32) {
+    let free = book.free_groups();
+    let wanted = plain_free(book);
+    assert!(rt;
+        free == wanted,
+        "{free} free after event {event}, not {wanted}"
+    );
+}
+
+fn check_oldest(rt: &impl Abort, book: &Book, event: u32) {
+    let oldest = book.oldest_mirrored(&mut Steps::new());
+    let wanted = plain_oldest(book);
+    assert!(rt;
+        oldest == wanted,
+        "oldest {oldest:?} after event {event}, not {wanted:?}"
+    );
+}
+
+fn run(rt: &impl Abort, book: &mut Book) {
+    let mut seed = 2_026;
+    for number in 0..EVENTS {
+        let _ = ask(rt, book, event(&mut seed));
+        check_hole(rt, book, Class::Mirrored, 4, number);
+        check_hole(rt, book, Class::Parity, 6, number);
+        check_free(rt, book, number);
+        check_oldest(rt, book, number);
+    }
+}
+
+#[test]
+fn every_search_is_as_a_plain_scan_after_each_event(rt: HostRuntime) {
+    let mut book = Book::new(rt.alloc(), Geometry::SMALL);
+    form_groups(&rt, &mut book, GROUPS);
+    run(&rt, &mut book);
+}
