@@ -1,16 +1,11 @@
 -- A command to one address, and the images of all.
-use Rattle.std.proofs.Common.{◌≡◌, ◌≢◌, ℕ, ◌+◌, ◌<◌, ◌≤◌, Bool, true, false, cond, ◌&&◌, not, IsTrue, Option, Some, None, is_some, List, [], ◌∷◌, length, take, Result, Ok, Err, refl, sym, ap, subst, ◌∙◌, inl, inr}
+use Rattle.std.proofs.Common.{◌≡◌, ◌≢◌, ℕ, Bool, true, false, cond, ◌&&◌, not, IsTrue, Option, Some, None, is_some, List, [], ◌∷◌, length, take, Ok, refl, sym, ap, subst, ◌∙◌, inl, inr}
 use Rattle.std.specs.Prelude.{◌==◌}
 use Rattle.std.specs.Map.{lookup}
 use Rattle.std.specs.Option.{unwrap_or}
 use Rattle.std.proofs.lemmas.Bool.{eqb-true}
-use Rattle.std.proofs.lemmas.Bool.{cases_Bool}
-use Rattle.std.proofs.lemmas.Bool.Decides.{nat_tests}
-use Rattle.std.proofs.Common.{arith}
 use Rattle.ar_disks.specs.declared.address.Addr.{Addr}
 use Rattle.ar_disks.specs.declared.address.Host.{Host}
-use Rattle.ar_disks.specs.declared.address.Key.{Key}
-use Rattle.ar_scsi.specs.declared.command.Command.{Command}
 use Rattle.ar_scsi.specs.declared.command.Command.TheVariants.{Write}
 use Rattle.ar_scsi.specs.declared.sense.Sense.{Sense}
 use Rattle.ar_scsi.specs.Field.{operation_code, allocation_length}
@@ -36,17 +31,19 @@ use Rattle.ar_store.specs.Calls.{IsAccessed}
 use Rattle.ar_store.specs.Placing.{SameUnits}
 use Rattle.ar_store.proofs.Changes.{units_refl}
 use Rattle.ar_store.proofs.Fills.{accessed_refl}
-use Rattle.ar_core.specs.declared.event.Event.{Event}
 use Rattle.ar_core.specs.declared.event.Event.TheVariants.{Cmd as CmdEvent}
 use Rattle.ar_core.specs.declared.event.Outcome.TheVariants.{Cmd as CmdOutcome}
-use Rattle.ar_core.specs.Sectors.{address_of, same_address, sectors_in, blocks_of}
-use Rattle.ar_core.specs.Array.{ArrayState, is_broken, geometry_of, with_book, seen_at, length_at, mark_at, unit_sectors, image_at, image}
-use Rattle.ar_core.specs.Laws.{reads_refl}
-use Rattle.ar_core.specs.Served.{IsUnit, Serves, Settles, SamePlaces, SameSeen, Commands, present_at}
-use Rattle.ar_core.specs.Step.{Steps, Obeys, IsQuiet, addr_in, told, is_busy, entry_at}
+use Rattle.ar_image.specs.Sectors.{address_of, sectors_in, blocks_of}
+use Rattle.ar_image.specs.Image.{ArrayState, is_broken, geometry_of, with_book, seen_at, length_at, mark_at, unit_sectors, image_at}
+use Rattle.ar_image.specs.Laws.{reads_refl}
+use Rattle.ar_image.specs.Seen.{IsUnit, SamePlaces, SameSeen, present_at}
+use Rattle.ar_core.specs.Served.{Serves, Settles, Commands}
+use Rattle.ar_core.specs.Step.{Steps, MovesNothing, addr_in, told, is_busy, entry_at}
 use Rattle.ar_core.proofs.Causes.{cause_accessed}
-use Rattle.ar_core.proofs.Events.{unit_follows, unit_refl, absent_length}
-use Rattle.ar_core.proofs.Images.{SameUnit, everywhere, same_address_of, other_address_of, image_present, image_absent, image_same, present_same, shape_same, shape_by, shape_here, sectors_same}
+use Rattle.ar_core.proofs.Events.{unit_follows}
+use Rattle.ar_image.specs.Seen.{SameUnit}
+use Rattle.ar_image.proofs.Images.{same_address_of, other_address_of, image_present, image_absent, image_same, shape_same, shape_here, sectors_same}
+use Rattle.ar_core.proofs.Everywhere.{everywhere}
 
 -- the command is told of the growth first
 abbrev pub tells : ArrayState → Addr → List ℕ → Bool
@@ -131,7 +128,7 @@ commands_served old new addr n cdb bytes reply unit quiet serves settles =
     let later : image_at new addr ≡ present_at new addr = image_present new addr (same.there ∙ unit.there) in
     let shape = shape_present old addr unit.there in
     let still : shape_of (image_at new addr) ≡ shape_of (image_at old addr) = shape_same old new addr same in
-    let kept : SamePlaces old new → IsQuiet old addr cdb new =
+    let kept : SamePlaces old new → MovesNothing old addr cdb new =
     λ places. record { tables = places.reads.tables ∙ sym (ap (λ b. cond b (unmarked old.store.book addr) old.store.book) quiet); cache = places.cache; rows = places.reads.rows } in
     let sound : is_broken new ≡ false → IsServed (image_at old addr) (answer (image_at old addr) cdb bytes) reply (image_at new addr) =
     λ now.
@@ -143,6 +140,7 @@ commands_served old new addr n cdb bytes reply unit quiet serves settles =
         sound = sound;
         failure = failure_told (is_broken new) (image_at old addr) cdb bytes reply (image_at new addr) sound;
         units = subst (λ (t : Tables). SameUnits t new.store.book) (sym (ap (λ b. cond b (unmarked old.store.book addr) old.store.book) quiet)) serves.follows.store.units;
+        accessed = serves.follows.store.accessed;
         broken = λ lost.
             subst (λ (s : Shape). IsGiven (broken_answer s cdb (length bytes)) reply) (sym shape)
             (subst (λ (r : Reply). IsGiven r reply) (sym (broken_quiet (length_at old.store.book addr) mark cdb (length bytes) quiet))
@@ -210,13 +208,14 @@ commands_told old new addr n cdb bytes reply unit tells is cleared seen =
     let later : image_at new addr ≡ Present (unit_sectors old addr) false =
     image_present new addr there ∙ ap (λ m. Present (unit_sectors new addr) m) gone ∙ ap (λ (l : List (List ℕ)). Present l false) (sectors_after old new addr len shape seen) in
     let before : image_at old addr ≡ present_at old addr = image_present old addr unit.there in
-    let quiet : IsQuiet old addr cdb new = record { tables = tables ∙ sym (ap (λ b. cond b (unmarked old.store.book addr) old.store.book) tells); cache = cache; rows = subst (λ (s : ArrayState). Keeps Anywhere old.store.disks s.store.disks) (sym cleared) (reads_refl old.store).rows } in
+    let quiet : MovesNothing old addr cdb new = record { tables = tables ∙ sym (ap (λ b. cond b (unmarked old.store.book addr) old.store.book) tells); cache = cache; rows = subst (λ (s : ArrayState). Keeps Anywhere old.store.disks s.store.disks) (sym cleared) (reads_refl old.store).rows } in
     let other_unit : (b : Addr) → b ≢ addr → SameUnit old.store.book new.store.book b =
     λ b other. subst (λ (t : Tables). SameUnit old.store.book t b) (sym tables) (record {
       there = unmarked_there old.store.book addr b;
       sectors = unmarked_sectors old.store.book addr b;
       mark = ap (λ (u : UnitTable). u.attention) (unit_other old.store.book.units addr (record (unit_in old.store.book.units addr) { attention = false }) unit.there b (λ e. other (sym e)));
     }) in
+    let untouched : IsAccessed old.store.disks new.store.disks = subst (λ (s : ArrayState). IsAccessed old.store.disks s.store.disks) (sym cleared) (accessed_refl old.store.disks) in
     let sound : is_broken new ≡ false → IsServed (image_at old addr) (answer (image_at old addr) cdb bytes) reply (image_at new addr) =
     λ now.
     subst (λ (u : UnitState). IsServed u (answer u cdb bytes) reply (image_at new addr)) (sym before)
@@ -231,6 +230,7 @@ commands_told old new addr n cdb bytes reply unit tells is cleared seen =
         sound = sound;
         failure = failure_told (is_broken new) (image_at old addr) cdb bytes reply (image_at new addr) sound;
         units = subst (λ (t : Tables). SameUnits (told old.store.book addr cdb) t) (sym quiet.tables) (units_refl (told old.store.book addr cdb));
+        accessed = untouched;
         broken = λ lost.
             subst (λ (s : Shape). IsGiven (broken_answer s cdb (length bytes)) reply) (sym (shape_present old addr unit.there))
             (subst (λ (r : Reply). IsGiven r reply) (sym (broken_told (length_at old.store.book addr) mark cdb (length bytes) tells)) (given_is reply capacity_data_has_changed is));
@@ -244,7 +244,7 @@ commands_told old new addr n cdb bytes reply unit tells is cleared seen =
       others = λ now b other. image_same old new b (other_unit b other) shape (λ k _. seen.same k);
       shape = told_shape old new addr cdb bytes reply unit.there there len gone tells is;
       other_shapes = λ b other. shape_same old new b (other_unit b other);
-      accessed = subst (λ (s : ArrayState). IsAccessed old.store.disks s.store.disks) (sym cleared) (accessed_refl old.store.disks);
+      accessed = untouched;
       capacity = ap (λ (s : ArrayState). s.cache.capacity) cleared;
     }
 
@@ -283,7 +283,7 @@ pub commands_absent : (s : ArrayState) (addr : Addr) (cdb bytes : List ℕ) (rep
 unfolding answer broken_answer
 commands_absent s addr cdb bytes reply none given =
     let nothing : image_at s addr ≡ Absent = image_absent s addr none in
-    let quiet : IsQuiet s addr cdb s = record { tables = sym (ap (λ m. cond (m && not (operation_code cdb == 0x12)) (unmarked s.store.book addr) s.store.book) (absent_mark s.store.book addr none)); cache = refl; rows = (reads_refl s.store).rows } in
+    let quiet : MovesNothing s addr cdb s = record { tables = sym (ap (λ m. cond (m && not (operation_code cdb == 0x12)) (unmarked s.store.book addr) s.store.book) (absent_mark s.store.book addr none)); cache = refl; rows = (reads_refl s.store).rows } in
     let sound : is_broken s ≡ false → IsServed (image_at s addr) (answer (image_at s addr) cdb bytes) reply (image_at s addr) =
     λ now.
     subst (λ (u : UnitState). IsServed u (answer u cdb bytes) reply u) (sym nothing)
@@ -293,6 +293,7 @@ commands_absent s addr cdb bytes reply none given =
         sound = sound;
         failure = failure_told (is_broken s) (image_at s addr) cdb bytes reply (image_at s addr) sound;
         units = subst (λ (t : Tables). SameUnits (told s.store.book addr cdb) t) (sym quiet.tables) (units_refl (told s.store.book addr cdb));
+        accessed = accessed_refl s.store.disks;
         broken = λ lost. subst (λ (u : UnitState). IsGiven (broken_answer (shape_of u) cdb (length bytes)) reply) (sym nothing) given;
         reads = λ _. quiet;
         refused = λ _ _. quiet;
@@ -319,6 +320,7 @@ steps_command old new host lun cdb payload reply c = record {
   shapes = λ a. everywhere shape_of (image_at old) (image_at new) (CmdEvent host lun cdb payload) (CmdOutcome reply) shape_after_it a;
   disks = cause_accessed (CmdEvent host lun cdb payload) old.store.disks new.store.disks c.accessed;
   capacity = c.capacity;
+  quiet = λ loud. absurd (cc);
 }
   where
     addr : Addr

@@ -1,44 +1,46 @@
 -- What each event but a command makes of the units.
-use Rattle.std.proofs.Common.{◌≡◌, ◌≢◌, ℕ, ◌-◌, ◌≤◌, ◌<◌, Bool, true, false, cond, Option, Some, None, IsSome, is_some, List, [], ◌∷◌, ◌++◌, length, Result, Ok, Err, refl, sym, ap, subst, ◌∙◌, inl, inr, arith}
+use Rattle.std.proofs.Common.{◌≡◌, ◌≢◌, ℕ, ◌-◌, ◌≤◌, Bool, true, false, cond, Option, Some, None, IsSome, is_some, List, [], ◌∷◌, ◌++◌, length, Result, Ok, Err, refl, sym, ap, subst, ◌∙◌, inl, inr, arith, true≢false}
 use Rattle.std.specs.Prelude.{◌/◌, nat_le, option_map, OnOk}
 use Rattle.ar_disks.specs.declared.geometry.Geometry.{Geometry}
 use Rattle.std.specs.Map.{lookup}
 use Rattle.std.specs.Option.{unwrap_or}
-use Rattle.std.proofs.lemmas.Bool.{cases_Bool}
 use Rattle.std.proofs.lemmas.Bool.Decides.{nat_tests}
 use Rattle.ar_disks.specs.declared.address.Addr.{Addr}
 use Rattle.ar_disks.specs.declared.address.Key.{Key}
 use Rattle.ar_disks.specs.Block.{zeros}
 use Rattle.ar_disks.specs.Geometry.{sectors_of, block_len_of}
 use Rattle.ar_book.specs.Book.{TablesAgree}
-use Rattle.ar_book.specs.Tables.{UnitState as UnitTable, Tables, no_unit, same_addr, has_unit, unit_in}
+use Rattle.ar_book.specs.Tables.{UnitState as UnitTable, Tables, no_unit, same_addr, has_unit, unit_in, reserved}
 use Rattle.ar_book.specs.Changes.{made, grown, dropped, unmarked}
 use Rattle.ar_book.specs.Refusals as book
-use Rattle.ar_book.specs.declared.refusal.Refusal.{Refusal as UnitRefusal}
-use Rattle.ar_book.proofs.Keys.{addr_tells, same_addr_self}
+use Rattle.ar_book.proofs.Keys.{addr_tells}
 use Rattle.ar_book.proofs.AfterMake.{made_unit, made_unit_other, grown_unit, grown_unit_other, unmarked_sectors}
 use Rattle.ar_book.proofs.DropLemmas.{dropped_unit_other}
-use Rattle.ar_book.proofs.UnitLemmas.{unit_keeps}
-use Rattle.ar_book.proofs.Presence.{make_fresh, grow_there, grow_shorter, made_there, made_there_other, grown_there, unmarked_there, dropped_there, dropped_there_other}
+use Rattle.ar_book.proofs.Presence.{make_fresh, grow_there, grow_shorter, made_there, made_there_other, grown_there, dropped_there, dropped_there_other}
 use Rattle.ar_store.specs.Placing.{SameUnits}
 use Rattle.ar_store.proofs.Changes.{same_units_there}
 use Rattle.ar_unit.specs.Sectors.{zero_sector, zero_sectors}
-use Rattle.ar_unit.specs.Unit.{UnitState, Absent, Present, Entry, Make, Grow, Remove, after, unit_run}
-use Rattle.ar_unit.specs.Broken.{Shape, shape_of}
+use Rattle.ar_unit.specs.Unit.{UnitState, Present, Entry, Make, Grow, Remove, after, unit_run}
+use Rattle.ar_unit.specs.Broken.{shape_of}
 use Rattle.ar_core.specs.declared.event.Event.{Event}
-use Rattle.ar_core.specs.declared.event.Event.TheVariants.{Make as MakeEvent, Grow as GrowEvent, Remove as RemoveEvent, Flush as FlushEvent, DiskOut as DiskOutEvent}
+use Rattle.ar_core.specs.declared.event.Event.TheVariants.{Make as MakeEvent, Grow as GrowEvent, Remove as RemoveEvent}
 use Rattle.ar_core.specs.declared.event.Outcome.{Outcome}
-use Rattle.ar_core.specs.declared.event.Outcome.TheVariants.{Make as MakeOutcome, Grow as GrowOutcome, Remove as RemoveOutcome, Flush as FlushOutcome, DiskOut as DiskOutOutcome}
-use Rattle.ar_core.specs.declared.event.Refusal.{Refusal}
-use Rattle.ar_core.specs.declared.event.Refusal.TheVariants.{Unit as UnitRefused, Broken}
-use Rattle.ar_cache.specs.declared.answers.Flush.{Flush}
-use Rattle.ar_core.specs.Sectors.{Address, address_of, same_address, sector_in, sectors_in, blocks_of, key_of}
-use Rattle.ar_core.specs.Array.{ArrayState, is_broken, geometry_of, with_book, seen_at, length_at, mark_at, unit_sectors, image_at, image, IsPadded}
-use Rattle.ar_core.specs.Causes.{HasCause, Follows}
-use Rattle.ar_core.specs.Served.{SameSeen, present_at}
-use Rattle.ar_core.specs.Step.{Steps, Answers, Makes, Grows, Removes, FlushesOne, TakesOut, make_refusal, grow_refusal, remove_refusal, removed, entry_at}
-use Rattle.ar_core.proofs.Causes.{was_sound, accessed_sound, cause_accessed, cause_failed, cause_same}
-use Rattle.ar_core.proofs.Images.{SameUnit, everywhere, same_address_of, other_address_of, image_present, image_absent, image_same, shape_same, length-unit_sectors, map-constant, padded_sectors, padded_same, sectors_same, sector_same, sector_in-zeros}
+use Rattle.ar_core.specs.declared.event.Outcome.TheVariants.{Make as MakeOutcome, Grow as GrowOutcome, Remove as RemoveOutcome}
+use Rattle.ar_image.specs.declared.refusal.Refusal.{Refusal}
+use Rattle.ar_image.specs.declared.refusal.Refusal.TheVariants.{Unit as UnitRefused, Broken}
+use Rattle.ar_image.specs.Sectors.{Address, address_of, same_address, sector_in, sectors_in, blocks_of, key_of}
+use Rattle.ar_image.specs.Image.{ArrayState, is_broken, geometry_of, with_book, seen_at, length_at, unit_sectors, image_at, IsPadded}
+use Rattle.ar_core.specs.Causes.{HasCause}
+use Rattle.ar_core.specs.Quiet.{IsQuiet}
+use Rattle.ar_image.specs.Following.{Follows}
+use Rattle.ar_image.specs.Seen.{SameSeen}
+use Rattle.ar_core.specs.Step.{Steps, Answers, entry_at, is_quiet}
+use Rattle.ar_image.specs.Changes.{Makes, Grows, Removes, removed}
+use Rattle.ar_core.proofs.Causes.{was_sound, cause_same}
+use Rattle.ar_image.proofs.Breaking.{accessed_sound}
+use Rattle.ar_image.specs.Seen.{SameUnit}
+use Rattle.ar_image.proofs.Images.{same_address_of, other_address_of, image_present, image_absent, image_same, shape_same, length-unit_sectors, map-constant, padded_sectors, padded_same, sectors_same, sector_same, sector_in-zeros}
+use Rattle.ar_core.proofs.Everywhere.{everywhere}
 
 -- the tables say the same where they are
 pub unit_refl : (t u : Tables) (b : Addr) → u ≡ t → SameUnit t u b
@@ -80,35 +82,75 @@ absent_length t a none = by (lookup (same_addr a) t.units) none
     by None e = refl
     by (Some u) e = absurd (cc)
 
--- an event that was nothing to any unit
+-- a step that leaves an array as it is is quiet
+pub quiet_refl : (old new : ArrayState) → new ≡ old → IsQuiet old new
+quiet_refl old new same = subst (λ (s : ArrayState). IsQuiet old s) (sym same) (record {
+  units = λ addr. unit_refl old.store.book old.store.book addr refl;
+  seen = λ _. record { same = λ k. refl };
+  reserved_same = refl;
+  groups = omega arith;
+  capacity = refl;
+})
+
+-- reads and writes of blocks that nobody sees are quiet
+pub quiet_follows : (old new : ArrayState) → Follows old new → (is_broken new ≡ false → SameSeen old new) → IsQuiet old new
+quiet_follows old new follows seen = record {
+  units = λ addr. unit_follows old.store.book new.store.book addr follows.store.units;
+  seen = seen;
+  reserved_same = follows.store.units.reserved;
+  groups = (let same = follows.store.units.groups in omega arith);
+  capacity = follows.capacity;
+}
+
+-- and so is what leaves the tables
+pub quiet_tables : (old new : ArrayState) → new.store.book ≡ old.store.book → (is_broken new ≡ false → SameSeen old new)
+    → new.cache.capacity ≡ old.cache.capacity → IsQuiet old new
+quiet_tables old new tables seen capacity = record {
+  units = λ addr. unit_refl old.store.book new.store.book addr tables;
+  seen = seen;
+  reserved_same = ap reserved tables;
+  groups = (let same = ap (λ (t : Tables). length t.groups) tables in omega arith);
+  capacity = capacity;
+}
+
+-- An event that is quiet, and no unit's entry, is a step: each unit is what its entries, of which there are none, make of it. This is
+-- all that an event has to show that is nothing to any unit.
 pub steps_quiet : (old new : ArrayState) (event : Event) (outcome : Outcome) → Answers old event outcome new
-    → ((a : Address) → entry_at a event outcome ≡ []) → ((b : Addr) → SameUnit old.store.book new.store.book b)
-    → (is_broken new ≡ false → SameSeen old new) → HasCause event old.store.disks new.store.disks → new.cache.capacity ≡ old.cache.capacity
+    → ((a : Address) → entry_at a event outcome ≡ []) → IsQuiet old new → HasCause event old.store.disks new.store.disks
     → Steps old event outcome new
-steps_quiet old new event outcome answers none units seen cause capacity = record {
+steps_quiet old new event outcome answers none quiet cause = record {
   answers = answers;
   images = λ now a.
       everywhere (λ (u : UnitState). u) (image_at old) (image_at new) event outcome
-      (λ addr. image_same old new addr (units addr) cause.geometry (λ k _. (seen now).same k) ∙ ap (λ (es : List Entry). unit_run (image_at old addr) es) (sym (none (address_of addr)))) a;
+      (λ addr. image_same old new addr (quiet.units addr) cause.geometry (λ k _. (quiet.seen now).same k) ∙ ap (λ (es : List Entry). unit_run (image_at old addr) es) (sym (none (address_of addr)))) a;
   shapes = λ a.
       everywhere shape_of (image_at old) (image_at new) event outcome
-      (λ addr. shape_same old new addr (units addr) ∙ ap (λ (es : List Entry). shape_of (unit_run (image_at old addr) es)) (sym (none (address_of addr)))) a;
+      (λ addr. shape_same old new addr (quiet.units addr) ∙ ap (λ (es : List Entry). shape_of (unit_run (image_at old addr) es)) (sym (none (address_of addr)))) a;
   disks = cause;
-  capacity = capacity;
+  capacity = quiet.capacity;
+  quiet = λ _. quiet;
 }
+
+-- one that changed nothing
+steps_nothing : (old new : ArrayState) (event : Event) (outcome : Outcome) → Answers old event outcome new
+    → ((a : Address) → entry_at a event outcome ≡ []) → new ≡ old → Steps old event outcome new
+steps_nothing old new event outcome answers none same =
+    steps_quiet old new event outcome answers none (quiet_refl old new same)
+    (cause_same event old.store.disks new.store.disks (ap (λ (s : ArrayState). s.store.disks) same))
 
 -- an event that was one entry of one unit
 steps_entry : (old new : ArrayState) (event : Event) (outcome : Outcome) (addr : Addr) (entry : Entry) → Answers old event outcome new
     → ((b : Addr) → entry_at (address_of b) event outcome ≡ cond (same_address (address_of addr) (address_of b)) (entry ∷ []) [])
     → image_at new addr ≡ after (image_at old addr) entry → ((b : Addr) → b ≢ addr → image_at new b ≡ image_at old b)
-    → HasCause event old.store.disks new.store.disks → new.cache.capacity ≡ old.cache.capacity
+    → HasCause event old.store.disks new.store.disks → new.cache.capacity ≡ old.cache.capacity → is_quiet event ≡ false
     → Steps old event outcome new
-steps_entry old new event outcome addr entry answers own here others cause capacity = record {
+steps_entry old new event outcome addr entry answers own here others cause capacity loud = record {
   answers = answers;
   images = λ now a. everywhere (λ (u : UnitState). u) (image_at old) (image_at new) event outcome each a;
   shapes = λ a. everywhere shape_of (image_at old) (image_at new) event outcome (λ b. ap shape_of (each b)) a;
   disks = cause;
   capacity = capacity;
+  quiet = λ is. absurd (true≢false (sym is ∙ loud));
 }
   where
     each : (b : Addr) → image_at new b ≡ unit_run (image_at old b) (entry_at (address_of b) event outcome)
@@ -145,10 +187,7 @@ none_found (Some x) e = absurd (cc)
 pub steps_made : (old new : ArrayState) (addr : Addr) (n : ℕ) (result : Result (Unit {0}) Refusal) → IsPadded old → Makes old addr n result new → SameSeen old new
     → Steps old (MakeEvent addr n) (MakeOutcome result) new
 steps_made old new addr n (Err refusal) padded makes seen =
-    steps_quiet old new (MakeEvent addr n) (MakeOutcome (Err refusal)) makes (λ a. nothing_either (same_address (address_of addr) a))
-    (λ b. unit_refl old.store.book new.store.book b (ap (λ (s : ArrayState). s.store.book) makes.unchanged)) (λ _. seen)
-    (cause_same (MakeEvent addr n) old.store.disks new.store.disks (ap (λ (s : ArrayState). s.store.disks) makes.unchanged))
-    (ap (λ (s : ArrayState). s.cache.capacity) makes.unchanged)
+    steps_nothing old new (MakeEvent addr n) (MakeOutcome (Err refusal)) makes (λ a. nothing_either (same_address (address_of addr) a)) makes.unchanged
 steps_made old new addr n (Ok done) padded makes seen =
     let granted = not_refused (is_broken old) Broken UnitRefused (book.make_refusal old.store.book addr n) makes.granted in
     let fresh : has_unit old.store.book addr ≡ false = make_fresh old.store.book addr n granted.1 in
@@ -165,7 +204,7 @@ steps_made old new addr n (Ok done) padded makes seen =
     ∙ map-constant (sector_in (geometry_of old) (blocks_of (seen_at old) addr)) zero_sector 0 n (λ i low. padded.zeros granted.0 addr i (omega (arith, absent_length old.store.book addr fresh)))) in
     steps_entry old new (MakeEvent addr n) (MakeOutcome (Ok done)) addr (Make n) makes (λ b. refl) here
     (λ b ne. image_same old new b (subst (λ (t : Tables). SameUnit old.store.book t b) (sym tables) (unit_made old.store.book addr n b ne)) shape (λ k _. seen.same k))
-    (cause_same (MakeEvent addr n) old.store.disks new.store.disks disks) (ap (λ (s : ArrayState). s.cache.capacity) makes.changed)
+    (cause_same (MakeEvent addr n) old.store.disks new.store.disks disks) (ap (λ (s : ArrayState). s.cache.capacity) makes.changed) refl
 
 grew : (n m : ℕ) → nat_le n m ≡ false → m ≤ n
 grew n m e = grind (arith, nat_tests)
@@ -174,10 +213,7 @@ grew n m e = grind (arith, nat_tests)
 pub steps_grown : (old new : ArrayState) (addr : Addr) (n : ℕ) (result : Result (Unit {0}) Refusal) → IsPadded old → Grows old addr n result new → SameSeen old new
     → Steps old (GrowEvent addr n) (GrowOutcome result) new
 steps_grown old new addr n (Err refusal) padded grows seen =
-    steps_quiet old new (GrowEvent addr n) (GrowOutcome (Err refusal)) grows (λ a. nothing_either (same_address (address_of addr) a))
-    (λ b. unit_refl old.store.book new.store.book b (ap (λ (s : ArrayState). s.store.book) grows.unchanged)) (λ _. seen)
-    (cause_same (GrowEvent addr n) old.store.disks new.store.disks (ap (λ (s : ArrayState). s.store.disks) grows.unchanged))
-    (ap (λ (s : ArrayState). s.cache.capacity) grows.unchanged)
+    steps_nothing old new (GrowEvent addr n) (GrowOutcome (Err refusal)) grows (λ a. nothing_either (same_address (address_of addr) a)) grows.unchanged
 steps_grown old new addr n (Ok done) padded grows seen =
     let granted = not_refused (is_broken old) Broken UnitRefused (book.grow_refusal old.store.book addr n) grows.granted in
     let there : has_unit old.store.book addr ≡ true = grow_there old.store.book addr n granted.1 in
@@ -197,16 +233,13 @@ steps_grown old new addr n (Ok done) padded grows seen =
     ∙ ap (λ (u : UnitState). after u (Grow n)) (sym (image_present old addr there)) in
     steps_entry old new (GrowEvent addr n) (GrowOutcome (Ok done)) addr (Grow n) grows (λ b. refl) here
     (λ b ne. image_same old new b (subst (λ (t : Tables). SameUnit old.store.book t b) (sym tables) (unit_grown old.store.book addr n b there ne)) shape (λ k _. seen.same k))
-    (cause_same (GrowEvent addr n) old.store.disks new.store.disks disks) (ap (λ (s : ArrayState). s.cache.capacity) grows.changed)
+    (cause_same (GrowEvent addr n) old.store.disks new.store.disks disks) (ap (λ (s : ArrayState). s.cache.capacity) grows.changed) refl
 
 -- a removal
 pub steps_removed : (old new : ArrayState) (addr : Addr) (result : Result (Unit {0}) Refusal) → TablesAgree old.store.book → Removes old addr result new
     → ((k : Key) → k.addr ≢ addr → seen_at new k ≡ seen_at old k) → Steps old (RemoveEvent addr) (RemoveOutcome result) new
 steps_removed old new addr (Err refusal) ok removes others =
-    let same : new ≡ old = removes.changes.unchanged in
-    steps_quiet old new (RemoveEvent addr) (RemoveOutcome (Err refusal)) removes (λ a. nothing_either (same_address (address_of addr) a))
-    (λ b. unit_refl old.store.book new.store.book b (ap (λ (s : ArrayState). s.store.book) same)) (λ _. record { same = λ k. ap (λ (s : ArrayState). seen_at s k) same })
-    (cause_same (RemoveEvent addr) old.store.disks new.store.disks (ap (λ (s : ArrayState). s.store.disks) same)) (ap (λ (s : ArrayState). s.cache.capacity) same)
+    steps_nothing old new (RemoveEvent addr) (RemoveOutcome (Err refusal)) removes (λ a. nothing_either (same_address (address_of addr) a)) removes.changes.unchanged
 steps_removed old new addr (Ok done) ok removes others =
     let is : new ≡ removed old addr = removes.changes.changed in
     let tables : new.store.book ≡ dropped old.store.book addr = ap (λ (s : ArrayState). s.store.book) is in
@@ -215,44 +248,24 @@ steps_removed old new addr (Ok done) ok removes others =
     (λ b ne.
     image_same old new b (subst (λ (t : Tables). SameUnit old.store.book t b) (sym tables) (unit_dropped old.store.book addr b ok ne)) (ap (λ (s : ArrayState). geometry_of s) is)
     (λ k at. others k (λ same. ne (sym at ∙ same))))
-    (cause_same (RemoveEvent addr) old.store.disks new.store.disks (ap (λ (s : ArrayState). s.store.disks) is)) (ap (λ (s : ArrayState). s.cache.capacity) is)
+    (cause_same (RemoveEvent addr) old.store.disks new.store.disks (ap (λ (s : ArrayState). s.store.disks) is)) (ap (λ (s : ArrayState). s.cache.capacity) is) refl
 
--- a flush
-pub steps_flushed : (old new : ArrayState) (answer : Flush) → FlushesOne old answer new → (is_broken new ≡ false → SameSeen old new) → Follows old new
-    → Steps old FlushEvent (FlushOutcome answer) new
-steps_flushed old new answer flushes seen follows =
-    steps_quiet old new FlushEvent (FlushOutcome answer) flushes (λ a. refl) (λ b. unit_follows old.store.book new.store.book b follows.store.units) seen
-    (cause_accessed FlushEvent old.store.disks new.store.disks follows.store.accessed) follows.capacity
+-- an array stays padded through a quiet step
+pub padded_quiet : (old new : ArrayState) (event : Event) → IsPadded old → IsQuiet old new → HasCause event old.store.disks new.store.disks → IsPadded new
+padded_quiet old new event padded quiet cause =
+    padded_same old new padded (was_sound event old new cause) cause.geometry
+    (λ addr. (let same = (quiet.units addr).sectors in omega arith)) (λ now. (quiet.seen now).same)
 
--- a disk taken out
-pub steps_out : (old new : ArrayState) (disk : ℕ) (result : Result (Unit {0}) Refusal) → TakesOut old disk result new → (is_broken new ≡ false → SameSeen old new)
-    → Steps old (DiskOutEvent disk) (DiskOutOutcome result) new
-steps_out old new disk (Ok done) takes seen =
-    steps_quiet old new (DiskOutEvent disk) (DiskOutOutcome (Ok done)) takes (λ a. refl)
-    (λ b. unit_refl old.store.book new.store.book b (ap (λ (s : ArrayState). s.store.book) takes.out)) seen
-    (subst (λ (s : ArrayState). HasCause (DiskOutEvent disk) old.store.disks s.store.disks) (sym takes.out) (cause_failed old.store.disks disk))
-    (ap (λ (s : ArrayState). s.cache.capacity) takes.out)
-steps_out old new disk (Err refusal) takes seen =
-    steps_quiet old new (DiskOutEvent disk) (DiskOutOutcome (Err refusal)) takes (λ a. refl)
-    (λ b. unit_refl old.store.book new.store.book b (ap (λ (s : ArrayState). s.store.book) takes.unchanged)) seen
-    (cause_same (DiskOutEvent disk) old.store.disks new.store.disks (ap (λ (s : ArrayState). s.store.disks) takes.unchanged)) (ap (λ (s : ArrayState). s.cache.capacity) takes.unchanged)
+-- so a step of a quiet event keeps all that an array keeps
+pub quiet_kept : (old new : ArrayState) (event : Event) (outcome : Outcome) (n : ℕ) → Steps old event outcome new → is_quiet event ≡ true
+    → IsPadded old → n ≡ block_len_of (geometry_of old) → IsPadded new × (n ≡ block_len_of (geometry_of new))
+quiet_kept old new event outcome n steps is padded len = (padded_quiet old new event padded (steps.quiet is) steps.disks, len ∙ ap block_len_of (sym steps.disks.geometry))
 
--- an array stays padded through reads and writes of blocks that no one sees
+-- and through reads and writes of blocks that no one sees
 pub padded_follows : (old new : ArrayState) → IsPadded old → Follows old new → (is_broken new ≡ false → SameSeen old new) → IsPadded new
 padded_follows old new padded follows seen =
     padded_same old new padded (accessed_sound old.store.disks new.store.disks follows.store.accessed) follows.store.accessed.follows.geometry
     (λ addr. (let same = follows.store.units.sectors addr in omega arith)) (λ now. (seen now).same)
-
-out_book : (old new : ArrayState) (disk : ℕ) (result : Result (Unit {0}) Refusal) → TakesOut old disk result new → new.store.book ≡ old.store.book
-out_book old new disk (Ok done) takes = ap (λ (s : ArrayState). s.store.book) takes.out
-out_book old new disk (Err refusal) takes = ap (λ (s : ArrayState). s.store.book) takes.unchanged
-
--- and where a disk is taken out
-pub padded_out : (old new : ArrayState) (disk : ℕ) (result : Result (Unit {0}) Refusal) → IsPadded old → TakesOut old disk result new → (is_broken new ≡ false → SameSeen old new) → IsPadded new
-padded_out old new disk result padded takes seen =
-    let steps = steps_out old new disk result takes seen in
-    padded_same old new padded (was_sound (DiskOutEvent disk) old new steps.disks) steps.disks.geometry
-    (λ addr. (let same = ap (λ (t : Tables). length_at t addr) (out_book old new disk result takes) in omega arith)) (λ now. (seen now).same)
 
 -- a refused call leaves it
 padded_unchanged : (old new : ArrayState) → IsPadded old → new ≡ old → IsPadded new

@@ -1,5 +1,5 @@
--- From what each step does to what each command of a run is answered.
-use Rattle.std.proofs.Common.{◌≡◌, ℕ, zero, suc, Bool, true, false, IsTrue, Some, List, [], ◌∷◌, ◌++◌, length, take, ◌⊎◌, inl, inr, refl, sym, ap, subst, ◌∙◌}
+-- From what each turn does to what each command of a run is answered.
+use Rattle.std.proofs.Common.{◌≡◌, ℕ, zero, suc, true, false, Some, List, [], ◌∷◌, ◌++◌, length, take, ◌⊎◌, inl, inr, refl, sym, ap, subst, ◌∙◌}
 use Rattle.std.specs.Prelude.{slice_get}
 use Rattle.ar_disks.specs.declared.address.Host.{Host}
 use Rattle.ar_scsi.specs.declared.reply.Reply.{Reply}
@@ -11,12 +11,14 @@ use Rattle.ar_core.specs.declared.event.Event.TheVariants.{Cmd as CmdEvent}
 use Rattle.ar_core.specs.declared.event.Outcome.{Outcome}
 use Rattle.ar_core.specs.declared.event.Outcome.TheVariants.{Cmd as CmdOutcome}
 use Rattle.ar_extents.specs.Changes.{is_broken as is_broken_set}
-use Rattle.ar_core.specs.Array.{ArrayState, is_broken, image, image_at}
-use Rattle.ar_core.proofs.Causes.{was_sound, broken_is}
-use Rattle.ar_core.proofs.Images.{image_here}
-use Rattle.ar_core.specs.Sectors.{Address}
-use Rattle.ar_core.specs.Step.{Steps, Answers, Obeys, own, entry_at, addr_in}
-use Rattle.ar_core.specs.Run.{Run, TwoMissing, last_of, IsAnswered, IsIsolated, unit_before}
+use Rattle.ar_image.specs.Image.{ArrayState, is_broken, image, image_at}
+use Rattle.ar_core.proofs.Causes.{was_sound}
+use Rattle.ar_core.proofs.Looking.{looked_image, looked_shape}
+use Rattle.ar_image.proofs.Breaking.{broken_is, accessed_sound}
+use Rattle.ar_image.proofs.Images.{image_here}
+use Rattle.ar_image.specs.Sectors.{Address}
+use Rattle.ar_core.specs.Step.{Steps, Obeys, addr_in}
+use Rattle.ar_core.specs.Run.{Turn, Did, Looked, Meets, Run, IsRun, TwoMissing, last_of, own, entry_in, turns_of, IsAnswered, IsIsolated, unit_before, AreTwoHitIn}
 
 -- the shape after a run depends on the shape before it
 unit_run-shape : (entries : List Entry) (u v : UnitState) → shape_of u ≡ shape_of v → shape_of (unit_run u entries) ≡ shape_of (unit_run v entries)
@@ -30,12 +32,21 @@ record Agrees (s : ArrayState) (u : UnitState) (a : Address) : Type 0 where
   sound : is_broken s ≡ false → u ≡ image s a
   shape : shape_of u ≡ shape_of (image s a)
 
-agrees-step : (old : ArrayState) (event : Event) (outcome : Outcome) (new : ArrayState) (u : UnitState) (a : Address)
-    → Steps old event outcome new → Agrees old u a → Agrees new (unit_run u (entry_at a event outcome)) a
-agrees-step old event outcome new u a steps agrees = record {
+-- an array that isn't broken after a turn wasn't before
+turn_sound : (old : ArrayState) (turn : Turn) (new : ArrayState) → Meets old turn new → is_broken new ≡ false → is_broken old ≡ false
+turn_sound old (Did event outcome) new steps now = was_sound event old new steps.disks now
+turn_sound old Looked new looks now = accessed_sound old.store.disks new.store.disks looks.accessed now
+
+agrees-turn : (old : ArrayState) (turn : Turn) (new : ArrayState) (u : UnitState) (a : Address)
+    → Meets old turn new → Agrees old u a → Agrees new (unit_run u (entry_in a turn)) a
+agrees-turn old (Did event outcome) new u a steps agrees = record {
   sound = λ now.
-      ap (λ (v : UnitState). unit_run v (entry_at a event outcome)) (agrees.sound (was_sound event old new steps.disks now)) ∙ sym (steps.images now a);
-  shape = unit_run-shape (entry_at a event outcome) u (image old a) agrees.shape ∙ sym (steps.shapes a);
+      ap (λ (v : UnitState). unit_run v (entry_in a (Did event outcome))) (agrees.sound (was_sound event old new steps.disks now)) ∙ sym (steps.images now a);
+  shape = unit_run-shape (entry_in a (Did event outcome)) u (image old a) agrees.shape ∙ sym (steps.shapes a);
+}
+agrees-turn old Looked new u a looks agrees = record {
+  sound = λ now. agrees.sound (turn_sound old Looked new looks now) ∙ sym (looked_image old new looks now a);
+  shape = agrees.shape ∙ sym (looked_shape old new looks a);
 }
 
 -- the state in which a command of a run was met, and what it was answered there, u being what the unit's own entries made of it
@@ -45,107 +56,126 @@ record Met (u : UnitState) (host : Host) (lun : ℕ) (cdb payload : List ℕ) (r
   obeys : Obeys old (addr_in host lun) cdb payload reply new
   stays : is_broken new ≡ false → is_broken old ≡ false
 
-first_met : (old s new : ArrayState) (event : Event) (outcome : Outcome) (u : UnitState) (host : Host) (lun : ℕ) (cdb payload : List ℕ) (reply : Reply)
-    → Steps old event outcome s → Agrees old u (host.number, lun) → event ≡ CmdEvent host lun cdb payload → outcome ≡ CmdOutcome reply → s ≡ new
+first_met : (old s new : ArrayState) (turn : Turn) (u : UnitState) (host : Host) (lun : ℕ) (cdb payload : List ℕ) (reply : Reply)
+    → Meets old turn s → Agrees old u (host.number, lun) → turn ≡ Did (CmdEvent host lun cdb payload) (CmdOutcome reply) → s ≡ new
     → Met u host lun cdb payload reply new
-first_met old s new event outcome u host lun cdb payload reply steps agrees is told left =
-    let answers : Answers old event (CmdOutcome reply) s = subst (λ (o : Outcome). Answers old event o s) told steps.answers in
+first_met old s new turn u host lun cdb payload reply meets agrees is left =
+    let steps : Steps old (CmdEvent host lun cdb payload) (CmdOutcome reply) s = subst (λ (t : Turn). Meets old t s) is meets in
     subst (λ (n : ArrayState). Met u host lun cdb payload reply n) left
     (record {
       old = old;
       agrees = agrees;
-      obeys = subst (λ (e : Event). Answers old e (CmdOutcome reply) s) is answers;
-      stays = was_sound event old s steps.disks;
+      obeys = steps.answers;
+      stays = was_sound (CmdEvent host lun cdb payload) old s steps.disks;
     })
 
-met : (events : List Event) (outcomes : List Outcome) (states : List ArrayState) (old : ArrayState) (u : UnitState)
+met : (turns : List Turn) (states : List ArrayState) (old : ArrayState) (u : UnitState)
     (k : ℕ) (host : Host) (lun : ℕ) (cdb payload : List ℕ) (reply : Reply) (new : ArrayState)
-    → Run old events outcomes states → Agrees old u (host.number, lun) → IsAnswered events outcomes k host lun cdb payload reply
+    → Run old turns states → Agrees old u (host.number, lun) → IsAnswered turns k host lun cdb payload reply
     → slice_get states k ≡ Some new
-    → Met (unit_run u (own (host.number, lun) (take k events) (take k outcomes))) host lun cdb payload reply new
-met [] outcomes states old u k host lun cdb payload reply new run agrees here there = let none = here.event in absurd (cc)
-met (event ∷ events) [] states old u k host lun cdb payload reply new run agrees here there = absurd run
-met (event ∷ events) (outcome ∷ outcomes) [] old u k host lun cdb payload reply new run agrees here there = absurd run
-met (event ∷ events) (outcome ∷ outcomes) (s ∷ states) old u zero host lun cdb payload reply new run agrees here there =
-    let is : event ≡ CmdEvent host lun cdb payload = cc (here.event) in
-    let told : outcome ≡ CmdOutcome reply = cc (here.outcome) in
+    → Met (unit_run u (own (host.number, lun) (take k turns))) host lun cdb payload reply new
+met [] states old u k host lun cdb payload reply new run agrees here there = let none = here.turn in absurd (cc)
+met (turn ∷ turns) [] old u k host lun cdb payload reply new run agrees here there = absurd run
+met (turn ∷ turns) (s ∷ states) old u zero host lun cdb payload reply new run agrees here there =
+    let is : turn ≡ Did (CmdEvent host lun cdb payload) (CmdOutcome reply) = cc (here.turn) in
     let left : s ≡ new = cc there in
-    first_met old s new event outcome u host lun cdb payload reply run.0 agrees is told left
-met (event ∷ events) (outcome ∷ outcomes) (s ∷ states) old u (suc k) host lun cdb payload reply new run agrees here there =
+    first_met old s new turn u host lun cdb payload reply run.0 agrees is left
+met (turn ∷ turns) (s ∷ states) old u (suc k) host lun cdb payload reply new run agrees here there =
     let a : Address = (host.number, lun) in
     subst (λ (v : UnitState). Met v host lun cdb payload reply new)
-    (sym (unit_run-append u (entry_at a event outcome) (own a (take k events) (take k outcomes))))
-    (met events outcomes states s (unit_run u (entry_at a event outcome)) k host lun cdb payload reply new run.1
-    (agrees-step old event outcome s u a run.0 agrees) (record { event = here.event; outcome = here.outcome; not_busy = here.not_busy }) there)
+    (sym (unit_run-append u (entry_in a turn) (own a (take k turns))))
+    (met turns states s (unit_run u (entry_in a turn)) k host lun cdb payload reply new run.1
+    (agrees-turn old turn s u a run.0 agrees) (record { turn = here.turn; not_busy = here.not_busy }) there)
 
--- what the unit is after an event of a run
-left : (events : List Event) (outcomes : List Outcome) (states : List ArrayState) (old : ArrayState) (u : UnitState) (k : ℕ) (new : ArrayState) (a : Address)
-    → Run old events outcomes states → Agrees old u a → slice_get states k ≡ Some new
-    → Agrees new (unit_run u (own a (take (suc k) events) (take (suc k) outcomes))) a
-left [] [] [] old u k new a run agrees there = absurd (cc)
-left [] [] (s ∷ states) old u k new a run agrees there = absurd run
-left [] (outcome ∷ outcomes) states old u k new a run agrees there = absurd run
-left (event ∷ events) [] states old u k new a run agrees there = absurd run
-left (event ∷ events) (outcome ∷ outcomes) [] old u k new a run agrees there = absurd run
-left (event ∷ events) (outcome ∷ outcomes) (s ∷ states) old u zero new a run agrees there =
+-- what the unit is after a turn of a run
+left : (turns : List Turn) (states : List ArrayState) (old : ArrayState) (u : UnitState) (k : ℕ) (new : ArrayState) (a : Address)
+    → Run old turns states → Agrees old u a → slice_get states k ≡ Some new
+    → Agrees new (unit_run u (own a (take (suc k) turns))) a
+left [] [] old u k new a run agrees there = absurd (cc)
+left [] (s ∷ states) old u k new a run agrees there = absurd run
+left (turn ∷ turns) [] old u k new a run agrees there = absurd run
+left (turn ∷ turns) (s ∷ states) old u zero new a run agrees there =
     let is : s ≡ new = cc there in
-    subst (λ (n : ArrayState). Agrees n (unit_run u (entry_at a event outcome ++ [])) a) is
-    (subst (λ (v : UnitState). Agrees s v a) (sym (unit_run-append u (entry_at a event outcome) []))
-    (agrees-step old event outcome s u a run.0 agrees))
-left (event ∷ events) (outcome ∷ outcomes) (s ∷ states) old u (suc k) new a run agrees there =
+    subst (λ (n : ArrayState). Agrees n (unit_run u (entry_in a turn ++ [])) a) is
+    (subst (λ (v : UnitState). Agrees s v a) (sym (unit_run-append u (entry_in a turn) []))
+    (agrees-turn old turn s u a run.0 agrees))
+left (turn ∷ turns) (s ∷ states) old u (suc k) new a run agrees there =
     subst (λ (v : UnitState). Agrees new v a)
-    (sym (unit_run-append u (entry_at a event outcome) (own a (take (suc k) events) (take (suc k) outcomes))))
-    (left events outcomes states s (unit_run u (entry_at a event outcome)) k new a run.1 (agrees-step old event outcome s u a run.0 agrees) there)
+    (sym (unit_run-append u (entry_in a turn) (own a (take (suc k) turns))))
+    (left turns states s (unit_run u (entry_in a turn)) k new a run.1 (agrees-turn old turn s u a run.0 agrees) there)
+
+-- why a turn has lost the data
+lost_in : (old : ArrayState) (turn : Turn) (new : ArrayState) → Meets old turn new → is_broken new ≡ true → (is_broken old ≡ true) ⊎ AreTwoHitIn turn old new
+lost_in old (Did event outcome) new steps lost =
+    elim (steps.disks.broken (broken_is new.store.disks.health lost)) [ inl was ↦ inl (ap is_broken_set was) | inr two ↦ inr two ]
+lost_in old Looked new looks lost =
+    elim (looks.accessed.follows.broken (broken_is new.store.disks.health lost)) [ inl was ↦ inl (ap is_broken_set was) | inr two ↦ inr two ]
 
 -- why the last state has lost its data
-two_missing : (events : List Event) (outcomes : List Outcome) (states : List ArrayState) (old : ArrayState) → Run old events outcomes states
-    → is_broken (last_of old states) ≡ true → (is_broken old ≡ true) ⊎ TwoMissing old events states
-two_missing [] [] [] old run lost = inl lost
-two_missing [] [] (s ∷ states) old run lost = absurd run
-two_missing [] (outcome ∷ outcomes) states old run lost = absurd run
-two_missing (event ∷ events) [] states old run lost = absurd run
-two_missing (event ∷ events) (outcome ∷ outcomes) [] old run lost = absurd run
-two_missing (event ∷ events) (outcome ∷ outcomes) (s ∷ states) old run lost =
-    elim (two_missing events outcomes states s run.1 lost) [
-      | inl here ↦
-          elim (run.0.disks.broken (broken_is s.store.disks.health here)) [
-            | inl was ↦ inl (ap is_broken_set was)
-            | inr two ↦ inr (inl two)
-          ]
+two_missing : (turns : List Turn) (states : List ArrayState) (old : ArrayState) → Run old turns states
+    → is_broken (last_of old states) ≡ true → (is_broken old ≡ true) ⊎ TwoMissing old turns states
+two_missing [] [] old run lost = inl lost
+two_missing [] (s ∷ states) old run lost = absurd run
+two_missing (turn ∷ turns) [] old run lost = absurd run
+two_missing (turn ∷ turns) (s ∷ states) old run lost =
+    elim (two_missing turns states s run.1 lost) [
+      | inl here ↦ elim (lost_in old turn s run.0 here) [ inl was ↦ inl was | inr two ↦ inr (inl two) ]
       | inr later ↦ inr (inr later)
     ]
 
--- the theorem, from the steps
-pub run-isolated : (old : ArrayState) (events : List Event) (outcomes : List Outcome) (states : List ArrayState) → Run old events outcomes states → IsIsolated old events outcomes states
-run-isolated old events outcomes states run = record {
+-- the theorem, from the turns
+pub run-isolated : (old : ArrayState) (turns : List Turn) (states : List ArrayState) → Run old turns states → IsIsolated old turns states
+run-isolated old turns states run = record {
   sound = λ k host lun cdb payload reply new here there now.
       (let a : Address = (host.number, lun) in
-      let m = met events outcomes states old (image old a) k host lun cdb payload reply new run (record { sound = λ _. refl; shape = refl }) here there in
+      let m = met turns states old (image old a) k host lun cdb payload reply new run (record { sound = λ _. refl; shape = refl }) here there in
       (m.obeys.sound now).given.answered here.not_busy
       ∙ ap (λ (v : UnitState). (answer v cdb payload).reply) (sym (image_here (image_at m.old) (addr_in host lun)) ∙ sym (m.agrees.sound (m.stays now))));
   broken = λ k host lun cdb payload reply new here there lost.
       (let a : Address = (host.number, lun) in
-      let m = met events outcomes states old (image old a) k host lun cdb payload reply new run (record { sound = λ _. refl; shape = refl }) here there in
+      let m = met turns states old (image old a) k host lun cdb payload reply new run (record { sound = λ _. refl; shape = refl }) here there in
       (m.obeys.broken lost).answered here.not_busy
       ∙ ap (λ (s : Shape). broken_answer s cdb (length payload)) (ap shape_of (sym (image_here (image_at m.old) (addr_in host lun))) ∙ sym m.agrees.shape)
-      ∙ broken_answer-is (unit_before old a events outcomes k) cdb payload);
+      ∙ broken_answer-is (unit_before old a turns k) cdb payload);
   images = λ k new there now a.
-      sym ((left events outcomes states old (image old a) k new a run (record { sound = λ _. refl; shape = refl }) there).sound now);
+      sym ((left turns states old (image old a) k new a run (record { sound = λ _. refl; shape = refl }) there).sound now);
   shapes = λ k new there a.
-      sym (left events outcomes states old (image old a) k new a run (record { sound = λ _. refl; shape = refl }) there).shape;
-  lost = λ gone. two_missing events outcomes states old run gone;
+      sym (left turns states old (image old a) k new a run (record { sound = λ _. refl; shape = refl }) there).shape;
+  lost = λ gone. two_missing turns states old run gone;
 }
 
--- one more step
-pub run-more : (events : List Event) (outcomes : List Outcome) (states : List ArrayState) (old : ArrayState) (event : Event) (outcome : Outcome) (new : ArrayState)
-    → Run old events outcomes states → Steps (last_of old states) event outcome new → Run old (events ++ event ∷ []) (outcomes ++ outcome ∷ []) (states ++ new ∷ [])
-run-more [] [] [] old event outcome new run steps = (steps, tt)
-run-more (e ∷ events) (o ∷ outcomes) (s ∷ states) old event outcome new run steps = (run.0, run-more events outcomes states s event outcome new run.1 steps)
-run-more [] (o ∷ outcomes) states old event outcome new run steps = absurd run
-run-more [] [] (s ∷ states) old event outcome new run steps = absurd run
-run-more (e ∷ events) [] states old event outcome new run steps = absurd run
-run-more (e ∷ events) (o ∷ outcomes) [] old event outcome new run steps = absurd run
+-- one more turn
+run-more : (turns : List Turn) (states : List ArrayState) (old : ArrayState) (turn : Turn) (new : ArrayState)
+    → Run old turns states → Meets (last_of old states) turn new → Run old (turns ++ turn ∷ []) (states ++ new ∷ [])
+run-more [] [] old turn new run meets = (meets, tt)
+run-more (t ∷ turns) (s ∷ states) old turn new run meets = (run.0, run-more turns states s turn new run.1 meets)
+run-more [] (s ∷ states) old turn new run meets = absurd run
+run-more (t ∷ turns) [] old turn new run meets = absurd run
 
-pub last_of-more : (states : List ArrayState) (old new : ArrayState) → last_of old (states ++ new ∷ []) ≡ new
+last_of-more : (states : List ArrayState) (old new : ArrayState) → last_of old (states ++ new ∷ []) ≡ new
 last_of-more [] old new = refl
 last_of-more (s ∷ states) old new = last_of-more states s new
+
+-- no turn at all
+pub no_turn : (s : ArrayState) → IsRun s [] s
+no_turn s = record { states = []; run = tt; last = refl; isolated = run-isolated s [] [] tt }
+
+-- a run and one turn more
+pub one_more : (old : ArrayState) (turns : List Turn) (mid : ArrayState) (turn : Turn) (new : ArrayState) → IsRun old turns mid → Meets mid turn new
+    → IsRun old (turns ++ turn ∷ []) new
+one_more old turns mid turn new before meets =
+    let run = run-more turns before.states old turn new before.run (subst (λ (s : ArrayState). Meets s turn new) (sym before.last) meets) in
+    record {
+      states = before.states ++ new ∷ [];
+      run = run;
+      last = last_of-more before.states old new;
+      isolated = run-isolated old (turns ++ turn ∷ []) (before.states ++ new ∷ []) run;
+    }
+
+-- one event more, with its outcome
+pub turns_of-more : (events : List Event) (outcomes : List Outcome) (event : Event) (outcome : Outcome) → length outcomes ≡ length events
+    → turns_of (events ++ event ∷ []) (outcomes ++ outcome ∷ []) ≡ turns_of events outcomes ++ Did event outcome ∷ []
+turns_of-more [] [] event outcome same = refl
+turns_of-more (e ∷ events) (o ∷ outcomes) event outcome same = ap (λ (l : List Turn). Did e o ∷ l) (turns_of-more events outcomes event outcome (cc same))
+turns_of-more [] (o ∷ outcomes) event outcome same = absurd (cc)
+turns_of-more (e ∷ events) [] event outcome same = absurd (cc)

@@ -1,8 +1,10 @@
 pub mod Causes
 pub mod Commanding
 pub mod Events
-pub mod Images
+pub mod Everywhere
+pub mod Flushing
 pub mod Isolation
-pub mod Pieces
-pub mod Seeing
+pub mod Looking
+pub mod Moving
 pub mod Serving
+pub mod TakingOut

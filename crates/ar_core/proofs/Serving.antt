@@ -1,5 +1,5 @@
 -- What commands do to the sectors of the unit.
-use Rattle.std.proofs.Common.{◌≡◌, ◌≢◌, ◌⊎◌, ℕ, zero, suc, ◌+◌, ◌-◌, ◌*◌, ◌/◌, ◌%◌, ◌<◌, ◌≤◌, Bool, true, false, IsTrue, nat_lt, Option, List, [], ◌∷◌, ◌++◌, length, take, drop, map, Result, Ok, Err, refl, sym, ap, subst, ◌∙◌, inl, inr, arith}
+use Rattle.std.proofs.Common.{◌≡◌, ◌≢◌, ◌⊎◌, ℕ, zero, suc, ◌+◌, ◌-◌, ◌*◌, ◌/◌, ◌%◌, ◌<◌, ◌≤◌, Bool, true, false, IsTrue, nat_lt, List, [], ◌∷◌, ◌++◌, length, take, drop, map, Result, Ok, refl, sym, ap, subst, ◌∙◌, inl, inr, arith}
 use Rattle.std.specs.Prelude.{◌==◌}
 use Rattle.std.specs.List.{range_with_len, concat}
 use Rattle.std.proofs.lemmas.List.{drop-drop, length-append}
@@ -15,7 +15,7 @@ use Rattle.ar_disks.proofs.Sectors.{sectors_at_is, length-sectors_at}
 use Rattle.ar_scsi.specs.declared.command.Command.{Command}
 use Rattle.ar_scsi.specs.declared.command.Command.TheVariants.{Write}
 use Rattle.ar_scsi.specs.declared.reply.Reply.{Reply}
-use Rattle.ar_scsi.specs.declared.reply.Status.TheVariants.{Good, CheckCondition, Busy}
+use Rattle.ar_scsi.specs.declared.reply.Status.TheVariants.{Good, Busy}
 use Rattle.ar_scsi.specs.declared.sense.Sense.{Sense}
 use Rattle.ar_scsi.specs.Reply.{good, check, busy}
 use Rattle.ar_scsi.specs.Sense.{internal_target_failure, logical_block_address_out_of_range, data_phase_error}
@@ -23,19 +23,21 @@ use Rattle.ar_unit.specs.Sectors.{cut, written, joined}
 use Rattle.ar_unit.specs.Unit.{Present, Answered, leaving, read_reply, write_answer, IsGiven}
 use Rattle.ar_book.specs.Tables.{unit_in, blocks_of as blocks_for}
 use Rattle.ar_cache.specs.Backing.{stored}
-use Rattle.ar_cache.specs.Cache.{CacheState, cached}
-use Rattle.ar_core.specs.Sectors.{sector_in, sectors_in, blocks_of, key_of}
-use Rattle.ar_core.specs.Array.{ArrayState, is_broken, geometry_of, seen_at, knows_in, length_at, mark_at, unit_sectors, IsPadded}
-use Rattle.ar_core.specs.Causes.{Follows}
-use Rattle.ar_core.specs.Laws.{follows_refl, places_refl}
-use Rattle.ar_core.specs.Served.{IsUnit, Serves, Settles, SamePlaces, SameSeen, Writes, IsSpared, present_at, sectors_read}
-use Rattle.ar_core.specs.Step.{is_write, IsForced}
-use Rattle.ar_core.specs.declared.transfer.Transfer.{Transfer}
-use Rattle.ar_core.specs.declared.transfer.Transfer.TheVariants.{Done, Broken, NoMemory}
+use Rattle.ar_image.specs.Sectors.{sector_in, sectors_in, blocks_of, key_of}
+use Rattle.ar_image.specs.Image.{ArrayState, is_broken, geometry_of, seen_at, knows_in, length_at, mark_at, unit_sectors, IsPadded}
+use Rattle.ar_image.specs.Following.{Follows}
+use Rattle.ar_image.specs.Laws.{follows_refl, places_refl}
+use Rattle.ar_image.specs.Seen.{IsUnit, SamePlaces, SameSeen, Writes, present_at, sectors_read}
+use Rattle.ar_core.specs.Served.{Serves, Settles}
+use Rattle.ar_core.specs.Step.{is_write}
+use Rattle.ar_image.specs.Seen.{IsForced}
+use Rattle.ar_image.specs.declared.transfer.Transfer.{Transfer}
+use Rattle.ar_image.specs.declared.transfer.Transfer.TheVariants.{Done, Broken, NoMemory}
 use Rattle.ar_cache.specs.declared.answers.Stored.{Stored}
 use Rattle.ar_cache.specs.declared.answers.Stored.TheVariants.{Done as Kept, Broken as Lost}
 use Rattle.ar_book.proofs.Keys.{addr_tells}
-use Rattle.ar_core.proofs.Images.{length-unit_sectors, map-range-same, map-range-add, present_same, sector_same}
+use Rattle.ar_image.proofs.Images.{length-unit_sectors, map-range-same, map-range-add, present_same, sector_same}
+use Rattle.ar_image.proofs.Sparing.{kept_sound}
 
 -- what is left of a range
 pub drop-map-range : {X : Type 0} (f : ℕ → X) (a k m : ℕ) → drop k (map f (range_with_len a (k + m))) ≡ map f (range_with_len (a + k) m)
@@ -182,11 +184,6 @@ sectors_read-some s addr lba (suc count) whole some = λ none.
 unit_read : (old new : ArrayState) (addr : Addr) → Follows old new → SameSeen old new → present_at new addr ≡ present_at old addr
 unit_read old new addr follows seen =
     present_same old new addr (follows.store.units.sectors addr) (follows.store.units.attention addr) follows.store.accessed.follows.geometry (λ k _. seen.same k)
-
--- what an answer says of the array
-pub kept_sound : (broken : Bool) → Kept ≡ stored broken → broken ≡ false
-kept_sound false is = refl
-kept_sound true is = absurd (cc)
 
 pub lost_broken : (broken : Bool) → Lost ≡ stored broken → broken ≡ true
 lost_broken true is = refl
@@ -389,19 +386,4 @@ settles_write old new addr lba count fua Lost reply sound done lost forced none 
   busy = λ status. (let told = sym (ap (λ (r : Reply). r.status) (lost refl)) ∙ status in absurd (cc));
   nothing = λ l f is. unwritten_same old new lba count l fua f is none;
   forced = λ l n is good. (let told = sym (ap (λ (r : Reply). r.status) (lost refl)) ∙ good in absurd (cc));
-}
-
--- of the blocks that are forced in turn, one more may have left the cache
-pub spared_then : (a b c : CacheState) (addr : Addr) (first rb : ℕ) → IsSpared a b addr first rb → first ≤ rb → ((k : Key) → k ≢ key_of addr rb → cached c k ≡ cached b k)
-    → IsSpared a c addr first (rb + 1)
-spared_then a b c addr first rb so after next = record {
-  others = λ k outside.
-      elim outside [
-        | inl other ↦ next k (λ is. other (ap (λ (x : Key). x.addr) is)) ∙ so.others k (inl other)
-        | inr rest ↦
-            elim rest [
-              | inl below ↦ next k (λ is. (let same = ap (λ (x : Key). x.rb) is in omega arith)) ∙ so.others k (inr (inl below))
-              | inr behind ↦ next k (λ is. (let same = ap (λ (x : Key). x.rb) is in omega arith)) ∙ so.others k (inr (inr (omega arith)))
-            ]
-      ];
 }

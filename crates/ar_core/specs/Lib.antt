@@ -1,13 +1,16 @@
-pub mod Array
 pub mod Causes
-pub mod Laws
+pub mod Quiet
 pub mod Run
-pub mod Sectors
 pub mod Served
-pub mod Start
 pub mod Step
 pub mod Views
 -- the words of lower crates that clauses of this crate cite
+pub use Rattle.ar_image.specs.Changes as ImageChanges
+pub use Rattle.ar_image.specs.Following
+pub use Rattle.ar_image.specs.Image
+pub use Rattle.ar_image.specs.Moves
+pub use Rattle.ar_image.specs.Seen
+pub use Rattle.ar_image.specs.Start
 pub use Rattle.ar_store.specs.Store
 pub use Rattle.ar_store.specs.Slots
 pub use Rattle.ar_store.specs.Placing

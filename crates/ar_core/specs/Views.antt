@@ -1,5 +1,5 @@
 -- What an array shows of its tables and its disks.
-use Rattle.std.specs.Prelude.{◌≡◌, ◌≢◌, ◌↔◌, ℕ, ◌<◌, nat_le, not, if◌then◌else◌, Option, Some, None, List, length, map}
+use Rattle.std.specs.Prelude.{◌≡◌, ℕ, ◌<◌, nat_le, not, if◌then◌else◌, Option, Some, None, List, length}
 use Rattle.ar_disks.specs.declared.address.Addr.{Addr}
 use Rattle.ar_disks.specs.declared.address.Place.{Place}
 use Rattle.ar_disks.specs.Geometry.{rows_of}
@@ -19,7 +19,7 @@ use Rattle.ar_core.specs.declared.views.HomeOf.TheVariants as homes
 use Rattle.ar_core.specs.declared.views.GroupUse.{GroupUse}
 use Rattle.ar_core.specs.declared.views.Shown.{Shown}
 use Rattle.ar_core.specs.declared.views.Shown.TheVariants.{Outside, Broken, Missing, Bytes}
-use Rattle.ar_core.specs.Sectors.{key_of}
+use Rattle.ar_image.specs.Sectors.{key_of}
 
 -- a level, as it is shown
 abbrev pub level_shown : Level → LevelOf

@@ -1,16 +1,13 @@
 // The array: what each event does.
-ghost use Rattle.std.specs.Prelude.{◌≡◌, ◌≢◌, ◌≤◌, ℕ, All, map, false, IfOk, IfErr, OnOk, OnErr, IsTrue, unwrap_or, length, []};
+ghost use Rattle.std.specs.Prelude.{◌≡◌, ◌≤◌, All, map, IfOk, IfErr, OnOk, OnErr, unwrap_or, length};
 ghost use Rattle.ar_disks.specs.declared.address.Addr.{Addr};
 ghost use Rattle.ar_disks.specs.Geometry.{block_len_of};
-ghost use Rattle.ar_cache.specs.Backing.{stored};
-ghost use Rattle.ar_cache.specs.Cache.{with_entries};
-ghost use Rattle.ar_core.specs.Causes.{Follows};
-ghost use Rattle.ar_core.specs.Array.{is_broken, geometry_of, image_at, image_on_disks};
+ghost use Rattle.ar_image.specs.Image.{geometry_of};
 
-use crate::blocks::Blocks;
-use crate::{CAPACITY_LIMIT, Event, Flush, Outcome, Refusal, Stored};
+use crate::{CAPACITY_LIMIT, Event, Outcome, Refusal};
 use ar_disks::{Addr, Block, Disk};
 use ar_extents::{StartFault, fault_of};
+use ar_image::Blocks;
 use std::alloc::Global;
 use std::marker::Model;
 
@@ -25,7 +22,7 @@ pub struct Array<D: Disk> {
 impl<D: Disk> Model for Array<D> {
     ghost use Rattle.std.specs.Prelude.{◌≡◌, length};
     ghost use Rattle.ar_disks.specs.Geometry.{block_len_of};
-    ghost use Rattle.ar_core.specs.Array.{ArrayState, geometry_of, IsPadded};
+    ghost use Rattle.ar_image.specs.Image.{ArrayState, geometry_of, IsPadded};
 
     ghost Value = { ArrayState };
 
@@ -38,9 +35,9 @@ impl<D: Disk> Array<D> {
     ghost use Rattle.ar_extents.specs.declared.refusal.StartFault.TheVariants.{NoMemory};
     ghost use Rattle.ar_extents.specs.Set.{CanCount};
     ghost use Rattle.ar_extents.specs.Changes.{start_fault};
-    ghost use Rattle.ar_core.specs.Start.{IsStarted};
+    ghost use Rattle.ar_image.specs.Start.{IsStarted};
     ghost use Rattle.ar_core.specs.Step.{Steps};
-    ghost use Rattle.ar_core.specs.Run.{IsRun};
+    ghost use Rattle.ar_core.specs.Run.{AreOutcomes};
 
     /// An array of these disks, whole, without a unit, its extents in groups of four disks. `cache` is how many blocks may wait
     /// to be written: at most 65,536, and 0 writes through. Disks that are refused, for their number, their shapes or want of
@@ -78,6 +75,8 @@ impl<D: Disk> Array<D> {
                 payload,
             } => { Outcome::Cmd(self.command(alloc, Addr { host, lun }, &cdb, payload.as_slice())) }
             Event::Flush => Outcome::Flush(self.flush_one()),
+            Event::Demote => Outcome::Demote(self.demote_one()),
+            Event::Clean => Outcome::Clean(self.clean_one()),
             Event::DiskOut(disk) => Outcome::DiskOut(self.disk_out(disk)),
         }
     }
@@ -85,10 +84,10 @@ impl<D: Disk> Array<D> {
     /// Does events one after another, and answers each. **The isolation theorem is its contract**: whatever the other
     /// events do, each unit answers as one plain list of sectors that its own makings, growths, removals and commands alone
     /// change, until two disks are lost at one moment; what it answers from then on, its presence, length and mark decide
-    /// (`IsRun`, whose part `IsIsolated` is the theorem). Where memory for the answers is refused, the events are handed
+    /// (`AreOutcomes`, whose part `IsIsolated` is the theorem). Where memory for the answers is refused, the events are handed
     /// back and nothing was done.
     pub fn run(&mut self, alloc: Global, events: Vec<Event>) -> Result<Vec<Outcome>, Vec<Event>>
-        ensures isolated { IfOk result (λ outcomes. IsRun self.old events.items outcomes.items self.new) }
+        ensures isolated { IfOk result (λ outcomes. AreOutcomes self.old events.items outcomes.items self.new) }
         ensures refused { IfErr result (λ back. back ≡ events) }
         ensures unchanged { OnErr result (self.new ≡ self.old) }
     {
@@ -101,22 +100,9 @@ impl<D: Disk> Array<D> {
         }
         Ok(outcomes)
     }
-
-    /// Writes all cached blocks to the disks, the least recently used first. Broken says that the array has lost its data, before
-    /// or by this call.
-    pub fn flush_all(&mut self) -> Stored
-        ensures answer { result ≡ stored (is_broken self.new) }
-        ensures lost { IsTrue (is_broken self.old) → self.new ≡ self.old }
-        ensures images { result ≡ Stored.Done → (addr : Addr) → image_at self.new addr ≡ image_at self.old addr }
-        ensures on_disks { result ≡ Stored.Done → (addr : Addr) → image_at self.new addr ≡ image_on_disks self.new.store addr }
-        ensures emptied { result ≡ Stored.Done → self.new.cache ≡ with_entries self.old.cache [] }
-        ensures follows { Follows self.old self.new }
-    {
-        self.blocks.flush_all()
-    }
 }
 
-// Each event but a command: the call that it stands for, and what that makes of the units.
+// The events that are a unit's own, but for its commands.
 impl<D: Disk> Array<D> {
     ghost use Rattle.ar_core.specs.Step.{Steps};
 
@@ -136,17 +122,5 @@ impl<D: Disk> Array<D> {
         ensures { Steps self.old (Event.Remove addr) (Outcome.Remove result) self.new }
     {
         self.blocks.remove(addr)
-    }
-
-    fn flush_one(&mut self) -> Flush
-        ensures { Steps self.old Event.Flush (Outcome.Flush result) self.new }
-    {
-        self.blocks.flush_one()
-    }
-
-    fn disk_out(&mut self, disk: u8) -> Result<(), Refusal>
-        ensures { Steps self.old (Event.DiskOut disk) (Outcome.DiskOut result) self.new }
-    {
-        self.blocks.fail(disk)
     }
 }

@@ -1,27 +1,26 @@
 // The array: what a command to a unit does.
-ghost use Rattle.std.specs.Prelude.{◌≡◌, ◌≢◌, ◌+◌, ◌-◌, ◌*◌, ◌/◌, ◌≤◌, ◌<◌, ◌==◌, ℕ, not, false, true, IsTrue, Bool, None, Ok, nat_lt, if◌then◌else◌, length, List, []};
+ghost use Rattle.std.specs.Prelude.{◌≡◌, ◌≢◌, ◌+◌, ◌-◌, ◌*◌, ◌/◌, ◌≤◌, ◌<◌, ◌==◌, not, false, true, IsTrue, Ok, nat_lt, if◌then◌else◌, length, []};
 ghost use Rattle.ar_disks.specs.declared.address.Key.{Key};
 ghost use Rattle.ar_disks.specs.Geometry.{block_len_of, sectors_of};
 ghost use Rattle.ar_scsi.specs.Reading.{reading};
 ghost use Rattle.ar_scsi.specs.Reply.{good, check, busy};
 ghost use Rattle.ar_scsi.specs.Sense.{internal_target_failure, logical_block_address_out_of_range, data_phase_error, capacity_data_has_changed};
-ghost use Rattle.ar_unit.specs.Unit.{obeyed, IsGiven, leaving, read_reply, write_answer, Present};
+ghost use Rattle.ar_unit.specs.Unit.{obeyed, IsGiven, leaving, read_reply, write_answer};
 ghost use Rattle.ar_unit.specs.Broken.{broken_obeyed};
-ghost use Rattle.ar_unit.specs.Sectors.{written};
 ghost use Rattle.ar_cache.specs.Backing.{stored};
 ghost use Rattle.ar_cache.specs.Cache.{cached};
-ghost use Rattle.ar_core.specs.Array.{is_broken, geometry_of, seen_at, unit_sectors, mark_at, with_book};
-ghost use Rattle.ar_core.specs.Sectors.{key_of};
-ghost use Rattle.ar_core.specs.Served.{IsUnit, Serves, Settles, SamePlaces, SameSeen, IsSpared, Commands, Writes, present_at, sectors_read};
-ghost use Rattle.ar_core.specs.Causes.{Follows};
-ghost use Rattle.ar_core.specs.Step.{IsForced};
+ghost use Rattle.ar_image.specs.Image.{is_broken, geometry_of, seen_at, unit_sectors, mark_at, with_book};
+ghost use Rattle.ar_image.specs.Seen.{IsUnit, SamePlaces, SameSeen, IsSpared, Writes, present_at, sectors_read};
+ghost use Rattle.ar_core.specs.Served.{Serves, Settles, Commands};
+ghost use Rattle.ar_image.specs.Following.{Follows};
+ghost use Rattle.ar_image.specs.Seen.{IsForced};
 ghost use Rattle.ar_book.specs.Changes.{unmarked};
 
-use crate::reply::{absent, capacity, inquiry, is_past_end};
-use crate::transfer::{Transfer, read_sectors, write_sectors};
 use crate::{Array, Stored};
 use ar_disks::{Addr, Disk};
+use ar_image::{Transfer, read_sectors, write_sectors};
 use ar_scsi::{Command, Reply, Sense, decode, is_inquiry};
+use ar_unit::{absent, capacity, inquiry, is_past_end};
 use bytes::Bytes;
 use std::alloc::Global;
 

@@ -1,11 +1,9 @@
 // What happens to an array, and how it answers.
-use ar_book::Refusal as UnitRefusal;
-use ar_cache::Flush;
 use ar_disks::{Addr, Host};
-use ar_extents::DiskRefusal;
+use ar_image::{Flush, Refusal};
+use ar_moves::Move;
 use ar_scsi::Reply;
 use bytes::Bytes;
-use thiserror::Error;
 
 /// One event of an array.
 #[derive(Debug, Drop)]
@@ -26,6 +24,10 @@ pub enum Event {
     },
     /// Writes the least recently used block of the cache to the disks.
     Flush,
+    /// Moves the mirrored block that was written longest ago to a group with parity.
+    Demote,
+    /// Moves one block out of the emptiest group whose blocks all fit in the others of its class.
+    Clean,
     /// Takes a disk out, by its number, as if it had faulted.
     DiskOut(u8),
 }
@@ -38,19 +40,7 @@ pub enum Outcome {
     Remove(Result<(), Refusal>),
     Cmd(Reply),
     Flush(Flush),
+    Demote(Move),
+    Clean(Move),
     DiskOut(Result<(), Refusal>),
-}
-
-/// Why an event was refused. Nothing has changed then.
-#[derive(Clone, Copy, Debug, PartialEq, Eq, Error)]
-pub enum Refusal {
-    /// The unit can't be made, grown or removed.
-    #[error(transparent)]
-    Unit(UnitRefusal),
-    /// The array has lost its data.
-    #[error("M6 Broken")]
-    Broken,
-    /// The disk can't be taken out.
-    #[error(transparent)]
-    Disk(DiskRefusal),
 }

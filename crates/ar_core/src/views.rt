@@ -5,16 +5,14 @@ ghost use Rattle.ar_disks.specs.declared.address.Addr.{Addr};
 ghost use Rattle.ar_book.specs.Tables.{room, reserved, free_groups};
 ghost use Rattle.ar_store.specs.Slots.{SurvivesLossOf};
 ghost use Rattle.ar_store.specs.Kept.{IsKept};
-ghost use Rattle.ar_core.specs.Array.{is_broken, geometry_of, image_at, IsPadded, IsJoined};
-ghost use Rattle.ar_core.specs.Causes.{Follows};
-ghost use Rattle.ar_core.specs.Served.{SamePlaces};
+ghost use Rattle.ar_image.specs.Image.{is_broken, geometry_of, image_at, IsPadded, IsJoined};
+ghost use Rattle.ar_core.specs.Quiet.{LooksAt};
 ghost use Rattle.ar_core.specs.Views.{level_of, home_of, use_of, HasRow, Shows};
 
-use crate::blocks::Blocks;
 use crate::{Array, Class, Health, Slot};
 use ar_book::{Book, Level};
 use ar_disks::{Addr, Block, Disk, Geometry, Key, Place};
-use ar_extents::Got;
+use ar_extents::{DiskSet, Got};
 use std::alloc::{AllocError, Global};
 
 /// At which level a unit's block stands.
@@ -77,21 +75,21 @@ impl<D: Disk> Array<D> {
     pub fn level(&self, addr: Addr, rb: u32) -> LevelOf
         ensures { result ≡ level_of self.now.store.book addr rb }
     {
-        self.blocks.level(addr, rb)
+        level_in(self.blocks.book(), addr, rb)
     }
 
     /// Where a unit's block stands, by its number from 0.
     pub fn home_of(&self, addr: Addr, rb: u32) -> HomeOf
         ensures { result ≡ home_of self.now.store.book addr rb }
     {
-        self.blocks.home_of(addr, rb)
+        home_in(self.blocks.book(), addr, rb)
     }
 
     /// What each group is used for, in their order. It fails where memory is refused.
     pub fn groups(&self, alloc: Global) -> Result<Vec<GroupUse>, AllocError>
         ensures { IfOk result (λ groups. groups.items ≡ map use_of self.now.store.book.groups) }
     {
-        self.blocks.groups(alloc)
+        uses_of(alloc, self.blocks.book())
     }
 
     /// How many more blocks units may have: with those that they have, as many as all groups but one hold with parity.
@@ -99,7 +97,7 @@ impl<D: Disk> Array<D> {
         ensures room { result ≡ room self.now.store.book }
         ensures kept { reserved self.now.store.book + result ≡ 3 * rows_of (geometry_of self.now) * (length self.now.store.book.groups - 1) }
     {
-        self.blocks.free_room()
+        self.blocks.book().room()
     }
 
     /// Which disk is down, if any.
@@ -125,13 +123,12 @@ impl<D: Disk> Array<D> {
     pub fn block_at(&mut self, disk: u8, extent: u16, row: u16, into: &mut Block) -> Shown
         requires whole { length into.old ≡ block_len_of (geometry_of self.old) }
         ensures shows { Shows self.old.store.disks self.new.store.disks (record { disk = disk; extent = extent }) row into.new result }
-        ensures places { SamePlaces self.old self.new }
-        ensures follows { Follows self.old self.new }
+        ensures looks { LooksAt self.old self.new }
         ensures images { is_broken self.new ≡ false → (addr : Addr) → image_at self.new addr ≡ image_at self.old addr }
         ensures len { length into.new ≡ length into.old }
     {
         let place = Place { disk, extent };
-        if !self.blocks.has_row(place, row) {
+        if !has_row(self.blocks.disks(), place, row) {
             return Shown::Outside;
         }
         match self.blocks.read_place(place, row, into) {
@@ -142,66 +139,44 @@ impl<D: Disk> Array<D> {
     }
 }
 
-impl<D: Disk> Blocks<D> {
-    /// At which level a unit's block stands.
-    pub fn level(&self, addr: Addr, rb: u32) -> LevelOf
-        ensures { result ≡ level_of self.now.store.book addr rb }
-    {
-        let book = self.book();
-        if book.sectors(addr).is_none() {
-            return LevelOf::Absent;
-        }
-        if rb >= book.blocks(addr) {
-            return LevelOf::Outside;
-        }
-        match book.level(Key { addr, rb }) {
-            Level::Unplaced => LevelOf::Unplaced,
-            Level::Mirrored => LevelOf::Mirrored,
-            Level::Parity => LevelOf::Parity,
-        }
+// At which level a unit's block stands.
+fn level_in(book: &Book, addr: Addr, rb: u32) -> LevelOf
+    ensures { result ≡ level_of book.now addr rb }
+{
+    if book.sectors(addr).is_none() {
+        return LevelOf::Absent;
     }
+    if rb >= book.blocks(addr) {
+        return LevelOf::Outside;
+    }
+    match book.level(Key { addr, rb }) {
+        Level::Unplaced => LevelOf::Unplaced,
+        Level::Mirrored => LevelOf::Mirrored,
+        Level::Parity => LevelOf::Parity,
+    }
+}
 
-    /// Where a unit's block stands.
-    pub fn home_of(&self, addr: Addr, rb: u32) -> HomeOf
-        ensures { result ≡ home_of self.now.store.book addr rb }
-    {
-        let book = self.book();
-        if book.sectors(addr).is_none() {
-            return HomeOf::Absent;
-        }
-        if rb >= book.blocks(addr) {
-            return HomeOf::Outside;
-        }
-        match book.home(Key { addr, rb }) {
-            Some(slot) => HomeOf::At(slot),
-            None => HomeOf::Unplaced,
-        }
+// Where a unit's block stands.
+fn home_in(book: &Book, addr: Addr, rb: u32) -> HomeOf
+    ensures { result ≡ home_of book.now addr rb }
+{
+    if book.sectors(addr).is_none() {
+        return HomeOf::Absent;
     }
+    if rb >= book.blocks(addr) {
+        return HomeOf::Outside;
+    }
+    match book.home(Key { addr, rb }) {
+        Some(slot) => HomeOf::At(slot),
+        None => HomeOf::Unplaced,
+    }
+}
 
-    /// What each group is used for.
-    pub fn groups(&self, alloc: Global) -> Result<Vec<GroupUse>, AllocError>
-        ensures { IfOk result (λ groups. groups.items ≡ map use_of self.now.store.book.groups) }
-    {
-        uses_of(alloc, self.book())
-    }
-
-    /// How many more blocks units may have.
-    pub fn free_room(&self) -> u32
-        ensures room { result ≡ room self.now.store.book }
-        ensures kept { reserved self.now.store.book + result ≡ 3 * rows_of (geometry_of self.now) * (length self.now.store.book.groups - 1) }
-    {
-        self.book().room()
-    }
-
-    /// Whether there is such a row of an extent.
-    pub fn has_row(&self, place: Place, row: u16) -> bool
-        ensures { IsTrue result ↔ HasRow self.now.store.disks place row }
-    {
-        let disks = self.disks();
-        place.disk < disks.count()
-            && place.extent < disks.extents()
-            && row < disks.geometry().rows()
-    }
+// Whether there is such a row of an extent.
+fn has_row<D: Disk>(disks: &DiskSet<D>, place: Place, row: u16) -> bool
+    ensures { IsTrue result ↔ HasRow disks.now place row }
+{
+    place.disk < disks.count() && place.extent < disks.extents() && row < disks.geometry().rows()
 }
 
 // What each group is used for.

@@ -1,6 +1,6 @@
 -- What calls answered, once their errors were replaced.
 use Rattle.std.proofs.Common.{◌≡◌, ◌∙◌, sym, subst, refl, Option, Result, Ok, Err, MatchResult, IsErrAnd, IfErr}
-use Rattle.ar_core.specs.Array.{ArrayState}
+use Rattle.ar_image.specs.Image.{ArrayState}
 use Rattle.ar_script.specs.declared.fault.FaultKind.{FaultKind}
 use Rattle.ar_script.specs.declared.fault.FaultKind.TheVariants.{WriteFault}
 use Rattle.ar_script.specs.declared.order.Action.{Action}

@@ -195,12 +195,24 @@ Answers Form Asked result = MatchResult result (λ order. Form × Asked order) (
 abbrev pub Alone : Words → Order → Result Order FaultKind → Type 0
 Alone words order = Answers (length words ≡ 0) (λ given. given ≡ order)
 
--- the words that there are, and any other
-abbrev pub Reads : List ℕ → Words → Result Order FaultKind → Type 0
-Reads name words result =
-    MatchBool (bytes_eq name (codes "make")) (Answers (HasUnitAndNumber 32 words) (AsksMake words) result) (
-    MatchBool (bytes_eq name (codes "grow")) (Answers (HasUnitAndNumber 32 words) (AsksGrow words) result) (
-    MatchBool (bytes_eq name (codes "drop")) (Answers (HasUnit words) (AsksDrop words) result) (
+-- the words about the whole array and those that ask to see something, and any other
+abbrev pub ReadsArrayOrder : List ℕ → Words → Result Order FaultKind → Type 0
+ReadsArrayOrder name words result =
+    MatchBool (bytes_eq name (codes "flush")) (Alone words (Act actions.Flush) result) (
+    MatchBool (bytes_eq name (codes "demote")) (Alone words (Act actions.Demote) result) (
+    MatchBool (bytes_eq name (codes "clean")) (Alone words (Act actions.Clean) result) (
+    MatchBool (bytes_eq name (codes "out")) (Answers (HasDisk words) (AsksOut words) result) (
+    MatchBool (bytes_eq name (codes "levels")) (Answers (HasUnit words) (AsksLevels words) result) (
+    MatchBool (bytes_eq name (codes "home")) (Answers (HasUnitAndNumber 32 words) (AsksHome words) result) (
+    MatchBool (bytes_eq name (codes "groups")) (Alone words (Ask questions.Groups) result) (
+    MatchBool (bytes_eq name (codes "room")) (Alone words (Ask questions.Room) result) (
+    MatchBool (bytes_eq name (codes "health")) (Alone words (Ask questions.Health) result) (
+    MatchBool (bytes_eq name (codes "block")) (Answers (HasRow words) (AsksRow words) result) (
+    result ≡ Err UnknownWord))))))))))
+
+-- the words of commands, and those
+abbrev pub ReadsCommand : List ℕ → Words → Result Order FaultKind → Type 0
+ReadsCommand name words result =
     MatchBool (bytes_eq name (codes "tur")) (Answers (HasUnit words) (AsksTur words) result) (
     MatchBool (bytes_eq name (codes "inquiry")) (Answers (HasUnitAndNumber 16 words) (AsksInquiry words) result) (
     MatchBool (bytes_eq name (codes "capacity")) (Answers (HasUnit words) (AsksCapacity words) result) (
@@ -209,15 +221,15 @@ Reads name words result =
     MatchBool (bytes_eq name (codes "read16")) (Answers (HasSectors IsNumber words) (AsksRead words) result) (
     MatchBool (bytes_eq name (codes "write16")) (Answers (HasWritten IsNumber words) (AsksWrite words) result) (
     MatchBool (bytes_eq name (codes "cdb")) (Answers (HasBlock words) (AsksBlock words) result) (
-    MatchBool (bytes_eq name (codes "flush")) (Alone words (Act actions.Flush) result) (
-    MatchBool (bytes_eq name (codes "out")) (Answers (HasDisk words) (AsksOut words) result) (
-    MatchBool (bytes_eq name (codes "levels")) (Answers (HasUnit words) (AsksLevels words) result) (
-    MatchBool (bytes_eq name (codes "home")) (Answers (HasUnitAndNumber 32 words) (AsksHome words) result) (
-    MatchBool (bytes_eq name (codes "groups")) (Alone words (Ask questions.Groups) result) (
-    MatchBool (bytes_eq name (codes "room")) (Alone words (Ask questions.Room) result) (
-    MatchBool (bytes_eq name (codes "health")) (Alone words (Ask questions.Health) result) (
-    MatchBool (bytes_eq name (codes "block")) (Answers (HasRow words) (AsksRow words) result) (
-    result ≡ Err UnknownWord)))))))))))))))))))
+    ReadsArrayOrder name words result))))))))
+
+-- the words that there are, and any other
+abbrev pub Reads : List ℕ → Words → Result Order FaultKind → Type 0
+Reads name words result =
+    MatchBool (bytes_eq name (codes "make")) (Answers (HasUnitAndNumber 32 words) (AsksMake words) result) (
+    MatchBool (bytes_eq name (codes "grow")) (Answers (HasUnitAndNumber 32 words) (AsksGrow words) result) (
+    MatchBool (bytes_eq name (codes "drop")) (Answers (HasUnit words) (AsksDrop words) result) (
+    ReadsCommand name words result)))
 
 -- an order is something that is asked for
 abbrev pub asked : Result Order FaultKind → Result (Option Order) FaultKind

@@ -3,13 +3,12 @@ use Rattle.std.specs.Prelude.{◌≡◌, ◌⊎◌, ℕ, false, List, Option, So
 use Rattle.ar_disks.specs.declared.address.Addr.{Addr}
 use Rattle.ar_disks.specs.declared.address.Place.{Place}
 use Rattle.ar_core.specs.declared.event.Event.{Event}
-use Rattle.ar_core.specs.declared.event.Event.TheVariants.{Make, Grow, Remove, Cmd, Flush, DiskOut}
+use Rattle.ar_core.specs.declared.event.Event.TheVariants.{Make, Grow, Remove, Cmd, Flush, Demote, Clean, DiskOut}
 use Rattle.ar_core.specs.declared.event.Outcome.{Outcome}
 use Rattle.ar_core.specs.declared.views.Shown.{Shown}
 use Rattle.ar_core.specs.Views.{Shows}
-use Rattle.ar_core.specs.Array.{ArrayState, is_broken, image_at}
-use Rattle.ar_core.specs.Causes.{Follows}
-use Rattle.ar_core.specs.Served.{SamePlaces}
+use Rattle.ar_image.specs.Image.{ArrayState, is_broken, image_at}
+use Rattle.ar_core.specs.Quiet.{LooksAt}
 use Rattle.ar_core.specs.Step.{Steps}
 use Rattle.ar_script.specs.declared.fault.FaultKind.{FaultKind}
 use Rattle.ar_script.specs.declared.fault.FaultKind.TheVariants.{NoMemory, WriteFault}
@@ -30,6 +29,8 @@ event_in (actions.Grow addr sectors) = Grow addr sectors
 event_in (actions.Remove addr) = Remove addr
 event_in (actions.Command addr cdb d notation) = Cmd addr.host addr.lun cdb (replicate d.len d.byte)
 event_in actions.Flush = Flush
+event_in actions.Demote = Demote
+event_in actions.Clean = Clean
 event_in (actions.DiskOut disk) = DiskOut disk
 
 -- how the bytes of the answer are printed
@@ -39,6 +40,8 @@ notation_in (actions.Grow addr sectors) = Bytes
 notation_in (actions.Remove addr) = Bytes
 notation_in (actions.Command addr cdb d notation) = notation
 notation_in actions.Flush = Bytes
+notation_in actions.Demote = Bytes
+notation_in actions.Clean = Bytes
 notation_in (actions.DiskOut disk) = Bytes
 
 -- Reading a row shows what stands there, or why it can't, and leaves the tables, the cache and each unit as they were. It may meet a
@@ -47,8 +50,7 @@ pub record ReadsRow (place : Place) (row : ℕ) (old new : ArrayState) : Type 0 
   pub bytes : List ℕ
   pub shown : Shown
   pub shows : Shows old.store.disks new.store.disks place row bytes shown
-  pub places : SamePlaces old new
-  pub follows : Follows old new
+  pub looks : LooksAt old new
   pub images : is_broken new ≡ false → (addr : Addr) → image_at new addr ≡ image_at old addr
 
 -- what being asked leaves of an array: itself, where no disk is read for it

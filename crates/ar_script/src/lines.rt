@@ -117,20 +117,41 @@ fn read_line<R: Read + Drop>(
     ensures few { IfErr result (λ kind. kind ≢ FaultKind.TooManyLines) }
 {
     for _ in 0..=LINE_MAX {
-        let bytes = source.fill_buf().map_err(|_| FaultKind::ReadFault)?;
-        if bytes.is_empty() {
-            return Ok(true);
-        }
-        let end = bytes.iter().position(|byte| *byte == b'\n');
-        let part = &bytes[..end.unwrap_or(bytes.len())];
-        take_part(line, part)?;
-        let used = part.len() + usize::from(end.is_some());
-        source.consume(used);
-        if end.is_some() {
-            return Ok(false);
+        if let Some(is_at_end) = read_part(source, line)? {
+            return Ok(is_at_end);
         }
     }
     Err(FaultKind::LineTooLong)
+}
+
+// Reads what is buffered of a line. Where the line ends there, says whether the input does.
+fn read_part<R: Read + Drop>(
+    source: &mut BufReader<R>,
+    line: &mut Vec<u8>,
+) -> Result<Option<bool>, FaultKind>
+    requires { IsLine line.old.items }
+    ensures whole { IsLine line.new.items }
+    ensures few { IfErr result (λ kind. kind ≢ FaultKind.TooManyLines) }
+{
+    let bytes = source.fill_buf().map_err(|_| FaultKind::ReadFault)?;
+    if bytes.is_empty() {
+        return Ok(Some(true));
+    }
+    let (part, has_end) = part_of(bytes);
+    take_part(line, part)?;
+    let used = part.len() + usize::from(has_end);
+    source.consume(used);
+    Ok(has_end.then_some(false))
+}
+
+// The bytes before the one that ends a line, and whether there is one.
+fn part_of(bytes: &[u8]) -> (&[u8], bool)
+    ensures { length result.0.now + (if result.1 then 1 else 0) ≤ length bytes.now }
+{
+    match bytes.iter().position(|byte| *byte == b'\n') {
+        Some(end) => (&bytes[..end], true),
+        None => (bytes, false),
+    }
 }
 
 // Adds a part to a line. Of what fits, each byte has to be a printable character.

@@ -4,7 +4,7 @@ ghost use Rattle.std.specs.Prelude.{◌≡◌};
 use ar_disks::Addr;
 
 /// The data that go with a command: so many bytes of one value.
-#[derive(Clone, Copy, Debug, PartialEq, Eq)]
+#[derive(Clone, Copy)]
 pub struct Data {
     pub len: u32,
     pub byte: u8,
@@ -20,7 +20,7 @@ pub enum Notation {
 }
 
 /// What a line asks for.
-#[derive(Clone, Copy, Debug, PartialEq, Eq)]
+#[derive(Clone, Copy)]
 pub enum Order {
     /// Something is to be done.
     Act(Action),
@@ -29,7 +29,7 @@ pub enum Order {
 }
 
 /// What a line has an array do.
-#[derive(Clone, Copy, Debug, PartialEq, Eq)]
+#[derive(Clone, Copy)]
 pub enum Action {
     /// Make a unit of so many sectors.
     Make(Addr, u32),
@@ -46,6 +46,10 @@ pub enum Action {
     },
     /// Write the least recently used block of the cache to the disks.
     Flush,
+    /// Move the mirrored block that was written longest ago to a group with parity.
+    Demote,
+    /// Move one block out of the emptiest group that can be emptied.
+    Clean,
     /// Take a disk out, by its number.
     DiskOut(u8),
 }
@@ -65,7 +69,7 @@ impl Action {
 }
 
 /// What a line wants to see of an array. All numbers count from 0.
-#[derive(Clone, Copy, Debug, PartialEq, Eq)]
+#[derive(Clone, Copy)]
 pub enum Question {
     /// The level of each block of a unit.
     Levels(Addr),

@@ -3,7 +3,8 @@ ghost use Rattle.std.specs.Prelude.{◌≡◌, ◌≢◌, ◌==◌, true, false,
 ghost use Rattle.std.specs.List.{list_any};
 ghost use Rattle.std.specs.Option.{SomeIff};
 ghost use Rattle.ar_script.specs.Words.{IsNumber};
-ghost use Rattle.ar_script.specs.Forms.{word, value, IsNumberOf, AreAddress, IsAddress, NamesUnit, HasUnit, HasUnitAndNumber, HasSectors, HasWritten, HasBlock, HasRow, HasDisk, Gives, Reads, ReadsWords, ReadsLine, nothing};
+ghost use Rattle.ar_script.specs.Forms.{word, value, IsNumberOf, AreAddress, IsAddress, NamesUnit, HasUnit, HasUnitAndNumber, HasSectors, HasWritten, HasBlock, HasRow, HasDisk, Gives, Reads, ReadsCommand, ReadsArrayOrder, ReadsWords, ReadsLine, nothing};
+ghost use Rattle.ar_script.specs.Parts.{AreSpan, IsSpan, NamesSpan, SaysWritten, AreData, IsData, AreBlock, AsksBlockWith};
 ghost use Rattle.ar_script.specs.Forms.{AsksMake, AsksGrow, AsksDrop, AsksTur, AsksInquiry, AsksCapacity, AsksRead, AsksWrite, AsksBlock, AsksLevels, AsksHome, AsksRow, AsksOut};
 
 use crate::order::{Action, Data, Notation, Order, Question};
@@ -12,6 +13,22 @@ use ar_disks::{Addr, Host};
 use std::alloc::Global;
 
 const NO_DATA: Data = Data { len: 0, byte: 0 };
+
+// Sectors of a unit that lie side by side.
+#[derive(Clone, Copy)]
+struct Span {
+    addr: Addr,
+    lba: u64,
+    count: u16,
+}
+
+// Sectors that are to be written, each byte the same, with FORCE UNIT ACCESS or without.
+#[derive(Clone, Copy)]
+struct Written {
+    span: Span,
+    byte: u8,
+    fua: bool,
+}
 
 /// Reads a line, of which an empty one and one that begins with `#` ask for nothing.
 pub fn order_in(alloc: Global, line: &str) -> Result<Option<Order>, FaultKind>
@@ -45,7 +62,8 @@ fn has_empty(words: &[&str]) -> bool
     words.iter().any(|word| word.is_empty())
 }
 
-// Reads the arguments as those of the order that has this name.
+// Reads the arguments as those of the order that has this name. (Three functions with a few names each, since a match costs the proof
+// more than by the number of its arms.)
 fn order_of(name: &str, arguments: &[&str]) -> Result<Order, FaultKind>
     ensures reads { Reads name.now arguments.now result }
     ensures few { IfErr result (λ kind. kind ≢ FaultKind.TooManyLines) }
@@ -54,6 +72,17 @@ fn order_of(name: &str, arguments: &[&str]) -> Result<Order, FaultKind>
         "make" => make(arguments),
         "grow" => grow(arguments),
         "drop" => remove(arguments),
+        _ => return command_of(name, arguments),
+    };
+    order.ok_or(FaultKind::BadArgument)
+}
+
+// The same for a name of a command, or one that comes after those.
+fn command_of(name: &str, arguments: &[&str]) -> Result<Order, FaultKind>
+    ensures reads { ReadsCommand name.now arguments.now result }
+    ensures few { IfErr result (λ kind. kind ≢ FaultKind.TooManyLines) }
+{
+    let order = match name {
         "tur" => test_unit_ready(arguments),
         "inquiry" => inquiry(arguments),
         "capacity" => capacity(arguments),
@@ -62,7 +91,20 @@ fn order_of(name: &str, arguments: &[&str]) -> Result<Order, FaultKind>
         "read16" => read_16(arguments),
         "write16" => write_16(arguments),
         "cdb" => command_block(arguments),
+        _ => return array_order_of(name, arguments),
+    };
+    order.ok_or(FaultKind::BadArgument)
+}
+
+// The same for a name that is about the whole array, or asks to see something.
+fn array_order_of(name: &str, arguments: &[&str]) -> Result<Order, FaultKind>
+    ensures reads { ReadsArrayOrder name.now arguments.now result }
+    ensures few { IfErr result (λ kind. kind ≢ FaultKind.TooManyLines) }
+{
+    let order = match name {
         "flush" => alone(arguments, Order::Act(Action::Flush)),
+        "demote" => alone(arguments, Order::Act(Action::Demote)),
+        "clean" => alone(arguments, Order::Act(Action::Clean)),
         "out" => disk_out(arguments),
         "levels" => levels(arguments),
         "home" => home(arguments),
@@ -106,11 +148,9 @@ fn test_unit_ready(arguments: &[&str]) -> Option<Order>
 fn inquiry(arguments: &[&str]) -> Option<Order>
     ensures { Gives (HasUnitAndNumber 16 arguments.now) (AsksInquiry arguments.now) result }
 {
-    let [host, lun, len] = arguments else {
-        return None;
-    };
-    let addr = address(host, lun)?;
-    Some(command(addr, blocks::inquiry(number_16(len)?)))
+    let (addr, len) = unit_and_number(arguments)?;
+    let len = u16::try_from(len).ok()?;
+    Some(command(addr, blocks::inquiry(len)))
 }
 
 fn capacity(arguments: &[&str]) -> Option<Order>
@@ -123,67 +163,100 @@ fn capacity(arguments: &[&str]) -> Option<Order>
 fn read(arguments: &[&str]) -> Option<Order>
     ensures { Gives (HasSectors (IsNumberOf 32) arguments.now) (AsksRead arguments.now) result }
 {
-    let [host, lun, lba, count] = arguments else {
-        return None;
-    };
-    let addr = address(host, lun)?;
-    let cdb = blocks::read_10(number_32(lba)?, number_16(count)?);
-    Some(reading(addr, cdb))
+    let span = sectors(arguments)?;
+    let lba = u32::try_from(span.lba).ok()?;
+    let cdb = blocks::read_10(lba, span.count);
+    Some(reading(span.addr, cdb))
 }
 
 fn read_16(arguments: &[&str]) -> Option<Order>
     ensures { Gives (HasSectors IsNumber arguments.now) (AsksRead arguments.now) result }
 {
-    let [host, lun, lba, count] = arguments else {
-        return None;
-    };
-    let addr = address(host, lun)?;
-    let cdb = blocks::read_16(words::number(lba)?, number_16(count)?);
-    Some(reading(addr, cdb))
+    let span = sectors(arguments)?;
+    let cdb = blocks::read_16(span.lba, span.count);
+    Some(reading(span.addr, cdb))
 }
 
 fn write(arguments: &[&str]) -> Option<Order>
     ensures { Gives (HasWritten (IsNumberOf 32) arguments.now) (AsksWrite arguments.now) result }
 {
-    let (fua, arguments) = force_unit_access(arguments);
-    let [host, lun, lba, count, byte] = arguments else {
-        return None;
-    };
-    let addr = address(host, lun)?;
-    let count = number_16(count)?;
-    let cdb = blocks::write_10(number_32(lba)?, count, fua);
-    Some(writing(addr, cdb, count, words::byte(byte)?))
+    let to = written_in(arguments)?;
+    let lba = u32::try_from(to.span.lba).ok()?;
+    let cdb = blocks::write_10(lba, to.span.count, to.fua);
+    Some(writing(to.span, cdb, to.byte))
 }
 
 fn write_16(arguments: &[&str]) -> Option<Order>
     ensures { Gives (HasWritten IsNumber arguments.now) (AsksWrite arguments.now) result }
 {
+    let to = written_in(arguments)?;
+    let cdb = blocks::write_16(to.span.lba, to.span.count, to.fua);
+    Some(writing(to.span, cdb, to.byte))
+}
+
+// The sectors that a command moves, as the words of a READ name them.
+fn sectors(arguments: &[&str]) -> Option<Span>
+    ensures { Gives (HasSectors IsNumber arguments.now) (NamesSpan arguments.now) result }
+{
+    let [host, lun, lba, count] = arguments else {
+        return None;
+    };
+    span_in(host, lun, lba, count)
+}
+
+// What the words of a WRITE say.
+fn written_in(arguments: &[&str]) -> Option<Written>
+    ensures { Gives (HasWritten IsNumber arguments.now) (SaysWritten arguments.now) result }
+{
     let (fua, arguments) = force_unit_access(arguments);
     let [host, lun, lba, count, byte] = arguments else {
         return None;
     };
+    let span = span_in(host, lun, lba, count)?;
+    let byte = words::byte(byte)?;
+    Some(Written { span, byte, fua })
+}
+
+fn span_in(host: &str, lun: &str, lba: &str, count: &str) -> Option<Span>
+    ensures { Gives (AreSpan host.now lun.now lba.now count.now) (IsSpan host.now lun.now lba.now count.now) result }
+{
     let addr = address(host, lun)?;
+    let lba = words::number(lba)?;
     let count = number_16(count)?;
-    let cdb = blocks::write_16(words::number(lba)?, count, fua);
-    Some(writing(addr, cdb, count, words::byte(byte)?))
+    Some(Span { addr, lba, count })
 }
 
 fn command_block(arguments: &[&str]) -> Option<Order>
     ensures { Gives (HasBlock arguments.now) (AsksBlock arguments.now) result }
 {
     match arguments {
-        [host, lun, block] => Some(command(address(host, lun)?, words::block(block)?)),
-        [host, lun, block, count, byte] => Some(Order::Act(Action::Command {
-            addr: address(host, lun)?,
-            cdb: words::block(block)?,
-            data: Data {
-                len: u32::from(number_16(count)?),
-                byte: words::byte(byte)?,
-            },
-            notation: Notation::Bytes,
-        })),
+        [host, lun, block] => block_with(host, lun, block, NO_DATA),
+        [host, lun, block, count, byte] => block_with(host, lun, block, data(count, byte)?),
         _ => None,
     }
+}
+
+// A command whose block a word says, and the data that go with it.
+fn block_with(host: &str, lun: &str, block: &str, data: Data) -> Option<Order>
+    ensures { Gives (AreBlock host.now lun.now block.now) (AsksBlockWith host.now lun.now block.now «data») result }
+{
+    let addr = address(host, lun)?;
+    let cdb = words::block(block)?;
+    Some(Order::Act(Action::Command {
+        addr,
+        cdb,
+        data,
+        notation: Notation::Bytes,
+    }))
+}
+
+// So many bytes of one value.
+fn data(count: &str, byte: &str) -> Option<Data>
+    ensures { Gives (AreData count.now byte.now) (IsData count.now byte.now) result }
+{
+    let len = u32::from(number_16(count)?);
+    let byte = words::byte(byte)?;
+    Some(Data { len, byte })
 }
 
 fn disk_out(arguments: &[&str]) -> Option<Order>
@@ -266,14 +339,14 @@ fn reading(addr: Addr, cdb: [u8; 16]) -> Order
 }
 
 // A command that takes so many sectors, each byte the same.
-fn writing(addr: Addr, cdb: [u8; 16], count: u16, byte: u8) -> Order
-    ensures { result ≡ Order.Act (Action.Command addr cdb (record { len = count * 512; byte = byte }) Notation.Runs) }
+fn writing(span: Span, cdb: [u8; 16], byte: u8) -> Order
+    ensures { result ≡ Order.Act (Action.Command span.addr cdb (record { len = span.count * 512; byte = byte }) Notation.Runs) }
 {
     Order::Act(Action::Command {
-        addr,
+        addr: span.addr,
         cdb,
         data: Data {
-            len: u32::from(count) * 512,
+            len: u32::from(span.count) * 512,
             byte,
         },
         notation: Notation::Runs,

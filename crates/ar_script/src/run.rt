@@ -3,6 +3,7 @@ ghost use Rattle.std.specs.Prelude.{◌≡◌, ◌≢◌, ◌≤◌, max, true, 
 ghost use Rattle.ar_extents.specs.Changes.{start_fault};
 ghost use Rattle.ar_script.specs.Lines.{IsNumbered, IsReached, Ends, is_write_fault as tells_write_fault};
 ghost use Rattle.ar_script.specs.Orders.{MeetsLine};
+ghost use Rattle.ar_script.specs.Plays.{Plays, HasPlayed};
 ghost use Rattle.ar_script.specs.Setups.{disks_of};
 
 use crate::lines::Lines;
@@ -37,6 +38,7 @@ pub fn run_script<R: Read + Drop, W: Write + Drop>(
     setup: Setup,
 ) -> Result<(), Fault>
     ensures begun { result ≢ Err Fault.Start → (setup.cache ≤ 65536) × (start_fault (disks_of setup) ≡ None) }
+    ensures played { result ≢ Err Fault.Start → HasPlayed (disks_of setup) setup.cache }
     ensures numbered { IfErr result IsNumbered }
 {
     let mut runner = Runner::start(alloc, setup)?;
@@ -51,6 +53,7 @@ fn run_on<R: Read + Drop, W: Write + Drop>(
     reader: R,
     writer: W,
 ) -> Result<(), Fault>
+    ensures plays { Plays runner.old runner.new }
     ensures numbered { IfErr result IsNumbered }
 {
     let Ok(mut lines) = Lines::new(alloc, reader) else {
@@ -66,6 +69,7 @@ fn write_answers<R: Read + Drop, W: Write + Drop>(
     lines: &mut Lines<R>,
     writer: W,
 ) -> Result<(), Fault>
+    ensures plays { Plays runner.old runner.new }
     ensures numbered { IfErr result IsNumbered }
 {
     let Ok(mut out) = BufWriter::new(alloc, writer) else {
@@ -93,6 +97,7 @@ fn run_lines<R: Read + Drop, W: Write + Drop>(
     lines: &mut Lines<R>,
     out: &mut BufWriter<W>,
 ) -> Result<(), Fault>
+    ensures plays { Plays runner.old runner.new }
     ensures ended { OnOk result (lines.new.is_at_end ≡ true) }
     ensures reached { IfErr result (IsReached lines.new.number) }
     ensures numbered { IfErr result IsNumbered }

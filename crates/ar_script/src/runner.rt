@@ -1,7 +1,7 @@
 // What a script runs on: an array, and how it answers an order.
 ghost use Rattle.std.specs.Prelude.{◌≡◌, ◌≢◌, ◌≤◌, IfOk, IfErr, OnOk, OnErr, None, replicate};
 ghost use Rattle.ar_extents.specs.Changes.{start_fault};
-ghost use Rattle.ar_core.specs.Start.{IsStarted};
+ghost use Rattle.ar_image.specs.Start.{IsStarted};
 ghost use Rattle.ar_core.specs.Step.{Steps};
 ghost use Rattle.ar_script.specs.Orders.{event_in, Looks, IsLost, Leaves};
 ghost use Rattle.ar_script.specs.Setups.{disks_of};
@@ -29,7 +29,7 @@ pub struct Runner {
 impl Model for Runner {
     ghost use Rattle.std.specs.Prelude.{◌≡◌, length};
     ghost use Rattle.ar_disks.specs.Geometry.{block_len_of};
-    ghost use Rattle.ar_core.specs.Array.{ArrayState, geometry_of};
+    ghost use Rattle.ar_image.specs.Image.{ArrayState, geometry_of};
 
     ghost Value = { ArrayState };
 
@@ -148,6 +148,8 @@ fn event_of(alloc: Global, action: Action) -> Result<Event, AllocError>
             payload: payload(alloc, data)?,
         }),
         Action::Flush => Ok(Event::Flush),
+        Action::Demote => Ok(Event::Demote),
+        Action::Clean => Ok(Event::Clean),
         Action::DiskOut(disk) => Ok(Event::DiskOut(disk)),
     }
 }

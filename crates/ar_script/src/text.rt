@@ -1,7 +1,8 @@
 // Answers as text.
 use crate::order::Notation;
 use ar_core::{
-    Array, Class, Flush, GroupUse, Health, HomeOf, LevelOf, Outcome, Refusal, Shown, UnitRefusal,
+    Array, Class, Flush, GroupUse, Health, HomeOf, LevelOf, Move, Outcome, Refusal, Shown,
+    UnitRefusal,
 };
 use ar_disks::{Addr, Disk};
 use ar_scsi::{Reply, Status};
@@ -24,6 +25,7 @@ pub fn write_outcome<W: Write>(
         | Outcome::DiskOut(done) => write_done(out, *done),
         Outcome::Cmd(reply) => write_reply(out, reply, notation),
         Outcome::Flush(flush) => write_flush(out, *flush),
+        Outcome::Demote(answer) | Outcome::Clean(answer) => write_move(out, *answer),
     }
 }
 
@@ -66,6 +68,18 @@ fn write_flush<W: Write>(out: &mut W, flush: Flush) -> io::Result<()> {
         }
         Flush::Idle => writeln!(out, "idle"),
         Flush::Broken => writeln!(out, "broken"),
+    }
+}
+
+fn write_move<W: Write>(out: &mut W, answer: Move) -> io::Result<()> {
+    match answer {
+        Move::Moved { key, to } => {
+            let (host, lun, rb) = (key.addr.host.number(), key.addr.lun, key.rb);
+            let (group, slot) = (to.group, to.slot);
+            writeln!(out, "moved {host} {lun} {rb} to {group} {slot}")
+        }
+        Move::Idle => writeln!(out, "idle"),
+        Move::Broken => writeln!(out, "broken"),
     }
 }
 

@@ -28,11 +28,14 @@ pub fn draw<R: Rng>(alloc: Global, rng: &mut R) -> Result<Event, AllocError> {
     let luns = if rng.random_ratio(3, 4) { 2 } else { LUNS };
     let addr = address(rng, luns);
     match rng.random_range(0u8..40) {
-        0..=3 => Ok(Event::Make(addr, length(rng))),
+        0 | 1 => Ok(Event::Make(addr, length(rng))),
+        2 | 3 => Ok(Event::Make(address(rng, LUNS), length(rng))),
         // Any unit is removed as often as any other, so that the first ones, which more is asked of, stay a while.
         4 | 5 => Ok(Event::Remove(address(rng, LUNS))),
         6..=8 => Ok(Event::Grow(addr, length(rng))),
         9 | 10 => Ok(Event::Flush),
+        11 => Ok(Event::Demote),
+        12 => Ok(Event::Clean),
         _ => command(alloc, rng, addr),
     }
 }

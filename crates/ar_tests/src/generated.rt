@@ -2,7 +2,7 @@
 use crate::arrays::sound_array;
 use crate::drawn::draw;
 use crate::plain::{Answer, PlainArray};
-use ar_core::{Array, Class, Event, Flush, GroupUse, Health, Outcome, Refusal, UnitRefusal};
+use ar_core::{Array, Class, Event, Flush, GroupUse, Health, Move, Outcome, Refusal, UnitRefusal};
 use ar_disks::FuseDisk;
 use ar_scsi::{Reply, Status};
 use rand::SeedableRng;
@@ -175,7 +175,7 @@ fn drawn_events_meet_every_answer(rt: HostRuntime) -> Result<(), Fail> {
     Ok(())
 }
 
-// Whether an array answered as plain lists do. What a flush did is its own affair, but there is no loss that it can meet.
+// Whether an array answered as plain lists do. What a flush or a move did is its own affair, but there is no loss that it can meet.
 fn agrees(outcome: &Outcome, answer: &Answer) -> bool {
     match (outcome, answer) {
         (
@@ -184,6 +184,7 @@ fn agrees(outcome: &Outcome, answer: &Answer) -> bool {
         ) => *done == wanted.map_err(Refusal::Unit),
         (Outcome::Cmd(reply), Answer::Replied(wanted)) => *reply == *wanted,
         (Outcome::Flush(flush), Answer::Open) => *flush != Flush::Broken,
+        (Outcome::Demote(answer) | Outcome::Clean(answer), Answer::Open) => *answer != Move::Broken,
         _ => false,
     }
 }

@@ -64,7 +64,7 @@ impl PlainArray {
                 };
                 Answer::Replied(self.command(alloc, addr, cdb, payload.as_slice()))
             }
-            Event::Flush | Event::DiskOut(_) => Answer::Open,
+            Event::Flush | Event::Demote | Event::Clean | Event::DiskOut(_) => Answer::Open,
         }
     }
 

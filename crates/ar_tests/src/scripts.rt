@@ -63,20 +63,6 @@ fn long_lines_and_bad_characters(rt: HostRuntime) -> Result<(), Fail> {
         (b'#', 3, b"\r\n", at(1, FaultKind::BadCharacter)),
         (b'#', 3, b"\xC3\xA9\n", at(1, FaultKind::BadCharacter)),
         (b'\n', 9, b"\0", at(10, FaultKind::BadCharacter)),
-        (b'\n', 1_000_000, b"", Ok(())),
-        (b'\n', 999_999, b"#", Ok(())),
-        (
-            b'\n',
-            1_000_000,
-            b"\0",
-            at(1_000_001, FaultKind::TooManyLines),
-        ),
-        (
-            b'\n',
-            1_000_001,
-            b"",
-            at(1_000_001, FaultKind::TooManyLines),
-        ),
     ] {
         let script = padded(rt.alloc(), byte, len, end)?;
         answers(
@@ -88,6 +74,50 @@ fn long_lines_and_bad_characters(rt: HostRuntime) -> Result<(), Fail> {
             wanted,
         );
     }
+    Ok(())
+}
+
+#[test]
+fn a_script_has_a_million_lines(rt: HostRuntime) -> Result<(), Fail> {
+    let script = padded(rt.alloc(), b'\n', 1_000_000, b"")?;
+    answers(&rt, &"a million", SMALL, script.as_slice(), b"", Ok(()));
+    Ok(())
+}
+
+#[test]
+fn the_last_of_a_million_lines_may_lack_its_end(rt: HostRuntime) -> Result<(), Fail> {
+    let script = padded(rt.alloc(), b'\n', 999_999, b"#")?;
+    answers(&rt, &"no end", SMALL, script.as_slice(), b"", Ok(()));
+    Ok(())
+}
+
+#[test]
+fn a_line_after_a_million_is_too_many(rt: HostRuntime) -> Result<(), Fail> {
+    let script = padded(rt.alloc(), b'\n', 1_000_000, b"\0")?;
+    let wanted = at(1_000_001, FaultKind::TooManyLines);
+    answers(
+        &rt,
+        &"a bad line more",
+        SMALL,
+        script.as_slice(),
+        b"",
+        wanted,
+    );
+    Ok(())
+}
+
+#[test]
+fn an_empty_line_after_a_million_is_too_many(rt: HostRuntime) -> Result<(), Fail> {
+    let script = padded(rt.alloc(), b'\n', 1_000_001, b"")?;
+    let wanted = at(1_000_001, FaultKind::TooManyLines);
+    answers(
+        &rt,
+        &"an empty line more",
+        SMALL,
+        script.as_slice(),
+        b"",
+        wanted,
+    );
     Ok(())
 }
 

@@ -7,8 +7,10 @@ ghost use Rattle.ar_unit.specs.Broken.{shape_of, shape_after, broken_answer, whe
 ghost use Rattle.ar_unit.specs.Unit.{UnitState, IsWhole, TakesNoMemory, Entry, answer, after, unit_run};
 
 mod plain;
+mod reply;
 
 pub use plain::PlainUnit;
+pub use reply::{absent, capacity, inquiry, is_past_end, with_bytes};
 
 /// Law: a run over a list that is put together goes on where its first part ends.
 pub fn runs_go_on()

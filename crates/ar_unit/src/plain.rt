@@ -1,15 +1,14 @@
 // The plain program: a unit as a list of sectors.
-ghost use Rattle.std.specs.Prelude.{◌≡◌, ◌≢◌, ◌+◌, ◌-◌, ◌++◌, ◌*◌, ◌<◌, ◌≤◌, ◌^◌, Bool, [], nat_lt, if◌then◌else◌, length, take, drop, OnOk, OnErr, IfOk, vec_len};
+ghost use Rattle.std.specs.Prelude.{◌≡◌, ◌+◌, ◌-◌, ◌++◌, ◌*◌, ◌<◌, ◌≤◌, ◌^◌, Bool, if◌then◌else◌, length, OnOk, OnErr, IfOk, vec_len};
 ghost use Rattle.std.specs.List.{concat};
 ghost use Rattle.ar_scsi.specs.Data as table;
 ghost use Rattle.ar_scsi.specs.Reply as shape;
-ghost use Rattle.ar_unit.specs.Sectors.{cut, written, zero_sectors};
+ghost use Rattle.ar_unit.specs.Sectors.{cut, zero_sectors};
 ghost use Rattle.ar_unit.specs.Unit as unit;
-ghost use Rattle.ar_unit.specs.Unit.{Absent, Present, Make, Grow, Remove, answer, after, obeyed, leaving, absent_reply, read_reply, write_answer, IsGiven, IsServed};
+ghost use Rattle.ar_unit.specs.Unit.{Absent, Present, Make, Grow, Remove, answer, after, obeyed, leaving, read_reply, write_answer, IsGiven, IsServed};
 
-use ar_scsi::{
-    Command, Reply, Sense, allocation_length, capacity_data, decode, inquiry_data, is_inquiry,
-};
+use crate::reply::{absent, capacity, inquiry, is_past_end, with_bytes};
+use ar_scsi::{Command, Reply, Sense, decode, is_inquiry};
 use bytes::Bytes;
 use std::alloc::{AllocError, Global};
 use std::marker::Model;
@@ -102,17 +101,6 @@ impl PlainUnit {
     }
 }
 
-// The reply where no unit is.
-fn absent(alloc: Global, cdb: &[u8; 16]) -> Reply
-    ensures { IsGiven (absent_reply cdb.now) result }
-{
-    if is_inquiry(cdb) {
-        inquiry(alloc, false, allocation_length(cdb))
-    } else {
-        Reply::check(Sense::LOGICAL_UNIT_NOT_SUPPORTED)
-    }
-}
-
 // Does what a valid block asks of a unit that is there.
 #[tactic(auto, unfolding(crate::specs::Unit::obeyed))]
 fn obey(alloc: Global, sectors: &mut Vec<[u8; 512]>, command: Command, bytes: &[u8]) -> Reply
@@ -126,44 +114,17 @@ fn obey(alloc: Global, sectors: &mut Vec<[u8; 512]>, command: Command, bytes: &[
     match command {
         Command::TestReady => Reply::good(Bytes::new()),
         Command::Inquiry { allocation_length } => inquiry(alloc, true, allocation_length),
-        Command::Capacity => with_bytes(alloc, &capacity_data(sectors.len() as u32)),
+        Command::Capacity => capacity(alloc, sectors.len() as u32),
         Command::Read { lba, count } => read(alloc, sectors, lba, count),
         Command::Write { lba, count, fua: _ } => write(sectors, lba, count, bytes),
     }
 }
 
-fn inquiry(alloc: Global, present: bool, allocation_length: u16) -> Reply
-    ensures { IsGiven (shape.good (take allocation_length (table.inquiry_data present))) result }
-{
-    let data = inquiry_data(present);
-    let shown = usize::from(allocation_length).min(data.len());
-    with_bytes(alloc, &data[..shown])
-}
-
-// GOOD with a copy of these bytes, or BUSY.
-fn with_bytes(alloc: Global, bytes: &[u8]) -> Reply
-    ensures { IsGiven (shape.good bytes.now) result }
-{
-    if bytes.is_empty() {
-        return Reply::good(Bytes::new());
-    }
-    match Bytes::copy_from_slice(alloc, bytes) {
-        Ok(payload) => Reply::good(payload),
-        Err(_) => Reply::busy(),
-    }
-}
-
-// The range ends past a unit of `sectors` sectors. 128 bits hold each sum.
-fn is_past_end(sectors: usize, lba: u64, count: u16) -> bool
-    ensures { result ≡ unit.is_past_end sectors lba count }
-{
-    u128::from(lba) + u128::from(count) > sectors as u128
-}
-
 fn read(alloc: Global, sectors: &Vec<[u8; 512]>, lba: u64, count: u16) -> Reply
+    requires few { vec_len sectors.now < 2 ^ 32 }
     ensures { IsGiven (read_reply sectors.now.items lba count) result }
 {
-    if is_past_end(sectors.len(), lba, count) {
+    if is_past_end(sectors.len() as u32, lba, count) {
         return Reply::check(Sense::LOGICAL_BLOCK_ADDRESS_OUT_OF_RANGE);
     }
     let first = lba as usize;
@@ -199,11 +160,12 @@ fn joined(alloc: Global, sectors: &[[u8; 512]]) -> Result<Bytes, AllocError>
 
 // Says what it did by the table's reply and the sectors, at any mark.
 fn write(sectors: &mut Vec<[u8; 512]>, lba: u64, count: u16, bytes: &[u8]) -> Reply
+    requires few { vec_len sectors.old < 2 ^ 32 }
     ensures served { (attention : Bool) → leaving (Present sectors.new.items attention) result
         ≡ write_answer sectors.old.items attention lba count bytes.now }
     ensures len { vec_len sectors.new ≡ vec_len sectors.old }
 {
-    if is_past_end(sectors.len(), lba, count) {
+    if is_past_end(sectors.len() as u32, lba, count) {
         return Reply::check(Sense::LOGICAL_BLOCK_ADDRESS_OUT_OF_RANGE);
     }
     if bytes.len() != usize::from(count) * 512 {

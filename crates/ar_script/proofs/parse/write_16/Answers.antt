@@ -5,8 +5,8 @@ pub returns : goal.returns
 returns c = (
   search rules,
   (
-    c.in_ok-byte.field-0,
+    c.in_ok-to.to.byte,
     search rules,
-    (c.in_ok-addr.addr, c.write_16-cdb.result, search rules, search rules, search rules),
+    (c.in_ok-to.to.span.addr, c.write_16-cdb.result, search rules, search rules, search rules),
   ),
 )

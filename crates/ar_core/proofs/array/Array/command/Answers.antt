@@ -1,9 +1,9 @@
-use Rattle.std.proofs.Common.{◌≡◌, true, false, Bool, ◌&&◌, not, refl, sym, subst, ap, ◌∙◌}
+use Rattle.std.proofs.Common.{◌≡◌, true, false, Bool, ◌&&◌, not, sym, subst, ap, ◌∙◌}
 use Rattle.std.specs.Prelude.{◌==◌}
 use Rattle.ar_scsi.specs.Field.{operation_code}
 use Rattle.ar_book.specs.Tables.{has_unit}
-use Rattle.ar_core.specs.Array.{ArrayState, mark_at}
-use Rattle.ar_core.specs.Served.{IsUnit}
+use Rattle.ar_image.specs.Image.{ArrayState, mark_at}
+use Rattle.ar_image.specs.Seen.{IsUnit}
 use Rattle.ar_core.proofs.Commanding.{tells, commands_served, commands_told, commands_absent}
 use Rattle.ar_core.proofs.array.Array.command.Goals as goal
 use Rattle.ar_core.proofs.array.Array.command.Goals.{else-mark-via-then-mark+else-not-is_inquiry, else-mark-via-else-mark}

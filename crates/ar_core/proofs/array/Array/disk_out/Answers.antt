@@ -1,19 +1,16 @@
-use Rattle.std.proofs.Common.{sym, ap, subst, ◌∙◌}
-use Rattle.ar_disks.specs.declared.geometry.Geometry.{Geometry}
-use Rattle.ar_disks.specs.Geometry.{block_len_of}
+use Rattle.std.proofs.Common.{refl, length, subst}
 use Rattle.ar_core.specs.declared.event.Event.TheVariants.{DiskOut as DiskOutEvent}
 use Rattle.ar_core.specs.declared.event.Outcome.TheVariants.{DiskOut as DiskOutOutcome}
-use Rattle.ar_core.specs.Array.{ArrayState}
+use Rattle.ar_image.specs.Image.{ArrayState}
 use Rattle.ar_core.specs.Step.{Steps}
-use Rattle.ar_core.proofs.Events.{steps_out, padded_out}
+use Rattle.ar_core.proofs.Events.{quiet_kept}
+use Rattle.ar_core.proofs.TakingOut.{steps_out}
 use Rattle.ar_core.proofs.array.Array.disk_out.Goals as goal
 
 pub invariant_of-self : goal.invariant_of-self
 invariant_of-self g c =
-    let steps = steps_out c.self.inside.blocks c.fail.new.self c.args.disk c.fail.result c.fail.ensures.takes_out c.fail.ensures.seen in (
-      padded_out c.self.inside.blocks c.fail.new.self c.args.disk c.fail.result c.self.invariant.0 c.fail.ensures.takes_out c.fail.ensures.seen,
-      c.self.invariant.1 ∙ ap block_len_of (sym steps.disks.geometry),
-    )
+    quiet_kept c.self.inside.blocks c.fail.new.self (DiskOutEvent c.args.disk) (DiskOutOutcome c.fail.result) (length c.self.inside.block)
+    (steps_out c.self.inside.blocks c.fail.new.self c.args.disk c.fail.result c.fail.ensures.takes_out c.fail.ensures.seen) refl c.self.invariant.0 c.self.invariant.1
 
 pub returns : goal.returns
 returns g c =

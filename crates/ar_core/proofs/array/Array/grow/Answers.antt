@@ -1,9 +1,8 @@
 use Rattle.std.proofs.Common.{sym, ap, subst, ◌∙◌}
-use Rattle.ar_disks.specs.declared.geometry.Geometry.{Geometry}
 use Rattle.ar_disks.specs.Geometry.{block_len_of}
 use Rattle.ar_core.specs.declared.event.Event.TheVariants.{Grow as GrowEvent}
 use Rattle.ar_core.specs.declared.event.Outcome.TheVariants.{Grow as GrowOutcome}
-use Rattle.ar_core.specs.Array.{ArrayState}
+use Rattle.ar_image.specs.Image.{ArrayState}
 use Rattle.ar_core.specs.Step.{Steps}
 use Rattle.ar_core.proofs.Events.{steps_grown, padded_grown}
 use Rattle.ar_core.proofs.array.Array.grow.Goals as goal

@@ -1,7 +1,7 @@
 use Rattle.std.proofs.Common.{subst, sym, ◌∙◌}
 use Rattle.ar_store.specs.Slots.{SurvivesLossOf}
 use Rattle.ar_store.proofs.Standing.{survives}
-use Rattle.ar_core.specs.Array.{ArrayState}
+use Rattle.ar_image.specs.Image.{ArrayState}
 use Rattle.ar_core.proofs.array.Array.health.Goals as goal
 
 pub returns-clause-redundant : goal.returns-clause-redundant

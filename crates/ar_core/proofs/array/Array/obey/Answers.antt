@@ -1,14 +1,14 @@
-use Rattle.std.proofs.Common.{ℕ, length, Ok, refl, sym, subst, ap, ◌∙◌}
+use Rattle.std.proofs.Common.{ℕ, length, Ok, refl, sym, subst, ◌∙◌}
 use Rattle.ar_scsi.specs.declared.command.Command.{Command}
-use Rattle.ar_scsi.specs.declared.command.Command.TheVariants.{TestReady, Inquiry, Capacity, Read, Write}
+use Rattle.ar_scsi.specs.declared.command.Command.TheVariants.{TestReady, Inquiry, Capacity, Read}
 use Rattle.ar_scsi.specs.Data.{capacity_data}
 use Rattle.ar_scsi.specs.Reply.{good}
 use Rattle.ar_unit.specs.Unit.{obeyed, IsGiven}
 use Rattle.ar_unit.specs.Broken.{broken_obeyed}
-use Rattle.ar_core.specs.Array.{unit_sectors, mark_at}
-use Rattle.ar_core.specs.Laws.{places_refl}
+use Rattle.ar_image.specs.Image.{unit_sectors, mark_at}
+use Rattle.ar_image.specs.Laws.{places_refl}
 use Rattle.ar_core.specs.Served.{Serves, Settles}
-use Rattle.ar_core.proofs.Images.{length-unit_sectors}
+use Rattle.ar_image.proofs.Images.{length-unit_sectors}
 use Rattle.ar_core.proofs.Serving.{serves_quiet, settles_read}
 use Rattle.ar_core.proofs.array.Array.obey.Goals as goal
 

@@ -1,9 +1,9 @@
-use Rattle.std.proofs.Common.{◌≡◌, ◌<◌, ◌*◌, ◌+◌, ℕ, subst, sym, ap, ◌∙◌, arith}
+use Rattle.std.proofs.Common.{◌<◌, ◌*◌, ◌+◌, subst, sym, ap, ◌∙◌, arith}
 use Rattle.ar_disks.specs.declared.geometry.Geometry.{Geometry}
 use Rattle.ar_disks.specs.Geometry.{sectors_of, block_len_of}
-use Rattle.ar_core.specs.Array.{ArrayState, is_broken, geometry_of}
-use Rattle.ar_core.specs.Causes.{Follows}
-use Rattle.ar_core.specs.Served.{IsUnit, Writes}
+use Rattle.ar_image.specs.Image.{ArrayState, is_broken, geometry_of}
+use Rattle.ar_image.specs.Following.{Follows}
+use Rattle.ar_image.specs.Seen.{IsUnit, Writes}
 use Rattle.ar_core.proofs.Serving.{key_known, padded_written, range_written}
 use Rattle.ar_core.proofs.array.Array.put_range.Goals as goal
 

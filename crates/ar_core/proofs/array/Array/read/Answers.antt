@@ -1,8 +1,7 @@
-use Rattle.std.proofs.Common.{◌≡◌, true, false, ◌+◌, nat_lt, sym, subst, ◌∙◌}
+use Rattle.std.proofs.Common.{◌≡◌, true, false, ◌+◌, nat_lt, sym, ◌∙◌}
 use Rattle.ar_scsi.specs.Sense.{logical_block_address_out_of_range}
-use Rattle.ar_core.specs.Array.{ArrayState}
-use Rattle.ar_core.proofs.Images.{length-unit_sectors}
-use Rattle.ar_core.proofs.Serving.{serves_check, serves_broken, read_past, read_within, not_below}
+use Rattle.ar_image.proofs.Images.{length-unit_sectors}
+use Rattle.ar_core.proofs.Serving.{serves_check, read_past, read_within, not_below}
 use Rattle.ar_core.proofs.array.Array.read.Goals as goal
 
 pub returns-then-is_past_end-clause-serves : goal.returns-then-is_past_end-clause-serves

@@ -1,4 +1,4 @@
-use Rattle.std.proofs.Common.{◌≡◌, ◌≢◌, ◌<◌, ◌*◌, ◌+◌, ◌++◌, ℕ, List, [], false, length, subst, sym, ap, ◌∙◌, arith}
+use Rattle.std.proofs.Common.{◌≡◌, ◌<◌, ◌*◌, ◌+◌, ◌++◌, ℕ, List, length, subst, sym, ap, ◌∙◌, arith}
 use Rattle.std.specs.List.{concat}
 use Rattle.ar_disks.specs.declared.address.Key.{Key}
 use Rattle.ar_disks.specs.declared.geometry.Geometry.{Geometry}
@@ -7,10 +7,11 @@ use Rattle.ar_scsi.specs.Reply.{good, check}
 use Rattle.ar_scsi.specs.Sense.{internal_target_failure}
 use Rattle.ar_scsi.specs.declared.reply.Reply.{Reply}
 use Rattle.ar_unit.specs.Unit.{IsGiven, leaving}
-use Rattle.ar_core.specs.Array.{ArrayState, is_broken, geometry_of, seen_at}
-use Rattle.ar_core.specs.Causes.{Follows}
-use Rattle.ar_core.specs.Sectors.{sectors_in, blocks_of}
-use Rattle.ar_core.specs.Served.{IsUnit, Serves, SameSeen, present_at, sectors_read}
+use Rattle.ar_image.specs.Image.{ArrayState, is_broken, geometry_of, seen_at}
+use Rattle.ar_image.specs.Following.{Follows}
+use Rattle.ar_image.specs.Sectors.{sectors_in, blocks_of}
+use Rattle.ar_image.specs.Seen.{IsUnit, present_at, sectors_read}
+use Rattle.ar_core.specs.Served.{Serves}
 use Rattle.ar_core.proofs.Events.{padded_follows}
 use Rattle.ar_core.proofs.Serving.{key_known, serves_quiet, serves_read, sectors_read-some, given_busy, transfer_sound}
 use Rattle.ar_core.proofs.array.Array.read_range.Goals as goal

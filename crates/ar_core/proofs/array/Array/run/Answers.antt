@@ -1,24 +1,25 @@
-use Rattle.std.proofs.Common.{◌≡◌, ◌++◌, ◌∷◌, [], List, sym, subst, ap, ◌∙◌, arith}
+use Rattle.std.proofs.Common.{rules, ◌≡◌, ◌++◌, ◌∷◌, [], List, sym, subst, ap, ◌∙◌, arith}
 use Rattle.std.proofs.lemmas.List.{append_assoc, append-nil, length-append, nil_from_length}
-use Rattle.ar_core.specs.Array.{ArrayState}
 use Rattle.ar_core.specs.declared.event.Event.{Event}
 use Rattle.ar_core.specs.declared.event.Outcome.{Outcome}
-use Rattle.ar_core.specs.Step.{Steps}
-use Rattle.ar_core.specs.Run.{Run}
-use Rattle.ar_core.proofs.Isolation.{run-more, last_of-more, run-isolated}
+use Rattle.ar_core.specs.Run.{Turn, Did, IsRun, AreOutcomes, turns_of}
+use Rattle.ar_core.proofs.Isolation.{no_turn, one_more, turns_of-more}
 use Rattle.ar_core.proofs.array.Array.run.Goals as goal
+
+pub loop-event-init : goal.loop-event-init
+loop-event-init g c = record { steps = no_turn c.args.self.now; taken = search rules; room = search rules; capacity = search rules }
 
 pub loop-event-preserved : goal.loop-event-preserved
 loop-event-preserved g c =
     let before = c.loop-event.invariant.steps in
+    let turns = turns_of c.loop-event.yielded c.loop-event.outcomes.items in
+    let more : turns_of (c.loop-event.yielded ++ c.in-Some.event ∷ []) c.push_reserved.new.self.items ≡ turns ++ Did c.in-Some.event c.step-outcome.result ∷ [] =
+    ap (λ (outcomes : List Outcome). turns_of (c.loop-event.yielded ++ c.in-Some.event ∷ []) outcomes) c.push_reserved.ensures.items
+    ∙ turns_of-more c.loop-event.yielded c.loop-event.outcomes.items c.in-Some.event c.step-outcome.result (omega (arith, c.loop-event.invariant.room, c.loop-event.outcomes.ok)) in
     record {
-      steps = (
-        before.0 ++ c.step-outcome.new.self ∷ [],
-        subst (λ (outcomes : List Outcome). Run c.args.self.now (c.loop-event.yielded ++ c.in-Some.event ∷ []) outcomes (before.0 ++ c.step-outcome.new.self ∷ [])) (sym c.push_reserved.ensures.items)
-            (run-more c.loop-event.yielded c.loop-event.outcomes.items before.0 c.args.self.now c.in-Some.event c.step-outcome.result c.step-outcome.new.self before.1
-            (subst (λ (s : ArrayState). Steps s c.in-Some.event c.step-outcome.result c.step-outcome.new.self) (sym before.2) c.step-outcome.ensures)),
-        last_of-more before.0 c.args.self.now c.step-outcome.new.self,
-      );
+      steps =
+          subst (λ (l : List Turn). IsRun c.args.self.now l c.step-outcome.new.self) (sym more)
+          (one_more c.args.self.now turns c.loop-event.self (Did c.in-Some.event c.step-outcome.result) c.step-outcome.new.self before c.step-outcome.ensures);
       taken =
           append_assoc c.loop-event.yielded (c.in-Some.event ∷ []) c.next.new.self.rest.items
           ∙ ap (λ (l : List Event). c.loop-event.yielded ++ l) (sym c.in-Some.ensures.steps.0)
@@ -29,10 +30,8 @@ loop-event-preserved g c =
 
 pub returns-clause-isolated : goal.returns-clause-isolated
 returns-clause-isolated g c =
-    let run = c.loop-event.invariant.steps in
     let none : c.loop-event.event-iterator.rest.items ≡ [] = nil_from_length c.loop-event.event-iterator.rest.items (sym c.loop-event.event-iterator.rest.ok.0 ∙ c.in-None.ensures.steps.0) in
     let all : c.loop-event.yielded ≡ c.args.events.items =
     sym (append-nil c.loop-event.yielded) ∙ ap (λ (l : List Event). c.loop-event.yielded ++ l) (sym none) ∙ c.loop-event.invariant.taken in
-    let whole : Run c.args.self.now c.args.events.items c.loop-event.outcomes.items run.0 =
-    subst (λ (events : List Event). Run c.args.self.now events c.loop-event.outcomes.items run.0) all run.1 in
-    (run.0, whole, run.2, run-isolated c.args.self.now c.args.events.items c.loop-event.outcomes.items run.0 whole)
+    subst (λ (events : List Event). AreOutcomes c.args.self.now events c.loop-event.outcomes.items c.loop-event.self) all
+    (record { each = omega (arith, c.loop-event.invariant.room, c.loop-event.outcomes.ok); run = c.loop-event.invariant.steps })

@@ -1,10 +1,10 @@
 use Rattle.std.proofs.Common.{◌≡◌, true, false, ◌+◌, ◌*◌, nat_lt, length, Ok, ap, sym, ◌∙◌, arith}
 use Rattle.std.specs.Prelude.{◌==◌}
 use Rattle.ar_scsi.specs.declared.command.Command.TheVariants.{Write}
-use Rattle.ar_scsi.specs.Sense.{logical_block_address_out_of_range, data_phase_error, internal_target_failure}
-use Rattle.ar_core.specs.Array.{is_broken, mark_at}
-use Rattle.ar_core.proofs.Images.{length-unit_sectors}
-use Rattle.ar_core.proofs.Serving.{serves_check, serves_broken, serves_write, settles_check, settles_write, write_past, write_wrong, write_within, same_false, same_true, not_below}
+use Rattle.ar_scsi.specs.Sense.{logical_block_address_out_of_range, data_phase_error}
+use Rattle.ar_image.specs.Image.{is_broken, mark_at}
+use Rattle.ar_image.proofs.Images.{length-unit_sectors}
+use Rattle.ar_core.proofs.Serving.{serves_check, serves_write, settles_check, settles_write, write_past, write_wrong, write_within, same_false, same_true, not_below}
 use Rattle.ar_core.proofs.array.Array.write.Goals as goal
 
 pub returns-then-is_past_end-clause-serves : goal.returns-then-is_past_end-clause-serves

@@ -1,0 +1,14 @@
+// The array: a disk that is taken out.
+use crate::{Array, Event, Outcome, Refusal};
+use ar_disks::Disk;
+
+impl<D: Disk> Array<D> {
+    ghost use Rattle.ar_core.specs.Step.{Steps};
+
+    // Takes a disk out, by its number.
+    pub(crate) fn disk_out(&mut self, disk: u8) -> Result<(), Refusal>
+        ensures { Steps self.old (Event.DiskOut disk) (Outcome.DiskOut result) self.new }
+    {
+        self.blocks.fail(disk)
+    }
+}

@@ -1,0 +1,34 @@
+// The array: what is written from the cache to the disks.
+ghost use Rattle.std.specs.Prelude.{◌≡◌, IsTrue, []};
+ghost use Rattle.ar_disks.specs.declared.address.Addr.{Addr};
+ghost use Rattle.ar_cache.specs.Backing.{stored};
+ghost use Rattle.ar_cache.specs.Cache.{with_entries};
+ghost use Rattle.ar_image.specs.Following.{Follows};
+ghost use Rattle.ar_image.specs.Image.{is_broken, image_at, image_on_disks};
+
+use crate::{Array, Event, Flush, Outcome, Stored};
+use ar_disks::Disk;
+
+impl<D: Disk> Array<D> {
+    ghost use Rattle.ar_core.specs.Step.{Steps};
+
+    // The least recently used block alone.
+    pub(crate) fn flush_one(&mut self) -> Flush
+        ensures { Steps self.old Event.Flush (Outcome.Flush result) self.new }
+    {
+        self.blocks.flush_one()
+    }
+
+    /// Writes all cached blocks to the disks, the least recently used first. Broken says that the array has lost its data, before
+    /// or by this call.
+    pub fn flush_all(&mut self) -> Stored
+        ensures answer { result ≡ stored (is_broken self.new) }
+        ensures lost { IsTrue (is_broken self.old) → self.new ≡ self.old }
+        ensures images { result ≡ Stored.Done → (addr : Addr) → image_at self.new addr ≡ image_at self.old addr }
+        ensures on_disks { result ≡ Stored.Done → (addr : Addr) → image_at self.new addr ≡ image_on_disks self.new.store addr }
+        ensures emptied { result ≡ Stored.Done → self.new.cache ≡ with_entries self.old.cache [] }
+        ensures follows { Follows self.old self.new }
+    {
+        self.blocks.flush_all()
+    }
+}

@@ -1,0 +1,6 @@
+pub mod Breaking
+pub mod Images
+pub mod Moving
+pub mod Pieces
+pub mod Seeing
+pub mod Sparing

@@ -1,0 +1,36 @@
+use Rattle.std.proofs.Common.{◌≡◌, ℕ, ◌≤◌, None, sym, ap, subst, ◌∙◌, inl, inr, arith}
+use Rattle.std.proofs.lemmas.Bool.{cases_lt}
+use Rattle.ar_disks.specs.declared.address.Key.{Key}
+use Rattle.ar_cache.specs.Cache.{cached}
+use Rattle.ar_image.specs.Sectors.{key_of}
+use Rattle.ar_image.specs.Image.{is_broken}
+use Rattle.ar_image.specs.Laws.{follows_then}
+use Rattle.ar_image.proofs.Sparing.{kept_sound, spared_then}
+use Rattle.ar_image.proofs.blocks.Blocks.force.Goals as goal
+
+pub loop-rb-preserved : goal.loop-rb-preserved
+loop-rb-preserved g c =
+    let sofar = c.loop-rb.invariant in
+    let call = c.flush_key.ensures in
+    let rb : ℕ = c.loop-rb.rb in
+    let more : rb ≤ c.args.last = c.loop-rb-test.true in
+    let ordered : c.args.first ≤ rb = sofar.ordered in
+    record {
+      sound = kept_sound (is_broken c.flush_key.new.self) (sym c.in-Done.is ∙ call.answer);
+      forced = λ k from below.
+          elim (cases_lt k rb) [
+            | inl less ↦
+                call.others c.in-Done.is (key_of c.args.addr k) (λ same. (let equal = ap (λ (x : Key). x.rb) same in omega arith))
+                ∙ sofar.forced k from less
+            | inr other ↦
+                (let equal : rb ≡ k = omega arith in
+                subst (λ n. cached c.flush_key.new.self.cache (key_of c.args.addr n) ≡ None) equal (call.gone c.in-Done.is))
+          ];
+      ordered = omega arith;
+      spared =
+          spared_then c.args.self.now.cache c.loop-rb.self.cache c.flush_key.new.self.cache c.args.addr c.args.first rb sofar.spared ordered
+          (call.others c.in-Done.is);
+      within = λ _. omega arith;
+      seen = record { same = λ k. (call.seen c.in-Done.is).same k ∙ sofar.seen.same k };
+      follows = follows_then c.args.self.now c.loop-rb.self c.flush_key.new.self sofar.follows call.follows;
+    }

@@ -1,0 +1,20 @@
+use Rattle.std.proofs.Common.{◌≡◌, ◌-◌, ◌≤◌, ◌++◌, false, length}
+use Rattle.std.specs.List.{concat}
+use Rattle.ar_cache.specs.Backing.{Keeps, SameBlocks}
+use Rattle.ar_image.specs.Sectors.{sectors_in, blocks_of}
+use Rattle.ar_image.proofs.transfer.read_sectors.Given as goal
+
+abbrev pub invariant-loop-at : goal.invariant-loop-at
+invariant-loop-at g l = record {
+  from : l.lba ≤ l.at;
+  until : l.at ≤ l.end;
+  bytes : l.out.items ≡ l.fn.out.items ++ concat (sectors_in l.fn.geometry (blocks_of (g.B.Backing.block_at l.fn.blocks) l.addr) l.lba (l.at - l.lba));
+  blocks : SameBlocks (g.B.Backing.block_at l.fn.blocks) (g.B.Backing.block_at l.blocks);
+  sound : g.B.Backing.is_broken l.blocks ≡ false;
+  keeps : Keeps g.B.Backing.geometry g.B.Backing.knows g.B.Backing.is_broken g.B.Backing.follows l.fn.blocks l.blocks;
+  reads : g.B.Backing.reads l.fn.blocks l.blocks;
+  len : length l.block ≡ length l.fn.block;
+}
+
+abbrev pub decreases-loop-at : goal.decreases-loop-at
+decreases-loop-at g l = l.end - l.at

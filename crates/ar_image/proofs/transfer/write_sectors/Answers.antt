@@ -1,0 +1,40 @@
+use Rattle.std.proofs.Common.{◌≡◌, ℕ, ◌%◌, ◌/◌, ◌+◌, ◌-◌, ◌*◌, ◌<◌, ◌≤◌, List, min, take, drop, sym, ap, subst, ◌∙◌, arith}
+use Rattle.ar_disks.specs.Geometry.{sectors_of}
+use Rattle.ar_image.specs.Sectors.{blocks_of, key_of}
+use Rattle.ar_cache.proofs.Keeping.{keeps_then}
+use Rattle.ar_image.proofs.Pieces.{other_block, other_unit, PutsPart, part-within, part-some, stored_done, written-inside, written-outside, cut_part}
+use Rattle.ar_image.proofs.transfer.write_sectors.Goals as goal
+
+pub loop-at-preserved : goal.loop-at-preserved
+loop-at-preserved g c =
+    let at : ℕ = c.loop-at.at in
+    let part : ℕ = c.min-part.result in
+    let old : ℕ → List ℕ = blocks_of (g.B.Backing.block_at c.args.blocks.now) c.args.addr in
+    let mid : ℕ → List ℕ = blocks_of (g.B.Backing.block_at c.loop-at.blocks) c.args.addr in
+    let new : ℕ → List ℕ = blocks_of (g.B.Backing.block_at c.write_part.new.blocks) c.args.addr in
+    let first : ℕ = at - c.args.lba in
+    let piece : List ℕ = take (first * 512 + part * 512 - first * 512) (drop (first * 512) c.args.bytes.now) in
+    let sectors : c.sectors-sectors.result ≡ sectors_of c.args.geometry = c.sectors-sectors.ensures in
+    let within : at % sectors_of c.args.geometry + part ≤ sectors_of c.args.geometry =
+    part-within c.args.geometry at (c.args.lba + c.args.count - at) part (c.min-part.ensures ∙ ap (λ (s : ℕ). min (s - at % s) (c.args.lba + c.args.count - at)) sectors) in
+    let some : 0 < part =
+    part-some c.args.geometry at (c.args.lba + c.args.count - at) part (c.min-part.ensures ∙ ap (λ (s : ℕ). min (s - at % s) (c.args.lba + c.args.count - at)) sectors) (omega arith) in
+    let puts : PutsPart c.args.geometry mid new piece at part (sectors_of c.args.geometry) =
+    subst (PutsPart c.args.geometry mid new piece at part) sectors
+    (record {
+      inside = c.write_part.ensures.inside c.in-Done.is;
+      outside = c.write_part.ensures.outside c.in-Done.is;
+      others = λ q other. c.write_part.ensures.others c.in-Done.is (key_of c.args.addr q) (other_block c.args.addr q (at / c.sectors-sectors.result) other);
+    }) in
+    record {
+      from = omega arith;
+      until = omega arith;
+      inside = written-inside c.args.geometry mid new c.args.bytes.now piece c.args.lba at part c.loop-at.invariant.from within (cut_part c.args.bytes.now first part) puts c.loop-at.invariant.inside;
+      outside = written-outside c.args.geometry old mid new piece c.args.lba at part c.loop-at.invariant.from within puts c.loop-at.invariant.outside;
+      others = λ k other.
+          c.write_part.ensures.others c.in-Done.is k (other_unit k (key_of c.args.addr (at / c.sectors-sectors.result)) other) ∙ c.loop-at.invariant.others k other;
+      untouched = λ same. absurd (omega (arith, same, c.loop-at.invariant.from, some));
+      sound = stored_done _ (sym c.write_part.ensures.answer ∙ c.in-Done.is);
+      keeps = keeps_then _ _ _ _ g.met.B.Backing.follows_trans _ _ _ c.loop-at.invariant.keeps c.write_part.ensures.keeps;
+      len = c.write_part.ensures.len ∙ c.loop-at.invariant.len;
+    }

@@ -1,0 +1,21 @@
+pub mod Changes
+pub mod DiskOut
+pub mod Flush
+pub mod Following
+pub mod Image
+pub mod Laws
+pub mod Moves
+pub mod Sectors
+pub mod Seen
+pub mod Start
+-- the words of lower crates that clauses of this crate cite
+pub use Rattle.ar_store.specs.Store
+pub use Rattle.ar_store.specs.Slots
+pub use Rattle.ar_store.specs.Placing
+pub use Rattle.ar_store.specs.Kept
+pub use Rattle.ar_cache.specs.Cache
+pub use Rattle.ar_cache.specs.Backing
+pub use Rattle.ar_book.specs.Tables
+pub use Rattle.ar_extents.specs.Set
+pub use Rattle.ar_extents.specs.Follows
+pub use Rattle.ar_unit.specs.Unit

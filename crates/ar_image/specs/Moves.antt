@@ -1,0 +1,36 @@
+-- What a demotion and a clean do.
+use Rattle.std.specs.Prelude.{◌≡◌, ◌↔◌, ◌<◌, ◌≤◌, IsTrue}
+use Rattle.ar_book.specs.declared.class.Class.TheVariants.{Parity}
+use Rattle.ar_book.specs.Tables.{free_groups}
+use Rattle.ar_store.specs.Placing.{HasNoHole}
+use Rattle.ar_moves.specs.declared.step.Move.{Move}
+use Rattle.ar_moves.specs.declared.step.Move.TheVariants.{Idle, Broken}
+use Rattle.ar_moves.specs.Moves.{IfMoved, LeavesBlocks, IsLeft}
+use Rattle.ar_moves.specs.Demotion.{Demotes, NamesNoDemotion, MayHaveOpened, HoldsZerosBeside}
+use Rattle.ar_moves.specs.Cleaning.{Cleans, NothingToClean, cleaning_left}
+use Rattle.ar_image.specs.Image.{ArrayState, is_broken}
+
+-- what both leave: every block as it stood, and the cache. Broken is answered exactly where the array is broken after it.
+pub record MovesBlock (old : ArrayState) (answer : Move) (new : ArrayState) : Type 0 where
+  pub leaves : LeavesBlocks old.store new.store
+  pub cache : new.cache ≡ old.cache
+  pub broken : (answer ≡ Broken) ↔ IsTrue (is_broken new)
+
+-- The block that the rule of demotion names went to the slot that it names, in a group that was opened for it where the rule says so; or
+-- the rule names nothing, and nothing has changed. Where the array broke, a group may have been opened.
+pub record DemotesOne (old : ArrayState) (answer : Move) (new : ArrayState) : Type 0 where
+  pub moves : MovesBlock old answer new
+  pub moved : IfMoved answer (λ key to. Demotes old.store.book key to new.store.book)
+  pub zeros : IfMoved answer (λ key to. HasNoHole old.store.book Parity → HoldsZerosBeside new.store to)
+  pub idle : answer ≡ Idle → IsLeft old.store new.store (NamesNoDemotion old.store.book)
+  pub opened : answer ≡ Broken → MayHaveOpened old.store.book new.store.book
+
+-- The block that the rule of cleaning names went to the slot that it names, and less is left to be cleaned; or the rule names nothing, and
+-- nothing has changed. No group is opened.
+pub record CleansOne (old : ArrayState) (answer : Move) (new : ArrayState) : Type 0 where
+  pub moves : MovesBlock old answer new
+  pub moved : IfMoved answer (λ key to. Cleans old.store.book key to new.store.book)
+  pub less : IfMoved answer (λ key to. cleaning_left new.store.book < cleaning_left old.store.book)
+  pub idle : answer ≡ Idle → IsLeft old.store new.store (NothingToClean old.store.book)
+  pub unmoved : answer ≡ Broken → new.store.book ≡ old.store.book
+  pub free : free_groups old.store.book ≤ free_groups new.store.book

@@ -1,0 +1,65 @@
+// The store, as what the cache gives its blocks to.
+ghost use Rattle.std.specs.Prelude.{◌≡◌};
+ghost use Rattle.ar_extents.specs.Changes.{is_broken as is_broken_set};
+ghost use Rattle.ar_store.specs.Slots.{stands};
+ghost use Rattle.ar_store.specs.Placing.{Puts};
+ghost use Rattle.ar_image.specs.Image.{knows_in};
+ghost use Rattle.ar_image.specs.Following.{StoreFollows, StoreReads};
+ghost use Rattle.ar_image.specs.Laws.{store_refl, store_then, reads_refl, reads_then};
+
+use ar_cache::{Backing, Stored};
+use ar_disks::{Block, Disk, Key};
+use ar_extents::Health;
+use ar_store::{Outcome, Store};
+
+/// The store behind the cache. The keys that it knows are those of units' blocks.
+#[derive(Drop)]
+pub struct Behind<D: Disk> {
+    pub store: Store<D>,
+}
+
+impl<D: Disk> Backing for Behind<D> {
+    ghost block_at = { λ b. stands b.store };
+
+    ghost knows = { λ b. knows_in b.store };
+
+    ghost geometry = { λ b. b.store.disks.geometry };
+
+    ghost is_broken = { λ b. is_broken_set b.store.disks.health };
+
+    ghost follows = { λ old new. StoreFollows old.store new.store };
+
+    ghost reads = { λ old new. StoreReads old.store new.store };
+
+    ghost puts = { λ old key new. Puts old.store.book key new.store.book };
+
+    fn get(&mut self, key: Key, into: &mut Block) -> Stored {
+        if let Health::Broken = self.store.health() {
+            return Stored::Broken;
+        }
+        stored(self.store.get(key, into))
+    }
+
+    fn put(&mut self, key: Key, from: &Block) -> Stored {
+        stored(self.store.put(key, from))
+    }
+
+    ghost follows_refl = { λ s. store_refl s.store };
+
+    ghost follows_trans = { λ a b c first later. store_then a.store b.store c.store first later };
+
+    ghost reads_refl = { λ s. reads_refl s.store };
+
+    ghost reads_trans = { λ a b c first later. reads_then a.store b.store c.store first later };
+}
+
+// A store's answer, as a cache hears it.
+fn stored(outcome: Outcome) -> Stored
+    ensures done { outcome ≡ Outcome.Done → result ≡ Stored.Done }
+    ensures broken { outcome ≡ Outcome.Broken → result ≡ Stored.Broken }
+{
+    match outcome {
+        Outcome::Done => Stored::Done,
+        Outcome::Broken => Stored::Broken,
+    }
+}

@@ -1,0 +1,73 @@
+// What is given from the cache to the disks.
+ghost use Rattle.std.specs.Prelude.{◌≡◌, ◌≢◌, ◌≤◌, ◌+◌, ℕ, None, false, IsTrue, []};
+ghost use Rattle.ar_disks.specs.declared.address.Key.{Key};
+ghost use Rattle.ar_cache.specs.Backing.{stored};
+ghost use Rattle.ar_cache.specs.Cache.{cached, with_entries};
+ghost use Rattle.ar_image.specs.Flush.{FlushesOne};
+ghost use Rattle.ar_image.specs.Following.{Follows};
+ghost use Rattle.ar_image.specs.Image.{is_broken};
+ghost use Rattle.ar_image.specs.Sectors.{key_of};
+ghost use Rattle.ar_image.specs.Seen.{SameSeen, IsSpared};
+
+use crate::{Blocks, Flush, Stored};
+use ar_disks::{Addr, Disk, Key};
+
+impl<D: Disk> Blocks<D> {
+    /// Gives the least recently used cached block to the disks.
+    pub fn flush_one(&mut self) -> Flush
+        ensures flushes { FlushesOne self.old result self.new }
+        ensures seen { is_broken self.new ≡ false → SameSeen self.old self.new }
+        ensures follows { Follows self.old self.new }
+    {
+        if self.is_broken() {
+            return Flush::Broken;
+        }
+        self.cache.flush_one(&mut self.behind)
+    }
+
+    /// Gives all cached blocks to the disks, the least recently used first.
+    pub fn flush_all(&mut self) -> Stored
+        ensures answer { result ≡ stored (is_broken self.new) }
+        ensures emptied { result ≡ Stored.Done → self.new.cache ≡ with_entries self.old.cache [] }
+        ensures lost { IsTrue (is_broken self.old) → self.new ≡ self.old }
+        ensures seen { result ≡ Stored.Done → SameSeen self.old self.new }
+        ensures follows { Follows self.old self.new }
+    {
+        if self.is_broken() {
+            return Stored::Broken;
+        }
+        self.cache.flush_all(&mut self.behind)
+    }
+
+    // Gives one block to the disks, where it is cached.
+    fn flush_key(&mut self, key: Key) -> Stored
+        requires sound { is_broken self.old ≡ false }
+        ensures answer { result ≡ stored (is_broken self.new) }
+        ensures gone { result ≡ Stored.Done → cached self.new.cache key ≡ None }
+        ensures others { result ≡ Stored.Done → (k : Key) → k ≢ key → cached self.new.cache k ≡ cached self.old.cache k }
+        ensures seen { result ≡ Stored.Done → SameSeen self.old self.new }
+        ensures follows { Follows self.old self.new }
+    {
+        self.cache.flush_key(key, &mut self.behind)
+    }
+
+    /// Gives the blocks `first` to `last` of a unit to the disks, those that are cached, in ascending order, and no other.
+    pub fn force(&mut self, addr: Addr, first: u32, last: u32) -> Stored
+        requires sound { is_broken self.old ≡ false }
+        requires few { last ≤ 1048576 }
+        ensures answer { result ≡ stored (is_broken self.new) }
+        ensures forced { result ≡ Stored.Done → (rb : ℕ) → first ≤ rb → rb ≤ last → cached self.new.cache (key_of addr rb) ≡ None }
+        ensures spared { result ≡ Stored.Done → IsSpared self.old.cache self.new.cache addr first (last + 1) }
+        ensures seen { result ≡ Stored.Done → SameSeen self.old self.new }
+        ensures follows { Follows self.old self.new }
+    {
+        let mut rb = first;
+        while rb <= last {
+            match self.flush_key(Key { addr, rb }) {
+                Stored::Done => rb += 1,
+                Stored::Broken => return Stored::Broken,
+            }
+        }
+        Stored::Done
+    }
+}

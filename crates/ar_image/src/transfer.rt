@@ -1,0 +1,180 @@
+// How READ and WRITE move sectors, block by block.
+ghost use Rattle.std.specs.Prelude.{◌≡◌, ◌≢◌, ◌⊎◌, ◌+◌, ◌*◌, ◌-◌, ◌/◌, ◌%◌, ◌<◌, ◌≤◌, ◌++◌, ℕ, false, IsTrue, length};
+ghost use Rattle.std.specs.List.{concat};
+ghost use Rattle.ar_disks.specs.declared.address.Key.{Key};
+ghost use Rattle.ar_disks.specs.Geometry.{sectors_of, block_len_of};
+ghost use Rattle.ar_disks.specs.Block.{sectors_at};
+ghost use Rattle.ar_cache.specs.Backing.{stored, Keeps, SameBlocks};
+ghost use Rattle.ar_image.specs.Sectors.{sector_in, sectors_in, key_of, blocks_of};
+
+use crate::Stored;
+use ar_cache::Backing;
+use ar_disks::{Addr, Block, Geometry, Key, SECTOR_LEN};
+
+/// How a READ ended.
+#[derive(Clone, Copy, Debug, PartialEq, Eq)]
+pub enum Transfer {
+    Done,
+    Broken,
+    NoMemory,
+}
+
+// Appends sectors of one block to `out`.
+fn read_part<B: Backing>(
+    blocks: &mut B,
+    key: Key,
+    first: usize,
+    count: usize,
+    block: &mut Block,
+    out: &mut Vec<u8>,
+) -> Transfer
+    requires known { IsTrue (B.knows blocks.old key) }
+    requires whole { length block.old ≡ block_len_of (B.geometry blocks.old) }
+    requires within { first + count ≤ sectors_of (B.geometry blocks.old) }
+    ensures done { result ≡ Transfer.Done → out.new.items ≡ out.old.items ++ sectors_at (B.block_at blocks.old key) first count }
+    ensures broken { result ≡ Transfer.Broken → IsTrue (B.is_broken blocks.new) }
+    ensures sound { result ≢ Transfer.Broken → B.is_broken blocks.new ≡ false }
+    ensures blocks { result ≢ Transfer.Broken → SameBlocks (B.block_at blocks.old) (B.block_at blocks.new) }
+    ensures keeps { Keeps B.geometry B.knows B.is_broken B.follows blocks.old blocks.new }
+    ensures reads { B.reads blocks.old blocks.new }
+    ensures len { length block.new ≡ length block.old }
+{
+    match blocks.get(key, block) {
+        Stored::Broken => Transfer::Broken,
+        Stored::Done => match out.extend_from_slice(block.sectors(first, count)) {
+            Ok(()) => Transfer::Done,
+            Err(_) => Transfer::NoMemory,
+        },
+    }
+}
+
+/// Appends `count` sectors of a unit from number `lba` on to `out`, which has room for them. NoMemory says that it hadn't.
+pub fn read_sectors<B: Backing>(
+    blocks: &mut B,
+    geometry: Geometry,
+    addr: Addr,
+    lba: u32,
+    count: u32,
+    block: &mut Block,
+    out: &mut Vec<u8>,
+) -> Transfer
+    requires sound { B.is_broken blocks.old ≡ false }
+    requires shape { geometry ≡ B.geometry blocks.old }
+    requires whole { length block.old ≡ block_len_of geometry }
+    requires known { (rb : ℕ) → rb * sectors_of geometry < lba + count → IsTrue (B.knows blocks.old (key_of addr rb)) }
+    requires small { lba + count ≤ 1048576 }
+    ensures done { result ≡ Transfer.Done → out.new.items ≡ out.old.items
+        ++ concat (sectors_in geometry (blocks_of (B.block_at blocks.old) addr) lba count) }
+    ensures broken { result ≡ Transfer.Broken → IsTrue (B.is_broken blocks.new) }
+    ensures sound { result ≢ Transfer.Broken → B.is_broken blocks.new ≡ false }
+    ensures blocks { result ≢ Transfer.Broken → SameBlocks (B.block_at blocks.old) (B.block_at blocks.new) }
+    ensures keeps { Keeps B.geometry B.knows B.is_broken B.follows blocks.old blocks.new }
+    ensures reads { B.reads blocks.old blocks.new }
+    ensures len { length block.new ≡ length block.old }
+{
+    let sectors = geometry.sectors();
+    let end = lba + count;
+    let mut at = lba;
+    while at < end {
+        let first = at % sectors;
+        let part = (sectors - first).min(end - at);
+        let key = Key {
+            addr,
+            rb: at / sectors,
+        };
+        match read_part(blocks, key, first as usize, part as usize, block, out) {
+            Transfer::Done => at += part,
+            failed => return failed,
+        }
+    }
+    Transfer::Done
+}
+
+// Puts sectors of one block. A block that is covered in part is read first.
+fn write_part<B: Backing>(
+    blocks: &mut B,
+    geometry: Geometry,
+    key: Key,
+    first: usize,
+    count: usize,
+    bytes: &[u8],
+    block: &mut Block,
+) -> Stored
+    requires shape { geometry ≡ B.geometry blocks.old }
+    requires known { IsTrue (B.knows blocks.old key) }
+    requires whole { length block.old ≡ block_len_of geometry }
+    requires sectors { length bytes.now ≡ 512 * count }
+    requires within { first + count ≤ sectors_of geometry }
+    ensures inside { result ≡ Stored.Done → (i : ℕ) → first ≤ i → i < first + count
+        → sectors_at (B.block_at blocks.new key) i 1 ≡ sectors_at bytes.now (i - first) 1 }
+    ensures outside { result ≡ Stored.Done → (i : ℕ) → (i < first) ⊎ (first + count ≤ i) → i < sectors_of geometry
+        → sectors_at (B.block_at blocks.new key) i 1 ≡ sectors_at (B.block_at blocks.old key) i 1 }
+    ensures others { result ≡ Stored.Done → (k : Key) → k ≢ key → B.block_at blocks.new k ≡ B.block_at blocks.old k }
+    ensures answer { result ≡ stored (B.is_broken blocks.new) }
+    ensures keeps { Keeps B.geometry B.knows B.is_broken B.follows blocks.old blocks.new }
+    ensures len { length block.new ≡ length block.old }
+{
+    if bytes.len() == geometry.block_len() {
+        block.copy_from_slice(bytes);
+    } else {
+        match blocks.get(key, block) {
+            Stored::Broken => return Stored::Broken,
+            Stored::Done => block.set_sectors(first, bytes),
+        }
+    }
+    blocks.put(key, block)
+}
+
+/// Puts the bytes of `count` sectors in place of those of a unit from number `lba` on, block by block in ascending order.
+pub fn write_sectors<B: Backing>(
+    blocks: &mut B,
+    geometry: Geometry,
+    addr: Addr,
+    lba: u32,
+    count: u32,
+    bytes: &[u8],
+    block: &mut Block,
+) -> Stored
+    requires sound { B.is_broken blocks.old ≡ false }
+    requires shape { geometry ≡ B.geometry blocks.old }
+    requires whole { length block.old ≡ block_len_of geometry }
+    requires known { (rb : ℕ) → rb * sectors_of geometry < lba + count → IsTrue (B.knows blocks.old (key_of addr rb)) }
+    requires small { lba + count ≤ 1048576 }
+    requires sectors { length bytes.now ≡ 512 * count }
+    ensures inside { result ≡ Stored.Done → (i : ℕ) → lba ≤ i → i < lba + count
+        → sector_in geometry (blocks_of (B.block_at blocks.new) addr) i ≡ sectors_at bytes.now (i - lba) 1 }
+    ensures outside { result ≡ Stored.Done → (i : ℕ) → (i < lba) ⊎ (lba + count ≤ i)
+        → sector_in geometry (blocks_of (B.block_at blocks.new) addr) i ≡ sector_in geometry (blocks_of (B.block_at blocks.old) addr) i }
+    ensures others { result ≡ Stored.Done → (k : Key) → k.addr ≢ addr → B.block_at blocks.new k ≡ B.block_at blocks.old k }
+    ensures nothing { count ≡ 0 → blocks.new ≡ blocks.old }
+    ensures answer { result ≡ stored (B.is_broken blocks.new) }
+    ensures keeps { Keeps B.geometry B.knows B.is_broken B.follows blocks.old blocks.new }
+    ensures len { length block.new ≡ length block.old }
+{
+    let sectors = geometry.sectors();
+    let end = lba + count;
+    let mut at = lba;
+    while at < end {
+        let first = at % sectors;
+        let part = (sectors - first).min(end - at);
+        let key = Key {
+            addr,
+            rb: at / sectors,
+        };
+        let from = (at - lba) as usize * SECTOR_LEN;
+        let piece = &bytes[from..from + part as usize * SECTOR_LEN];
+        match write_part(
+            blocks,
+            geometry,
+            key,
+            first as usize,
+            part as usize,
+            piece,
+            block,
+        ) {
+            Stored::Done => at += part,
+            Stored::Broken => return Stored::Broken,
+        }
+    }
+    Stored::Done
+}

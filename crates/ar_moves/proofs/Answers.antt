@@ -1,0 +1,75 @@
+-- What the helpers answer, in the words of the calls.
+use Rattle.std.proofs.Common.{◌≡◌, ◌≢◌, ◌≤◌, ℕ, refl, sym, ap, subst, ◌∙◌, inl, inr, arith}
+use Rattle.ar_disks.specs.declared.address.Key.{Key}
+use Rattle.ar_book.specs.declared.class.Slot.{Slot}
+use Rattle.ar_book.specs.Tables.{Tables, free_groups}
+use Rattle.ar_book.specs.Changes.{Moved as TablesMoved}
+use Rattle.ar_book.proofs.AfterAssign.{assigned_free_groups}
+use Rattle.ar_extents.specs.declared.health.Health.TheVariants.{Broken as AllBroken}
+use Rattle.ar_book.specs.declared.class.Class.TheVariants.{Parity}
+use Rattle.ar_store.specs.Store.{StoreState}
+use Rattle.ar_store.specs.Slots.{AllStand}
+use Rattle.ar_store.specs.Placing.{SameUnits, slot_at, IsLowestHole, HasNoHole}
+use Rattle.ar_store.specs.Calls.{IsAccessed, IsOpened}
+use Rattle.ar_store.proofs.Changes.{units_then}
+use Rattle.ar_store.proofs.Fills.{accessed_then, stand_then}
+use Rattle.ar_moves.specs.declared.step.Move.{Move}
+use Rattle.ar_moves.specs.declared.step.Move.TheVariants.{Moved, Idle, Broken}
+use Rattle.ar_moves.specs.Moves.{IfMoved, IsMovedTo, LeavesBlocks}
+use Rattle.ar_moves.specs.Demotion.{IsOldestMirrored, IsSlotFor, Demotes, DemotesTo}
+use Rattle.ar_moves.specs.Cleaning.{Cleans, NamesCleaning}
+
+-- what follows of each block that moved follows of the one that did
+pub if_moved_then : (m : Move) (P Q : Key → Slot → Type 0) → IfMoved m P → ((k : Key) (s : Slot) → P k s → Q k s) → IfMoved m Q
+if_moved_then (Moved key to) P Q has then = then key to has
+if_moved_then Idle P Q has then = tt
+if_moved_then Broken P Q has then = tt
+
+-- the oldest block was demoted
+pub oldest_demoted : (t new : Tables) (key : Key) → IsOldestMirrored t key → (k : Key) (s : Slot) → DemotesTo t key new k s → Demotes t k s new
+oldest_demoted t new key oldest k s demotes = record {
+  ready = demotes.ready;
+  names = record { oldest = subst (λ x. IsOldestMirrored t x) (sym demotes.key_is) oldest; slot = demotes.slot };
+  moved = subst (λ x. TablesMoved demotes.ready x s new) (sym demotes.key_is) demotes.moved;
+}
+
+-- the block that cleaning names was moved
+pub named_cleaned : (t new : Tables) (key : Key) (to : Slot) → NamesCleaning t key to → (k : Key) (s : Slot) → IsMovedTo t key to new k s → Cleans t k s new
+named_cleaned t new key to names k s moved =
+    subst (λ x. Cleans t x s new) (sym moved.key_is)
+    (subst (λ x. Cleans t key x new) (sym moved.slot_is) (record { names = names; moved = moved.tables }))
+
+-- a move takes no free group
+pub moved_free : (m : Move) (t new : Tables) (key : Key) (to : Slot) → IfMoved m (IsMovedTo t key to new) → m ≢ Idle → (m ≡ Broken → new ≡ t) → free_groups t ≤ free_groups new
+moved_free (Moved k s) t new key to has some unmoved =
+    subst (λ (x : Tables). free_groups t ≤ free_groups x) (sym has.tables.tables) (assigned_free_groups t key to)
+moved_free Idle t new key to has some unmoved = absurd (some refl)
+moved_free Broken t new key to has some unmoved = subst (λ (x : Tables). free_groups t ≤ free_groups x) (sym (unmoved refl)) (omega arith)
+
+-- what two calls leave, one after another
+pub leaves_then : (a b c : StoreState) → AllStand a b → SameUnits a.book b.book → IsAccessed a.disks b.disks → (a.disks.health ≡ AllBroken → b ≡ a) → LeavesBlocks b c
+    → LeavesBlocks a c
+leaves_then a b c stand units access same rest = record {
+  stands = stand_then a b c rest.accessed.follows stand rest.stands;
+  units = units_then a.book b.book c.book units rest.units;
+  accessed = accessed_then a.disks b.disks c.disks access rest.accessed;
+  broken = λ broken. rest.broken (ap (λ (s : StoreState). s.disks.health) (same broken) ∙ broken) ∙ same broken;
+}
+
+-- the block was moved to the hole that was there
+pub hole_there : (t new : Tables) (key : Key) (to : Slot) → IsLowestHole t Parity to → (k : Key) (s : Slot) → IsMovedTo t key to new k s → DemotesTo t key new k s
+hole_there t new key to lowest k s moved = record {
+  key_is = moved.key_is;
+  ready = t;
+  slot = subst (λ x. IsSlotFor t x t) (sym moved.slot_is) (inl (record { lowest = lowest; same = refl }));
+  moved = subst (λ x. TablesMoved t key x new) (sym moved.slot_is) moved.tables;
+}
+
+-- the block was moved to the hole that was made for it
+pub hole_made : (t mid new : Tables) (key : Key) (g : ℕ) → HasNoHole t Parity → IsOpened t mid Parity g → (k : Key) (s : Slot) → IsMovedTo mid key (slot_at g 0) new k s → DemotesTo t key new k s
+hole_made t mid new key g none opening k s moved = record {
+  key_is = moved.key_is;
+  ready = mid;
+  slot = subst (λ x. IsSlotFor t x mid) (sym moved.slot_is) (inr (record { none = none; group = g; opened = opening; first = refl }));
+  moved = subst (λ x. TablesMoved mid key x new) (sym moved.slot_is) moved.tables;
+}

@@ -1,0 +1,5 @@
+pub mod Answers
+pub mod Readiness
+pub mod Work
+pub mod Ending
+pub mod Single

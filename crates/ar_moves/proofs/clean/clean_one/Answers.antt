@@ -1,0 +1,33 @@
+use Rattle.std.proofs.Common.{◌<◌, subst}
+use Rattle.ar_book.specs.Tables.{Tables}
+use Rattle.ar_moves.specs.Moves.{IsMovedTo}
+use Rattle.ar_moves.specs.Cleaning.{NamesCleaning, Cleans, cleaning_left}
+use Rattle.ar_moves.proofs.Answers.{if_moved_then, named_cleaned, moved_free}
+use Rattle.ar_moves.proofs.Readiness.{cleaning_ready}
+use Rattle.ar_moves.proofs.Ending.{cleans_fall}
+use Rattle.ar_moves.proofs.clean.clean_one.Goals as goal
+
+pub move_to-requires : goal.move_to-requires
+move_to-requires g c =
+    let t = c.args.store.now.book in
+    let names = subst (λ (x : Tables). NamesCleaning x c.in-Some.key c.in-Some.to) c.book.ensures c.in-Some.ensures.names in
+    let ready = cleaning_ready t c.in-Some.key c.in-Some.to c.health.ensures.kept.space.tables names in
+    record { placed = ready.placed; hole = ready.hole }
+
+pub returns-in-Some : goal.returns-in-Some
+returns-in-Some g c =
+    let t = c.args.store.now.book in
+    let new = c.move_to.new.store.book in
+    let names = subst (λ (x : Tables). NamesCleaning x c.in-Some.key c.in-Some.to) c.book.ensures c.in-Some.ensures.names in
+    let moves = c.move_to.ensures in
+    record {
+      moved = if_moved_then c.move_to.result (IsMovedTo t c.in-Some.key c.in-Some.to new) (λ k s. Cleans t k s new) moves.moved
+          (λ k s moved. named_cleaned t new c.in-Some.key c.in-Some.to names k s moved);
+      idle = λ idle. absurd (moves.idle idle);
+      broken = moves.broken;
+      unmoved = moves.unmoved;
+      free = moved_free c.move_to.result t new c.in-Some.key c.in-Some.to moves.moved moves.idle moves.unmoved;
+      less = if_moved_then c.move_to.result (IsMovedTo t c.in-Some.key c.in-Some.to new) (λ k s. cleaning_left new < cleaning_left t) moves.moved
+          (λ k s moved. cleans_fall t new k s c.health.ensures.kept.space.tables (named_cleaned t new c.in-Some.key c.in-Some.to names k s moved));
+      leaves = moves.leaves;
+    }

@@ -1,0 +1,17 @@
+use Rattle.std.proofs.Common.{subst}
+use Rattle.ar_book.specs.declared.class.Class.TheVariants.{Parity}
+use Rattle.ar_book.specs.Tables.{Tables}
+use Rattle.ar_store.specs.Placing.{IsLowestHole}
+use Rattle.ar_moves.specs.Moves.{IsMovedTo}
+use Rattle.ar_moves.specs.Demotion.{DemotesTo}
+use Rattle.ar_moves.proofs.Answers.{if_moved_then, hole_there}
+use Rattle.ar_moves.proofs.demote.demote.Goals as goal
+
+pub returns-in-Some-clause-moved : goal.returns-in-Some-clause-moved
+returns-in-Some-clause-moved g c =
+    let t = c.args.store.now.book in
+    let new = c.move_to.new.store.book in
+    let found = c.in-Some.ensures in
+    let lowest = subst (λ (x : Tables). IsLowestHole x Parity c.in-Some.to) c.book.ensures (record { hole = found.found; least = found.least }) in
+    if_moved_then c.move_to.result (IsMovedTo t c.args.key c.in-Some.to new) (DemotesTo t c.args.key new) c.move_to.ensures.moved
+    (λ k s moved. hole_there t new c.args.key c.in-Some.to lowest k s moved)

@@ -1,0 +1,23 @@
+use Rattle.std.proofs.Common.{subst}
+use Rattle.ar_book.specs.Tables.{Tables}
+use Rattle.ar_moves.specs.Demotion.{IsOldestMirrored, Demotes, DemotesTo}
+use Rattle.ar_moves.proofs.Answers.{if_moved_then, oldest_demoted}
+use Rattle.ar_moves.proofs.demote.demote_one.Goals as goal
+
+pub returns-in-Some : goal.returns-in-Some
+returns-in-Some g c =
+    let t = c.args.store.now.book in
+    let new = c.demote.new.store.book in
+    let found = c.in-Some.ensures in
+    let oldest = subst (λ (x : Tables). IsOldestMirrored x c.in-Some.key) c.book.ensures (record { mirrored = found.found; oldest = found.oldest }) in
+    let demoted = c.demote.ensures in
+    record {
+      moved = if_moved_then c.demote.result (DemotesTo t c.in-Some.key new) (λ k s. Demotes t k s new) demoted.moved (λ k s moved. oldest_demoted t new c.in-Some.key oldest k s moved);
+      idle = λ idle.
+          let left = demoted.idle idle in
+          record { why = record { none = λ key to ready names. left.why.none to ready names.slot }; same = left.same };
+      broken = demoted.broken;
+      opened = demoted.opened;
+      zeros = demoted.zeros;
+      leaves = demoted.leaves;
+    }

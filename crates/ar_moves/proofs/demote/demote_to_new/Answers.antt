@@ -1,0 +1,35 @@
+use Rattle.std.proofs.Common.{refl, sym, subst}
+use Rattle.ar_store.specs.Placing.{slot_at}
+use Rattle.ar_moves.specs.Moves.{IsMovedTo}
+use Rattle.ar_moves.specs.Demotion.{DemotesTo, HoldsZerosBeside}
+use Rattle.ar_moves.proofs.Answers.{if_moved_then, leaves_then, hole_made}
+use Rattle.ar_moves.proofs.Readiness.{opened_first, zeros_beside}
+use Rattle.ar_moves.proofs.demote.demote_to_new.Goals as goal
+
+pub move_to-requires-clause-hole : goal.move_to-requires-clause-hole
+move_to-requires-clause-hole g c =
+    opened_first c.args.store.now.book c.open_group.new.self.book c.in-Opened.group c.requires.kept.space.tables c.in-Opened.ensures.opens
+
+pub returns-in-Opened-clause-zeros : goal.returns-in-Opened-clause-zeros
+returns-in-Opened-clause-zeros g c =
+    let old = c.args.store.now in
+    let mid = c.open_group.new.self in
+    let new = c.move_to.new.store in
+    let to = slot_at c.in-Opened.group 0 in
+    let rest = zeros_beside old mid new c.in-Opened.group c.requires.kept c.in-Opened.ensures.opens (c.in-Opened.ensures.parity refl) c.move_to.ensures.beside
+    c.open_group.ensures.accessed.follows.geometry c.move_to.ensures.leaves.accessed.follows.geometry in
+    if_moved_then c.move_to.result (IsMovedTo mid.book c.args.key to new.book) (λ k s. HoldsZerosBeside new s) c.move_to.ensures.moved
+    (λ k s moved. subst (λ x. HoldsZerosBeside new x) (sym moved.slot_is) rest)
+
+pub returns-in-Opened-clause-moved : goal.returns-in-Opened-clause-moved
+returns-in-Opened-clause-moved g c =
+    let t = c.args.store.now.book in
+    let mid = c.open_group.new.self.book in
+    let new = c.move_to.new.store.book in
+    if_moved_then c.move_to.result (IsMovedTo mid c.args.key (slot_at c.in-Opened.group 0) new) (DemotesTo t c.args.key new) c.move_to.ensures.moved
+    (λ k s moved. hole_made t mid new c.args.key c.in-Opened.group c.requires.none c.in-Opened.ensures.opens k s moved)
+
+pub returns-in-Opened-clause-leaves : goal.returns-in-Opened-clause-leaves
+returns-in-Opened-clause-leaves g c =
+    let opening = c.open_group.ensures in
+    leaves_then c.args.store.now c.open_group.new.self c.move_to.new.store opening.stands opening.units opening.accessed opening.broken c.move_to.ensures.leaves

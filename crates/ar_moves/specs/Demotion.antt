@@ -1,0 +1,69 @@
+-- The rule of demotion: which block goes to which slot.
+use Rattle.std.specs.Prelude.{◌≡◌, ◌≢◌, ◌⊎◌, ℕ, ◌*◌, ◌<◌}
+use Rattle.ar_disks.specs.Block.{zeros}
+use Rattle.ar_disks.specs.Geometry.{rows_of, block_len_of}
+use Rattle.ar_disks.specs.declared.address.Key.{Key}
+use Rattle.ar_book.specs.declared.class.Class.TheVariants.{Parity}
+use Rattle.ar_book.specs.declared.class.Slot.{Slot}
+use Rattle.ar_book.specs.Tables.{Tables}
+use Rattle.ar_book.specs.Changes.{Moved}
+use Rattle.ar_book.specs.Choices.{IsMirrored, IsNoNewer}
+use Rattle.ar_store.specs.Store.{StoreState}
+use Rattle.ar_store.specs.Slots.{SlotHolds}
+use Rattle.ar_store.specs.Placing.{slot_at, IsLowestHole, HasNoHole}
+use Rattle.ar_store.specs.Calls.{IsOpened}
+
+-- the mirrored block that was written longest ago
+pub record IsOldestMirrored (t : Tables) (key : Key) : Type 0 where
+  pub mirrored : IsMirrored t key
+  pub oldest : (other : Key) → IsMirrored t other → IsNoNewer t key other
+
+-- the lowest parity hole of the tables as they are
+pub record IsHoleThere (t ready : Tables) (to : Slot) : Type 0 where
+  pub lowest : IsLowestHole t Parity to
+  pub same : ready ≡ t
+
+-- there is none, and the first slot of the lowest of two free groups or more, which was opened for parity
+pub record IsHoleMade (t ready : Tables) (to : Slot) : Type 0 where
+  pub none : HasNoHole t Parity
+  pub group : ℕ
+  pub opened : IsOpened t ready Parity group
+  pub first : to ≡ slot_at group 0
+
+-- the slot that a block is demoted to, and the tables in which it is ready for that
+abbrev pub IsSlotFor : Tables → Slot → Tables → Type 0
+IsSlotFor t to ready = IsHoleThere t ready to ⊎ IsHoleMade t ready to
+
+-- there is none
+pub record NamesNoSlot (t : Tables) : Type 0 where
+  pub none : (to : Slot) (ready : Tables) → IsSlotFor t to ready → ⊥
+
+-- the rule names a block and a slot, which is ready in these tables
+pub record NamesDemotion (t : Tables) (key : Key) (to : Slot) (ready : Tables) : Type 0 where
+  pub oldest : IsOldestMirrored t key
+  pub slot : IsSlotFor t to ready
+
+-- the rule names nothing
+pub record NamesNoDemotion (t : Tables) : Type 0 where
+  pub none : (key : Key) (to : Slot) (ready : Tables) → NamesDemotion t key to ready → ⊥
+
+-- what the rule names was done: the block moved to the slot, once that was ready
+pub record Demotes (t : Tables) (key : Key) (to : Slot) (new : Tables) : Type 0 where
+  pub ready : Tables
+  pub names : NamesDemotion t key to ready
+  pub moved : Moved ready key to new
+
+-- the same, of a block that was found to be the oldest
+pub record DemotesTo (t : Tables) (key : Key) (new : Tables) (moved_key : Key) (to : Slot) : Type 0 where
+  pub key_is : moved_key ≡ key
+  pub ready : Tables
+  pub slot : IsSlotFor t to ready
+  pub moved : Moved ready key to new
+
+-- the tables are as they were, or a group was opened for parity, as the rule says
+abbrev pub MayHaveOpened : Tables → Tables → Type 0
+MayHaveOpened t new = (new ≡ t) ⊎ ((group : ℕ) × IsOpened t new Parity group)
+
+-- each other slot of the group holds the zero block
+pub record HoldsZerosBeside (s : StoreState) (to : Slot) : Type 0 where
+  pub slots : (i : ℕ) → i < 3 * rows_of s.disks.geometry → i ≢ to.slot → SlotHolds s (slot_at to.group i) (zeros (block_len_of s.disks.geometry))

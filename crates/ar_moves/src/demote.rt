@@ -1,0 +1,75 @@
+// Demotion: the mirrored block that was written longest ago goes to a group with parity.
+ghost use Rattle.std.specs.Prelude.{◌≡◌, ◌↔◌};
+ghost use Rattle.ar_book.specs.declared.class.Class.TheVariants.{Parity};
+ghost use Rattle.ar_store.specs.Kept.{IsKept};
+ghost use Rattle.ar_store.specs.Placing.{HasNoHole};
+ghost use Rattle.ar_moves.specs.Moves.{IfMoved, LeavesBlocks, IsLeft};
+ghost use Rattle.ar_moves.specs.Demotion.{IsOldestMirrored, Demotes, DemotesTo, NamesNoSlot, NamesNoDemotion};
+ghost use Rattle.ar_moves.specs.Demotion.{MayHaveOpened, HoldsZerosBeside};
+
+use crate::Move;
+use crate::step::move_to;
+use ar_book::{Class, Slot};
+use ar_disks::{Disk, Key};
+use ar_extents::Health;
+use ar_index::Steps;
+use ar_store::{Opening, Store};
+
+/// Demotes a block: the mirrored one with the least stamp goes to the lowest parity hole. Where there is none and two groups
+/// are free, the lowest is opened for parity with zeros, and the block goes to its first slot; else nothing is done. The block
+/// keeps its stamp, and no block changes. No memory is taken.
+///
+/// `Broken` says that the disks are. The group may have been opened then, and every block has its old home; of a store that
+/// was broken before nothing has changed.
+pub fn demote_one<D: Disk>(store: &mut Store<D>) -> Move
+    ensures moved { IfMoved result (λ key to. Demotes store.old.book key to store.new.book) }
+    ensures idle { result ≡ Move.Idle → IsLeft store.old store.new (NamesNoDemotion store.old.book) }
+    ensures broken { (result ≡ Move.Broken) ↔ (store.new.disks.health ≡ Health.Broken) }
+    ensures opened { result ≡ Move.Broken → MayHaveOpened store.old.book store.new.book }
+    ensures zeros { IfMoved result (λ key to. HasNoHole store.old.book Parity → HoldsZerosBeside store.new to) }
+    ensures leaves { LeavesBlocks store.old store.new }
+{
+    if let Health::Broken = store.health() {
+        return Move::Broken;
+    }
+    match store.book().oldest_mirrored(&mut Steps::new()) {
+        Some(key) => demote(store, key),
+        None => Move::Idle,
+    }
+}
+
+// Demotes the oldest mirrored block.
+fn demote<D: Disk>(store: &mut Store<D>, key: Key) -> Move
+    requires kept { IsKept store.old }
+    requires oldest { IsOldestMirrored store.old.book key }
+    ensures moved { IfMoved result (DemotesTo store.old.book key store.new.book) }
+    ensures idle { result ≡ Move.Idle → IsLeft store.old store.new (NamesNoSlot store.old.book) }
+    ensures broken { (result ≡ Move.Broken) ↔ (store.new.disks.health ≡ Health.Broken) }
+    ensures opened { result ≡ Move.Broken → MayHaveOpened store.old.book store.new.book }
+    ensures zeros { IfMoved result (λ key to. HasNoHole store.old.book Parity → HoldsZerosBeside store.new to) }
+    ensures leaves { LeavesBlocks store.old store.new }
+{
+    match store.book().hole(Class::Parity, &mut Steps::new()) {
+        Some(to) => move_to(store, key, to),
+        None => demote_to_new(store, key),
+    }
+}
+
+// Demotes a mirrored block to a group that is opened for it, as there is no parity hole.
+fn demote_to_new<D: Disk>(store: &mut Store<D>, key: Key) -> Move
+    requires kept { IsKept store.old }
+    requires oldest { IsOldestMirrored store.old.book key }
+    requires none { HasNoHole store.old.book Parity }
+    ensures moved { IfMoved result (DemotesTo store.old.book key store.new.book) }
+    ensures idle { result ≡ Move.Idle → IsLeft store.old store.new (NamesNoSlot store.old.book) }
+    ensures broken { (result ≡ Move.Broken) ↔ (store.new.disks.health ≡ Health.Broken) }
+    ensures opened { result ≡ Move.Broken → MayHaveOpened store.old.book store.new.book }
+    ensures zeros { IfMoved result (λ key to. HoldsZerosBeside store.new to) }
+    ensures leaves { LeavesBlocks store.old store.new }
+{
+    match store.open_group(Class::Parity) {
+        Opening::Opened(group) => move_to(store, key, Slot { group, slot: 0 }),
+        Opening::Idle => Move::Idle,
+        Opening::Broken => Move::Broken,
+    }
+}

@@ -1,0 +1,40 @@
+// One block is moved, and what a move answers.
+ghost use Rattle.std.specs.Prelude.{◌≡◌, ◌≢◌, ◌↔◌, IsSome};
+ghost use Rattle.ar_book.specs.Tables.{home};
+ghost use Rattle.ar_book.specs.Changes.{Moved};
+ghost use Rattle.ar_store.specs.Slots.{BesideHold};
+ghost use Rattle.ar_store.specs.Placing.{IsVacant};
+ghost use Rattle.ar_moves.specs.Moves.{IfMoved, IsMovedTo, LeavesBlocks};
+
+use ar_book::Slot;
+use ar_disks::{Disk, Key};
+use ar_extents::Health;
+use ar_store::{Outcome, Store};
+
+/// What a step in the background did.
+#[derive(Clone, Copy, Debug, PartialEq, Eq)]
+pub enum Move {
+    /// It moved the block of a key to a slot.
+    Moved { key: Key, to: Slot },
+    /// Nothing: its rule names no block, or no slot for it.
+    Idle,
+    /// The disks are broken.
+    Broken,
+}
+
+/// Moves a block to a slot that names none.
+pub(crate) fn move_to<D: Disk>(store: &mut Store<D>, key: Key, to: Slot) -> Move
+    requires placed { IsSome (home store.old.book key) }
+    requires hole { IsVacant store.old.book to }
+    ensures moved { IfMoved result (IsMovedTo store.old.book key to store.new.book) }
+    ensures idle { result ≢ Move.Idle }
+    ensures broken { (result ≡ Move.Broken) ↔ (store.new.disks.health ≡ Health.Broken) }
+    ensures unmoved { result ≡ Move.Broken → store.new.book ≡ store.old.book }
+    ensures beside { BesideHold store.old store.new to }
+    ensures leaves { LeavesBlocks store.old store.new }
+{
+    match store.move_rb(key, to) {
+        Outcome::Done => Move::Moved { key, to },
+        Outcome::Broken => Move::Broken,
+    }
+}
