@@ -46,6 +46,12 @@ out_is (Out x) d broken out = ap Out (sym (eqb-true d x out))
 out_is (Rebuilding x done) d broken out = absurd cc
 out_is Broken d broken out = absurd cc
 
+-- where a disk is taken, the one in whose place it goes is out
+pub taken_out : (s : SetState) (d : ℕ) (disk : DiskState) → replace_refusal s d disk ≡ None → s.health ≡ Out d
+taken_out s d disk taken =
+    let why = none_of (is_broken s.health) (leb (length s.disks) d) (is_out s.health d) (has_shape s.geometry s.extents disk) AllBroken NoSuchDisk WrongSize NotOut taken in
+    out_is s.health d why.0 why.2
+
 pub kept_replaced : (s : SetState) (d : ℕ) (disk : DiskState) → IsKept s → replace_refusal s d disk ≡ None → CanCount disk → IsKept (replaced s d disk)
 kept_replaced s d disk kept taken few =
     let why = none_of (is_broken s.health) (leb (length s.disks) d) (is_out s.health d) (has_shape s.geometry s.extents disk) AllBroken NoSuchDisk WrongSize NotOut taken in

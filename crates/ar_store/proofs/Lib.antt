@@ -5,6 +5,8 @@ pub mod Standing
 pub mod SlotCalls
 pub mod Stays
 pub mod Outages
+pub mod Alike
+pub mod Replacing
 pub mod Changes
 pub mod Fills
 pub mod Fields
@@ -17,3 +19,5 @@ pub mod Lined
 pub mod Planning
 pub mod Taking
 pub mod Starting
+pub mod Copies
+pub mod Adding

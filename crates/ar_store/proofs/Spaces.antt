@@ -1,27 +1,23 @@
 -- What reads, writes and changes of the tables leave of a store.
-use Rattle.std.proofs.Common.{◌≡◌, ◌≢◌, ◌⊎◌, inl, inr, ℕ, ◌+◌, ◌*◌, ◌<◌, List, length, Option, None, Some, refl, sym, ap, subst, ◌∙◌, arith}
+use Rattle.std.proofs.Common.{◌≡◌, ◌≢◌, inl, inr, ℕ, ◌*◌, ◌<◌, List, length, refl, sym, ap, subst, ◌∙◌}
 use Rattle.std.proofs.lemmas.Bool.Decides.{eqb_tells}
-use Rattle.ar_disks.specs.declared.address.Key.{Key}
 use Rattle.ar_disks.specs.Members.{member, AreDisjoint}
 use Rattle.ar_disks.specs.Geometry.{rows_of, block_len_of}
-use Rattle.ar_extents.specs.declared.health.Health.TheVariants.{Broken}
 use Rattle.ar_extents.specs.Set.{SetState}
 use Rattle.ar_extents.specs.Follows.{Follows, Keeps, Anywhere}
-use Rattle.ar_extents.specs.Groups.{IsGroup, IsOutside}
+use Rattle.ar_extents.specs.Groups.{IsGroup}
 use Rattle.ar_extents.specs.Loose.{is_loose}
-use Rattle.ar_extents.proofs.Follows.{has_extent_then}
 use Rattle.ar_book.specs.declared.class.Class.{Class}
 use Rattle.ar_book.specs.declared.class.Class.TheVariants.{Free, Mirrored, Parity}
 use Rattle.ar_book.specs.declared.class.Slot.{Slot}
-use Rattle.ar_book.specs.Tables.{Tables, group_in, class_of, key_at, home, slots_of, HasSlot}
-use Rattle.ar_book.specs.Book.{TablesAgree}
+use Rattle.ar_book.specs.Tables.{Tables, group_in, class_of, slots_of, HasSlot}
 use Rattle.ar_book.proofs.Keys.{slot_tells, make_slot}
-use Rattle.ar_book.proofs.Homes.{home_key, home_slot, key_slot}
+use Rattle.ar_book.proofs.Homes.{key_slot}
 use Rattle.ar_store.specs.Store.{StoreState, members_of, class_in, store_of}
-use Rattle.ar_store.specs.Slots.{ClassHolds, SlotHolds, HoldsBlock, stands, stands_at, standing_in, SlotsHold, OtherSlotsHold, AllStand, OthersStand, CanWrite, IsWritten}
+use Rattle.ar_store.specs.Slots.{ClassHolds, SlotHolds, HoldsBlock, SlotsHold, OtherSlotsHold, CanWrite, IsWritten}
 use Rattle.ar_store.specs.Kept.{IsTaken, IsSpace}
 use Rattle.ar_store.specs.Calls.{IsAccessed}
-use Rattle.ar_store.proofs.Classes.{class_read, class_disjoint, class_standing}
+use Rattle.ar_store.proofs.Classes.{class_read, class_disjoint}
 
 -- the group of a slot is one
 pub slot_group : (s : StoreState) (g : ℕ) → IsSpace s → g < length s.book.groups → IsGroup s.disks (members_of s g)
@@ -56,24 +52,44 @@ held_then a b t slot ab same held = record {
   holds = same held.block held.holds;
 }
 
--- accesses of the disks that leave every slot some block
-space_accessed : (a b : SetState) (t : Tables) → IsSpace (store_of a t) → IsAccessed a b
+-- the disks have the shape that they had, with the same extents loose
+pub record HaveShape (a b : SetState) : Type 0 where
+  pub geometry : b.geometry ≡ a.geometry
+  pub extents : b.extents ≡ a.extents
+  pub count : length b.disks ≡ length a.disks
+  pub loose : b.loose ≡ a.loose
+
+pub shape_accessed : (a b : SetState) → IsAccessed a b → HaveShape a b
+shape_accessed a b access =
+    let ab = access.follows in record { geometry = ab.geometry; extents = ab.extents; count = ab.count; loose = access.loose }
+
+taken_then : (a b : SetState) (t : Tables) (g i : ℕ) → HaveShape a b → IsTaken (store_of a t) g i → IsTaken (store_of b t) g i
+taken_then a b t g i shape taken = record {
+  there = record {
+    disk = subst (λ n. (member (group_in t.groups g).members i).disk < n) (sym shape.count) taken.there.disk;
+    extent = subst (λ n. (member (group_in t.groups g).members i).extent < n) (sym shape.extents) taken.there.extent;
+  };
+  used = ap (λ l. is_loose (record a { loose = l }) (member (group_in t.groups g).members i)) shape.loose ∙ taken.used;
+}
+
+-- disks of the same shape on which every slot still holds some block
+pub space_kept : (a b : SetState) (t : Tables) → IsSpace (store_of a t) → HaveShape a b
     → ((slot : Slot) → HasSlot t slot → HoldsBlock (store_of a t) slot → HoldsBlock (store_of b t) slot) → IsSpace (store_of b t)
-space_accessed a b t space access held = record {
-  geometry = space.geometry ∙ sym access.follows.geometry;
+space_kept a b t space shape held = record {
+  geometry = space.geometry ∙ sym shape.geometry;
   tables = space.tables;
-  extents = λ g i inside lt.
-      let taken = space.extents g i inside lt in
-      record {
-        there = has_extent_then a b (member (group_in t.groups g).members i) access.follows taken.there;
-        used = ap (λ l. is_loose (record a { loose = l }) (member (group_in t.groups g).members i)) access.loose ∙ taken.used;
-      };
+  extents = λ g i inside lt. taken_then a b t g i shape (space.extents g i inside lt);
   named = λ slot k names. held slot (key_slot t space.tables slot k names) (space.named slot k names);
   parity = λ slot inside is lt.
-      let lt_old : slot.slot < 3 * rows_of a.geometry = subst (λ g. slot.slot < 3 * rows_of g) access.follows.geometry lt in
+      let lt_old : slot.slot < 3 * rows_of a.geometry = subst (λ g. slot.slot < 3 * rows_of g) shape.geometry lt in
       let has : HasSlot t slot = (inside, subst (λ c. slot.slot < slots_of t.geometry c) (sym is) (subst (λ g. slot.slot < 3 * rows_of g) (sym space.geometry) lt_old)) in
       held slot has (space.parity slot inside is lt_old);
 }
+
+-- accesses of the disks that leave every slot some block
+space_accessed : (a b : SetState) (t : Tables) → IsSpace (store_of a t) → IsAccessed a b
+    → ((slot : Slot) → HasSlot t slot → HoldsBlock (store_of a t) slot → HoldsBlock (store_of b t) slot) → IsSpace (store_of b t)
+space_accessed a b t space access held = space_kept a b t space (shape_accessed a b access) held
 
 -- reads leave every slot its block
 pub slots_read : (a b : SetState) (t : Tables) → Follows a b → Keeps Anywhere a b → SlotsHold (store_of a t) (store_of b t)

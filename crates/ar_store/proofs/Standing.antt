@@ -1,6 +1,5 @@
 -- Which blocks stand as they did, by what the slots hold.
 use Rattle.std.proofs.Common.{◌≡◌, ◌≢◌, ℕ, ◌<◌, List, length, Option, None, Some, refl, sym, ap, subst, ◌∙◌, true≢false}
-use Rattle.std.proofs.lemmas.Option.{none-some, same_Some}
 use Rattle.ar_disks.specs.Block.{zeros}
 use Rattle.ar_disks.specs.Geometry.{block_len_of}
 use Rattle.ar_disks.specs.declared.address.Key.{Key}
@@ -14,9 +13,8 @@ use Rattle.ar_extents.specs.Groups.{without_disk}
 use Rattle.ar_extents.specs.Set.{SetState}
 use Rattle.ar_extents.specs.Follows.{Follows}
 use Rattle.ar_extents.proofs.Losses.{stays_broken}
-use Rattle.ar_book.specs.declared.class.Class.{Class}
 use Rattle.ar_book.specs.declared.class.Slot.{Slot}
-use Rattle.ar_book.specs.Tables.{Tables, group_in, class_of, key_at, home, slots_of, HasSlot}
+use Rattle.ar_book.specs.Tables.{Tables, group_in, class_of, key_at, home, slots_of}
 use Rattle.ar_book.proofs.Homes.{home_key, home_slot, homes_apart, empty_no_home}
 use Rattle.ar_store.specs.Store.{StoreState, members_of, class_in, store_of}
 use Rattle.ar_store.specs.Slots.{ClassHolds, SlotHolds, HoldsBlock, stands, stands_at, standing_in, SlotsHold, OtherSlotsHold, AllStand, OthersStand, SurvivesLossOf}
@@ -59,24 +57,24 @@ pub was_sound : (a b : SetState) → Follows a b → b.health ≢ Broken → a.h
 was_sound a b ab sound broken = sound (stays_broken a b ab broken)
 
 -- a key whose home holds what it held, if it has one
-stands_kept : (a b : SetState) (t : Tables) (k : Key) → IsSpace (store_of a t) → IsSpace (store_of b t) → Follows a b → b.health ≢ Broken
+pub stands_kept : (a b : SetState) (t : Tables) (k : Key) → IsSpace (store_of a t) → IsSpace (store_of b t) → b.geometry ≡ a.geometry → a.health ≢ Broken → b.health ≢ Broken
     → ((slot : Slot) (block : List ℕ) → home t k ≡ Some slot → SlotHolds (store_of a t) slot block → SlotHolds (store_of b t) slot block)
     → stands (store_of b t) k ≡ stands (store_of a t) k
-stands_kept a b t k space_a space_b ab sound same = by (home t k) refl
+stands_kept a b t k space_a space_b geometry before sound same = by (home t k) refl
   where
     by : (o : Option Slot) → home t k ≡ o → stands (store_of b t) k ≡ stands (store_of a t) k
-    by None is = stands_nowhere (store_of b t) k is ∙ ap (λ g. zeros (block_len_of g)) ab.geometry ∙ sym (stands_nowhere (store_of a t) k is)
+    by None is = stands_nowhere (store_of b t) k is ∙ ap (λ g. zeros (block_len_of g)) geometry ∙ sym (stands_nowhere (store_of a t) k is)
     by (Some slot) is =
         let held = space_a.named slot k (home_key t space_a.tables k slot is) in
         stands_held (store_of b t) k slot held.block space_b sound is (same slot held.block is held.holds)
-        ∙ sym (stands_held (store_of a t) k slot held.block space_a (was_sound a b ab sound) is held.holds)
+        ∙ sym (stands_held (store_of a t) k slot held.block space_a before is held.holds)
 
 -- accesses that leave every slot its block
 pub all_stand : (a b : SetState) (t : Tables) → IsSpace (store_of a t) → IsSpace (store_of b t) → Follows a b → SlotsHold (store_of a t) (store_of b t)
     → AllStand (store_of a t) (store_of b t)
 all_stand a b t space_a space_b ab slots = record {
   blocks = λ sound k.
-      stands_kept a b t k space_a space_b ab sound (λ slot block is holds. slots.slots slot block (home_slot t space_a.tables k slot is) holds);
+      stands_kept a b t k space_a space_b ab.geometry (was_sound a b ab sound) sound (λ slot block is holds. slots.slots slot block (home_slot t space_a.tables k slot is) holds);
 }
 
 -- a write to a slot that is no other block's home
@@ -84,7 +82,7 @@ pub others_stand : (a b : SetState) (t : Tables) (k : Key) (slot : Slot) → IsS
     → OtherSlotsHold (store_of a t) (store_of b t) slot → ((j : Key) → j ≢ k → home t j ≢ Some slot) → OthersStand (store_of a t) (store_of b t) k
 others_stand a b t k slot space_a space_b ab slots apart = record {
   blocks = λ sound j ne.
-      stands_kept a b t j space_a space_b ab sound
+      stands_kept a b t j space_a space_b ab.geometry (was_sound a b ab sound) sound
       (λ other block is holds.
       slots.slots other block (home_slot t space_a.tables j other is) (λ same. apart j ne (is ∙ ap Some same)) holds);
 }
@@ -94,7 +92,7 @@ pub hole_stand : (a b : SetState) (t : Tables) (slot : Slot) → IsSpace (store_
     → OtherSlotsHold (store_of a t) (store_of b t) slot → key_at t slot ≡ None → AllStand (store_of a t) (store_of b t)
 hole_stand a b t slot space_a space_b ab slots empty = record {
   blocks = λ sound j.
-      stands_kept a b t j space_a space_b ab sound
+      stands_kept a b t j space_a space_b ab.geometry (was_sound a b ab sound) sound
       (λ other block is holds.
       slots.slots other block (home_slot t space_a.tables j other is) (λ same. empty_no_home t space_a.tables slot j empty (is ∙ ap Some same)) holds);
 }

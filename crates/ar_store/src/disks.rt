@@ -1,14 +1,15 @@
-// Single disks: one is taken out, and rows are read as they stand there.
+// Single disks: one is taken out, added or replaced, and rows are read as they stand there.
 
 use crate::Store;
 use ar_disks::{Block, Disk, Place};
 use ar_extents::{DiskRefusal, Got};
 
 impl<D: Disk> Store<D> {
-    ghost use Rattle.std.specs.Prelude.{◌≡◌, ◌<◌, length, Some, None, IfErr, OnOk, OnErr};
+    ghost use Rattle.std.specs.Prelude.{◌≡◌, ◌<◌, length, Some, None, unwrap_or, IfErr, OnOk, OnErr};
     ghost use Rattle.ar_disks.specs.Geometry.{rows_of, block_len_of};
-    ghost use Rattle.ar_extents.specs.Set.{HasExtent};
-    ghost use Rattle.ar_extents.specs.Changes.{fail_refusal, failed};
+    ghost use Rattle.ar_extents.specs.declared.refusal.DiskRefusal.TheVariants.{NoMemory};
+    ghost use Rattle.ar_extents.specs.Set.{HasExtent, CanCount};
+    ghost use Rattle.ar_extents.specs.Changes.{fail_refusal, failed, add_refusal, added};
     ghost use Rattle.ar_extents.specs.Follows.{Keeps, Anywhere};
     ghost use Rattle.ar_extents.specs.Access.{Accesses, Gets, is_read};
     ghost use Rattle.ar_store.specs.Slots.{AllStand};
@@ -27,6 +28,24 @@ impl<D: Disk> Store<D> {
         self.space.disks.fail(disk)
     }
 
+    /// Adds a disk, every extent of which is loose: no group stands on it yet, and every block stands as it did. Refused, in this
+    /// order, on broken disks, with twelve already, for another shape than theirs, or without memory. A refused disk is handed back,
+    /// and nothing has changed.
+    pub fn add(&mut self, disk: D) -> Result<(), (DiskRefusal, D)>
+        requires { CanCount (D.state disk) }
+        ensures taken { OnOk result (add_refusal self.old.disks (D.state disk) ≡ None) }
+        ensures disks { OnOk result (self.new.disks ≡ added self.old.disks (D.state disk)) }
+        ensures refused { IfErr result (λ back. back.0 ≡ unwrap_or (add_refusal self.old.disks (D.state disk)) NoMemory) }
+        ensures handed_back { IfErr result (λ back. back.1 ≡ disk) }
+        ensures book { self.new.book ≡ self.old.book }
+        ensures unchanged { OnErr result (self.new ≡ self.old) }
+        ensures stands { AllStand self.old self.new }
+    {
+        // Asked for what it tells: there are marks for each disk.
+        let _health = self.space.disks.health();
+        self.space.disks.add(disk)
+    }
+
     /// Reads a row of an extent into `into`, a block of the store's length, as it stands on the disk, whatever the extent is used
     /// for. After another answer than `Read` any bytes may stand in `into`. A missing extent isn't accessed.
     pub fn read_place(&mut self, place: Place, row: u16, into: &mut Block) -> Got
@@ -42,5 +61,28 @@ impl<D: Disk> Store<D> {
         ensures len { length into.new ≡ length into.old }
     {
         self.space.disks.get(place, row, into)
+    }
+}
+
+impl<D: Disk + Drop> Store<D> {
+    ghost use Rattle.std.specs.Prelude.{◌≡◌, Some, None, IfErr, OnOk, OnErr};
+    ghost use Rattle.ar_extents.specs.Set.{CanCount};
+    ghost use Rattle.ar_extents.specs.Changes.{replace_refusal, replaced};
+    ghost use Rattle.ar_store.specs.Slots.{AllStand, SlotsHold};
+
+    /// Takes a disk in the place of one that is out, which is let go, and begins to rebuild it: none of its extents is used before it is
+    /// rebuilt, so every block stands as it did, whatever is on the disk. A refused disk is handed back, and nothing changes then.
+    pub fn replace(&mut self, number: u8, disk: D) -> Result<(), (DiskRefusal, D)>
+        requires { CanCount (D.state disk) }
+        ensures taken { OnOk result (replace_refusal self.old.disks number (D.state disk) ≡ None) }
+        ensures replaced { OnOk result (self.new.disks ≡ replaced self.old.disks number (D.state disk)) }
+        ensures refused { IfErr result (λ back. replace_refusal self.old.disks number (D.state disk) ≡ Some back.0) }
+        ensures handed_back { IfErr result (λ back. back.1 ≡ disk) }
+        ensures unchanged { OnErr result (self.new ≡ self.old) }
+        ensures book { self.new.book ≡ self.old.book }
+        ensures stands { AllStand self.old self.new }
+        ensures slots { SlotsHold self.old self.new }
+    {
+        self.space.disks.replace(number, disk)
     }
 }
