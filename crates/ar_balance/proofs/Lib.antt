@@ -1,0 +1,7 @@
+pub mod Loose
+pub mod Carrying
+pub mod Switching
+pub mod Forming
+pub mod Less
+pub mod Single
+pub mod Falling

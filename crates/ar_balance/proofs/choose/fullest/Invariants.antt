@@ -1,0 +1,5 @@
+use Rattle.ar_balance.specs.Rule.{HasMostBelow}
+use Rattle.ar_balance.proofs.choose.fullest.Given as goal
+
+abbrev pub invariant-loop-number : goal.invariant-loop-number
+invariant-loop-number g l = HasMostBelow l.set l.number l.best

@@ -1,0 +1,65 @@
+use Rattle.std.proofs.Common.{◌<◌, sym, ap, subst, ◌∙◌}
+use Rattle.ar_extents.specs.Set.{SetState}
+use Rattle.ar_book.specs.Tables.{Tables}
+use Rattle.ar_book.specs.Changes.{shifted}
+use Rattle.ar_book.specs.Choices.{IsUnused}
+use Rattle.ar_store.specs.Store.{store_of}
+use Rattle.ar_store.specs.Kept.{IsSpace}
+use Rattle.ar_balance.specs.Balance.{LeavesAll, switched}
+use Rattle.ar_balance.specs.Measure.{balance_left}
+use Rattle.ar_balance.proofs.Switching.{target_unused, space_cut, leaves_cut, space_switched, leaves_switched}
+use Rattle.ar_balance.proofs.Falling.{shifted_falls}
+use Rattle.ar_balance.proofs.shift.shift_extent.Goals as goal
+
+pub returns-then-not-fill-clause-space : goal.returns-then-not-fill-clause-space
+returns-then-not-fill-clause-space g c =
+    let s = c.args.space.now in
+    let x = c.args.shift in
+    let b = c.fill.new.space.disks in
+    subst (λ (t : Tables). IsSpace (store_of b t)) (sym c.fill.ensures.book)
+    (space_cut s.disks s.book x.group x.position x.from x.to c.health-health.ensures.kept c.requires.space c.requires.names b (c.fill.ensures.cut c.if-not-fill.true))
+
+pub returns-then-not-fill-clause-leaves : goal.returns-then-not-fill-clause-leaves
+returns-then-not-fill-clause-leaves g c =
+    let s = c.args.space.now in
+    let x = c.args.shift in
+    let b = c.fill.new.space.disks in
+    subst (λ (t : Tables). LeavesAll (store_of s.disks s.book) (store_of b t)) (sym c.fill.ensures.book)
+    (leaves_cut s.disks s.book x.group x.position x.from x.to c.health-health.ensures.kept c.requires.space c.requires.names b (c.fill.ensures.cut c.if-not-fill.true))
+
+pub switch-requires-clause-unused : goal.switch-requires-clause-unused
+switch-requires-clause-unused g c =
+    let s = c.args.space.now in
+    let x = c.args.shift in
+    subst (λ (t : Tables). IsUnused t x.to) (sym c.fill.ensures.book)
+    (target_unused s.disks s.book x.group x.position x.from x.to c.health-health.ensures.kept c.requires.space c.requires.names)
+
+pub returns-clause-less : goal.returns-clause-less
+returns-clause-less g c =
+    let s = c.args.space.now in
+    let x = c.args.shift in
+    subst (λ (d : SetState). balance_left d < balance_left s.disks) (sym c.switch.ensures.disks)
+    (shifted_falls s.disks c.fill.new.space.disks s.book x.group x.position x.from x.to c.health-health.ensures.kept c.requires.space c.requires.names
+    (c.fill.ensures.filled c.if-not-fill.false))
+
+pub returns-clause-space : goal.returns-clause-space
+returns-clause-space g c =
+    let s = c.args.space.now in
+    let x = c.args.shift in
+    let b = c.fill.new.space.disks in
+    let is = c.switch.ensures.book ∙ ap (λ (t : Tables). shifted t x.group x.position x.to) c.fill.ensures.book in
+    subst (λ (d : SetState). IsSpace (store_of d c.switch.new.space.book)) (sym c.switch.ensures.disks)
+    (subst (λ (t : Tables). IsSpace (store_of (switched b x.from x.to) t)) (sym is)
+    (space_switched s.disks s.book x.group x.position x.from x.to c.health-health.ensures.kept c.requires.space c.requires.names b
+    (c.fill.ensures.filled c.if-not-fill.false)))
+
+pub returns-clause-leaves : goal.returns-clause-leaves
+returns-clause-leaves g c =
+    let s = c.args.space.now in
+    let x = c.args.shift in
+    let b = c.fill.new.space.disks in
+    let is = c.switch.ensures.book ∙ ap (λ (t : Tables). shifted t x.group x.position x.to) c.fill.ensures.book in
+    subst (λ (d : SetState). LeavesAll (store_of s.disks s.book) (store_of d c.switch.new.space.book)) (sym c.switch.ensures.disks)
+    (subst (λ (t : Tables). LeavesAll (store_of s.disks s.book) (store_of (switched b x.from x.to) t)) (sym is)
+    (leaves_switched s.disks s.book x.group x.position x.from x.to c.health-health.ensures.kept c.requires.space c.requires.names b
+    (c.fill.ensures.filled c.if-not-fill.false)))

@@ -1,0 +1,79 @@
+-- The rule of balancing: of which extents a group is formed, or which group's extent moves to which disk.
+use Rattle.std.specs.Prelude.{◌≡◌, ◌≢◌, ◌⊎◌, ℕ, ◌+◌, ◌<◌, ◌≤◌, length, Some}
+use Rattle.ar_disks.specs.declared.address.Members.{Members}
+use Rattle.ar_disks.specs.declared.address.Place.{Place}
+use Rattle.ar_disks.specs.Members.{member}
+use Rattle.ar_extents.specs.declared.health.Health.TheVariants.{Whole}
+use Rattle.ar_extents.specs.Set.{SetState}
+use Rattle.ar_extents.specs.Loose.{loose_count, lowest_loose}
+use Rattle.ar_book.specs.Tables.{Tables, group_in}
+use Rattle.ar_store.specs.Store.{StoreState, members_of}
+use Rattle.ar_store.specs.Forming.{AreFullest, HasFewLoose}
+
+-- the rule names the four extents of a group that is to be formed
+pub record NamesForming (s : StoreState) (m : Members) : Type 0 where
+  pub whole : s.disks.health ≡ Whole
+  pub fullest : AreFullest s.disks m
+
+-- of the disks below a number, this one has fewest loose extents, the lowest on ties
+pub record HasFewestBelow (s : SetState) (end d : ℕ) : Type 0 where
+  pub below : d < end
+  pub fewest : (x : ℕ) → x < end → x ≢ d → (loose_count s d < loose_count s x) ⊎ ((loose_count s d ≡ loose_count s x) × (d < x))
+
+-- and this one has most
+pub record HasMostBelow (s : SetState) (end d : ℕ) : Type 0 where
+  pub below : d < end
+  pub most : (x : ℕ) → x < end → x ≢ d → (loose_count s x < loose_count s d) ⊎ ((loose_count s x ≡ loose_count s d) × (d < x))
+
+-- of all disks
+abbrev pub HasFewest : SetState → ℕ → Type 0
+HasFewest s d = HasFewestBelow s (length s.disks) d
+
+abbrev pub HasMost : SetState → ℕ → Type 0
+HasMost s d = HasMostBelow s (length s.disks) d
+
+-- the extent at a member position is on the disk
+pub record StandsAt (m : Members) (position d : ℕ) : Type 0 where
+  pub range : position < 4
+  pub disk : (member m position).disk ≡ d
+
+-- no extent of the four is on the disk
+abbrev pub IsOff : Members → ℕ → Type 0
+IsOff m d = (i : ℕ) → i < 4 → (member m i).disk ≢ d
+
+-- a group stands on one disk, with the member at a position, and not on another
+pub record CanShift (t : Tables) (on off group position : ℕ) : Type 0 where
+  pub there : group < length t.groups
+  pub stands : StandsAt (group_in t.groups group).members position on
+  pub apart : IsOff (group_in t.groups group).members off
+
+-- The rule names the extent of a group that is to move to another disk. Fewer than four disks have loose extents; the extent's disk
+-- has fewest of them and the other one most, at least two more; and the group is the lowest that can move so.
+pub record NamesShift (s : StoreState) (group position : ℕ) (from to : Place) : Type 0 where
+  pub whole : s.disks.health ≡ Whole
+  pub few : HasFewLoose s.disks
+  pub fewest : HasFewest s.disks from.disk
+  pub most : HasMost s.disks to.disk
+  pub uneven : loose_count s.disks from.disk + 2 ≤ loose_count s.disks to.disk
+  pub can : CanShift s.book from.disk to.disk group position
+  pub least : (h p : ℕ) → h < group → CanShift s.book from.disk to.disk h p → ⊥
+  pub from_is : member (members_of s group) position ≡ from
+  pub to_is : lowest_loose s.disks to.disk ≡ Some to.extent
+
+-- No group is to be formed, and none is to move. No two disks differ by two loose extents or more of which a group stands on the one
+-- with fewest and not on the one with most.
+pub record IsEven (s : StoreState) : Type 0 where
+  pub few : HasFewLoose s.disks
+  pub even : (a b group position : ℕ) → HasFewest s.disks a → HasMost s.disks b → loose_count s.disks a + 2 ≤ loose_count s.disks b
+      → CanShift s.book a b group position → ⊥
+
+-- the rule names nothing, as it never does while a disk is down
+pub record NothingToBalance (s : StoreState) : Type 0 where
+  pub even : s.disks.health ≡ Whole → IsEven s
+
+-- two shifts are one
+pub record IsOneShift (g h p q : ℕ) (from leaves to goes : Place) : Type 0 where
+  pub groups : g ≡ h
+  pub positions : p ≡ q
+  pub sources : from ≡ leaves
+  pub targets : to ≡ goes

@@ -1,0 +1,187 @@
+// Which extents the rule names.
+ghost use Rattle.std.specs.Prelude.{◌≡◌, ◌≢◌, ◌↔◌, ℕ, ◌+◌, ◌<◌, ◌≤◌, length, slice_index, Some, IfSome, IfNone, IsTrue};
+ghost use Rattle.ar_extents.specs.declared.health.Health.TheVariants.{Whole};
+ghost use Rattle.ar_extents.specs.Loose.{loose_count, lowest_loose};
+ghost use Rattle.ar_store.specs.Kept.{IsSpace};
+ghost use Rattle.ar_store.specs.Spaces.{store_in};
+ghost use Rattle.ar_store.specs.Forming.{AreFullest, HasFewLoose};
+ghost use Rattle.ar_balance.specs.Rule.{HasFewest, HasFewestBelow, HasMost, HasMostBelow, StandsAt, IsOff, CanShift, NamesShift, IsEven};
+
+use ar_book::Book;
+use ar_disks::{Disk, Members, Place};
+use ar_extents::DiskSet;
+use ar_store::{Space, four_fullest};
+
+// An extent that moves, with its group and its member position there.
+#[derive(Clone, Copy)]
+pub(crate) struct Shift {
+    pub(crate) group: u32,
+    pub(crate) position: u8,
+    pub(crate) from: Place,
+    pub(crate) to: Place,
+}
+
+// A group's member.
+#[derive(Clone, Copy)]
+struct Seat {
+    group: u32,
+    position: u8,
+}
+
+// The extents of the group that is to be formed; None where fewer than four disks have loose ones.
+pub(crate) fn next_members<D: Disk>(set: &DiskSet<D>) -> Option<Members>
+    ensures found { IfSome result (AreFullest set.now) }
+    ensures none { IfNone result (HasFewLoose set.now) }
+{
+    let counts = loose_counts(set);
+    let four = four_fullest(&counts)?;
+    Some(Members {
+        first: lowest_place(set, four.first),
+        second: lowest_place(set, four.second),
+        third: lowest_place(set, four.third),
+        fourth: lowest_place(set, four.fourth),
+    })
+}
+
+// How many extents of each disk are loose, and none of a disk that there isn't.
+fn loose_counts<D: Disk>(set: &DiskSet<D>) -> [u16; 12]
+    ensures len { length result ≡ 12 }
+    ensures counts { (d : ℕ) → d < length set.now.disks → slice_index result d ≡ loose_count set.now d }
+    ensures past { (d : ℕ) → length set.now.disks ≤ d → slice_index result d ≡ 0 }
+{
+    let mut counts = [0; 12];
+    for disk in 0..set.count() {
+        counts[disk as usize] = set.loose(disk);
+    }
+    counts
+}
+
+// The lowest loose extent of a disk that has any.
+fn lowest_place<D: Disk>(set: &DiskSet<D>, disk: u8) -> Place
+    requires there { disk < length set.now.disks }
+    requires some { 0 < loose_count set.now disk }
+    ensures disk { result.disk ≡ disk }
+    ensures lowest { lowest_loose set.now disk ≡ Some result.extent }
+{
+    match set.lowest_loose(disk) {
+        Some(extent) => Place { disk, extent },
+        None => unreachable!(),
+    }
+}
+
+// The shift that the rule names while the disks are whole and fewer than four have loose extents.
+pub(crate) fn next_shift<D: Disk>(space: &Space<D>) -> Option<Shift>
+    requires whole { space.now.disks.health ≡ Whole }
+    requires few { HasFewLoose space.now.disks }
+    ensures names { IfSome result (λ shift. NamesShift (store_in space.now) shift.group shift.position shift.from shift.to) }
+    ensures none { IfNone result (IsEven (store_in space.now)) }
+{
+    let on = emptiest(&space.disks);
+    let off = fullest(&space.disks);
+    if !is_uneven(&space.disks, on, off) {
+        return None;
+    }
+    let seat = lowest_seat(&space.book, on, off)?;
+    Some(Shift {
+        group: seat.group,
+        position: seat.position,
+        from: space.book.members(seat.group).at(seat.position),
+        to: lowest_place(&space.disks, off),
+    })
+}
+
+// The disk with fewest loose extents, the lowest on ties.
+fn emptiest<D: Disk>(set: &DiskSet<D>) -> u8
+    ensures { HasFewest set.now result }
+{
+    let mut best = 0;
+    for number in 1..set.count() {
+        best = emptier(set, best, number);
+    }
+    best
+}
+
+// The next disk, where it has fewer loose extents than the best of those before it.
+fn emptier<D: Disk>(set: &DiskSet<D>, best: u8, number: u8) -> u8
+    requires best { HasFewestBelow set.now number best }
+    requires there { number < length set.now.disks }
+    ensures { HasFewestBelow set.now (number + 1) result }
+{
+    if set.loose(number) < set.loose(best) {
+        number
+    } else {
+        best
+    }
+}
+
+// The disk with most loose extents, the lowest on ties.
+fn fullest<D: Disk>(set: &DiskSet<D>) -> u8
+    ensures { HasMost set.now result }
+{
+    let mut best = 0;
+    for number in 1..set.count() {
+        best = fuller(set, best, number);
+    }
+    best
+}
+
+// The next disk, where it has more loose extents than the best of those before it.
+fn fuller<D: Disk>(set: &DiskSet<D>, best: u8, number: u8) -> u8
+    requires best { HasMostBelow set.now number best }
+    requires there { number < length set.now.disks }
+    ensures { HasMostBelow set.now (number + 1) result }
+{
+    if set.loose(number) > set.loose(best) {
+        number
+    } else {
+        best
+    }
+}
+
+// Whether the one disk has at least two loose extents fewer than the other.
+fn is_uneven<D: Disk>(set: &DiskSet<D>, few: u8, many: u8) -> bool
+    requires few { few < length set.now.disks }
+    requires many { many < length set.now.disks }
+    ensures { IsTrue result ↔ (loose_count set.now few + 2 ≤ loose_count set.now many) }
+{
+    set.loose(many).saturating_sub(set.loose(few)) >= 2
+}
+
+// The lowest group that stands on one disk and not on another, and its member there.
+fn lowest_seat(book: &Book, on: u8, off: u8) -> Option<Seat>
+    ensures can { IfSome result (λ seat. CanShift book.now on off seat.group seat.position) }
+    ensures least { IfSome result (λ seat. (h p : ℕ) → h < seat.group → CanShift book.now on off h p → ⊥) }
+    ensures none { IfNone result ((g p : ℕ) → CanShift book.now on off g p → ⊥) }
+{
+    for group in 0..book.groups() {
+        if let Some(position) = position_beside(book.members(group), on, off) {
+            return Some(Seat { group, position });
+        }
+    }
+    None
+}
+
+// The member position on one disk, where no member stands on the other.
+fn position_beside(members: Members, on: u8, off: u8) -> Option<u8>
+    ensures on { IfSome result (λ position. StandsAt members position on) }
+    ensures off { IfSome result (λ _. IsOff members off) }
+    ensures none { IfNone result ((p : ℕ) → StandsAt members p on → IsOff members off → ⊥) }
+{
+    match position_on(members, off) {
+        Some(_) => None,
+        None => position_on(members, on),
+    }
+}
+
+// The member position on a disk.
+fn position_on(members: Members, disk: u8) -> Option<u8>
+    ensures found { IfSome result (λ position. StandsAt members position disk) }
+    ensures none { IfNone result (IsOff members disk) }
+{
+    for position in 0..4 {
+        if members.at(position).disk == disk {
+            return Some(position);
+        }
+    }
+    None
+}

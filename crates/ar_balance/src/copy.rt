@@ -1,0 +1,59 @@
+// The rows of an extent are copied to another.
+ghost use Rattle.std.specs.Prelude.{◌≡◌, ◌≢◌, ◌<◌, length, IsTrue, false};
+ghost use Rattle.ar_disks.specs.Geometry.{rows_of, block_len_of};
+ghost use Rattle.ar_extents.specs.declared.health.Health.TheVariants.{Whole};
+ghost use Rattle.ar_extents.specs.Set.{HasExtent};
+ghost use Rattle.ar_balance.specs.Copies.{AreCopied, IsRowCopied, IsCutShort};
+
+use ar_disks::{Block, Disk, Place};
+use ar_extents::{DiskSet, Got, Put};
+
+// Copies all rows of an extent of whole disks to another extent, by way of a block. False says that one of the two disks faulted.
+pub(crate) fn copy_extent<D: Disk>(
+    set: &mut DiskSet<D>,
+    from: Place,
+    to: Place,
+    block: &mut Block,
+) -> bool
+    requires whole { set.old.health ≡ Whole }
+    requires from { HasExtent set.old from }
+    requires to { HasExtent set.old to }
+    requires apart { from ≢ to }
+    requires len { length block.old ≡ block_len_of set.old.geometry }
+    ensures copied { IsTrue result → AreCopied set.old set.new from to (rows_of set.old.geometry) }
+    ensures cut { result ≡ false → IsCutShort set.old set.new from to }
+    ensures len { length block.new ≡ length block.old }
+{
+    for row in 0..set.geometry().rows() {
+        if !copy_row(set, from, to, row, block) {
+            return false;
+        }
+    }
+    true
+}
+
+// Copies one row.
+fn copy_row<D: Disk>(
+    set: &mut DiskSet<D>,
+    from: Place,
+    to: Place,
+    row: u16,
+    block: &mut Block,
+) -> bool
+    requires whole { set.old.health ≡ Whole }
+    requires from { HasExtent set.old from }
+    requires to { HasExtent set.old to }
+    requires row { row < rows_of set.old.geometry }
+    requires len { length block.old ≡ block_len_of set.old.geometry }
+    ensures copied { IsTrue result → IsRowCopied set.old set.new from to row }
+    ensures cut { result ≡ false → IsCutShort set.old set.new from to }
+    ensures len { length block.new ≡ length block.old }
+{
+    match set.get(from, row, block) {
+        Got::Read => match set.put(to, row, block) {
+            Put::Written => true,
+            Put::Missing | Put::Broken => false,
+        },
+        Got::Missing | Got::Broken => false,
+    }
+}

@@ -1,0 +1,54 @@
+// A group is formed.
+ghost use Rattle.std.specs.Prelude.{◌≡◌, ◌≢◌, ◌+◌, ◌<◌, ◌≤◌};
+ghost use Rattle.ar_extents.specs.declared.health.Health.TheVariants.{Whole, Broken};
+ghost use Rattle.ar_book.specs.Tables.{room, free_groups};
+ghost use Rattle.ar_store.specs.Kept.{IsSpace};
+ghost use Rattle.ar_store.specs.Spaces.{store_in};
+ghost use Rattle.ar_store.specs.Forming.{AreFullest, without};
+ghost use Rattle.ar_balance.specs.Balance.{Balances, LeavesAll, IfChanged, gained};
+ghost use Rattle.ar_balance.specs.Measure.{balance_left};
+
+use crate::Balance;
+use ar_disks::{Disk, Members};
+use ar_extents::DiskSet;
+use ar_store::Space;
+
+// Forms the group that the rule names.
+pub(crate) fn form<D: Disk>(space: &mut Space<D>, members: Members) -> Balance
+    requires space { IsSpace (store_in space.old) }
+    requires whole { space.old.disks.health ≡ Whole }
+    requires free { 0 < free_groups space.old.book }
+    requires fullest { AreFullest space.old.disks members }
+
+    ensures does { Balances (store_in space.old) (store_in space.new) result }
+    ensures sound { space.new.disks.health ≢ Broken }
+    ensures tried { result ≢ Balance.Broken }
+    ensures room { room space.new.book ≡ room space.old.book + gained space.old.book.geometry result }
+    ensures less { IfChanged result (balance_left space.new.disks < balance_left space.old.disks) }
+    ensures leaves { LeavesAll (store_in space.old) (store_in space.new) }
+
+    ensures space { IsSpace (store_in space.new) }
+    ensures free { free_groups space.old.book ≤ free_groups space.new.book }
+    ensures scratch { space.new.scratch.geometry ≡ space.old.scratch.geometry }
+{
+    // Asked for what it tells: there are marks for each extent.
+    let _health = space.disks.health();
+    match space.book.form_group(members) {
+        Ok(group) => {
+            take_members(&mut space.disks, members);
+            Balance::Formed(group)
+        }
+        Err(_) => Balance::NoMemory,
+    }
+}
+
+// Takes the lowest loose extents of four disks.
+fn take_members<D: Disk>(set: &mut DiskSet<D>, members: Members)
+    requires { AreFullest set.old members }
+    ensures { set.new ≡ without set.old members }
+{
+    set.take(members.first.disk);
+    set.take(members.second.disk);
+    set.take(members.third.disk);
+    set.take(members.fourth.disk);
+}

@@ -1,0 +1,39 @@
+// What crates above cite of balancing.
+ghost use Rattle.std.specs.Prelude.{◌≡◌, ◌<◌, ◌≤◌, ◌+◌, ℕ};
+ghost use Rattle.ar_disks.specs.declared.address.Members.{Members};
+ghost use Rattle.ar_disks.specs.declared.address.Place.{Place};
+ghost use Rattle.ar_extents.specs.declared.health.Health.TheVariants.{Whole};
+ghost use Rattle.ar_extents.specs.Set.{IsKept as IsKeptSet};
+ghost use Rattle.ar_extents.specs.Loose.{loose_count};
+ghost use Rattle.ar_book.specs.Book.{TablesAgree};
+ghost use Rattle.ar_store.specs.Store.{StoreState};
+ghost use Rattle.ar_store.specs.Kept.{IsSpace};
+ghost use Rattle.ar_balance.specs.declared.step.Balance.{Balance};
+ghost use Rattle.ar_balance.specs.Rule.{NamesForming, NamesShift, HasFewest, HasMost, CanShift, IsOneShift};
+ghost use Rattle.ar_balance.specs.Balance.{Balances, IsLeft, IfChanged};
+ghost use Rattle.ar_balance.specs.Measure.{balance_left};
+
+/// The rule names at most one group, or one extent and where it goes, and never both. So what balancing answers is what the rule
+/// names. It does nothing when it is called.
+pub fn rule_names_one_action()
+    ensures forming { (s : StoreState) (m other : Members) → NamesForming s m → NamesForming s other → m ≡ other }
+    ensures shift { (s : StoreState) (g h p q : ℕ) (from leaves to goes : Place) → TablesAgree s.book → NamesShift s g p from to
+        → NamesShift s h q leaves goes → IsOneShift g h p q from leaves to goes }
+    ensures not_both { (s : StoreState) (m : Members) (g p : ℕ) (from to : Place) → NamesForming s m → NamesShift s g p from to → ⊥ }
+{}
+
+/// Balancing ends: whenever it changes a table, less is left to be balanced, and below 0 there is nothing less. It does nothing when
+/// it is called.
+pub fn balancing_ends()
+    ensures { (old new : StoreState) (answer : Balance) → IsSpace old → IsKeptSet old.disks → Balances old new answer
+        → IfChanged answer (balance_left new.disks < balance_left old.disks) }
+{}
+
+/// Where balancing is idle, the rule names nothing. And if the disks are whole no two differ by two loose extents or more of which a
+/// group stands on the one with fewest and not on the one with most. It does nothing when it is called.
+pub fn idle_is_even()
+    ensures forming { (old new : StoreState) (m : Members) → IsLeft old new → NamesForming old m → ⊥ }
+    ensures shift { (old new : StoreState) (g p : ℕ) (from to : Place) → IsLeft old new → NamesShift old g p from to → ⊥ }
+    ensures even { (old new : StoreState) (a b g p : ℕ) → IsLeft old new → old.disks.health ≡ Whole → HasFewest old.disks a → HasMost old.disks b
+        → CanShift old.book a b g p → loose_count old.disks b ≤ loose_count old.disks a + 1 }
+{}
