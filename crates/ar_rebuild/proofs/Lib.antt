@@ -1,0 +1,4 @@
+pub mod RowLemmas
+pub mod ExtentLemmas
+pub mod Advancing
+pub mod StepLemmas

@@ -1,0 +1,75 @@
+use Rattle.std.proofs.Common.{◌∙◌, refl, sym, ap, subst}
+use Rattle.ar_extents.specs.Set.{SetState}
+use Rattle.ar_extents.specs.Follows.{Keeps}
+use Rattle.ar_rebuild.specs.Rows.{IsBesideNext}
+use Rattle.ar_rebuild.specs.Rebuild.{Advances}
+use Rattle.ar_rebuild.proofs.ExtentLemmas.{rebuilding_is}
+use Rattle.ar_rebuild.proofs.Advancing.{advances_given_up, advances_lost, advances_done, done_not_broken, keeps_done, out_not_broken}
+use Rattle.ar_rebuild.proofs.StepLemmas.{unharmed_stopped, unharmed_done, counted, gave_up, gave_up_alone, lost_not_idle}
+use Rattle.ar_rebuild.proofs.extent.rebuild_extent.Goals as goal
+
+pub returns-in-Done : goal.returns-in-Done
+returns-in-Done g c =
+    let s = c.args.space.now in
+    let b = c.write_extent.new.space in
+    let d = c.count_done.new.set in
+    let call = c.write_extent.ensures in
+    let health = c.in-Done.ensures.answer.health in
+    let is = c.count_done.ensures.done in
+    let left = unharmed_done s.disks b.disks d s.book b.book c.args.place call.book c.requires.ready.space c.requires.rebuilding
+    call.writes c.in-Done.ensures.answer is in
+    let told = counted c.count_done.result s.disks b.disks d health call.writes.follows.extents c.count_done.ensures.counts in
+    record {
+      answer = told.answer;
+      idle = told.some;
+      broken = (
+        (λ lost. absurd (told.sound lost)),
+        (λ broken. absurd (done_not_broken b.disks c.args.place (health ∙ c.requires.rebuilding) (ap (λ (x : SetState). x.health) (sym is) ∙ broken))),
+      );
+      ready = record { space = left.space; scratch = call.scratch ∙ c.requires.ready.scratch ∙ sym call.writes.follows.geometry ∙ ap (λ (x : SetState). x.geometry) (sym is) };
+      book = call.book;
+      stand = left.stand;
+      slots = left.slots;
+      keeps = subst (λ (x : SetState). Keeps (IsBesideNext s.disks) s.disks x) (sym is) (keeps_done s.disks b.disks call.writes);
+      advances = subst (λ (x : SetState). Advances s.disks x) (sym is)
+          (advances_done s.disks b.disks c.args.place c.requires.rebuilding (rebuilding_is s.disks c.args.place c.requires.rebuilding) call.writes health);
+    }
+
+pub returns-in-GivenUp : goal.returns-in-GivenUp
+returns-in-GivenUp g c =
+    let s = c.args.space.now in
+    let b = c.write_extent.new.space in
+    let call = c.write_extent.ensures in
+    let given_up = c.in-GivenUp.ensures.answer in
+    let rebuilding = rebuilding_is s.disks c.args.place c.requires.rebuilding in
+    let left = unharmed_stopped s.disks b.disks s.book b.book c.args.place call.book c.requires.ready.space c.requires.rebuilding call.writes in
+    record {
+      answer = record { was = rebuilding; given_up = given_up };
+      idle = gave_up;
+      broken = ((λ lost. absurd (gave_up_alone lost)), (λ broken. absurd (out_not_broken _ (sym given_up.out ∙ broken))));
+      ready = record { space = left.space; scratch = call.scratch ∙ c.requires.ready.scratch ∙ sym call.writes.follows.geometry };
+      book = call.book;
+      stand = left.stand;
+      slots = left.slots;
+      keeps = call.writes.keeps;
+      advances = advances_given_up s.disks b.disks c.args.place c.requires.rebuilding rebuilding call.writes given_up;
+    }
+
+pub returns-in-Broken : goal.returns-in-Broken
+returns-in-Broken g c =
+    let s = c.args.space.now in
+    let b = c.write_extent.new.space in
+    let call = c.write_extent.ensures in
+    let broken = c.in-Broken.ensures.answer in
+    let left = unharmed_stopped s.disks b.disks s.book b.book c.args.place call.book c.requires.ready.space c.requires.rebuilding call.writes in
+    record {
+      answer = broken;
+      idle = lost_not_idle;
+      broken = ((λ lost. broken), (λ _. refl));
+      ready = record { space = left.space; scratch = call.scratch ∙ c.requires.ready.scratch ∙ sym call.writes.follows.geometry };
+      book = call.book;
+      stand = left.stand;
+      slots = left.slots;
+      keeps = call.writes.keeps;
+      advances = advances_lost s.disks b.disks c.args.place c.requires.rebuilding call.writes broken;
+    }

@@ -1,0 +1,29 @@
+use Rattle.std.proofs.Common.{sym}
+use Rattle.ar_book.specs.declared.class.Class.TheVariants.{Mirrored, Parity}
+use Rattle.ar_rebuild.proofs.ExtentLemmas.{loose_done, free_done, rows_done}
+use Rattle.ar_rebuild.proofs.extent.write_extent.Goals as goal
+
+pub returns-in_default-clause-answer : goal.returns-in_default-clause-answer
+returns-in_default-clause-answer g c =
+    let s = c.args.space.now in
+    loose_done s.disks s.book c.args.place c.requires.ready.space c.requires.rebuilding c.in_default.ensures.none
+
+pub returns-in-Free-clause-answer : goal.returns-in-Free-clause-answer
+returns-in-Free-clause-answer g c =
+    let s = c.args.space.now in
+    free_done s.disks s.book c.args.place c.members-members.result c.in-Some.group c.position_of-position.result c.requires.ready.space c.requires.rebuilding
+    c.in-Some.ensures.there (sym c.in-Free.ensures) c.members-members.ensures c.position_of-position.ensures.below c.position_of-position.ensures.is
+
+pub returns-in-Mirrored-clause-answer : goal.returns-in-Mirrored-clause-answer
+returns-in-Mirrored-clause-answer g c =
+    let s = c.args.space.now in
+    rows_done c.copy_rows.result Mirrored s.disks c.copy_rows.new.set s.book c.args.place c.members-members.result c.in-Some.group
+    c.position_of-position.result c.requires.ready.space c.requires.rebuilding c.in-Some.ensures.there c.in-Mirrored.ensures c.members-members.ensures
+    c.position_of-position.ensures.below c.position_of-position.ensures.is c.copy_rows.ensures.writes c.copy_rows.ensures.answer
+
+pub returns-in-Parity-clause-answer : goal.returns-in-Parity-clause-answer
+returns-in-Parity-clause-answer g c =
+    let s = c.args.space.now in
+    rows_done c.sum_rows.result Parity s.disks c.sum_rows.new.set s.book c.args.place c.members-members.result c.in-Some.group
+    c.position_of-position.result c.requires.ready.space c.requires.rebuilding c.in-Some.ensures.there c.in-Parity.ensures c.members-members.ensures
+    c.position_of-position.ensures.below c.position_of-position.ensures.is c.sum_rows.ensures.writes c.sum_rows.ensures.answer

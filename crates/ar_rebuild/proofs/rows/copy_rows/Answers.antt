@@ -1,0 +1,69 @@
+use Rattle.std.proofs.Common.{◌≡◌, sym, ◌∙◌, ap, subst, refl, arith}
+use Rattle.ar_disks.specs.Geometry.{rows_of}
+use Rattle.ar_extents.specs.declared.health.Health.{Health}
+use Rattle.ar_extents.specs.Health.{IsRebuilding}
+use Rattle.ar_extents.proofs.GroupLemmas.{group_then}
+use Rattle.ar_rebuild.proofs.RowLemmas.{AreCopied, next_same, none_copied, copied_then, copied_whole, writes_then, stopped_then}
+use Rattle.ar_rebuild.proofs.rows.copy_rows.Goals as goal
+
+pub rebuild_row-requires : goal.rebuild_row-requires
+rebuild_row-requires g c =
+    let a = c.args.set.now in
+    let b = c.loop-row.set in
+    let before = c.loop-row.invariant.copied in
+    let rows = c.rows-row-end.ensures ∙ ap rows_of c.geometry.ensures in
+    let below = c.loop-row-test.true in
+    record {
+      group = group_then a b c.args.members.now before.writes.follows c.requires.group;
+      position = c.requires.position;
+      row = (let same = ap rows_of before.writes.follows.geometry in omega arith);
+      rebuilding = subst (λ (h : Health). IsRebuilding h) (sym before.health) c.requires.rebuilding;
+      next = c.requires.next ∙ sym (next_same a b before.health);
+      scratch = c.loop-row.invariant.scratch ∙ c.requires.scratch ∙ sym before.writes.follows.geometry;
+    }
+
+pub loop-row-init : goal.loop-row-init
+loop-row-init g c = record { copied = none_copied c.args.set.now c.args.members.now c.args.position; scratch = refl }
+
+pub loop-row-preserved : goal.loop-row-preserved
+loop-row-preserved g c =
+    let call = c.rebuild_row.ensures in
+    record {
+      copied = copied_then c.args.set.now c.loop-row.set c.rebuild_row.new.set c.args.members.now c.args.position c.loop-row.row c.requires.rebuilding
+          c.loop-row.invariant.copied c.in-Done.ensures.answer call.follows call.keeps call.loose;
+      scratch = call.scratch ∙ c.loop-row.invariant.scratch;
+    }
+
+pub returns : goal.returns
+returns g c =
+    let a = c.args.set.now in
+    let b = c.loop-row.set in
+    let copied = c.loop-row.invariant.copied in
+    let rows : c.loop-row.row ≡ rows_of a.geometry =
+    (let end = c.rows-row-end.ensures ∙ ap rows_of c.geometry.ensures in let past = c.loop-row-test.false in let fits = c.loop-row.auto.row-end in omega arith) in
+    record {
+      answer = copied_whole a b c.args.members.now c.args.position c.requires.group c.requires.position c.requires.rebuilding c.requires.next
+          (subst (λ n. AreCopied a b c.args.members.now c.args.position n) rows copied);
+      writes = copied.writes;
+      scratch = c.loop-row.invariant.scratch;
+    }
+
+pub returns-in-GivenUp : goal.returns-in-GivenUp
+returns-in-GivenUp g c =
+    let before = c.loop-row.invariant.copied in
+    let call = c.rebuild_row.ensures in
+    record {
+      answer = stopped_then c.args.set.now c.loop-row.set c.rebuild_row.new.set before.writes.follows before.health c.in-GivenUp.ensures.answer;
+      writes = writes_then c.args.set.now c.loop-row.set c.rebuild_row.new.set c.loop-row.row before.writes before.health call.follows call.keeps call.loose;
+      scratch = call.scratch ∙ c.loop-row.invariant.scratch;
+    }
+
+pub returns-in-Broken : goal.returns-in-Broken
+returns-in-Broken g c =
+    let before = c.loop-row.invariant.copied in
+    let call = c.rebuild_row.ensures in
+    record {
+      answer = c.in-Broken.ensures.answer;
+      writes = writes_then c.args.set.now c.loop-row.set c.rebuild_row.new.set c.loop-row.row before.writes before.health call.follows call.keeps call.loose;
+      scratch = call.scratch ∙ c.loop-row.invariant.scratch;
+    }

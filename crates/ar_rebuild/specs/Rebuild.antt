@@ -1,0 +1,101 @@
+-- What a step of a rebuild answers, and what it makes of the disks.
+use Rattle.std.specs.Prelude.{◌≡◌, ◌⊎◌, ℕ, ◌+◌, ◌-◌, ◌<◌, ◌≤◌, length}
+use Rattle.ar_disks.specs.declared.address.Place.{Place}
+use Rattle.ar_extents.specs.declared.health.Health.{Health}
+use Rattle.ar_extents.specs.declared.health.Health.TheVariants.{Whole, Out, Rebuilding, Broken as AllBroken}
+use Rattle.ar_extents.specs.Health.{IsDown, IsRebuilding, rebuilt_disk, next_extent}
+use Rattle.ar_extents.specs.Set.{SetState, faults_of, IsSound}
+use Rattle.ar_extents.specs.Follows.{Faulted, TwoHit}
+use Rattle.ar_extents.specs.Access.{next_place, IsGivenUp}
+use Rattle.ar_rebuild.specs.declared.step.Rebuild.{Rebuild}
+use Rattle.ar_rebuild.specs.declared.step.Rebuild.TheVariants.{Rebuilt, Finished, Idle, GivenUp, Broken}
+
+-- nothing is being rebuilt: the disks are whole, or one is out
+abbrev pub IsQuiet : Health → Type 0
+IsQuiet Whole = Unit {0}
+IsQuiet (Out x) = Unit {0}
+IsQuiet (Rebuilding x done) = ⊥
+IsQuiet AllBroken = ⊥
+
+-- how many extents of the replaced disk aren't done
+abbrev pub left_on : Health → ℕ → ℕ
+left_on Whole extents = 0
+left_on (Out x) extents = 0
+left_on (Rebuilding x done) extents = extents - done
+left_on AllBroken extents = 0
+
+abbrev pub rebuild_left : SetState → ℕ
+rebuild_left s = left_on s.health s.extents
+
+-- This extent, the lowest that wasn't, is done, and so many aren't.
+pub record IsRebuilt (old new : SetState) (extent left : ℕ) : Type 0 where
+  pub was : old.health ≡ Rebuilding (rebuilt_disk old.health) extent
+  pub rest : extent + 1 + left ≡ old.extents
+  pub some : 0 < left
+  pub health : new.health ≡ Rebuilding (rebuilt_disk old.health) (extent + 1)
+
+-- The last extent is done, and all disks are sound.
+pub record IsFinished (old new : SetState) : Type 0 where
+  pub was : IsRebuilding old.health
+  pub last : next_extent old.health + 1 ≡ old.extents
+  pub health : new.health ≡ Whole
+
+-- There was nothing to rebuild, and nothing has changed.
+pub record IsLeft (old new : SetState) : Type 0 where
+  pub quiet : IsQuiet old.health
+  pub same : new ≡ old
+
+-- The replaced disk has faulted in this step, and is out.
+pub record IsStopped (old new : SetState) : Type 0 where
+  pub was : IsRebuilding old.health
+  pub given_up : IsGivenUp old new
+
+-- what a step answers
+abbrev pub Answers : SetState → SetState → Rebuild → Type 0
+Answers old new (Rebuilt extent left) = IsRebuilt old new extent left
+Answers old new Finished = IsFinished old new
+Answers old new Idle = IsLeft old new
+Answers old new GivenUp = IsStopped old new
+Answers old new Broken = new.health ≡ AllBroken
+
+-- what is answered once an extent counts as done
+abbrev pub Counts : SetState → SetState → Rebuild → Type 0
+Counts old new (Rebuilt extent left) = IsRebuilt old new extent left
+Counts old new Finished = IsFinished old new
+Counts old new Idle = ⊥
+Counts old new GivenUp = ⊥
+Counts old new Broken = ⊥
+
+-- the last extent of the replaced disk is rebuilt next
+pub record IsAtLast (s : SetState) : Type 0 where
+  pub rebuilding : IsRebuilding s.health
+  pub last : next_extent s.health + 1 ≡ s.extents
+
+-- the extent is the one that is rebuilt next
+pub record IsNext (s : SetState) (place : Place) : Type 0 where
+  pub rebuilding : IsRebuilding s.health
+  pub is : place ≡ next_place s
+
+-- the replaced disk has faulted
+pub record IsLostAgain (old new : SetState) (d : ℕ) : Type 0 where
+  pub was : IsRebuilding old.health
+  pub down : IsDown old.health d
+  pub faulted : Faulted old new d
+
+-- How a step of a rebuild leaves the disks: as reads and writes do, but that the mark may have moved on by one extent. Their shape
+-- and the loose extents stay, and fault counts only grow. No extent can be used that couldn't, but the one that was rebuilt. The
+-- disks are whole only where they were, or the last extent was rebuilt; a disk is out only where it was, or where it is the
+-- replaced one and has faulted, and is being rebuilt only where it was, with one extent fewer done; the set is broken only where
+-- it was, or where two disks are hit; and nothing changes once it is broken.
+pub record Advances (old new : SetState) : Type 0 where
+  pub geometry : new.geometry ≡ old.geometry
+  pub extents : new.extents ≡ old.extents
+  pub count : length new.disks ≡ length old.disks
+  pub loose : new.loose ≡ old.loose
+  pub faults : (d : ℕ) → faults_of old d ≤ faults_of new d
+  pub usable : (place : Place) → place.extent < old.extents → IsSound new place → IsSound old place ⊎ IsNext old place
+  pub whole : new.health ≡ Whole → (old.health ≡ Whole) ⊎ IsAtLast old
+  pub out : (d : ℕ) → new.health ≡ Out d → (old.health ≡ Out d) ⊎ IsLostAgain old new d
+  pub rebuilding : (d done : ℕ) → new.health ≡ Rebuilding d done → (0 < done) × (old.health ≡ Rebuilding d (done - 1))
+  pub broken : new.health ≡ AllBroken → (old.health ≡ AllBroken) ⊎ TwoHit old new
+  pub stays_broken : old.health ≡ AllBroken → new ≡ old

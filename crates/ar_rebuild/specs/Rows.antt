@@ -1,0 +1,49 @@
+-- What the writing of an extent's rows makes of a set.
+use Rattle.std.specs.Prelude.{◌≡◌, ◌≢◌, ℕ, ◌<◌, List}
+use Rattle.ar_disks.specs.declared.address.Place.{Place}
+use Rattle.ar_disks.specs.declared.address.Members.{Members}
+use Rattle.ar_extents.specs.declared.health.Health.TheVariants.{Broken as AllBroken}
+use Rattle.ar_extents.specs.declared.outcome.RowOutcome.{RowOutcome}
+use Rattle.ar_extents.specs.declared.outcome.RowOutcome.TheVariants.{Done, GivenUp, Broken}
+use Rattle.ar_extents.specs.Set.{SetState}
+use Rattle.ar_extents.specs.Follows.{Follows, Keeps}
+use Rattle.ar_extents.specs.Access.{next_place, IsGivenUp}
+use Rattle.ar_extents.specs.Changes.{with_done}
+use Rattle.ar_book.specs.declared.class.Class.{Class}
+use Rattle.ar_book.specs.Tables.{slots_of}
+use Rattle.ar_store.specs.Store.{StoreState, store_of}
+use Rattle.ar_store.specs.Slots.{ClassHolds, SlotsHold}
+
+-- the extent isn't the one that is rebuilt next
+abbrev pub IsBesideNext : SetState → Place → Type 0
+IsBesideNext s place = place ≢ next_place s
+
+-- Rows were read, and none was written but those of the extent that is rebuilt next. No disk was lost without a cause.
+pub record WritesNext (old new : SetState) : Type 0 where
+  pub follows : Follows old new
+  pub keeps : Keeps (IsBesideNext old) old new
+  pub loose : new.loose ≡ old.loose
+
+-- Every row of the extent is written: once it counts as done, each slot of its group holds what it held.
+pub record GroupIsWhole (class : Class) (old new : SetState) (m : Members) : Type 0 where
+  pub slots :
+      (i : ℕ) (block : List ℕ) → i < slots_of old.geometry class → ClassHolds class old m i block
+      → ClassHolds class (with_done new) m i block
+  pub health : new.health ≡ old.health
+
+-- what the writing of all rows of a group's member answers
+abbrev pub WritesRows : Class → SetState → SetState → Members → RowOutcome → Type 0
+WritesRows class old new m Done = GroupIsWhole class old new m
+WritesRows class old new m GivenUp = IsGivenUp old new
+WritesRows class old new m Broken = new.health ≡ AllBroken
+
+-- The extent can count as done: every slot then holds what it held.
+pub record CanBeDone (old new : StoreState) : Type 0 where
+  pub slots : SlotsHold old (store_of (with_done new.disks) new.book)
+  pub health : new.disks.health ≡ old.disks.health
+
+-- what the writing of an extent answers, whatever it is used for
+abbrev pub WritesExtent : StoreState → StoreState → RowOutcome → Type 0
+WritesExtent old new Done = CanBeDone old new
+WritesExtent old new GivenUp = IsGivenUp old.disks new.disks
+WritesExtent old new Broken = new.disks.health ≡ AllBroken

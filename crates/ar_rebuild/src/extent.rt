@@ -1,0 +1,73 @@
+// One extent is rebuilt, and counts as done.
+ghost use Rattle.std.specs.Prelude.{◌≡◌, ◌≢◌, ◌↔◌, ◌<◌};
+ghost use Rattle.ar_extents.specs.Follows.{Keeps};
+ghost use Rattle.ar_extents.specs.Changes.{with_done};
+ghost use Rattle.ar_store.specs.Slots.{AllStand, SlotsHold};
+ghost use Rattle.ar_store.specs.Spaces.{store_in, IsReady};
+ghost use Rattle.ar_rebuild.specs.Rows.{IsBesideNext, WritesNext, WritesExtent};
+ghost use Rattle.ar_rebuild.specs.Rebuild.{Answers, Counts, Advances};
+
+use crate::Rebuild;
+use crate::rows::{copy_rows, position_of, sum_rows};
+use ar_book::Class;
+use ar_disks::{Disk, Place};
+use ar_extents::{DiskSet, Health, RowOutcome};
+use ar_store::Space;
+
+// Rebuilds the lowest extent that isn't done, and counts it as done.
+pub(crate) fn rebuild_extent<D: Disk>(space: &mut Space<D>, place: Place) -> Rebuild
+    requires ready { IsReady space.old }
+    requires rebuilding { space.old.disks.health ≡ Health.Rebuilding place.disk place.extent }
+    requires exists { place.extent < space.old.disks.extents }
+    ensures answer { Answers space.old.disks space.new.disks result }
+    ensures idle { result ≢ Rebuild.Idle }
+    ensures broken { (result ≡ Rebuild.Broken) ↔ (space.new.disks.health ≡ Health.Broken) }
+    ensures ready { IsReady space.new }
+    ensures book { space.new.book ≡ space.old.book }
+    ensures stand { AllStand (store_in space.old) (store_in space.new) }
+    ensures slots { SlotsHold (store_in space.old) (store_in space.new) }
+    ensures keeps { Keeps (IsBesideNext space.old.disks) space.old.disks space.new.disks }
+    ensures advances { Advances space.old.disks space.new.disks }
+{
+    match write_extent(space, place) {
+        RowOutcome::Done => count_done(&mut space.disks, place),
+        RowOutcome::GivenUp => Rebuild::GivenUp,
+        RowOutcome::Broken => Rebuild::Broken,
+    }
+}
+
+// Writes every row of the lowest extent that isn't done; none of one that is loose, or whose group is free.
+fn write_extent<D: Disk>(space: &mut Space<D>, place: Place) -> RowOutcome
+    requires ready { IsReady space.old }
+    requires rebuilding { space.old.disks.health ≡ Health.Rebuilding place.disk place.extent }
+    ensures answer { WritesExtent (store_in space.old) (store_in space.new) result }
+    ensures writes { WritesNext space.old.disks space.new.disks }
+    ensures book { space.new.book ≡ space.old.book }
+    ensures scratch { space.new.scratch.geometry ≡ space.old.scratch.geometry }
+{
+    let Some(group) = space.book.group_at(place) else {
+        return RowOutcome::Done;
+    };
+    let members = space.book.members(group);
+    let position = position_of(&members, place);
+    match space.book.class(group) {
+        Class::Free => RowOutcome::Done,
+        Class::Mirrored => { copy_rows(&mut space.disks, &members, position, &mut space.scratch) }
+        Class::Parity => sum_rows(&mut space.disks, &members, position, &mut space.scratch),
+    }
+}
+
+// Counts the lowest extent that isn't done as done, and tells how many aren't.
+fn count_done<D: Disk>(set: &mut DiskSet<D>, place: Place) -> Rebuild
+    requires rebuilding { set.old.health ≡ Health.Rebuilding place.disk place.extent }
+    requires exists { place.extent < set.old.extents }
+    ensures done { set.new ≡ with_done set.old }
+    ensures counts { Counts set.old set.new result }
+{
+    set.mark_done();
+    let left = set.extents() - place.extent - 1;
+    if left == 0 {
+        return Rebuild::Finished;
+    }
+    Rebuild::Rebuilt(place.extent, left)
+}

@@ -1,0 +1,12 @@
+// What crates above cite of rebuilds.
+ghost use Rattle.std.specs.Prelude.{◌≡◌, ℕ, ◌+◌};
+ghost use Rattle.ar_extents.specs.Set.{SetState};
+ghost use Rattle.ar_rebuild.specs.Rebuild.{IsRebuilt, IsFinished, rebuild_left};
+
+/// A rebuild ends: each extent that is rebuilt leaves one fewer, and the last of them finishes it. So it takes as many steps as
+/// extents weren't done, unless a disk is lost on the way. It does nothing when it is called.
+pub fn rebuild_ends()
+    ensures rebuilt { (old new : SetState) (extent left : ℕ) → new.extents ≡ old.extents → IsRebuilt old new extent left
+        → (rebuild_left new ≡ left) × (rebuild_left old ≡ left + 1) }
+    ensures finished { (old new : SetState) → IsFinished old new → (rebuild_left new ≡ 0) × (rebuild_left old ≡ 1) }
+{}

@@ -1,0 +1,55 @@
+// A step of a rebuild, and what it answers.
+ghost use Rattle.std.specs.Prelude.{◌≡◌, ◌↔◌};
+ghost use Rattle.ar_extents.specs.Follows.{Keeps};
+ghost use Rattle.ar_store.specs.Slots.{AllStand, SlotsHold};
+ghost use Rattle.ar_rebuild.specs.Rows.{IsBesideNext};
+ghost use Rattle.ar_rebuild.specs.Rebuild.{IsQuiet, Answers, Advances};
+
+use crate::extent::rebuild_extent;
+use ar_disks::{Disk, Place};
+use ar_extents::Health;
+use ar_store::Store;
+
+/// What a step of a rebuild did.
+#[derive(Clone, Copy, Debug, PartialEq, Eq)]
+pub enum Rebuild {
+    /// This extent of the replaced disk is done, and so many aren't: at least one.
+    Rebuilt(u16, u16),
+    /// The last extent is done: all disks are sound.
+    Finished,
+    /// Nothing: no disk is being rebuilt.
+    Idle,
+    /// The replaced disk faulted, and is out.
+    GivenUp,
+    /// The disks are broken.
+    Broken,
+}
+
+/// Rebuilds one extent of the disk that was replaced: the lowest that isn't done. Every row of it is written from the other members
+/// of its group, those of empty slots too, and none where it is loose or its group is free; then it counts as done, and is used
+/// from then on. No memory is taken.
+///
+/// Every slot holds what it held, on the rebuilt extent too, and every block stands as it did. Until it is done an extent is
+/// neither read nor written by any other call. After `Finished` the disks are whole, so any one of them may go, as the contract of
+/// `Store::health` says. `GivenUp` and `Broken` count no extent as done; of a store that was broken before nothing has changed.
+pub fn rebuild_one<D: Disk>(store: &mut Store<D>) -> Rebuild
+    ensures answer { Answers store.old.disks store.new.disks result }
+    ensures idle { (result ≡ Rebuild.Idle) ↔ IsQuiet store.old.disks.health }
+    ensures broken { (result ≡ Rebuild.Broken) ↔ (store.new.disks.health ≡ Health.Broken) }
+
+    ensures book { store.new.book ≡ store.old.book }
+    ensures stands { AllStand store.old store.new }
+    ensures slots { SlotsHold store.old store.new }
+
+    // No row is written but those of the extent that is rebuilt, and no disk is lost without a cause.
+    ensures keeps { Keeps (IsBesideNext store.old.disks) store.old.disks store.new.disks }
+    ensures advances { Advances store.old.disks store.new.disks }
+{
+    match store.disks().health() {
+        Health::Whole | Health::Out(_) => Rebuild::Idle,
+        Health::Rebuilding(disk, extent) => {
+            rebuild_extent(&mut store.space, Place { disk, extent })
+        }
+        Health::Broken => Rebuild::Broken,
+    }
+}
