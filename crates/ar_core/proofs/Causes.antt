@@ -1,39 +1,80 @@
 -- What events do to the health of the disks.
-use Rattle.std.proofs.Common.{◌≡◌, ◌≢◌, ◌⊎◌, ℕ, ◌<◌, true, false, refl, sym, ap, subst, inl, inr, arith, ◌∙◌}
+use Rattle.std.proofs.Common.{◌≡◌, ◌≢◌, ◌⊎◌, ℕ, ◌<◌, ◌≤◌, true, false, [], ◌∷◌, refl, sym, ap, subst, inl, inr, arith, ◌∙◌}
 use Rattle.std.specs.Prelude.{◌==◌, length}
-use Rattle.std.proofs.lemmas.Bool.{cases_Bool}
+use Rattle.std.proofs.lemmas.Bool.{cases_Bool, cases_lt}
 use Rattle.std.proofs.lemmas.Bool.Decides.{nat_tests}
+use Rattle.std.proofs.lemmas.List.{get_or_past, get_or_append_left, get_or-set_other}
+use Rattle.ar_disks.specs.Disk.{DiskState}
 use Rattle.ar_extents.specs.declared.health.Health.{Health}
 use Rattle.ar_extents.specs.declared.health.Health.TheVariants.{Whole, Out, Rebuilding, Broken}
-use Rattle.ar_extents.specs.Changes.{failed}
+use Rattle.ar_extents.specs.Changes.{failed, added, replaced}
 use Rattle.ar_extents.specs.Health.{after_fault, IsDown}
-use Rattle.ar_extents.specs.Set.{SetState}
+use Rattle.ar_extents.specs.Set.{SetState, faults_of, no_disk}
+use Rattle.ar_extents.specs.Follows.{Follows, Faulted, IsHit, TwoHit}
 use Rattle.ar_extents.proofs.Losses.{stays_broken}
-use Rattle.ar_store.specs.Calls.{IsAccessed}
+use Rattle.ar_rebuild.specs.Rebuild.{Advances}
 use Rattle.ar_image.specs.Image.{ArrayState, is_broken}
 use Rattle.ar_image.proofs.Breaking.{not_broken, sound_is}
-use Rattle.ar_core.specs.declared.event.Event.{Event}
-use Rattle.ar_core.specs.declared.event.Event.TheVariants.{DiskOut}
-use Rattle.ar_core.specs.Causes.{HasCause, IsTakenOut}
+use Rattle.ar_core.specs.Events.{Event}
+use Rattle.ar_core.specs.declared.event.EventOf.TheVariants.{AddDisk, DiskOut, Replace}
+use Rattle.ar_core.specs.Causes.{HasCause, IsTakenOut, IsNotReplaced, FaultsIn, IsHitBy, AreTwoHitBy}
 
 -- an array that isn't broken wasn't
 pub was_sound : (event : Event) (old new : ArrayState) → HasCause event old.store.disks new.store.disks → is_broken new ≡ false → is_broken old ≡ false
 was_sound event old new cause now =
     sound_is old.store.disks.health (λ lost. not_broken new.store.disks.health now (cause.stays_broken lost))
 
--- reads and writes lose no disk without a fault, whatever the event
-pub cause_accessed : (event : Event) (old new : SetState) → IsAccessed old new → HasCause event old new
-cause_accessed event old new accessed = record {
-  geometry = accessed.follows.geometry;
-  extents = accessed.follows.extents;
-  faults = accessed.follows.faults;
-  out = λ d out. elim (accessed.follows.out d out) [ inl was ↦ inl was | inr fault ↦ inr (inl fault) ];
-  broken = λ lost.
-      elim (accessed.follows.broken lost) [
-        | inl was ↦ inl was
-        | inr two ↦ inr (record { one = two.one; other = two.other; apart = two.apart; one_hit = inl two.one_hit; other_hit = inl two.other_hit })
-      ];
-  stays_broken = stays_broken old new accessed.follows;
+-- a disk whose fault count has grown is there, where no disk has come
+faulted_there : (old new : SetState) (d : ℕ) → length new.disks ≡ length old.disks → Faulted old new d → d < length old.disks
+faulted_there old new d count fault =
+    elim (cases_lt d (length old.disks)) [
+      | inl there ↦ there
+      | inr past ↦ absurd (
+          let was : faults_of old d ≡ 0 = ap (λ (x : DiskState). x.faults) (get_or_past old.disks d no_disk past) in
+          let is : faults_of new d ≡ 0 = ap (λ (x : DiskState). x.faults) (get_or_past new.disks d no_disk (omega arith)) in
+          omega arith)
+    ]
+
+-- so it has faulted in an event that replaces none
+faults_in : (event : Event) (old new : SetState) (d : ℕ) → ((x : ℕ) → IsNotReplaced event x) → length new.disks ≡ length old.disks
+    → Faulted old new d → FaultsIn event old new d
+faults_in event old new d stay count fault = record { there = faulted_there old new d count fault; same = stay d; more = fault }
+
+hit_in : (event : Event) (old new : SetState) (d : ℕ) → ((x : ℕ) → IsNotReplaced event x) → length new.disks ≡ length old.disks
+    → IsHit old new d → IsHitBy event old new d
+hit_in event old new d stay count hit =
+    elim hit [ inl down ↦ inl down | inr fault ↦ inr (inl (faults_in event old new d stay count fault)) ]
+
+two_in : (event : Event) (old new : SetState) → ((x : ℕ) → IsNotReplaced event x) → length new.disks ≡ length old.disks → TwoHit old new
+    → AreTwoHitBy event old new
+two_in event old new stay count two = record {
+  one = two.one;
+  other = two.other;
+  apart = two.apart;
+  one_hit = hit_in event old new two.one stay count two.one_hit;
+  other_hit = hit_in event old new two.other stay count two.other_hit;
+}
+
+-- reads and writes lose no disk without a fault, whatever the event, if it replaces none
+pub cause_follows : (event : Event) (old new : SetState) → ((x : ℕ) → IsNotReplaced event x) → Follows old new → HasCause event old new
+cause_follows event old new stay follows = record {
+  geometry = follows.geometry;
+  extents = follows.extents;
+  faults = λ d _. follows.faults d;
+  out = λ d out. elim (follows.out d out) [ inl was ↦ inl was | inr fault ↦ inr (inl (faults_in event old new d stay follows.count fault)) ];
+  broken = λ lost. elim (follows.broken lost) [ inl was ↦ inl was | inr two ↦ inr (two_in event old new stay follows.count two) ];
+  stays_broken = stays_broken old new follows;
+}
+
+-- nor does a step of a rebuild lose one so
+pub cause_advances : (event : Event) (old new : SetState) → ((x : ℕ) → IsNotReplaced event x) → Advances old new → HasCause event old new
+cause_advances event old new stay advances = record {
+  geometry = advances.geometry;
+  extents = advances.extents;
+  faults = λ d _. advances.faults d;
+  out = λ d out. elim (advances.out d out) [ inl was ↦ inl was | inr again ↦ inr (inl (faults_in event old new d stay advances.count again.faulted)) ];
+  broken = λ lost. elim (advances.broken lost) [ inl was ↦ inl was | inr two ↦ inr (two_in event old new stay advances.count two) ];
+  stays_broken = λ was. ap (λ (s : SetState). s.health) (advances.stays_broken was) ∙ was;
 }
 
 -- what taking a disk out makes of the health, by the health before
@@ -83,12 +124,12 @@ cause_failed s d there =
     record {
       geometry = refl;
       extents = refl;
-      faults = λ x. omega arith;
+      faults = λ x _. omega arith;
       out = λ x is. elim (does.out x is) [ inl was ↦ inl was | inr named ↦ inr (inr (taken x named)) ];
       broken = λ is.
           elim (does.broken is) [
             | inl was ↦ inl was
-            | inr other ↦ inr (record { one = other.0; other = d; apart = other.2; one_hit = inl (inl other.1); other_hit = inr (record { named = refl; there = there }) })
+            | inr other ↦ inr (record { one = other.0; other = d; apart = other.2; one_hit = inl other.1; other_hit = inr (inr (record { named = refl; there = there })) })
           ];
       stays_broken = does.stays;
     }
@@ -103,8 +144,39 @@ cause_same event old new same =
     (record {
       geometry = refl;
       extents = refl;
-      faults = λ x. omega arith;
+      faults = λ x _. omega arith;
       out = λ x is. inl is;
       broken = λ is. inl is;
       stays_broken = λ is. is;
     })
+
+-- an added disk leaves the others, and their health
+pub cause_added : (s : SetState) (disk : DiskState) → HasCause (AddDisk disk) s (added s disk)
+cause_added s disk = record {
+  geometry = refl;
+  extents = refl;
+  faults = λ d _. more d;
+  out = λ d is. inl is;
+  broken = λ is. inl is;
+  stays_broken = λ is. is;
+}
+  where
+    more : (d : ℕ) → faults_of s d ≤ faults_of (added s disk) d
+    more d =
+        elim (cases_lt d (length s.disks)) [
+          | inl there ↦ (let same = ap (λ (x : DiskState). x.faults) (get_or_append_left s.disks (disk ∷ []) no_disk d there) in omega arith)
+          | inr past ↦ (let none = ap (λ (x : DiskState). x.faults) (get_or_past s.disks d no_disk past) in omega arith)
+        ]
+
+-- and so does one that is put in another's place, which then is being rebuilt
+pub cause_replaced : (s : SetState) (number : ℕ) (disk : DiskState) → (s.health ≡ Broken → ⊥) → HasCause (Replace number disk) s (replaced s number disk)
+cause_replaced s number disk sound = record {
+  geometry = refl;
+  extents = refl;
+  faults = λ d stays.
+      (let same = ap (λ (x : DiskState). x.faults) (get_or-set_other s.disks number d disk no_disk (λ is. stays disk (ap (λ x. Replace x disk) (sym is)))) in
+      omega arith);
+  out = λ d is. absurd (cc);
+  broken = λ is. absurd (cc);
+  stays_broken = λ was. absurd (sound was);
+}

@@ -31,15 +31,15 @@ use Rattle.ar_store.specs.Calls.{IsAccessed}
 use Rattle.ar_store.specs.Placing.{SameUnits}
 use Rattle.ar_store.proofs.Changes.{units_refl}
 use Rattle.ar_store.proofs.Fills.{accessed_refl}
-use Rattle.ar_core.specs.declared.event.Event.TheVariants.{Cmd as CmdEvent}
-use Rattle.ar_core.specs.declared.event.Outcome.TheVariants.{Cmd as CmdOutcome}
+use Rattle.ar_core.specs.declared.event.EventOf.TheVariants.{Cmd as CmdEvent}
+use Rattle.ar_core.specs.declared.event.OutcomeOf.TheVariants.{Cmd as CmdOutcome}
 use Rattle.ar_image.specs.Sectors.{address_of, sectors_in, blocks_of}
 use Rattle.ar_image.specs.Image.{ArrayState, is_broken, geometry_of, with_book, seen_at, length_at, mark_at, unit_sectors, image_at}
 use Rattle.ar_image.specs.Laws.{reads_refl}
 use Rattle.ar_image.specs.Seen.{IsUnit, SamePlaces, SameSeen, present_at}
 use Rattle.ar_core.specs.Served.{Serves, Settles, Commands}
 use Rattle.ar_core.specs.Step.{Steps, MovesNothing, addr_in, told, is_busy, entry_at}
-use Rattle.ar_core.proofs.Causes.{cause_accessed}
+use Rattle.ar_core.proofs.Causes.{cause_follows}
 use Rattle.ar_core.proofs.Events.{unit_follows}
 use Rattle.ar_image.specs.Seen.{SameUnit}
 use Rattle.ar_image.proofs.Images.{same_address_of, other_address_of, image_present, image_absent, image_same, shape_same, shape_here, sectors_same}
@@ -318,7 +318,7 @@ steps_command old new host lun cdb payload reply c = record {
   answers = c.obeys;
   images = λ now a. everywhere (λ (u : UnitState). u) (image_at old) (image_at new) (CmdEvent host lun cdb payload) (CmdOutcome reply) (image_after now) a;
   shapes = λ a. everywhere shape_of (image_at old) (image_at new) (CmdEvent host lun cdb payload) (CmdOutcome reply) shape_after_it a;
-  disks = cause_accessed (CmdEvent host lun cdb payload) old.store.disks new.store.disks c.accessed;
+  disks = cause_follows (CmdEvent host lun cdb payload) old.store.disks new.store.disks (λ d disk is. absurd (cc)) c.accessed.follows;
   capacity = c.capacity;
   quiet = λ loud. absurd (cc);
 }

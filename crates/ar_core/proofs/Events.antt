@@ -22,10 +22,10 @@ use Rattle.ar_store.proofs.Changes.{same_units_there}
 use Rattle.ar_unit.specs.Sectors.{zero_sector, zero_sectors}
 use Rattle.ar_unit.specs.Unit.{UnitState, Present, Entry, Make, Grow, Remove, after, unit_run}
 use Rattle.ar_unit.specs.Broken.{shape_of}
-use Rattle.ar_core.specs.declared.event.Event.{Event}
-use Rattle.ar_core.specs.declared.event.Event.TheVariants.{Make as MakeEvent, Grow as GrowEvent, Remove as RemoveEvent}
-use Rattle.ar_core.specs.declared.event.Outcome.{Outcome}
-use Rattle.ar_core.specs.declared.event.Outcome.TheVariants.{Make as MakeOutcome, Grow as GrowOutcome, Remove as RemoveOutcome}
+use Rattle.ar_core.specs.Events.{Event}
+use Rattle.ar_core.specs.declared.event.EventOf.TheVariants.{Make as MakeEvent, Grow as GrowEvent, Remove as RemoveEvent}
+use Rattle.ar_core.specs.Events.{Outcome}
+use Rattle.ar_core.specs.declared.event.OutcomeOf.TheVariants.{Make as MakeOutcome, Grow as GrowOutcome, Remove as RemoveOutcome}
 use Rattle.ar_image.specs.declared.refusal.Refusal.{Refusal}
 use Rattle.ar_image.specs.declared.refusal.Refusal.TheVariants.{Unit as UnitRefused, Broken}
 use Rattle.ar_image.specs.Sectors.{Address, address_of, same_address, sector_in, sectors_in, blocks_of, key_of}

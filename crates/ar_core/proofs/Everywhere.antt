@@ -6,9 +6,9 @@ use Rattle.ar_disks.specs.declared.address.Addr.{Addr}
 use Rattle.ar_unit.specs.Unit.{UnitState, Absent, unit_run}
 use Rattle.ar_image.specs.Sectors.{Address, address_of}
 use Rattle.ar_image.specs.Image.{at_numbers, at_address}
-use Rattle.ar_core.specs.declared.event.Event.{Event}
-use Rattle.ar_core.specs.declared.event.Event.TheVariants.{Make, Grow, Remove, Cmd, Flush, Demote, Clean, DiskOut}
-use Rattle.ar_core.specs.declared.event.Outcome.{Outcome}
+use Rattle.ar_core.specs.Events.{Event}
+use Rattle.ar_core.specs.declared.event.EventOf.TheVariants.{Make, Grow, Remove, Cmd, Flush, Demote, Clean, Balance, AddDisk, DiskOut, Replace, Rebuild}
+use Rattle.ar_core.specs.Events.{Outcome}
 use Rattle.ar_core.specs.Step.{is_about, entry_at, entry_of}
 
 -- an event is about no pair of numbers that is no host's
@@ -20,7 +20,11 @@ nowhere (Cmd host l cdb payload) outcome number lun high = let few = host.in_ran
 nowhere Flush outcome number lun high = refl
 nowhere Demote outcome number lun high = refl
 nowhere Clean outcome number lun high = refl
+nowhere Balance outcome number lun high = refl
+nowhere (AddDisk disk) outcome number lun high = refl
 nowhere (DiskOut d) outcome number lun high = refl
+nowhere (Replace d disk) outcome number lun high = refl
+nowhere Rebuild outcome number lun high = refl
 
 -- what holds of a unit's entry at each host's address holds at each pair of numbers
 at_all : {A : Type 0} (f : UnitState → A) (old new : Addr → UnitState) (event : Event) (outcome : Outcome) (number lun : ℕ) (test : (number < 4) ⊎ (4 ≤ number))

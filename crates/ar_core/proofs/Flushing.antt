@@ -5,14 +5,14 @@ use Rattle.ar_image.specs.Image.{ArrayState, is_broken}
 use Rattle.ar_image.specs.Seen.{SameSeen}
 use Rattle.ar_image.specs.Flush.{FlushesOne}
 use Rattle.ar_image.specs.Following.{Follows}
-use Rattle.ar_core.specs.declared.event.Event.TheVariants.{Flush as FlushEvent}
-use Rattle.ar_core.specs.declared.event.Outcome.TheVariants.{Flush as FlushOutcome}
+use Rattle.ar_core.specs.declared.event.EventOf.TheVariants.{Flush as FlushEvent}
+use Rattle.ar_core.specs.declared.event.OutcomeOf.TheVariants.{Flush as FlushOutcome}
 use Rattle.ar_core.specs.Step.{Steps}
-use Rattle.ar_core.proofs.Causes.{cause_accessed}
+use Rattle.ar_core.proofs.Causes.{cause_follows}
 use Rattle.ar_core.proofs.Events.{steps_quiet, quiet_follows}
 
 pub steps_flushed : (old new : ArrayState) (answer : Flush) → FlushesOne old answer new → (is_broken new ≡ false → SameSeen old new) → Follows old new
     → Steps old FlushEvent (FlushOutcome answer) new
 steps_flushed old new answer flushes seen follows =
     steps_quiet old new FlushEvent (FlushOutcome answer) flushes (λ a. refl) (quiet_follows old new follows seen)
-    (cause_accessed FlushEvent old.store.disks new.store.disks flushes.accessed)
+    (cause_follows FlushEvent old.store.disks new.store.disks (λ d disk is. absurd (cc)) flushes.accessed.follows)

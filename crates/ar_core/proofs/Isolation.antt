@@ -6,10 +6,10 @@ use Rattle.ar_scsi.specs.declared.reply.Reply.{Reply}
 use Rattle.ar_unit.specs.Unit.{UnitState, Entry, answer, after, unit_run}
 use Rattle.ar_unit.specs.Broken.{Shape, shape_of, shape_after, broken_answer}
 use Rattle.ar_unit.proofs.Laws.{unit_run-append, after-shape, broken_answer-is}
-use Rattle.ar_core.specs.declared.event.Event.{Event}
-use Rattle.ar_core.specs.declared.event.Event.TheVariants.{Cmd as CmdEvent}
-use Rattle.ar_core.specs.declared.event.Outcome.{Outcome}
-use Rattle.ar_core.specs.declared.event.Outcome.TheVariants.{Cmd as CmdOutcome}
+use Rattle.ar_core.specs.Events.{Event}
+use Rattle.ar_core.specs.declared.event.EventOf.TheVariants.{Cmd as CmdEvent}
+use Rattle.ar_core.specs.Events.{Outcome}
+use Rattle.ar_core.specs.declared.event.OutcomeOf.TheVariants.{Cmd as CmdOutcome}
 use Rattle.ar_extents.specs.Changes.{is_broken as is_broken_set}
 use Rattle.ar_image.specs.Image.{ArrayState, is_broken, image, image_at}
 use Rattle.ar_core.proofs.Causes.{was_sound}

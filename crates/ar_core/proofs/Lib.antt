@@ -1,10 +1,14 @@
+pub mod Balancing
 pub mod Causes
 pub mod Commanding
 pub mod Events
 pub mod Everywhere
 pub mod Flushing
+pub mod Hosts
 pub mod Isolation
 pub mod Looking
 pub mod Moving
+pub mod Rebuilding
 pub mod Serving
+pub mod TakingIn
 pub mod TakingOut

@@ -8,8 +8,8 @@ use Rattle.ar_image.specs.declared.refusal.Refusal.TheVariants.{Disk as DiskRefu
 use Rattle.ar_image.specs.Image.{ArrayState, is_broken}
 use Rattle.ar_image.specs.Seen.{SameSeen}
 use Rattle.ar_image.specs.DiskOut.{TakesOut, disk_refusal}
-use Rattle.ar_core.specs.declared.event.Event.TheVariants.{DiskOut as DiskOutEvent}
-use Rattle.ar_core.specs.declared.event.Outcome.TheVariants.{DiskOut as DiskOutOutcome}
+use Rattle.ar_core.specs.declared.event.EventOf.TheVariants.{DiskOut as DiskOutEvent}
+use Rattle.ar_core.specs.declared.event.OutcomeOf.TheVariants.{DiskOut as DiskOutOutcome}
 use Rattle.ar_core.specs.Causes.{HasCause}
 use Rattle.ar_core.specs.Quiet.{IsQuiet}
 use Rattle.ar_core.specs.Step.{Steps}

@@ -1,19 +1,31 @@
 -- That no disk is lost without a cause.
 use Rattle.std.specs.Prelude.{◌≡◌, ◌≢◌, ◌⊎◌, ℕ, ◌<◌, ◌≤◌, length}
+use Rattle.ar_disks.specs.Disk.{DiskState}
 use Rattle.ar_extents.specs.declared.health.Health.TheVariants.{Out, Broken}
+use Rattle.ar_extents.specs.Health.{IsDown}
 use Rattle.ar_extents.specs.Set.{SetState, faults_of}
-use Rattle.ar_extents.specs.Follows.{Faulted, IsHit}
-use Rattle.ar_core.specs.declared.event.Event.{Event}
-use Rattle.ar_core.specs.declared.event.Event.TheVariants.{DiskOut}
+use Rattle.ar_extents.specs.Follows.{Faulted}
+use Rattle.ar_core.specs.Events.{Event}
+use Rattle.ar_core.specs.declared.event.EventOf.TheVariants.{DiskOut, Replace}
 
 -- the event takes out a disk that there is
 pub record IsTakenOut (event : Event) (old : SetState) (d : ℕ) : Type 0 where
   pub named : event ≡ DiskOut d
   pub there : d < length old.disks
 
+-- the event puts no other disk in the place of this one
+abbrev pub IsNotReplaced : Event → ℕ → Type 0
+IsNotReplaced event d = (disk : DiskState) → event ≢ Replace d disk
+
+-- the disk was there, is the same, and has faulted in the event: one that is new and brings faults has not
+pub record FaultsIn (event : Event) (old new : SetState) (d : ℕ) : Type 0 where
+  pub there : d < length old.disks
+  pub same : IsNotReplaced event d
+  pub more : Faulted old new d
+
 -- the disk was out or being rebuilt before the event, has faulted in it, or is taken out by it
 abbrev pub IsHitBy : Event → SetState → SetState → ℕ → Type 0
-IsHitBy event old new d = IsHit old new d ⊎ IsTakenOut event old d
+IsHitBy event old new d = IsDown old.health d ⊎ (FaultsIn event old new d ⊎ IsTakenOut event old d)
 
 -- two different disks are hit
 pub record AreTwoHitBy (event : Event) (old new : SetState) : Type 0 where
@@ -24,12 +36,12 @@ pub record AreTwoHitBy (event : Event) (old new : SetState) : Type 0 where
   pub other_hit : IsHitBy event old new other
 
 -- What any event may do to the disks; what one does to their health and number and to the loose extents, its own relation says.
--- Their shape stays, and fault counts only grow. A disk is out only where it was, has faulted in the event or was taken out by it;
--- the data are lost only where they were, or where two disks are hit, and for good.
+-- Their shape stays, and the fault counts of those that stay only grow. A disk is out only where it was, has faulted in the event or was
+-- taken out by it; the data are lost only where they were, or where two disks are hit, and for good.
 pub record HasCause (event : Event) (old new : SetState) : Type 0 where
   pub geometry : new.geometry ≡ old.geometry
   pub extents : new.extents ≡ old.extents
-  pub faults : (d : ℕ) → faults_of old d ≤ faults_of new d
-  pub out : (d : ℕ) → new.health ≡ Out d → (old.health ≡ Out d) ⊎ (Faulted old new d ⊎ IsTakenOut event old d)
+  pub faults : (d : ℕ) → IsNotReplaced event d → faults_of old d ≤ faults_of new d
+  pub out : (d : ℕ) → new.health ≡ Out d → (old.health ≡ Out d) ⊎ (FaultsIn event old new d ⊎ IsTakenOut event old d)
   pub broken : new.health ≡ Broken → (old.health ≡ Broken) ⊎ AreTwoHitBy event old new
   pub stays_broken : old.health ≡ Broken → new.health ≡ Broken

@@ -1,4 +1,6 @@
 pub mod Causes
+pub mod Events
+pub mod Laws
 pub mod Quiet
 pub mod Run
 pub mod Served

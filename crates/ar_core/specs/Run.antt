@@ -8,10 +8,10 @@ use Rattle.ar_unit.specs.Unit.{UnitState, Entry, answer, unit_run}
 use Rattle.ar_unit.specs.Broken.{shape_of, where_broken}
 use Rattle.ar_image.specs.Image.{ArrayState, is_broken, image}
 use Rattle.ar_image.specs.Sectors.{Address}
-use Rattle.ar_core.specs.declared.event.Event.{Event}
-use Rattle.ar_core.specs.declared.event.Event.TheVariants.{Cmd as CmdEvent}
-use Rattle.ar_core.specs.declared.event.Outcome.{Outcome}
-use Rattle.ar_core.specs.declared.event.Outcome.TheVariants.{Cmd as CmdOutcome}
+use Rattle.ar_core.specs.Events.{Event}
+use Rattle.ar_core.specs.declared.event.EventOf.TheVariants.{Cmd as CmdEvent}
+use Rattle.ar_core.specs.Events.{Outcome}
+use Rattle.ar_core.specs.declared.event.OutcomeOf.TheVariants.{Cmd as CmdOutcome}
 use Rattle.ar_core.specs.Causes.{AreTwoHitBy}
 use Rattle.ar_core.specs.Quiet.{LooksAt}
 use Rattle.ar_core.specs.Step.{Steps, entry_at}

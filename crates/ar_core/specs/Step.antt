@@ -18,10 +18,10 @@ use Rattle.ar_book.specs.Changes.{unmarked}
 use Rattle.ar_store.specs.Placing.{SameUnits}
 use Rattle.ar_unit.specs.Unit.{Entry, Make, Grow, Remove, Cmd, answer, unit_run, IsGiven, IsServed}
 use Rattle.ar_unit.specs.Broken.{shape_of, broken_answer}
-use Rattle.ar_core.specs.declared.event.Event.{Event}
-use Rattle.ar_core.specs.declared.event.Event.TheVariants.{Make as MakeEvent, Grow as GrowEvent, Remove as RemoveEvent, Cmd as CmdEvent, Flush as FlushEvent, Demote as DemoteEvent, Clean as CleanEvent, DiskOut as DiskOutEvent}
-use Rattle.ar_core.specs.declared.event.Outcome.{Outcome}
-use Rattle.ar_core.specs.declared.event.Outcome.TheVariants.{Make as MakeOutcome, Grow as GrowOutcome, Remove as RemoveOutcome, Cmd as CmdOutcome, Flush as FlushOutcome, Demote as DemoteOutcome, Clean as CleanOutcome, DiskOut as DiskOutOutcome}
+use Rattle.ar_core.specs.Events.{Event}
+use Rattle.ar_core.specs.declared.event.EventOf.TheVariants.{Make as MakeEvent, Grow as GrowEvent, Remove as RemoveEvent, Cmd as CmdEvent, Flush as FlushEvent, Demote as DemoteEvent, Clean as CleanEvent, Balance as BalanceEvent, AddDisk as AddDiskEvent, DiskOut as DiskOutEvent, Replace as ReplaceEvent, Rebuild as RebuildEvent}
+use Rattle.ar_core.specs.Events.{Outcome}
+use Rattle.ar_core.specs.declared.event.OutcomeOf.TheVariants.{Make as MakeOutcome, Grow as GrowOutcome, Remove as RemoveOutcome, Cmd as CmdOutcome, Flush as FlushOutcome, Demote as DemoteOutcome, Clean as CleanOutcome, Balance as BalanceOutcome, AddDisk as AddDiskOutcome, DiskOut as DiskOutOutcome, Replace as ReplaceOutcome, Rebuild as RebuildOutcome}
 use Rattle.ar_image.specs.Sectors.{Address, address_of, same_address}
 use Rattle.ar_image.specs.Image.{ArrayState, is_broken, mark_at, image_at, image}
 use Rattle.ar_core.specs.Causes.{HasCause}
@@ -31,6 +31,9 @@ use Rattle.ar_image.specs.Seen.{IsForced}
 use Rattle.ar_image.specs.Changes.{Makes, Grows, Removes}
 use Rattle.ar_image.specs.Flush.{FlushesOne}
 use Rattle.ar_image.specs.Moves.{DemotesOne, CleansOne}
+use Rattle.ar_image.specs.Rebuild.{RebuildsOne}
+use Rattle.ar_image.specs.Balance.{BalancesOne}
+use Rattle.ar_image.specs.DiskIn.{AddsDisk, ReplacesDisk}
 use Rattle.ar_image.specs.DiskOut.{TakesOut}
 
 -- the address that a command is given to
@@ -115,7 +118,11 @@ Answers old (CmdEvent host lun cdb payload) (CmdOutcome reply) new = Obeys old (
 Answers old FlushEvent (FlushOutcome answer) new = FlushesOne old answer new
 Answers old DemoteEvent (DemoteOutcome answer) new = DemotesOne old answer new
 Answers old CleanEvent (CleanOutcome answer) new = CleansOne old answer new
+Answers old BalanceEvent (BalanceOutcome answer) new = BalancesOne old answer new
+Answers old (AddDiskEvent disk) (AddDiskOutcome result) new = AddsDisk old disk result new
 Answers old (DiskOutEvent disk) (DiskOutOutcome result) new = TakesOut old disk result new
+Answers old (ReplaceEvent number disk) (ReplaceOutcome result) new = ReplacesDisk old number disk result new
+Answers old RebuildEvent (RebuildOutcome answer) new = RebuildsOne old answer new
 Answers old event outcome new = ⊥
 
 -- One step. Each unit, whatever the event was about, is what its own entry makes of it; of a broken array this is said of

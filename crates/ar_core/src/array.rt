@@ -4,7 +4,7 @@ ghost use Rattle.ar_disks.specs.declared.address.Addr.{Addr};
 ghost use Rattle.ar_disks.specs.Geometry.{block_len_of};
 ghost use Rattle.ar_image.specs.Image.{geometry_of};
 
-use crate::{CAPACITY_LIMIT, Event, Outcome, Refusal};
+use crate::{CAPACITY_LIMIT, Event, EventOf, Outcome, OutcomeOf, Refusal};
 use ar_disks::{Addr, Block, Disk};
 use ar_extents::{StartFault, fault_of};
 use ar_image::Blocks;
@@ -36,8 +36,6 @@ impl<D: Disk> Array<D> {
     ghost use Rattle.ar_extents.specs.Set.{CanCount};
     ghost use Rattle.ar_extents.specs.Changes.{start_fault};
     ghost use Rattle.ar_image.specs.Start.{IsStarted};
-    ghost use Rattle.ar_core.specs.Step.{Steps};
-    ghost use Rattle.ar_core.specs.Run.{AreOutcomes};
 
     /// An array of these disks, whole, without a unit, its extents in groups of four disks. `cache` is how many blocks may wait
     /// to be written: at most 65,536, and 0 writes through. Disks that are refused, for their number, their shapes or want of
@@ -59,25 +57,36 @@ impl<D: Disk> Array<D> {
         let blocks = Blocks::start(alloc, disks, cache)?;
         Ok(Array { blocks, block })
     }
+}
+
+impl<D: Disk + Drop> Array<D> {
+    ghost use Rattle.ar_core.specs.Step.{Steps};
+    ghost use Rattle.ar_core.specs.Run.{AreOutcomes};
 
     /// Does one event, and answers it.
-    pub fn step(&mut self, alloc: Global, event: Event) -> Outcome
+    pub fn step(&mut self, alloc: Global, event: Event<D>) -> Outcome<D>
         ensures { Steps self.old event result self.new }
     {
         match event {
-            Event::Make(addr, sectors) => Outcome::Make(self.make(addr, sectors)),
-            Event::Grow(addr, sectors) => Outcome::Grow(self.grow(addr, sectors)),
-            Event::Remove(addr) => Outcome::Remove(self.remove(addr)),
-            Event::Cmd {
+            EventOf::Make(addr, sectors) => OutcomeOf::Make(self.make(addr, sectors)),
+            EventOf::Grow(addr, sectors) => OutcomeOf::Grow(self.grow(addr, sectors)),
+            EventOf::Remove(addr) => OutcomeOf::Remove(self.remove(addr)),
+            EventOf::Cmd {
                 host,
                 lun,
                 cdb,
                 payload,
-            } => { Outcome::Cmd(self.command(alloc, Addr { host, lun }, &cdb, payload.as_slice())) }
-            Event::Flush => Outcome::Flush(self.flush_one()),
-            Event::Demote => Outcome::Demote(self.demote_one()),
-            Event::Clean => Outcome::Clean(self.clean_one()),
-            Event::DiskOut(disk) => Outcome::DiskOut(self.disk_out(disk)),
+            } => {
+                OutcomeOf::Cmd(self.command(alloc, Addr { host, lun }, &cdb, payload.as_slice()))
+            }
+            EventOf::Flush => OutcomeOf::Flush(self.flush_one()),
+            EventOf::Demote => OutcomeOf::Demote(self.demote_one()),
+            EventOf::Clean => OutcomeOf::Clean(self.clean_one()),
+            EventOf::Balance => OutcomeOf::Balance(self.balance_one()),
+            EventOf::AddDisk(disk) => OutcomeOf::AddDisk(self.add_disk(disk)),
+            EventOf::DiskOut(disk) => OutcomeOf::DiskOut(self.disk_out(disk)),
+            EventOf::Replace(number, disk) => OutcomeOf::Replace(self.replace(number, disk)),
+            EventOf::Rebuild => OutcomeOf::Rebuild(self.rebuild_one()),
         }
     }
 
@@ -86,7 +95,11 @@ impl<D: Disk> Array<D> {
     /// change, until two disks are lost at one moment; what it answers from then on, its presence, length and mark decide
     /// (`AreOutcomes`, whose part `IsIsolated` is the theorem). Where memory for the answers is refused, the events are handed
     /// back and nothing was done.
-    pub fn run(&mut self, alloc: Global, events: Vec<Event>) -> Result<Vec<Outcome>, Vec<Event>>
+    pub fn run(
+        &mut self,
+        alloc: Global,
+        events: Vec<Event<D>>,
+    ) -> Result<Vec<Outcome<D>>, Vec<Event<D>>>
         ensures isolated { IfOk result (λ outcomes. AreOutcomes self.old events.items outcomes.items self.new) }
         ensures refused { IfErr result (λ back. back ≡ events) }
         ensures unchanged { OnErr result (self.new ≡ self.old) }
@@ -107,19 +120,19 @@ impl<D: Disk> Array<D> {
     ghost use Rattle.ar_core.specs.Step.{Steps};
 
     fn make(&mut self, addr: Addr, sectors: u32) -> Result<(), Refusal>
-        ensures { Steps self.old (Event.Make addr sectors) (Outcome.Make result) self.new }
+        ensures { Steps self.old (EventOf.Make addr sectors) (OutcomeOf.Make result) self.new }
     {
         self.blocks.make(addr, sectors)
     }
 
     fn grow(&mut self, addr: Addr, sectors: u32) -> Result<(), Refusal>
-        ensures { Steps self.old (Event.Grow addr sectors) (Outcome.Grow result) self.new }
+        ensures { Steps self.old (EventOf.Grow addr sectors) (OutcomeOf.Grow result) self.new }
     {
         self.blocks.grow(addr, sectors)
     }
 
     fn remove(&mut self, addr: Addr) -> Result<(), Refusal>
-        ensures { Steps self.old (Event.Remove addr) (Outcome.Remove result) self.new }
+        ensures { Steps self.old (EventOf.Remove addr) (OutcomeOf.Remove result) self.new }
     {
         self.blocks.remove(addr)
     }

@@ -1,5 +1,5 @@
 // The array: a disk that is taken out.
-use crate::{Array, Event, Outcome, Refusal};
+use crate::{Array, EventOf, OutcomeOf, Refusal};
 use ar_disks::Disk;
 
 impl<D: Disk> Array<D> {
@@ -7,7 +7,7 @@ impl<D: Disk> Array<D> {
 
     // Takes a disk out, by its number.
     pub(crate) fn disk_out(&mut self, disk: u8) -> Result<(), Refusal>
-        ensures { Steps self.old (Event.DiskOut disk) (Outcome.DiskOut result) self.new }
+        ensures { Steps self.old (EventOf.DiskOut disk) (OutcomeOf.DiskOut result) self.new }
     {
         self.blocks.fail(disk)
     }

@@ -6,7 +6,7 @@ ghost use Rattle.ar_cache.specs.Cache.{with_entries};
 ghost use Rattle.ar_image.specs.Following.{Follows};
 ghost use Rattle.ar_image.specs.Image.{is_broken, image_at, image_on_disks};
 
-use crate::{Array, Event, Flush, Outcome, Stored};
+use crate::{Array, EventOf, Flush, OutcomeOf, Stored};
 use ar_disks::Disk;
 
 impl<D: Disk> Array<D> {
@@ -14,7 +14,7 @@ impl<D: Disk> Array<D> {
 
     // The least recently used block alone.
     pub(crate) fn flush_one(&mut self) -> Flush
-        ensures { Steps self.old Event.Flush (Outcome.Flush result) self.new }
+        ensures { Steps self.old EventOf.Flush (OutcomeOf.Flush result) self.new }
     {
         self.blocks.flush_one()
     }

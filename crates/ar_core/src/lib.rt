@@ -2,18 +2,25 @@
 #![tactic(auto)]
 
 mod array;
+mod balance;
 mod commands;
+mod disk_in;
 mod disk_out;
 mod event;
 mod flush;
+mod laws;
 mod moves;
+mod rebuild;
 mod views;
 
+pub use ar_balance::Balance;
 pub use ar_book::{Class, Refusal as UnitRefusal, Slot};
 pub use ar_cache::{CAPACITY_LIMIT, Flush, Stored};
 pub use ar_extents::{DiskRefusal, Health, StartFault};
-pub use ar_image::Refusal;
+pub use ar_image::{NewDisk, Refusal};
 pub use ar_moves::Move;
+pub use ar_rebuild::Rebuild;
 pub use array::Array;
-pub use event::{Event, Outcome};
+pub use event::{Event, EventOf, Outcome, OutcomeOf};
+pub use laws::{own_entries_decide_replies, writes_that_fit_are_done};
 pub use views::{GroupUse, HomeOf, LevelOf, Shown};

@@ -1,5 +1,5 @@
 // The array: blocks that move between the levels, and between groups.
-use crate::{Array, Event, Move, Outcome};
+use crate::{Array, EventOf, Move, OutcomeOf};
 use ar_disks::Disk;
 
 impl<D: Disk> Array<D> {
@@ -7,14 +7,14 @@ impl<D: Disk> Array<D> {
 
     // Demotes one block.
     pub(crate) fn demote_one(&mut self) -> Move
-        ensures { Steps self.old Event.Demote (Outcome.Demote result) self.new }
+        ensures { Steps self.old EventOf.Demote (OutcomeOf.Demote result) self.new }
     {
         self.blocks.demote_one()
     }
 
     // Cleans one slot.
     pub(crate) fn clean_one(&mut self) -> Move
-        ensures { Steps self.old Event.Clean (Outcome.Clean result) self.new }
+        ensures { Steps self.old EventOf.Clean (OutcomeOf.Clean result) self.new }
     {
         self.blocks.clean_one()
     }

@@ -71,6 +71,13 @@ impl<D: Disk> Array<D> {
         self.blocks.geometry()
     }
 
+    /// How many extents each disk has.
+    pub fn extents(&self) -> u16
+        ensures { result ≡ self.now.store.disks.extents }
+    {
+        self.blocks.disks().extents()
+    }
+
     /// At which level a unit's block stands, by its number from 0.
     pub fn level(&self, addr: Addr, rb: u32) -> LevelOf
         ensures { result ≡ level_of self.now.store.book addr rb }
@@ -98,6 +105,13 @@ impl<D: Disk> Array<D> {
         ensures kept { reserved self.now.store.book + result ≡ 3 * rows_of (geometry_of self.now) * (length self.now.store.book.groups - 1) }
     {
         self.blocks.book().room()
+    }
+
+    /// How many groups are free.
+    pub fn free_groups(&self) -> u32
+        ensures { result ≡ free_groups self.now.store.book }
+    {
+        self.blocks.book().free_groups()
     }
 
     /// Which disk is down, if any.

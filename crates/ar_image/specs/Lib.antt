@@ -1,10 +1,13 @@
+pub mod Balance
 pub mod Changes
+pub mod DiskIn
 pub mod DiskOut
 pub mod Flush
 pub mod Following
 pub mod Image
 pub mod Laws
 pub mod Moves
+pub mod Rebuild
 pub mod Sectors
 pub mod Seen
 pub mod Start

@@ -2,11 +2,15 @@
 //! whatever stands in the cache and what on the disks.
 #![tactic(auto)]
 
+mod balance;
 mod behind;
 mod blocks;
+mod disk_in;
 mod disk_out;
 mod flush;
 mod moves;
+mod new_disk;
+mod rebuild;
 mod refusal;
 mod transfer;
 
@@ -14,5 +18,6 @@ pub use ar_book::{Refusal as UnitRefusal, Slot};
 pub use ar_cache::{Backing, CAPACITY_LIMIT, Flush, Stored};
 pub use ar_extents::{DiskRefusal, Health, StartFault};
 pub use blocks::Blocks;
+pub use new_disk::NewDisk;
 pub use refusal::Refusal;
 pub use transfer::{Transfer, read_sectors, write_sectors};

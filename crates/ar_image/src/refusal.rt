@@ -12,7 +12,7 @@ pub enum Refusal {
     /// The array has lost its data.
     #[error("M6 Broken")]
     Broken,
-    /// The disk can't be taken out.
+    /// The disk can't be taken out, added or put in another's place.
     #[error(transparent)]
     Disk(DiskRefusal),
 }

@@ -186,6 +186,14 @@ pub record HasDisk (words : Words) : Type 0 where
 abbrev pub AsksOut : Words → Order → Type 0
 AsksOut words order = order ≡ Act (actions.DiskOut (value (word words 0)))
 
+-- `replace D`
+abbrev pub AsksReplace : Words → Order → Type 0
+AsksReplace words order = order ≡ Act (actions.Replace (value (word words 0)))
+
+-- it is the number of a disk
+abbrev pub IsDisk : Words → ℕ → Type 0
+IsDisk words disk = disk ≡ value (word words 0)
+
 -- What a word and the words after it are answered with: an order that they ask for, where they have this form, and else that they
 -- are bad arguments.
 abbrev pub Answers : Type 0 → (Order → Type 0) → Result Order FaultKind → Type 0
@@ -201,14 +209,18 @@ ReadsArrayOrder name words result =
     MatchBool (bytes_eq name (codes "flush")) (Alone words (Act actions.Flush) result) (
     MatchBool (bytes_eq name (codes "demote")) (Alone words (Act actions.Demote) result) (
     MatchBool (bytes_eq name (codes "clean")) (Alone words (Act actions.Clean) result) (
+    MatchBool (bytes_eq name (codes "balance")) (Alone words (Act actions.Balance) result) (
+    MatchBool (bytes_eq name (codes "add")) (Alone words (Act actions.AddDisk) result) (
     MatchBool (bytes_eq name (codes "out")) (Answers (HasDisk words) (AsksOut words) result) (
+    MatchBool (bytes_eq name (codes "replace")) (Answers (HasDisk words) (AsksReplace words) result) (
+    MatchBool (bytes_eq name (codes "rebuild")) (Alone words (Act actions.Rebuild) result) (
     MatchBool (bytes_eq name (codes "levels")) (Answers (HasUnit words) (AsksLevels words) result) (
     MatchBool (bytes_eq name (codes "home")) (Answers (HasUnitAndNumber 32 words) (AsksHome words) result) (
     MatchBool (bytes_eq name (codes "groups")) (Alone words (Ask questions.Groups) result) (
     MatchBool (bytes_eq name (codes "room")) (Alone words (Ask questions.Room) result) (
     MatchBool (bytes_eq name (codes "health")) (Alone words (Ask questions.Health) result) (
     MatchBool (bytes_eq name (codes "block")) (Answers (HasRow words) (AsksRow words) result) (
-    result ≡ Err UnknownWord))))))))))
+    result ≡ Err UnknownWord))))))))))))))
 
 -- the words of commands, and those
 abbrev pub ReadsCommand : List ℕ → Words → Result Order FaultKind → Type 0

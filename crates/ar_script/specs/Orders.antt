@@ -2,9 +2,8 @@
 use Rattle.std.specs.Prelude.{◌≡◌, ◌⊎◌, ℕ, false, List, Option, Some, None, Result, Ok, Err, replicate}
 use Rattle.ar_disks.specs.declared.address.Addr.{Addr}
 use Rattle.ar_disks.specs.declared.address.Place.{Place}
-use Rattle.ar_core.specs.declared.event.Event.{Event}
-use Rattle.ar_core.specs.declared.event.Event.TheVariants.{Make, Grow, Remove, Cmd, Flush, Demote, Clean, DiskOut}
-use Rattle.ar_core.specs.declared.event.Outcome.{Outcome}
+use Rattle.ar_core.specs.Events.{Event, Outcome}
+use Rattle.ar_core.specs.declared.event.EventOf.TheVariants.{Make, Grow, Remove, Cmd, Flush, Demote, Clean, Balance, AddDisk, DiskOut, Replace, Rebuild}
 use Rattle.ar_core.specs.declared.views.Shown.{Shown}
 use Rattle.ar_core.specs.Views.{Shows}
 use Rattle.ar_image.specs.Image.{ArrayState, is_broken, image_at}
@@ -13,6 +12,7 @@ use Rattle.ar_core.specs.Step.{Steps}
 use Rattle.ar_script.specs.declared.fault.FaultKind.{FaultKind}
 use Rattle.ar_script.specs.declared.fault.FaultKind.TheVariants.{NoMemory, WriteFault}
 use Rattle.ar_script.specs.Forms.{ReadsLine}
+use Rattle.ar_script.specs.Setups.{new_disk_for}
 use Rattle.ar_script.specs.declared.order.Action.{Action}
 use Rattle.ar_script.specs.declared.order.Action.TheVariants as actions
 use Rattle.ar_script.specs.declared.order.Notation.{Notation}
@@ -22,16 +22,20 @@ use Rattle.ar_script.specs.declared.order.Order.TheVariants.{Act, Ask}
 use Rattle.ar_script.specs.declared.order.Question.{Question}
 use Rattle.ar_script.specs.declared.order.Question.TheVariants.{Levels, Home, Groups, Room, Health, Block}
 
--- the event that an action is: data are copies of one byte
-abbrev pub event_in : Action → Event
-event_in (actions.Make addr sectors) = Make addr sectors
-event_in (actions.Grow addr sectors) = Grow addr sectors
-event_in (actions.Remove addr) = Remove addr
-event_in (actions.Command addr cdb d notation) = Cmd addr.host addr.lun cdb (replicate d.len d.byte)
-event_in actions.Flush = Flush
-event_in actions.Demote = Demote
-event_in actions.Clean = Clean
-event_in (actions.DiskOut disk) = DiskOut disk
+-- the event that an action is to an array: data are copies of one byte, and a disk that is taken in is new, and of the array's shape
+abbrev pub event_in : ArrayState → Action → Event
+event_in s (actions.Make addr sectors) = Make addr sectors
+event_in s (actions.Grow addr sectors) = Grow addr sectors
+event_in s (actions.Remove addr) = Remove addr
+event_in s (actions.Command addr cdb d notation) = Cmd addr.host addr.lun cdb (replicate d.len d.byte)
+event_in s actions.Flush = Flush
+event_in s actions.Demote = Demote
+event_in s actions.Clean = Clean
+event_in s actions.Balance = Balance
+event_in s actions.AddDisk = AddDisk (new_disk_for s)
+event_in s (actions.DiskOut disk) = DiskOut disk
+event_in s (actions.Replace disk) = Replace disk (new_disk_for s)
+event_in s actions.Rebuild = Rebuild
 
 -- how the bytes of the answer are printed
 abbrev pub notation_in : Action → Notation
@@ -42,7 +46,11 @@ notation_in (actions.Command addr cdb d notation) = notation
 notation_in actions.Flush = Bytes
 notation_in actions.Demote = Bytes
 notation_in actions.Clean = Bytes
+notation_in actions.Balance = Bytes
+notation_in actions.AddDisk = Bytes
 notation_in (actions.DiskOut disk) = Bytes
+notation_in (actions.Replace disk) = Bytes
+notation_in actions.Rebuild = Bytes
 
 -- Reading a row shows what stands there, or why it can't, and leaves the tables, the cache and each unit as they were. It may meet a
 -- fault of the row's disk.
@@ -65,7 +73,7 @@ Looks (Block disk extent row) old new = ReadsRow (record { disk = disk; extent =
 -- the array has met one event, the one that the action is
 pub record Acts (action : Action) (old new : ArrayState) : Type 0 where
   pub outcome : Outcome
-  pub steps : Steps old (event_in action) outcome new
+  pub steps : Steps old (event_in old action) outcome new
 
 -- What an order leaves of an array, whether the answer was written or not. An action for which memory was refused isn't done.
 abbrev pub Leaves : Order → ArrayState → Result (Unit {0}) FaultKind → ArrayState → Type 0

@@ -1,14 +1,20 @@
 -- What a setup asks for.
-use Rattle.std.specs.Prelude.{◌*◌, List, replicate}
+use Rattle.std.specs.Prelude.{ℕ, ◌*◌, List, replicate}
 use Rattle.ar_disks.specs.Disk.{DiskState}
+use Rattle.ar_disks.specs.declared.geometry.Geometry.{Geometry}
 use Rattle.ar_disks.specs.Geometry.{extent_len_of}
 use Rattle.ar_disks.specs.Memory.{sound_disk}
+use Rattle.ar_image.specs.Image.{ArrayState, geometry_of}
 use Rattle.ar_script.specs.declared.run.Setup.{Setup}
 
--- a new disk of its shape: EE in every byte, and no fault
-abbrev pub new_disk : Setup → DiskState
-new_disk setup = sound_disk setup.geometry setup.extents (replicate (setup.extents * extent_len_of setup.geometry) 0xEE)
+-- a new disk of a shape: EE in every byte, and no fault
+abbrev pub new_disk : Geometry → ℕ → DiskState
+new_disk geometry extents = sound_disk geometry extents (replicate (extents * extent_len_of geometry) 0xEE)
 
--- its disks
+-- the disks that a setup asks for
 abbrev pub disks_of : Setup → List DiskState
-disks_of setup = replicate setup.disks (new_disk setup)
+disks_of setup = replicate setup.disks (new_disk setup.geometry setup.extents)
+
+-- a new disk of an array's shape
+abbrev pub new_disk_for : ArrayState → DiskState
+new_disk_for s = new_disk (geometry_of s) s.store.disks.extents

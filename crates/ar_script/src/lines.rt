@@ -60,6 +60,7 @@ impl<R: Read + Drop> Lines<R> {
     pub fn advance(&mut self) -> Result<bool, Fault>
         ensures next { IfOk result (λ more. self.new.number ≡ self.old.number + (if more then 1 else 0)) }
         ensures ended { IfOk result (λ more. more ≡ false → self.new.is_at_end ≡ true) }
+        ensures begun { (self.old.number ≤ self.new.number) × (self.new.number ≤ self.old.number + 1) }
         ensures fault { IfErr result (IsOfLine (self.old.number + 1)) }
         ensures reached { IfErr result (IsReached self.new.number) }
         ensures numbered { IfErr result IsNumbered }

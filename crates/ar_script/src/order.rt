@@ -50,8 +50,16 @@ pub enum Action {
     Demote,
     /// Move one block out of the emptiest group that can be emptied.
     Clean,
+    /// Form a group of loose extents, or shift an extent to another disk.
+    Balance,
+    /// Add a new disk.
+    AddDisk,
     /// Take a disk out, by its number.
     DiskOut(u8),
+    /// Put a new disk in the place of the one that is out, by its number.
+    Replace(u8),
+    /// Rebuild one extent of the disk that was replaced.
+    Rebuild,
 }
 
 impl Action {

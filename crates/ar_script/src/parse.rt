@@ -5,7 +5,7 @@ ghost use Rattle.std.specs.Option.{SomeIff};
 ghost use Rattle.ar_script.specs.Words.{IsNumber};
 ghost use Rattle.ar_script.specs.Forms.{word, value, IsNumberOf, AreAddress, IsAddress, NamesUnit, HasUnit, HasUnitAndNumber, HasSectors, HasWritten, HasBlock, HasRow, HasDisk, Gives, Reads, ReadsCommand, ReadsArrayOrder, ReadsWords, ReadsLine, nothing};
 ghost use Rattle.ar_script.specs.Parts.{AreSpan, IsSpan, NamesSpan, SaysWritten, AreData, IsData, AreBlock, AsksBlockWith};
-ghost use Rattle.ar_script.specs.Forms.{AsksMake, AsksGrow, AsksDrop, AsksTur, AsksInquiry, AsksCapacity, AsksRead, AsksWrite, AsksBlock, AsksLevels, AsksHome, AsksRow, AsksOut};
+ghost use Rattle.ar_script.specs.Forms.{AsksMake, AsksGrow, AsksDrop, AsksTur, AsksInquiry, AsksCapacity, AsksRead, AsksWrite, AsksBlock, AsksLevels, AsksHome, AsksRow, AsksOut, AsksReplace, IsDisk};
 
 use crate::order::{Action, Data, Notation, Order, Question};
 use crate::{FaultKind, blocks, words};
@@ -105,7 +105,11 @@ fn array_order_of(name: &str, arguments: &[&str]) -> Result<Order, FaultKind>
         "flush" => alone(arguments, Order::Act(Action::Flush)),
         "demote" => alone(arguments, Order::Act(Action::Demote)),
         "clean" => alone(arguments, Order::Act(Action::Clean)),
+        "balance" => alone(arguments, Order::Act(Action::Balance)),
+        "add" => alone(arguments, Order::Act(Action::AddDisk)),
         "out" => disk_out(arguments),
+        "replace" => replace(arguments),
+        "rebuild" => alone(arguments, Order::Act(Action::Rebuild)),
         "levels" => levels(arguments),
         "home" => home(arguments),
         "groups" => alone(arguments, Order::Ask(Question::Groups)),
@@ -262,10 +266,23 @@ fn data(count: &str, byte: &str) -> Option<Data>
 fn disk_out(arguments: &[&str]) -> Option<Order>
     ensures { Gives (HasDisk arguments.now) (AsksOut arguments.now) result }
 {
+    Some(Order::Act(Action::DiskOut(disk_number(arguments)?)))
+}
+
+fn replace(arguments: &[&str]) -> Option<Order>
+    ensures { Gives (HasDisk arguments.now) (AsksReplace arguments.now) result }
+{
+    Some(Order::Act(Action::Replace(disk_number(arguments)?)))
+}
+
+// The number of a disk, alone.
+fn disk_number(arguments: &[&str]) -> Option<u8>
+    ensures { Gives (HasDisk arguments.now) (IsDisk arguments.now) result }
+{
     let [disk] = arguments else {
         return None;
     };
-    Some(Order::Act(Action::DiskOut(number_8(disk)?)))
+    number_8(disk)
 }
 
 fn levels(arguments: &[&str]) -> Option<Order>

@@ -3,7 +3,7 @@ ghost use Rattle.std.specs.Prelude.{◌≡◌, ◌≢◌, ◌≤◌, max, true, 
 ghost use Rattle.ar_extents.specs.Changes.{start_fault};
 ghost use Rattle.ar_script.specs.Lines.{IsNumbered, IsReached, Ends, is_write_fault as tells_write_fault};
 ghost use Rattle.ar_script.specs.Orders.{MeetsLine};
-ghost use Rattle.ar_script.specs.Plays.{Plays, HasPlayed};
+ghost use Rattle.ar_script.specs.Plays.{Plays, PlaysTo, HasPlayed};
 ghost use Rattle.ar_script.specs.Setups.{disks_of};
 
 use crate::lines::Lines;
@@ -69,6 +69,7 @@ fn write_answers<R: Read + Drop, W: Write + Drop>(
     lines: &mut Lines<R>,
     writer: W,
 ) -> Result<(), Fault>
+    requires fresh { lines.old.number ≡ 0 }
     ensures plays { Plays runner.old runner.new }
     ensures numbered { IfErr result IsNumbered }
 {
@@ -90,14 +91,15 @@ fn fault_at(line: u32, kind: FaultKind) -> Fault
     Fault::Line { line, kind }
 }
 
-// Answers all lines that are left.
+// Answers all lines, each once.
 fn run_lines<R: Read + Drop, W: Write + Drop>(
     alloc: Global,
     runner: &mut Runner,
     lines: &mut Lines<R>,
     out: &mut BufWriter<W>,
 ) -> Result<(), Fault>
-    ensures plays { Plays runner.old runner.new }
+    requires fresh { lines.old.number ≡ 0 }
+    ensures plays { PlaysTo runner.old runner.new lines.new.number result }
     ensures ended { OnOk result (lines.new.is_at_end ≡ true) }
     ensures reached { IfErr result (IsReached lines.new.number) }
     ensures numbered { IfErr result IsNumbered }

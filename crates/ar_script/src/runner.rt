@@ -4,13 +4,13 @@ ghost use Rattle.ar_extents.specs.Changes.{start_fault};
 ghost use Rattle.ar_image.specs.Start.{IsStarted};
 ghost use Rattle.ar_core.specs.Step.{Steps};
 ghost use Rattle.ar_script.specs.Orders.{event_in, Looks, IsLost, Leaves};
-ghost use Rattle.ar_script.specs.Setups.{disks_of};
+ghost use Rattle.ar_script.specs.Setups.{disks_of, new_disk, new_disk_for};
 
 use crate::order::{Action, Data, Order, Question};
 use crate::text::{write_groups, write_health, write_home, write_levels, write_outcome, write_row};
 use crate::{Fault, FaultKind, Setup};
-use ar_core::{Array, CAPACITY_LIMIT, Event, Outcome};
-use ar_disks::{Block, MemDisk};
+use ar_core::{Array, CAPACITY_LIMIT, Event, EventOf, NewDisk, Outcome};
+use ar_disks::{Block, Geometry, MemDisk};
 use bytes::Bytes;
 use std::alloc::{AllocError, Global};
 use std::io::Write;
@@ -76,12 +76,50 @@ impl Runner {
     }
 
     // Does one action. Where memory for its data is refused, it is not done.
-    fn act(&mut self, alloc: Global, action: Action) -> Result<Outcome, AllocError>
-        ensures done { IfOk result (λ outcome. Steps self.old (event_in action) outcome self.new) }
+    fn act(&mut self, alloc: Global, action: Action) -> Result<Outcome<MemDisk>, AllocError>
+        ensures done { IfOk result (λ outcome. Steps self.old (event_in self.old action) outcome self.new) }
         ensures refused { OnErr result (self.new ≡ self.old) }
     {
-        let event = event_of(alloc, action)?;
+        let event = self.event_of(alloc, action)?;
         Ok(self.array.step(alloc, event))
+    }
+
+    // The event that an action is.
+    fn event_of(&self, alloc: Global, action: Action) -> Result<Event<MemDisk>, AllocError>
+        ensures { IfOk result (λ event. event ≡ event_in self.now action) }
+    {
+        match action {
+            Action::Make(addr, sectors) => Ok(EventOf::Make(addr, sectors)),
+            Action::Grow(addr, sectors) => Ok(EventOf::Grow(addr, sectors)),
+            Action::Remove(addr) => Ok(EventOf::Remove(addr)),
+            Action::Command {
+                addr,
+                cdb,
+                data,
+                ..
+            } => Ok(EventOf::Cmd {
+                host: addr.host,
+                lun: addr.lun,
+                cdb,
+                payload: payload(alloc, data)?,
+            }),
+            Action::Flush => Ok(EventOf::Flush),
+            Action::Demote => Ok(EventOf::Demote),
+            Action::Clean => Ok(EventOf::Clean),
+            Action::Balance => Ok(EventOf::Balance),
+            Action::AddDisk => Ok(EventOf::AddDisk(self.new_disk(alloc)?)),
+            Action::DiskOut(disk) => Ok(EventOf::DiskOut(disk)),
+            Action::Replace(disk) => Ok(EventOf::Replace(disk, self.new_disk(alloc)?)),
+            Action::Rebuild => Ok(EventOf::Rebuild),
+        }
+    }
+
+    // A disk that the array can take in.
+    fn new_disk(&self, alloc: Global) -> Result<NewDisk<MemDisk>, AllocError>
+        ensures { IfOk result (λ disk. disk ≡ new_disk_for self.now) }
+    {
+        let disk = new_disk(alloc, self.array.geometry(), self.array.extents())?;
+        Ok(NewDisk::new(disk))
     }
 
     // Writes what is asked.
@@ -122,36 +160,16 @@ fn new_disks(alloc: Global, setup: Setup) -> Result<Vec<MemDisk>, AllocError>
 {
     let mut disks = Vec::new(alloc);
     for _ in 0..setup.disks {
-        let disk = MemDisk::filled(alloc, setup.geometry, setup.extents, NEW_BYTE)?;
-        disks.push(disk)?;
+        disks.push(new_disk(alloc, setup.geometry, setup.extents)?)?;
     }
     Ok(disks)
 }
 
-// The event that an action is.
-fn event_of(alloc: Global, action: Action) -> Result<Event, AllocError>
-    ensures { IfOk result (λ event. event ≡ event_in action) }
+// A disk that is filled with one byte.
+fn new_disk(alloc: Global, geometry: Geometry, extents: u16) -> Result<MemDisk, AllocError>
+    ensures { IfOk result (λ disk. disk ≡ new_disk geometry extents) }
 {
-    match action {
-        Action::Make(addr, sectors) => Ok(Event::Make(addr, sectors)),
-        Action::Grow(addr, sectors) => Ok(Event::Grow(addr, sectors)),
-        Action::Remove(addr) => Ok(Event::Remove(addr)),
-        Action::Command {
-            addr,
-            cdb,
-            data,
-            ..
-        } => Ok(Event::Cmd {
-            host: addr.host,
-            lun: addr.lun,
-            cdb,
-            payload: payload(alloc, data)?,
-        }),
-        Action::Flush => Ok(Event::Flush),
-        Action::Demote => Ok(Event::Demote),
-        Action::Clean => Ok(Event::Clean),
-        Action::DiskOut(disk) => Ok(Event::DiskOut(disk)),
-    }
+    MemDisk::filled(alloc, geometry, extents, NEW_BYTE)
 }
 
 fn payload(alloc: Global, data: Data) -> Result<Bytes, AllocError>

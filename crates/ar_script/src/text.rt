@@ -1,8 +1,8 @@
 // Answers as text.
 use crate::order::Notation;
 use ar_core::{
-    Array, Class, Flush, GroupUse, Health, HomeOf, LevelOf, Move, Outcome, Refusal, Shown,
-    UnitRefusal,
+    Array, Balance, Class, DiskRefusal, Flush, GroupUse, Health, HomeOf, LevelOf, Move, OutcomeOf,
+    Rebuild, Refusal, Shown, UnitRefusal,
 };
 use ar_disks::{Addr, Disk};
 use ar_scsi::{Reply, Status};
@@ -13,19 +13,30 @@ use std::io::Write;
 const NO_UNIT: Refusal = Refusal::Unit(UnitRefusal::Absent);
 
 /// Writes the answer to an event, as a line.
-pub fn write_outcome<W: Write>(
+pub fn write_outcome<W: Write, N>(
     out: &mut W,
-    outcome: &Outcome,
+    outcome: &OutcomeOf<N>,
     notation: Notation,
 ) -> io::Result<()> {
     match outcome {
-        Outcome::Make(done)
-        | Outcome::Grow(done)
-        | Outcome::Remove(done)
-        | Outcome::DiskOut(done) => write_done(out, *done),
-        Outcome::Cmd(reply) => write_reply(out, reply, notation),
-        Outcome::Flush(flush) => write_flush(out, *flush),
-        Outcome::Demote(answer) | Outcome::Clean(answer) => write_move(out, *answer),
+        OutcomeOf::Make(done)
+        | OutcomeOf::Grow(done)
+        | OutcomeOf::Remove(done)
+        | OutcomeOf::DiskOut(done) => write_done(out, *done),
+        OutcomeOf::Cmd(reply) => write_reply(out, reply, notation),
+        OutcomeOf::Flush(flush) => write_flush(out, *flush),
+        OutcomeOf::Demote(answer) | OutcomeOf::Clean(answer) => write_move(out, *answer),
+        OutcomeOf::Balance(answer) => write_balance(out, *answer),
+        OutcomeOf::AddDisk(done) | OutcomeOf::Replace(done) => write_taken(out, done),
+        OutcomeOf::Rebuild(answer) => write_rebuild(out, *answer),
+    }
+}
+
+// Writes whether a disk was taken in.
+fn write_taken<W: Write, N>(out: &mut W, done: &Result<(), (Refusal, N)>) -> io::Result<()> {
+    match done {
+        Ok(()) => write_done(out, Ok(())),
+        Err((refusal, _)) => write_done(out, Err(*refusal)),
     }
 }
 
@@ -80,6 +91,30 @@ fn write_move<W: Write>(out: &mut W, answer: Move) -> io::Result<()> {
         }
         Move::Idle => writeln!(out, "idle"),
         Move::Broken => writeln!(out, "broken"),
+    }
+}
+
+fn write_balance<W: Write>(out: &mut W, answer: Balance) -> io::Result<()> {
+    match answer {
+        Balance::Formed(group) => writeln!(out, "formed {group}"),
+        Balance::Shifted { group, from, to } => writeln!(
+            out,
+            "shifted {group} from {from} to {to}"
+        ),
+        Balance::GivenUp => writeln!(out, "given up"),
+        Balance::NoMemory => write_done(out, Err(Refusal::Disk(DiskRefusal::NoMemory))),
+        Balance::Idle => writeln!(out, "idle"),
+        Balance::Broken => writeln!(out, "broken"),
+    }
+}
+
+fn write_rebuild<W: Write>(out: &mut W, answer: Rebuild) -> io::Result<()> {
+    match answer {
+        Rebuild::Rebuilt(extent, left) => writeln!(out, "rebuilt {extent} left {left}"),
+        Rebuild::Finished => writeln!(out, "finished"),
+        Rebuild::Idle => writeln!(out, "idle"),
+        Rebuild::GivenUp => writeln!(out, "given up"),
+        Rebuild::Broken => writeln!(out, "broken"),
     }
 }
 

@@ -56,7 +56,8 @@ pub fn fused_disks(alloc: Global, count: u8, loss: Loss) -> Result<Vec<FuseDisk>
     Ok(disks)
 }
 
-fn fused_disk(alloc: Global, extents: u16, calls: u64) -> Result<FuseDisk, AllocError>
+/// A disk that is lost after a number of calls.
+pub fn fused_disk(alloc: Global, extents: u16, calls: u64) -> Result<FuseDisk, AllocError>
     ensures { IfOk result (λ disk. CanCount disk.disk) }
 {
     let disk = MemDisk::filled(alloc, Geometry::SMALL, extents, 0xEE)?;

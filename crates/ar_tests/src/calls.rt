@@ -1,5 +1,5 @@
 // Calls of an array, and what a sound one answers to each.
-use ar_core::{Array, Event, Flush, Health, Outcome};
+use ar_core::{Array, EventOf, Flush, Health, Move, OutcomeOf, Slot};
 use ar_disks::{Addr, Disk, Host, Key};
 use ar_scsi::{Reply, Sense, Status, sense18};
 use bytes::Bytes;
@@ -32,6 +32,10 @@ pub enum Call {
     Command(u8, [u8; 16]),
     /// The least recently used block of the cache is written to the disks.
     Flush,
+    /// The oldest mirrored block goes to a group with parity.
+    Demote,
+    /// A block leaves the emptiest group that can be emptied.
+    Clean,
     /// A disk is taken out.
     DiskOut(u8),
 }
@@ -43,7 +47,9 @@ pub enum Answer {
     Done,
     /// A block of a host's first unit was flushed.
     Flushed(u8, u32),
-    /// No block waits to be flushed.
+    /// A block of the first host's first unit went to a slot of a group.
+    Moved(u32, u32, u16),
+    /// No block waits to be flushed, or is to move.
     Idle,
     /// The data are lost, so that none is flushed.
     Broken,
@@ -73,27 +79,35 @@ pub fn unit(number: u8) -> Addr {
 }
 
 /// The event that a call is.
-pub fn event_of(alloc: Global, call: Call) -> Result<Event, AllocError> {
+pub fn event_of<N>(alloc: Global, call: Call) -> Result<EventOf<N>, AllocError> {
     Ok(match call {
-        Call::Make(host, sectors) => Event::Make(unit(host), sectors),
-        Call::Remove(host) => Event::Remove(unit(host)),
+        Call::Make(host, sectors) => EventOf::Make(unit(host), sectors),
+        Call::Remove(host) => EventOf::Remove(unit(host)),
         Call::Write(host, lba, count, byte) => write(alloc, unit(host), lba, count, byte)?,
         Call::Read(host, lba) => command(unit(host), transfer(0x28, lba, 2), Bytes::new()),
         Call::Ready(host) => command(unit(host), [0; 16], Bytes::new()),
         Call::Command(host, cdb) => command(unit(host), cdb, Bytes::new()),
-        Call::Flush => Event::Flush,
-        Call::DiskOut(disk) => Event::DiskOut(disk),
+        Call::Flush => EventOf::Flush,
+        Call::Demote => EventOf::Demote,
+        Call::Clean => EventOf::Clean,
+        Call::DiskOut(disk) => EventOf::DiskOut(disk),
     })
 }
 
-fn write(alloc: Global, addr: Addr, lba: u8, count: u8, byte: u8) -> Result<Event, AllocError> {
+fn write<N>(
+    alloc: Global,
+    addr: Addr,
+    lba: u8,
+    count: u8,
+    byte: u8,
+) -> Result<EventOf<N>, AllocError> {
     let bytes = vec![in alloc; byte; usize::from(count) * 512]?;
     let payload = Bytes::from_vec(bytes)?;
     Ok(command(addr, transfer(0x2A, lba, count), payload))
 }
 
-fn command(addr: Addr, cdb: [u8; 16], payload: Bytes) -> Event {
-    Event::Cmd {
+fn command<N>(addr: Addr, cdb: [u8; 16], payload: Bytes) -> EventOf<N> {
+    EventOf::Cmd {
         host: addr.host,
         lun: addr.lun,
         cdb,
@@ -107,18 +121,20 @@ fn transfer(code: u8, lba: u8, count: u8) -> [u8; 16] {
 }
 
 /// Whether an array answered so.
-pub fn is_answer(outcome: &Outcome, answer: Answer) -> bool {
+pub fn is_answer<N>(outcome: &OutcomeOf<N>, answer: Answer) -> bool {
     match (outcome, answer) {
-        (Outcome::Make(done) | Outcome::Remove(done) | Outcome::DiskOut(done), Answer::Done) => {
-            done.is_ok()
-        }
-        (Outcome::Flush(flush), _) => is_flush(*flush, answer),
-        (Outcome::Cmd(reply), Answer::Check(sense)) => {
+        (
+            OutcomeOf::Make(done) | OutcomeOf::Remove(done) | OutcomeOf::DiskOut(done),
+            Answer::Done,
+        ) => { done.is_ok() }
+        (OutcomeOf::Flush(flush), _) => is_flush(*flush, answer),
+        (OutcomeOf::Demote(moved) | OutcomeOf::Clean(moved), _) => is_move(*moved, answer),
+        (OutcomeOf::Cmd(reply), Answer::Check(sense)) => {
             reply.status == Status::CheckCondition
                 && reply.sense == Some(sense18(sense))
                 && reply.payload.is_empty()
         }
-        (Outcome::Cmd(reply), _) => is_good(reply, answer),
+        (OutcomeOf::Cmd(reply), _) => is_good(reply, answer),
         _ => false,
     }
 }
@@ -131,6 +147,16 @@ fn is_flush(flush: Flush, answer: Answer) -> bool {
                 rb,
             },
         (Flush::Idle, Answer::Idle) | (Flush::Broken, Answer::Broken) => true,
+        _ => false,
+    }
+}
+
+fn is_move(moved: Move, answer: Answer) -> bool {
+    match (moved, answer) {
+        (Move::Moved { key, to }, Answer::Moved(rb, group, slot)) => {
+            key == Key { addr: unit(0), rb } && to == Slot { group, slot }
+        }
+        (Move::Idle, Answer::Idle) | (Move::Broken, Answer::Broken) => true,
         _ => false,
     }
 }
@@ -171,7 +197,7 @@ fn where_lost(call: Call, answer: Answer) -> Answer {
 }
 
 // Makes a call and asserts the answer. Says whether the data are lost after it.
-fn is_lost_after<R: Abort + AllocGlobal, D: Disk>(
+fn is_lost_after<R: Abort + AllocGlobal, D: Disk + Drop>(
     rt: &R,
     name: &impl Debug,
     array: &mut Array<D>,
@@ -192,7 +218,7 @@ fn is_lost_after<R: Abort + AllocGlobal, D: Disk>(
 }
 
 /// Makes calls one after another, and asserts each answer.
-pub fn play<R: Abort + AllocGlobal, D: Disk>(
+pub fn play<R: Abort + AllocGlobal, D: Disk + Drop>(
     rt: &R,
     name: &impl Debug,
     array: &mut Array<D>,

@@ -1,7 +1,7 @@
 // Events that a seeded generator draws: good ones and bad ones, over the addresses of all hosts.
 ghost use Rattle.std.specs.Prelude.{◌<◌, ◌≤◌, ◌*◌};
 
-use ar_core::Event;
+use ar_core::EventOf;
 use ar_disks::{Addr, Host};
 use bytes::Bytes;
 use rand::RngExt;
@@ -24,18 +24,20 @@ const WRITE_16: u8 = 0x8A;
 const LUNS: u8 = 9;
 
 /// The next event: a command mostly, and every other one of these a good one to a unit that is there.
-pub fn draw<R: Rng>(alloc: Global, rng: &mut R) -> Result<Event, AllocError> {
+pub fn draw<N, R: Rng>(alloc: Global, rng: &mut R) -> Result<EventOf<N>, AllocError> {
     let luns = if rng.random_ratio(3, 4) { 2 } else { LUNS };
     let addr = address(rng, luns);
     match rng.random_range(0u8..40) {
-        0 | 1 => Ok(Event::Make(addr, length(rng))),
-        2 | 3 => Ok(Event::Make(address(rng, LUNS), length(rng))),
+        0 | 1 => Ok(EventOf::Make(addr, length(rng))),
+        2 | 3 => Ok(EventOf::Make(address(rng, LUNS), length(rng))),
         // Any unit is removed as often as any other, so that the first ones, which more is asked of, stay a while.
-        4 | 5 => Ok(Event::Remove(address(rng, LUNS))),
-        6..=8 => Ok(Event::Grow(addr, length(rng))),
-        9 | 10 => Ok(Event::Flush),
-        11 => Ok(Event::Demote),
-        12 => Ok(Event::Clean),
+        4 | 5 => Ok(EventOf::Remove(address(rng, LUNS))),
+        6..=8 => Ok(EventOf::Grow(addr, length(rng))),
+        9 | 10 => Ok(EventOf::Flush),
+        11 => Ok(EventOf::Demote),
+        12 => Ok(EventOf::Clean),
+        13 => Ok(EventOf::Balance),
+        14 => Ok(EventOf::Rebuild),
         _ => command(alloc, rng, addr),
     }
 }
@@ -61,13 +63,13 @@ fn length<R: Rng>(rng: &mut R) -> u32 {
     }
 }
 
-fn command<R: Rng>(alloc: Global, rng: &mut R, addr: Addr) -> Result<Event, AllocError> {
+fn command<N, R: Rng>(alloc: Global, rng: &mut R, addr: Addr) -> Result<EventOf<N>, AllocError> {
     let mut cdb = block(rng);
     let len = data_len(rng, &cdb);
     let mut data = vec![in alloc; 0u8; len]?;
     rng.fill_bytes(&mut data);
     spoil(rng, &mut cdb);
-    Ok(Event::Cmd {
+    Ok(EventOf::Cmd {
         host: addr.host,
         lun: addr.lun,
         cdb,

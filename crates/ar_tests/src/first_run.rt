@@ -2,6 +2,7 @@
 use crate::arrays::sound_array;
 use crate::calls::{Answer, Call, Row, event_of, is_answer};
 use ar_core::{Event, Outcome};
+use ar_disks::FuseDisk;
 use ar_scsi::Sense;
 use std::alloc::{AllocError, Global};
 use std::process::Abort;
@@ -21,14 +22,14 @@ const FIRST_RUN: [Row; 7] = [
     ),
 ];
 
-fn push_events(alloc: Global, events: &mut Vec<Event>) -> Result<(), AllocError> {
+fn push_events(alloc: Global, events: &mut Vec<Event<FuseDisk>>) -> Result<(), AllocError> {
     for (call, _) in &FIRST_RUN {
         events.push(event_of(alloc, *call)?)?;
     }
     Ok(())
 }
 
-fn outcomes(alloc: Global, cache: u16) -> Result<Vec<Outcome>, Fail> {
+fn outcomes(alloc: Global, cache: u16) -> Result<Vec<Outcome<FuseDisk>>, Fail> {
     let mut events = Vec::new(alloc);
     push_events(alloc, &mut events)?;
     match sound_array(alloc, 4, cache)?.run(alloc, events) {
@@ -37,7 +38,7 @@ fn outcomes(alloc: Global, cache: u16) -> Result<Vec<Outcome>, Fail> {
     }
 }
 
-fn answers(rt: &impl Abort, outcomes: &[Outcome], cache: u16) {
+fn answers(rt: &impl Abort, outcomes: &[Outcome<FuseDisk>], cache: u16) {
     assert!(rt; outcomes.len() == FIRST_RUN.len(), "cache {cache}");
     for (outcome, (call, answer)) in outcomes.iter().zip(&FIRST_RUN) {
         assert!(rt;

@@ -24,8 +24,8 @@ const QUESTIONS: [Row; 4] = [
     (Call::Ready(0), Answer::Good(&[])),
 ];
 
-// Writes each block of a unit of twelve with a byte of its own, counted up from the first.
-fn push_writes(rows: &mut Vec<Row>, first: u8) -> Result<(), AllocError> {
+/// Writes each block of a unit of twelve with a byte of its own, counted up from the first.
+pub fn push_writes(rows: &mut Vec<Row>, first: u8) -> Result<(), AllocError> {
     for block in 0..12u8 {
         let call = Call::Write(0, block * 2, 2, first.wrapping_add(block));
         rows.push((call, Answer::Good(&[])))?;
@@ -33,8 +33,8 @@ fn push_writes(rows: &mut Vec<Row>, first: u8) -> Result<(), AllocError> {
     Ok(())
 }
 
-// Reads each of them.
-fn push_reads(rows: &mut Vec<Row>, first: u8) -> Result<(), AllocError> {
+/// Reads each of them.
+pub fn push_reads(rows: &mut Vec<Row>, first: u8) -> Result<(), AllocError> {
     for block in 0..12u8 {
         let byte = first.wrapping_add(block);
         rows.push((Call::Read(0, block * 2), Answer::Sectors(byte, byte)))?;

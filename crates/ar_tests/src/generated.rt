@@ -1,8 +1,11 @@
 // Runs of drawn events, and what they are answered with.
-use crate::arrays::sound_array;
+use crate::arrays::{fused_disk, sound_array};
 use crate::drawn::draw;
 use crate::plain::{Answer, PlainArray};
-use ar_core::{Array, Class, Event, Flush, GroupUse, Health, Move, Outcome, Refusal, UnitRefusal};
+use ar_core::{
+    Array, Balance, Class, Event, EventOf, Flush, GroupUse, Health, Move, NewDisk, OutcomeOf,
+    Rebuild, Refusal, UnitRefusal,
+};
 use ar_disks::FuseDisk;
 use ar_scsi::{Reply, Status};
 use rand::SeedableRng;
@@ -19,6 +22,9 @@ const ROOM: u32 = 6 * 15;
 
 /// The room of four disks of four small extents.
 const LITTLE_ROOM: u32 = 6 * 3;
+
+/// The room that a group of small extents brings.
+const GROUP_ROOM: u32 = 6;
 
 /// A kind of answer.
 #[derive(Clone, Copy, Debug)]
@@ -66,7 +72,7 @@ const KINDS: [Kind; 17] = [
     Kind::Open,
 ];
 
-fn kind_of(event: &Event, answer: &Answer) -> Kind {
+fn kind_of<N>(event: &EventOf<N>, answer: &Answer) -> Kind {
     match answer {
         Answer::Changed(Ok(())) => change_kind(event),
         Answer::Changed(Err(refusal)) => refusal_kind(*refusal),
@@ -75,11 +81,11 @@ fn kind_of(event: &Event, answer: &Answer) -> Kind {
     }
 }
 
-fn change_kind(event: &Event) -> Kind {
+fn change_kind<N>(event: &EventOf<N>) -> Kind {
     match event {
-        Event::Make(..) => Kind::Made,
-        Event::Remove(_) => Kind::Removed,
-        Event::Grow(..) => Kind::Grown,
+        EventOf::Make(..) => Kind::Made,
+        EventOf::Remove(_) => Kind::Removed,
+        EventOf::Grow(..) => Kind::Grown,
         _ => Kind::Other,
     }
 }
@@ -149,7 +155,7 @@ fn count_kinds(
     tally: &mut Tally,
 ) -> Result<(), AllocError> {
     for _ in 0..EVENTS {
-        let event = draw(alloc, rng)?;
+        let event: Event<FuseDisk> = draw(alloc, rng)?;
         let answer = plain.step(alloc, &event);
         tally.add(kind_of(&event, &answer));
     }
@@ -175,18 +181,31 @@ fn drawn_events_meet_every_answer(rt: HostRuntime) -> Result<(), Fail> {
     Ok(())
 }
 
-// Whether an array answered as plain lists do. What a flush or a move did is its own affair, but there is no loss that it can meet.
-fn agrees(outcome: &Outcome, answer: &Answer) -> bool {
+/// Whether an array answered as plain lists do. What a flush or a move did is its own affair, but there is no loss that it can meet.
+pub fn agrees<N>(outcome: &OutcomeOf<N>, answer: &Answer) -> bool {
     match (outcome, answer) {
         (
-            Outcome::Make(done) | Outcome::Grow(done) | Outcome::Remove(done),
+            OutcomeOf::Make(done) | OutcomeOf::Grow(done) | OutcomeOf::Remove(done),
             Answer::Changed(wanted),
         ) => *done == wanted.map_err(Refusal::Unit),
-        (Outcome::Cmd(reply), Answer::Replied(wanted)) => *reply == *wanted,
-        (Outcome::Flush(flush), Answer::Open) => *flush != Flush::Broken,
-        (Outcome::Demote(answer) | Outcome::Clean(answer), Answer::Open) => *answer != Move::Broken,
+        (OutcomeOf::Cmd(reply), Answer::Replied(wanted)) => *reply == *wanted,
+        (OutcomeOf::Flush(flush), Answer::Open) => *flush != Flush::Broken,
+        (OutcomeOf::Demote(answer) | OutcomeOf::Clean(answer), Answer::Open) => *answer
+            != Move::Broken,
+        (OutcomeOf::Balance(answer), Answer::Open) => is_sound(*answer),
+        (OutcomeOf::Rebuild(answer), Answer::Open) => {
+            !matches!(answer, Rebuild::GivenUp | Rebuild::Broken)
+        }
         _ => false,
     }
+}
+
+// Whether balancing met no loss, and no want of memory.
+fn is_sound(answer: Balance) -> bool {
+    matches!(
+        answer,
+        Balance::Formed(_) | Balance::Shifted { .. } | Balance::Idle
+    )
 }
 
 // Draws an event, and asserts that an array answers it as plain lists do.
@@ -200,11 +219,20 @@ fn agree<R: Abort + AllocGlobal>(
     let answer = plain.step(rt.alloc(), &event);
     let outcome = array.step(rt.alloc(), event);
     assert!(rt; agrees(&outcome, &answer), "{outcome:?} for {answer:?}");
+    plain.gain(gain_of(&outcome));
     Ok(())
 }
 
-// The same for half of a run.
-fn agree_in_half<R: Abort + AllocGlobal>(
+/// How many blocks more units may have after an event.
+pub fn gain_of<N>(outcome: &OutcomeOf<N>) -> u32 {
+    match outcome {
+        OutcomeOf::Balance(Balance::Formed(_)) => GROUP_ROOM,
+        _ => 0,
+    }
+}
+
+// The same for a third of a run.
+fn agree_in_part<R: Abort + AllocGlobal>(
     rt: &R,
     rng: &mut SmallRng,
     plain: &mut PlainArray,
@@ -223,23 +251,57 @@ fn has_parity(groups: &[GroupUse]) -> bool {
 
 // Takes a disk out.
 fn lose_a_disk<R: Abort + AllocGlobal>(rt: &R, array: &mut Array<FuseDisk>) {
-    let outcome = array.step(rt.alloc(), Event::DiskOut(1));
-    assert!(rt; outcome == Outcome::DiskOut(Ok(())), "{outcome:?}");
+    let outcome = array.step(rt.alloc(), EventOf::DiskOut(1));
+    assert!(rt;
+        matches!(outcome, OutcomeOf::DiskOut(Ok(()))),
+        "{outcome:?}"
+    );
 }
 
-// A run of drawn events on an array with so much room, in the middle of which a disk is taken out. Says whether blocks
-// stood in groups with parity then.
+// Puts a new disk in the place of the one that was taken out, and adds another.
+fn take_two_disks<R: Abort + AllocGlobal>(
+    rt: &R,
+    extents: u16,
+    array: &mut Array<FuseDisk>,
+) -> Result<(), AllocError> {
+    let event = EventOf::Replace(1, new_disk(rt.alloc(), extents)?);
+    let outcome = array.step(rt.alloc(), event);
+    assert!(rt;
+        matches!(outcome, OutcomeOf::Replace(Ok(()))),
+        "{outcome:?}"
+    );
+    let event = EventOf::AddDisk(new_disk(rt.alloc(), extents)?);
+    let outcome = array.step(rt.alloc(), event);
+    assert!(rt;
+        matches!(outcome, OutcomeOf::AddDisk(Ok(()))),
+        "{outcome:?}"
+    );
+    Ok(())
+}
+
+// A sound disk for an array.
+fn new_disk(alloc: Global, extents: u16) -> Result<NewDisk<FuseDisk>, AllocError> {
+    Ok(NewDisk::new(fused_disk(alloc, extents, u64::MAX)?))
+}
+
+// A run of drawn events on an array, a third of the way through which a disk is taken out; after the second third another is
+// put in its place, and one more is added, so that a rebuild and then balancing go on between the rest. Says whether blocks
+// stood in groups with parity when the disk was lost.
 fn run<R: Abort + AllocGlobal>(
     rt: &R,
+    extents: u16,
     plain: &mut PlainArray,
     array: &mut Array<FuseDisk>,
 ) -> Result<bool, AllocError> {
     let mut rng = SmallRng::seed_from_u64(1);
-    agree_in_half(rt, &mut rng, plain, array)?;
+    agree_in_part(rt, &mut rng, plain, array)?;
     let has_parity = has_parity(&array.groups(rt.alloc())?);
     lose_a_disk(rt, array);
-    agree_in_half(rt, &mut rng, plain, array)?;
+    agree_in_part(rt, &mut rng, plain, array)?;
     assert!(rt; array.health() == Health::Out(1), "{:?}", array.health());
+    take_two_disks(rt, extents, array)?;
+    agree_in_part(rt, &mut rng, plain, array)?;
+    assert!(rt; array.health() == Health::Whole, "{:?}", array.health());
     Ok(has_parity)
 }
 
@@ -252,7 +314,7 @@ fn run_on<R: Abort + AllocGlobal>(
     let mut array = sound_array(rt.alloc(), extents, cache)?;
     assert!(rt; array.free_room() == room, "{extents} extents");
     let mut plain = PlainArray::new(rt.alloc(), room);
-    Ok(run(rt, &mut plain, &mut array)?)
+    Ok(run(rt, extents, &mut plain, &mut array)?)
 }
 
 #[test]

@@ -7,6 +7,8 @@ mod arrays;
 #[cfg(test)]
 mod calls;
 #[cfg(test)]
+mod churn;
+#[cfg(test)]
 mod drawn;
 #[cfg(test)]
 mod first_run;
@@ -16,6 +18,8 @@ mod flushed;
 mod fuses;
 #[cfg(test)]
 mod generated;
+#[cfg(test)]
+mod mixed;
 #[cfg(test)]
 mod plain;
 #[cfg(test)]

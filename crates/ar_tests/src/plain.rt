@@ -1,7 +1,7 @@
 // What an array must answer: its units as plain lists of sectors, and the room that they leave.
 ghost use Rattle.std.specs.Prelude.{◌<◌, IfSome, vec_len};
 
-use ar_core::{Event, UnitRefusal};
+use ar_core::{EventOf, UnitRefusal};
 use ar_disks::Addr;
 use ar_scsi::Reply;
 use ar_unit::PlainUnit;
@@ -47,12 +47,12 @@ impl PlainArray {
     }
 
     /// Does an event, and answers it.
-    pub fn step(&mut self, alloc: Global, event: &Event) -> Answer {
+    pub fn step<N>(&mut self, alloc: Global, event: &EventOf<N>) -> Answer {
         match event {
-            Event::Make(addr, sectors) => Answer::Changed(self.make(alloc, *addr, *sectors)),
-            Event::Remove(addr) => Answer::Changed(self.remove(*addr)),
-            Event::Grow(addr, sectors) => Answer::Changed(self.grow(*addr, *sectors)),
-            Event::Cmd {
+            EventOf::Make(addr, sectors) => Answer::Changed(self.make(alloc, *addr, *sectors)),
+            EventOf::Remove(addr) => Answer::Changed(self.remove(*addr)),
+            EventOf::Grow(addr, sectors) => Answer::Changed(self.grow(*addr, *sectors)),
+            EventOf::Cmd {
                 host,
                 lun,
                 cdb,
@@ -64,8 +64,13 @@ impl PlainArray {
                 };
                 Answer::Replied(self.command(alloc, addr, cdb, payload.as_slice()))
             }
-            Event::Flush | Event::Demote | Event::Clean | Event::DiskOut(_) => Answer::Open,
+            _ => Answer::Open,
         }
+    }
+
+    /// A group was formed, so that units may have so many blocks more.
+    pub fn gain(&mut self, blocks: u32) {
+        self.blocks = self.blocks.saturating_add(blocks);
     }
 
     // How many blocks more a unit may have.

@@ -1,5 +1,5 @@
 // Scripts whose input, output or array fails, lines and answers that are long, and texts that no script meets.
-use ar_core::{Health, Outcome, Refusal, UnitRefusal};
+use ar_core::{Health, OutcomeOf, Refusal, UnitRefusal};
 use ar_disks::Geometry;
 use ar_script::{Fault, FaultKind, Notation, Setup, run_script, write_health, write_outcome};
 use ar_scsi::Reply;
@@ -307,7 +307,7 @@ fn fault_texts(rt: HostRuntime) -> Result<(), Fail> {
 }
 
 // Asserts how an answer is written.
-fn writes<R: Abort + AllocGlobal>(rt: &R, outcome: Outcome, text: &[u8]) {
+fn writes<R: Abort + AllocGlobal>(rt: &R, outcome: OutcomeOf<()>, text: &[u8]) {
     let mut shown = Vec::new(rt.alloc());
     let is_written = write_outcome(&mut shown, &outcome, Notation::Runs).is_ok();
     assert!(rt;
@@ -320,12 +320,12 @@ fn writes<R: Abort + AllocGlobal>(rt: &R, outcome: Outcome, text: &[u8]) {
 #[test]
 fn texts_of_refused_memory(rt: HostRuntime) {
     let refused = Err(Refusal::Unit(UnitRefusal::NoMemory));
-    writes(&rt, Outcome::Cmd(Reply::busy()), b"busy\n");
-    writes(&rt, Outcome::Make(refused), b"refused M4 NoMemory\n");
-    writes(&rt, Outcome::Grow(refused), b"refused M4 NoMemory\n");
+    writes(&rt, OutcomeOf::Cmd(Reply::busy()), b"busy\n");
+    writes(&rt, OutcomeOf::Make(refused), b"refused M4 NoMemory\n");
+    writes(&rt, OutcomeOf::Grow(refused), b"refused M4 NoMemory\n");
 }
 
-// No script replaces a disk.
+// Of the widest array, which no script waits for.
 #[test]
 fn the_text_of_a_rebuilding(rt: HostRuntime) {
     let mut shown = Vec::new(rt.alloc());

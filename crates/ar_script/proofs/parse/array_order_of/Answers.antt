@@ -1,6 +1,6 @@
 use Rattle.ar_script.specs.Forms.{ReadsArrayOrder}
 use Rattle.ar_script.proofs.ParseLemmas.{named, answered}
-use Rattle.ar_script.proofs.parse.array_order_of.Goals.{in-flush, in-demote, in-clean, in-out, in-levels, in-home, in-groups, in-room, in-health, in-block}
+use Rattle.ar_script.proofs.parse.array_order_of.Goals.{in-flush, in-demote, in-clean, in-balance, in-add, in-out, in-replace, in-rebuild, in-levels, in-home, in-groups, in-room, in-health, in-block}
 use Rattle.ar_script.proofs.parse.array_order_of.Goals as goal
 
 pub returns-clause-reads : goal.returns-clause-reads
@@ -9,7 +9,11 @@ returns-clause-reads c =
       | in-flush w ↦ named ReadsArrayOrder _ _ _ _ w.in-flush.is (answered _ _ _ _ _ w.alone-order.ensures w.order-is c.ok_or.ensures.value)
       | in-demote w ↦ named ReadsArrayOrder _ _ _ _ w.in-demote.is (answered _ _ _ _ _ w.alone-order-in-demote.ensures w.order-is c.ok_or.ensures.value)
       | in-clean w ↦ named ReadsArrayOrder _ _ _ _ w.in-clean.is (answered _ _ _ _ _ w.alone-order-in-clean.ensures w.order-is c.ok_or.ensures.value)
+      | in-balance w ↦ named ReadsArrayOrder _ _ _ _ w.in-balance.is (answered _ _ _ _ _ w.alone-order-in-balance.ensures w.order-is c.ok_or.ensures.value)
+      | in-add w ↦ named ReadsArrayOrder _ _ _ _ w.in-add.is (answered _ _ _ _ _ w.alone-order-in-add.ensures w.order-is c.ok_or.ensures.value)
       | in-out w ↦ named ReadsArrayOrder _ _ _ _ w.in-out.is (answered _ _ _ _ _ w.disk_out-order.ensures w.order-is c.ok_or.ensures.value)
+      | in-replace w ↦ named ReadsArrayOrder _ _ _ _ w.in-replace.is (answered _ _ _ _ _ w.replace-order.ensures w.order-is c.ok_or.ensures.value)
+      | in-rebuild w ↦ named ReadsArrayOrder _ _ _ _ w.in-rebuild.is (answered _ _ _ _ _ w.alone-order-in-rebuild.ensures w.order-is c.ok_or.ensures.value)
       | in-levels w ↦ named ReadsArrayOrder _ _ _ _ w.in-levels.is (answered _ _ _ _ _ w.levels-order.ensures w.order-is c.ok_or.ensures.value)
       | in-home w ↦ named ReadsArrayOrder _ _ _ _ w.in-home.is (answered _ _ _ _ _ w.home-order.ensures w.order-is c.ok_or.ensures.value)
       | in-groups w ↦ named ReadsArrayOrder _ _ _ _ w.in-groups.is (answered _ _ _ _ _ w.alone-order-in-groups.ensures w.order-is c.ok_or.ensures.value)

@@ -3,4 +3,4 @@ use Rattle.ar_script.specs.Setups.{new_disk}
 use Rattle.ar_script.proofs.runner.new_disks.Given as goal
 
 abbrev pub invariant-loop : goal.invariant-loop
-invariant-loop l = l.disks.items ≡ replicate l.counter (new_disk l.setup)
+invariant-loop l = l.disks.items ≡ replicate l.counter (new_disk l.setup.geometry l.setup.extents)

@@ -1,7 +1,6 @@
 use Rattle.std.proofs.Common.{rules, ◌≡◌, ◌++◌, ◌∷◌, [], List, sym, subst, ap, ◌∙◌, arith}
 use Rattle.std.proofs.lemmas.List.{append_assoc, append-nil, length-append, nil_from_length}
-use Rattle.ar_core.specs.declared.event.Event.{Event}
-use Rattle.ar_core.specs.declared.event.Outcome.{Outcome}
+use Rattle.ar_core.specs.Events.{Event, Outcome}
 use Rattle.ar_core.specs.Run.{Turn, Did, IsRun, AreOutcomes, turns_of}
 use Rattle.ar_core.proofs.Isolation.{no_turn, one_more, turns_of-more}
 use Rattle.ar_core.proofs.array.Array.run.Goals as goal

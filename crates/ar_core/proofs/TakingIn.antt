@@ -1,0 +1,66 @@
+-- Adding a disk is a step, and so is putting one in another's place.
+use Rattle.std.proofs.Common.{◌≡◌, ℕ, false, None, Result, Ok, Err, refl, sym, ap, subst}
+use Rattle.std.specs.Prelude.{option_map}
+use Rattle.ar_disks.specs.Disk.{DiskState}
+use Rattle.ar_extents.specs.Set.{SetState}
+use Rattle.ar_extents.specs.Changes.{replace_refusal}
+use Rattle.ar_extents.specs.declared.health.Health.{Health}
+use Rattle.ar_extents.specs.declared.health.Health.TheVariants.{Broken}
+use Rattle.ar_image.specs.declared.refusal.Refusal.{Refusal}
+use Rattle.ar_image.specs.declared.refusal.Refusal.TheVariants.{Disk as DiskRefused}
+use Rattle.ar_image.specs.Image.{ArrayState, is_broken}
+use Rattle.ar_image.specs.Seen.{SameSeen}
+use Rattle.ar_image.specs.DiskIn.{AddsDisk, ReplacesDisk}
+use Rattle.ar_core.specs.declared.event.EventOf.TheVariants.{AddDisk as AddDiskEvent, Replace as ReplaceEvent}
+use Rattle.ar_core.specs.declared.event.OutcomeOf.TheVariants.{AddDisk as AddDiskOutcome, Replace as ReplaceOutcome}
+use Rattle.ar_core.specs.Causes.{HasCause}
+use Rattle.ar_core.specs.Quiet.{IsQuiet}
+use Rattle.ar_core.specs.Step.{Steps}
+use Rattle.ar_core.proofs.Causes.{cause_added, cause_replaced, cause_same}
+use Rattle.ar_core.proofs.Events.{steps_quiet, quiet_tables, quiet_refl}
+
+added_quiet : (old new : ArrayState) (disk : DiskState) (result : Result (Unit {0}) (Refusal × DiskState)) → AddsDisk old disk result new
+    → (is_broken new ≡ false → SameSeen old new) → IsQuiet old new
+added_quiet old new disk (Ok done) adds seen =
+    quiet_tables old new (ap (λ (s : ArrayState). s.store.book) adds.added) seen (ap (λ (s : ArrayState). s.cache.capacity) adds.added)
+added_quiet old new disk (Err back) adds seen = quiet_refl old new adds.unchanged
+
+added_cause : (old new : ArrayState) (disk : DiskState) (result : Result (Unit {0}) (Refusal × DiskState)) → AddsDisk old disk result new
+    → HasCause (AddDiskEvent disk) old.store.disks new.store.disks
+added_cause old new disk (Ok done) adds =
+    subst (λ (s : ArrayState). HasCause (AddDiskEvent disk) old.store.disks s.store.disks) (sym adds.added) (cause_added old.store.disks disk)
+added_cause old new disk (Err back) adds =
+    cause_same (AddDiskEvent disk) old.store.disks new.store.disks (ap (λ (s : ArrayState). s.store.disks) adds.unchanged)
+
+-- a disk was added
+pub steps_added : (old new : ArrayState) (disk : DiskState) (result : Result (Unit {0}) (Refusal × DiskState)) → AddsDisk old disk result new
+    → (is_broken new ≡ false → SameSeen old new) → Steps old (AddDiskEvent disk) (AddDiskOutcome result) new
+steps_added old new disk result adds seen =
+    steps_quiet old new (AddDiskEvent disk) (AddDiskOutcome result) adds (λ a. refl) (added_quiet old new disk result adds seen)
+    (added_cause old new disk result adds)
+
+-- no disk is taken in by a set that is broken
+not_lost : (s : SetState) (number : ℕ) (disk : DiskState) → option_map DiskRefused (replace_refusal s number disk) ≡ None → s.health ≡ Broken → ⊥
+not_lost s number disk taken is =
+    let refused = subst (λ (h : Health). option_map DiskRefused (replace_refusal (record s { health = h }) number disk) ≡ None) is taken in cc
+
+replaced_quiet : (old new : ArrayState) (number : ℕ) (disk : DiskState) (result : Result (Unit {0}) (Refusal × DiskState)) → ReplacesDisk old number disk result new
+    → (is_broken new ≡ false → SameSeen old new) → IsQuiet old new
+replaced_quiet old new number disk (Ok done) replaces seen =
+    quiet_tables old new (ap (λ (s : ArrayState). s.store.book) replaces.replaced) seen (ap (λ (s : ArrayState). s.cache.capacity) replaces.replaced)
+replaced_quiet old new number disk (Err back) replaces seen = quiet_refl old new replaces.unchanged
+
+replaced_cause : (old new : ArrayState) (number : ℕ) (disk : DiskState) (result : Result (Unit {0}) (Refusal × DiskState)) → ReplacesDisk old number disk result new
+    → HasCause (ReplaceEvent number disk) old.store.disks new.store.disks
+replaced_cause old new number disk (Ok done) replaces =
+    subst (λ (s : ArrayState). HasCause (ReplaceEvent number disk) old.store.disks s.store.disks) (sym replaces.replaced)
+    (cause_replaced old.store.disks number disk (not_lost old.store.disks number disk replaces.taken))
+replaced_cause old new number disk (Err back) replaces =
+    cause_same (ReplaceEvent number disk) old.store.disks new.store.disks (ap (λ (s : ArrayState). s.store.disks) replaces.unchanged)
+
+-- a disk was put in another's place
+pub steps_replaced : (old new : ArrayState) (number : ℕ) (disk : DiskState) (result : Result (Unit {0}) (Refusal × DiskState)) → ReplacesDisk old number disk result new
+    → (is_broken new ≡ false → SameSeen old new) → Steps old (ReplaceEvent number disk) (ReplaceOutcome result) new
+steps_replaced old new number disk result replaces seen =
+    steps_quiet old new (ReplaceEvent number disk) (ReplaceOutcome result) replaces (λ a. refl) (replaced_quiet old new number disk result replaces seen)
+    (replaced_cause old new number disk result replaces)

@@ -1,0 +1,33 @@
+// What hosts ask of an array, as laws of steps and runs.
+ghost use Rattle.std.specs.Prelude.{◌≡◌, ℕ, [], false, List};
+ghost use Rattle.ar_disks.specs.declared.address.Host.{Host};
+ghost use Rattle.ar_scsi.specs.declared.reply.Reply.{Reply};
+ghost use Rattle.ar_scsi.specs.Reply.{good};
+ghost use Rattle.ar_unit.specs.Sectors.{Sector, written};
+ghost use Rattle.ar_unit.specs.Unit.{Present};
+ghost use Rattle.ar_image.specs.Image.{ArrayState, is_broken, image};
+ghost use Rattle.ar_core.specs.Run.{IsIsolated};
+ghost use Rattle.ar_core.specs.Step.{Steps};
+ghost use Rattle.ar_core.specs.Laws.{RunOf, IsAlikeAt, IsAnsweredSoundly, IsWriteWithin};
+
+use crate::{EventOf, OutcomeOf};
+
+/// A host's own entries decide its replies: in two runs, on any arrays and whatever else happened in them, a command to a unit
+/// that began the same and has met the same makings, growths, removals and commands of its own is answered the same. It does
+/// nothing when it is called.
+pub fn own_entries_decide_replies()
+    ensures { (one other : RunOf) (k j : ℕ) (host : Host) (lun : ℕ) (cdb payload : List ℕ) (reply answer : Reply)
+        → IsIsolated one.first one.turns one.states → IsIsolated other.first other.turns other.states
+        → IsAlikeAt (host.number, lun) one k other j
+        → IsAnsweredSoundly one k host lun cdb payload reply → IsAnsweredSoundly other j host lun cdb payload answer
+        → reply ≡ answer }
+{}
+
+/// No write is refused for room: a WRITE inside its unit, with the data for its sectors, is done and GOOD unless the data of the
+/// array are lost, however full the array is. It does nothing when it is called.
+pub fn writes_that_fit_are_done()
+    ensures { (old new : ArrayState) (host : Host) (lun : ℕ) (cdb payload : List ℕ) (reply : Reply) (sectors : List Sector) (lba count : ℕ)
+        → Steps old (EventOf.Cmd host lun cdb payload) (OutcomeOf.Cmd reply) new
+        → is_broken new ≡ false → IsWriteWithin old (host.number, lun) cdb payload sectors lba count
+        → (reply ≡ good []) × (image new (host.number, lun) ≡ Present (written sectors lba count payload) false) }
+{}

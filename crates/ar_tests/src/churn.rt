@@ -1,0 +1,315 @@
+// Drawn events while disks fault, are taken out, replaced, rebuilt and added, one of them down at a time. In the end every block
+// is read back without each of the disks in turn.
+use crate::arrays::{Loss, fused_disk, fused_disks};
+use crate::drawn::draw;
+use crate::generated::{agrees, gain_of};
+use crate::plain::PlainArray;
+use ar_core::{Array, Balance, Event, EventOf, Health, NewDisk, OutcomeOf, Rebuild};
+use ar_disks::{Addr, FuseDisk, Host};
+use bytes::Bytes;
+use rand::rngs::SmallRng;
+use rand::{RngExt, SeedableRng};
+use std::alloc::{AllocError, Global};
+use std::process::Abort;
+use std::test::Fail;
+
+/// The events of a run.
+const EVENTS: u32 = 5_000;
+
+/// Extents of each disk.
+const EXTENTS: u16 = 6;
+
+/// The most disks of an array.
+const MOST_DISKS: u8 = 12;
+
+/// How many disks there are, and which of them has a fuse, if one has: no other is ever lost before it is replaced.
+#[derive(Clone, Copy, Debug)]
+struct Disks {
+    count: u8,
+    weak: Option<u8>,
+}
+
+/// What a run is on.
+#[derive(Clone, Copy, Debug)]
+struct Trial {
+    disks: u8,
+    cache: u16,
+    seed: u64,
+}
+
+// A disk for the array, lost after a number of calls.
+fn new_disk(alloc: Global, calls: u64) -> Result<NewDisk<FuseDisk>, AllocError> {
+    Ok(NewDisk::new(fused_disk(alloc, EXTENTS, calls)?))
+}
+
+// Asserts what an event is answered, which plain lists say. Steps of balancing and rebuilds may be given up where a disk is lost.
+fn answers<R: Abort + AllocGlobal>(
+    rt: &R,
+    plain: &mut PlainArray,
+    array: &mut Array<FuseDisk>,
+    event: Event<FuseDisk>,
+) {
+    let wanted = plain.step(rt.alloc(), &event);
+    let outcome = array.step(rt.alloc(), event);
+    assert!(rt;
+        agrees(&outcome, &wanted) || is_given_up(&outcome),
+        "{outcome:?} for {wanted:?}"
+    );
+    assert!(rt; array.health() != Health::Broken, "{outcome:?}");
+    plain.gain(gain_of(&outcome));
+}
+
+fn is_given_up<N>(outcome: &OutcomeOf<N>) -> bool {
+    matches!(
+        outcome,
+        OutcomeOf::Balance(Balance::GivenUp) | OutcomeOf::Rebuild(Rebuild::GivenUp)
+    )
+}
+
+// Takes a disk out: the one with a fuse, where there is one.
+fn take_out<R: Abort + AllocGlobal>(rt: &R, disk: u8, array: &mut Array<FuseDisk>) {
+    let outcome = array.step(rt.alloc(), EventOf::DiskOut(disk));
+    assert!(rt;
+        matches!(outcome, OutcomeOf::DiskOut(Ok(()))),
+        "{outcome:?}"
+    );
+}
+
+fn replace<R: Abort + AllocGlobal>(
+    rt: &R,
+    disk: u8,
+    calls: u64,
+    array: &mut Array<FuseDisk>,
+) -> Result<(), AllocError> {
+    let event = EventOf::Replace(disk, new_disk(rt.alloc(), calls)?);
+    let outcome = array.step(rt.alloc(), event);
+    assert!(rt;
+        matches!(outcome, OutcomeOf::Replace(Ok(()))),
+        "{outcome:?}"
+    );
+    Ok(())
+}
+
+fn add<R: Abort + AllocGlobal>(rt: &R, array: &mut Array<FuseDisk>) -> Result<(), AllocError> {
+    let event = EventOf::AddDisk(new_disk(rt.alloc(), u64::MAX)?);
+    let outcome = array.step(rt.alloc(), event);
+    assert!(rt;
+        matches!(outcome, OutcomeOf::AddDisk(Ok(()))),
+        "{outcome:?}"
+    );
+    Ok(())
+}
+
+// Lets a disk go, come or be replaced, now and then.
+fn disturb<R: Abort + AllocGlobal>(
+    rt: &R,
+    rng: &mut SmallRng,
+    disks: &mut Disks,
+    array: &mut Array<FuseDisk>,
+) -> Result<(), AllocError> {
+    match array.health() {
+        Health::Out(disk) => {
+            if rng.random_ratio(1, 40) {
+                replace_by_any(rt, rng, disk, disks, array)?;
+            }
+        }
+        Health::Whole => {
+            if rng.random_ratio(1, 200) {
+                lose_any(rt, rng, disks, array);
+            }
+        }
+        _ => {}
+    }
+    if disks.count < MOST_DISKS && rng.random_ratio(1, 1_000) {
+        add(rt, array)?;
+        disks.count = disks.count.saturating_add(1);
+    }
+    Ok(())
+}
+
+// The disk that comes is sound, or is itself lost some time.
+fn replace_by_any<R: Abort + AllocGlobal>(
+    rt: &R,
+    rng: &mut SmallRng,
+    disk: u8,
+    disks: &mut Disks,
+    array: &mut Array<FuseDisk>,
+) -> Result<(), AllocError> {
+    if rng.random_ratio(1, 2) {
+        disks.weak = None;
+        return replace(rt, disk, u64::MAX, array);
+    }
+    disks.weak = Some(disk);
+    replace(rt, disk, rng.random_range(0u64..600), array)
+}
+
+fn lose_any<R: Abort + AllocGlobal>(
+    rt: &R,
+    rng: &mut SmallRng,
+    disks: &mut Disks,
+    array: &mut Array<FuseDisk>,
+) {
+    let any = rng.random_range(0u8..disks.count.max(1));
+    take_out(rt, disks.weak.unwrap_or(any), array);
+}
+
+// Puts a sound disk in the place of one, and rebuilds it whole.
+fn renew<R: Abort + AllocGlobal>(
+    rt: &R,
+    disk: u8,
+    array: &mut Array<FuseDisk>,
+) -> Result<(), AllocError> {
+    take_out(rt, disk, array);
+    replace(rt, disk, u64::MAX, array)?;
+    for _ in 0..EXTENTS {
+        let _ = array.step(rt.alloc(), EventOf::Rebuild);
+    }
+    assert!(rt; array.health() == Health::Whole, "{:?}", array.health());
+    Ok(())
+}
+
+// Makes all disks sound.
+fn settle<R: Abort + AllocGlobal>(
+    rt: &R,
+    disks: Disks,
+    array: &mut Array<FuseDisk>,
+) -> Result<(), AllocError> {
+    match (array.health(), disks.weak) {
+        (Health::Out(disk) | Health::Rebuilding(disk, _), _) | (_, Some(disk)) => {
+            renew(rt, disk, array)
+        }
+        _ => Ok(()),
+    }
+}
+
+// Reads all blocks of all units that there may be.
+fn read_all<R: Abort + AllocGlobal>(rt: &R, plain: &mut PlainArray, array: &mut Array<FuseDisk>) {
+    for number in 0..4u8 {
+        for lun in 0..8u8 {
+            read_unit(rt, plain, array, unit(number, lun));
+        }
+    }
+}
+
+fn unit(number: u8, lun: u8) -> Addr {
+    let host = Host::new(number % 4).unwrap();
+    Addr { host, lun }
+}
+
+// Reads every two sectors of a unit of up to 22. A read past its end is refused by both.
+fn read_unit<R: Abort + AllocGlobal>(
+    rt: &R,
+    plain: &mut PlainArray,
+    array: &mut Array<FuseDisk>,
+    addr: Addr,
+) {
+    for block in 0..11u8 {
+        answers(rt, plain, array, read(addr, block * 2));
+    }
+}
+
+// READ (10) of two sectors.
+fn read(addr: Addr, lba: u8) -> Event<FuseDisk> {
+    EventOf::Cmd {
+        host: addr.host,
+        lun: addr.lun,
+        cdb: [0x28, 0, 0, 0, 0, lba, 0, 0, 2, 0, 0, 0, 0, 0, 0, 0],
+        payload: Bytes::new(),
+    }
+}
+
+// Draws events and lets disks come and go, and then reads all blocks without each disk in turn.
+fn live<R: Abort + AllocGlobal>(
+    rt: &R,
+    trial: Trial,
+    plain: &mut PlainArray,
+    array: &mut Array<FuseDisk>,
+) -> Result<(), AllocError> {
+    let mut rng = SmallRng::seed_from_u64(trial.seed);
+    let mut disks = Disks {
+        count: trial.disks,
+        weak: None,
+    };
+    for _ in 0..EVENTS {
+        disturb(rt, &mut rng, &mut disks, array)?;
+        let event = draw(rt.alloc(), &mut rng)?;
+        answers(rt, plain, array, event);
+    }
+    settle(rt, disks, array)?;
+    for disk in 0..disks.count {
+        take_out(rt, disk, array);
+        read_all(rt, plain, array);
+        renew(rt, disk, array)?;
+    }
+    Ok(())
+}
+
+// As many groups as the disks' extents make, of six blocks each, but for one that stays free.
+fn room_of(disks: u8) -> u32 {
+    (u32::from(disks) * u32::from(EXTENTS) / 4).saturating_sub(1) * 6
+}
+
+fn run<R: Abort + AllocGlobal>(rt: &R, trial: Trial) -> Result<(), Fail> {
+    let loss = Loss {
+        extents: EXTENTS,
+        cache: trial.cache,
+        disk: 0,
+        calls: u64::MAX,
+    };
+    let disks = fused_disks(rt.alloc(), trial.disks, loss)?;
+    match Array::start(rt.alloc(), disks, u32::from(trial.cache)) {
+        Ok(mut array) => Ok(run_on(rt, trial, &mut array)?),
+        Err((fault, _)) => Err(Fail::new(fault)),
+    }
+}
+
+fn run_on<R: Abort + AllocGlobal>(
+    rt: &R,
+    trial: Trial,
+    array: &mut Array<FuseDisk>,
+) -> Result<(), AllocError> {
+    let room = room_of(trial.disks);
+    assert!(rt; array.free_room() == room, "{trial:?}");
+    let mut plain = PlainArray::new(rt.alloc(), room);
+    live(rt, trial, &mut plain, array)
+}
+
+#[test]
+fn four_disks_come_and_go(rt: HostRuntime) -> Result<(), Fail> {
+    let trial = Trial {
+        disks: 4,
+        cache: 0,
+        seed: 1,
+    };
+    run(&rt, trial)
+}
+
+#[test]
+fn six_disks_come_and_go(rt: HostRuntime) -> Result<(), Fail> {
+    let trial = Trial {
+        disks: 6,
+        cache: 2,
+        seed: 2,
+    };
+    run(&rt, trial)
+}
+
+#[test]
+fn nine_disks_come_and_go(rt: HostRuntime) -> Result<(), Fail> {
+    let trial = Trial {
+        disks: 9,
+        cache: 0,
+        seed: 3,
+    };
+    run(&rt, trial)
+}
+
+#[test]
+fn twelve_disks_come_and_go(rt: HostRuntime) -> Result<(), Fail> {
+    let trial = Trial {
+        disks: 12,
+        cache: 64,
+        seed: 4,
+    };
+    run(&rt, trial)
+}
