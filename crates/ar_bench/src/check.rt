@@ -1,5 +1,6 @@
 // A few hundred operations of each workload, and a digest of what is read back.
 use crate::failure::Failure;
+use crate::measure::size_of;
 use ar_disks::Geometry;
 use ar_workloads::{Data, Sink, Size, Stage, Workload};
 use rand_core::SeedableRng;
@@ -35,16 +36,23 @@ impl ReadBack {
     }
 }
 
-// The size of an array on which a few hundred operations are soon done.
-fn few_extents(geometry: Geometry) -> Size {
+// The size of an array on which a few hundred operations are soon done. Many groups are as many as are measured.
+fn size_of_check(workload: Workload, geometry: Geometry) -> Size {
+    if workload.is_of_many_groups() {
+        return size_of(workload, geometry);
+    }
     let extents = match geometry {
         Geometry::Paper => 4,
         Geometry::Small => 32,
     };
-    Size { geometry, extents }
+    Size {
+        geometry,
+        disks: 4,
+        extents,
+    }
 }
 
-/// Does a few hundred operations of a workload, and reads all its blocks back.
+/// Does a few hundred operations of a workload, or one for each block of many groups, and reads all its blocks back.
 pub fn check(
     alloc: Global,
     workload: Workload,
@@ -53,7 +61,7 @@ pub fn check(
     read_back: &mut ReadBack,
 ) -> Result<(), Failure> {
     let data = Data::new(alloc, geometry, seed)?;
-    let mut stage = Stage::new(alloc, workload, few_extents(geometry))?;
+    let mut stage = Stage::new(alloc, workload, size_of_check(workload, geometry))?;
     let mut rng = Xoshiro256PlusPlus::seed_from_u64(seed);
     do_rounds(alloc, &mut stage, &data, &mut rng, read_back)
 }

@@ -27,7 +27,7 @@ pub enum CommandLineFault {
     #[error("bad command line: ar_bench [--workload NAME] [--seconds 1..600] [--seed N] [--progress] [--check]")]
     Bad,
     /// There is no workload of this name.
-    #[error("no such workload; there are: fill overwrite overwrite-cached small-write read small-read parity-read parity-write degraded-read degraded-write many-groups")]
+    #[error("no such workload; there are: fill overwrite overwrite-cached small-write read small-read parity-read parity-write degraded-read degraded-write demote clean many-groups-64 many-groups-1024 many-groups-3072")]
     Workload,
     /// Memory was refused.
     #[error("no memory")]

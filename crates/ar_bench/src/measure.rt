@@ -1,5 +1,6 @@
 // A workload timed against the bare loop.
-ghost use Rattle.std.specs.Prelude.{◌<◌, ◌≤◌};
+ghost use Rattle.std.specs.Prelude.{◌<◌, ◌≤◌, ◌*◌};
+ghost use Rattle.ar_disks.specs.Geometry.{rows_of};
 
 use crate::failure::Failure;
 use ar_disks::Geometry;
@@ -20,17 +21,22 @@ pub struct Budget {
     pub seed: u64,
 }
 
-/// How large the array of a workload is: 256 MiB of disks with large blocks, half a MiB with small ones, and 8 MiB of these for
-/// many groups.
+/// How large the array of a workload is: 256 MiB of disks with large blocks, half a MiB with small ones, and up to 24 MiB of these
+/// for many groups.
 pub fn size_of(workload: Workload, geometry: Geometry) -> Size
-    ensures some { 0 < result.extents }
-    ensures few { result.extents ≤ 1024 }
+    ensures some { 0 < result.disks * result.extents * rows_of result.geometry }
+    ensures few { result.disks * result.extents * rows_of result.geometry ≤ 65536 }
 {
-    let extents = match workload {
-        Workload::ManyGroups => 1_024,
-        _ => 64,
+    let (disks, extents) = match (workload, geometry) {
+        (Workload::ManyGroups1024, Geometry::Small) => (4, 1_024),
+        (Workload::ManyGroups3072, Geometry::Small) => (12, 1_024),
+        _ => (4, 64),
     };
-    Size { geometry, extents }
+    Size {
+        geometry,
+        disks,
+        extents,
+    }
 }
 
 // What a workload is measured with.
@@ -64,7 +70,7 @@ impl Trial {
     ) -> Result<Trial, Failure> {
         let size = size_of(workload, geometry);
         let stage = Stage::new(alloc, workload, size);
-        let bare = Bare::new(alloc, geometry, size.extents);
+        let bare = Bare::new(alloc, geometry, size.places());
         let data = Data::new(alloc, geometry, seed);
         match (stage, bare, data) {
             (Ok(stage), Ok(bare), Ok(data)) => Ok(Trial {
@@ -127,8 +133,8 @@ impl Trial {
 
 /// Times the copies and the sums of a machine, over buffers as large as the disks.
 pub fn measure_machine<C: Clock>(clock: &C, alloc: Global) -> Result<Machine, Failure> {
-    let Size { extents, .. } = size_of(Workload::Fill, Geometry::PAPER);
-    let bare = Bare::new(alloc, Geometry::PAPER, extents);
+    let size = size_of(Workload::Fill, Geometry::PAPER);
+    let bare = Bare::new(alloc, Geometry::PAPER, size.places());
     let mut bare = bare.map_err(|_| Failure::NoMemory)?;
     time_machine(clock, &mut bare)
 }

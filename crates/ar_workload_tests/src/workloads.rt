@@ -47,6 +47,7 @@ fn a_fill_with_its_squeezes(rt: HostRuntime) {
     let moved = Moves {
         times: 12,
         reads: 3,
+        kept: 1,
         sums: 2,
         writes: 2,
         ..Moves::NONE
@@ -55,6 +56,101 @@ fn a_fill_with_its_squeezes(rt: HostRuntime) {
         &rt,
         round(Workload::Fill, 18, 1),
         [direct, late, zeroed, moved],
+    );
+}
+
+// Eight blocks fill two mirrored groups of small extents. A group with parity has six slots, so that two are opened, each by eight
+// rows of zeros. A block is read, then the zeros in its slot and their parity, and both are written anew.
+#[test]
+fn demotions_with_the_groups_that_they_open(rt: HostRuntime) {
+    let zeroed = Moves {
+        times: 16,
+        writes: 1,
+        ..Moves::NONE
+    };
+    let moved = Moves {
+        times: 8,
+        reads: 3,
+        kept: 1,
+        sums: 2,
+        writes: 2,
+        ..Moves::NONE
+    };
+    has_moves(
+        &rt,
+        round(Workload::Demote, 8, 1),
+        [zeroed, moved, Moves::NONE, Moves::NONE],
+    );
+}
+
+// Forty-two blocks fill seven groups, and an eighth is free. Six of them leave an extent of two rows for the added disk's.
+#[test]
+fn balancing_copies_rows(rt: HostRuntime) {
+    let copied = Moves {
+        times: 12,
+        reads: 1,
+        kept: 1,
+        writes: 1,
+        ..Moves::NONE
+    };
+    has_moves(
+        &rt,
+        round(Workload::Balance, 42, 1),
+        [copied, Moves::NONE, Moves::NONE, Moves::NONE],
+    );
+}
+
+// Both rows of a disk's extent in each of the seven are sums of three others.
+#[test]
+fn a_rebuild_adds_rows(rt: HostRuntime) {
+    let summed = Moves {
+        times: 14,
+        reads: 3,
+        kept: 3,
+        sums: 2,
+        writes: 1,
+        ..Moves::NONE
+    };
+    has_moves(
+        &rt,
+        round(Workload::Rebuild, 42, 1),
+        [summed, Moves::NONE, Moves::NONE, Moves::NONE],
+    );
+}
+
+// Eight blocks stand in four mirrored groups, two in each. Those of the first go to the second, and those of the third to the
+// fourth: each is read once and written twice, at other places.
+#[test]
+fn cleaning_empties_every_second_group(rt: HostRuntime) {
+    let moved = Moves {
+        times: 4,
+        reads: 1,
+        kept: 1,
+        writes: 2,
+        ..Moves::NONE
+    };
+    has_moves(
+        &rt,
+        round(Workload::Clean, 8, 1),
+        [moved, Moves::NONE, Moves::NONE, Moves::NONE],
+    );
+}
+
+// However many groups there are, block and parity are read and written.
+#[test]
+fn a_write_among_many_groups(rt: HostRuntime) {
+    let updated = Moves {
+        times: 18_426,
+        taken: 1_024,
+        reads: 2,
+        sums: 2,
+        writes: 2,
+        ..Moves::NONE
+    };
+    has_moves(
+        &rt,
+        round(Workload::ManyGroups3072, 18_426, 1),
+        [updated, Moves::NONE, Moves::NONE, Moves::NONE],
     );
 }
 
@@ -130,9 +226,9 @@ fn holding(bytes: &[u8], byte: u8) -> u8 {
     mask
 }
 
-// The bare loop on four disks of one extent, which are eight blocks of EE, after these moves.
+// The bare loop on disks of eight blocks of EE after these moves.
 fn bare_after(alloc: Global, moves: Moves) -> Result<Bare, AllocError> {
-    let mut bare = Bare::new(alloc, Geometry::SMALL, 1)?;
+    let mut bare = Bare::new(alloc, Geometry::SMALL, 8)?;
     run(&mut bare, moves);
     Ok(bare)
 }
@@ -160,6 +256,24 @@ fn writes_are_copies_of_what_is_taken(rt: HostRuntime) -> Result<(), AllocError>
     )?;
     holds(&rt, "what was taken", bare.disks(), 0x11, 0b0000_1111);
     holds(&rt, "what was there", bare.disks(), 0xEE, 0b1111_0000);
+    Ok(())
+}
+
+// Two operations leave blocks 0 and 1, which they would read, as they are, and write the four behind them.
+#[test]
+fn kept_blocks_stay_as_they_are(rt: HostRuntime) -> Result<(), AllocError> {
+    let bare = bare_after(
+        rt.alloc(),
+        Moves {
+            times: 2,
+            taken: 1_024,
+            kept: 1,
+            writes: 2,
+            ..Moves::NONE
+        },
+    )?;
+    holds(&rt, "what was taken", bare.disks(), 0x11, 0b0011_1100);
+    holds(&rt, "what was there", bare.disks(), 0xEE, 0b1100_0011);
     Ok(())
 }
 
@@ -269,6 +383,10 @@ fn faults_are_told(rt: HostRuntime) -> Result<(), AllocError> {
         (
             WorkloadFault::Command("fill"),
             "fill: a command was not GOOD",
+        ),
+        (
+            WorkloadFault::Background("clean"),
+            "clean: an event in the background moved no block, or one too many",
         ),
         (
             WorkloadFault::Level("read"),

@@ -12,7 +12,7 @@ use std::marker::Model;
 /// How many blocks the data have that are taken in turn.
 const DATA_BLOCKS: usize = 16;
 
-/// Plain buffers: as many blocks as four disks have, data to take, and a few blocks to work in.
+/// Plain buffers: as many blocks as the disks have, data to take, and a few blocks to work in.
 #[derive(Drop)]
 pub struct Bare {
     geometry: Geometry,
@@ -42,12 +42,11 @@ impl Model for Bare {
 }
 
 impl Bare {
-    /// Buffers in place of four disks of so many extents, at least 1. No byte is zero, so that all memory is there.
-    pub fn new(alloc: Global, geometry: Geometry, extents: u16) -> Result<Bare, AllocError>
-        requires some { 0 < extents }
-        requires few { extents ≤ 1024 }
+    /// Buffers in place of disks of so many blocks in all, 1 to 65,536. No byte is zero, so that all memory is there.
+    pub fn new(alloc: Global, geometry: Geometry, count: usize) -> Result<Bare, AllocError>
+        requires some { 0 < count }
+        requires few { count ≤ 65536 }
     {
-        let count = 4 * usize::from(extents) * usize::from(geometry.rows());
         Ok(Bare {
             geometry,
             count,
@@ -71,7 +70,8 @@ impl Bare {
         }
     }
 
-    // The moves of one operation. Each read, and each write beside the reads, is at a block of its own, as long as there are so many.
+    // The moves of one operation. Each read, and each write of a block that wasn't read, is at a block of its own, as long as there
+    // are so many.
     fn turn(&mut self, moves: Moves, turn: usize) {
         let span = moves.times as usize;
         self.take(moves.taken, turn);
@@ -84,9 +84,8 @@ impl Bare {
         for _ in 0..moves.sums {
             self.add();
         }
-        let first = moves.reads.saturating_sub(moves.writes);
         for number in 0..moves.writes {
-            let number = first.wrapping_add(number) as usize;
+            let number = moves.kept.wrapping_add(number) as usize;
             self.write(turn.wrapping_add(span.wrapping_mul(number)));
         }
         self.give(moves.given);

@@ -11,6 +11,8 @@ pub struct Moves {
     pub taken: usize,
     /// Blocks that are copied from disks.
     pub reads: u32,
+    /// Of these, how many stay as they are, the first ones: the others are written, too.
+    pub kept: u32,
     /// Blocks that are added to others.
     pub sums: u32,
     /// Blocks that are copied to disks, or to the cache.
@@ -25,6 +27,7 @@ impl Moves {
         times: 0,
         taken: 0,
         reads: 0,
+        kept: 0,
         sums: 0,
         writes: 0,
         given: 0,
@@ -43,17 +46,31 @@ pub struct Round {
 }
 
 impl Round {
-    /// How many operations it has.
+    /// How many operations it has. Of the blocks of two half empty groups cleaning moves those of one into the other. Each of four disks
+    /// has an extent in each group, one of which is free; a rebuild takes an event for each, and so does balancing for those of a fifth
+    /// disk, where they are a multiple of four.
     pub fn operations(self) -> u32 {
-        self.blocks.saturating_mul(self.passes)
+        match self.workload {
+            Workload::Clean => self.blocks / 2,
+            Workload::Balance | Workload::Rebuild => self.filled_groups().saturating_add(1),
+            _ => self.blocks.saturating_mul(self.passes),
+        }
     }
 
-    /// How many bytes of data come or go with each of its commands.
+    /// How many bytes of data come or go with each of its commands, or are moved by each of its events.
     pub fn payload(self) -> usize {
         match self.workload {
             Workload::SmallWrite | Workload::SmallRead => SECTOR_LEN,
+            Workload::Balance | Workload::Rebuild => {
+                usize::from(self.geometry.rows()) * self.geometry.block_len()
+            }
             _ => self.geometry.block_len(),
         }
+    }
+
+    // How many groups the blocks fill, where they stand with parity.
+    fn filled_groups(self) -> u32 {
+        self.blocks / (3 * u32::from(self.geometry.rows())).max(1)
     }
 
     /// What its operations have to do.
@@ -72,7 +89,19 @@ impl Round {
             }
             Workload::DegradedRead => self.degraded_read(),
             Workload::DegradedWrite => self.degraded_write(),
-            Workload::ManyGroups => alone(self.updated(times)),
+            Workload::Demote => self.demoted(),
+            Workload::Clean => alone(Moves {
+                times,
+                reads: 1,
+                kept: 1,
+                writes: 2,
+                ..Moves::NONE
+            }),
+            Workload::Balance => self.balanced(),
+            Workload::Rebuild => self.rebuilt(),
+            Workload::ManyGroups64 | Workload::ManyGroups1024 | Workload::ManyGroups3072 => {
+                alone(self.updated(times))
+            }
         }
     }
 
@@ -109,24 +138,51 @@ impl Round {
     // many blocks as a mirrored group has, and leaves half as many holes. It begins by writing zeros to four extents.
     fn fill(self) -> [Moves; 4] {
         let third = self.blocks / 3;
-        let zeroed = Moves {
-            times: third.saturating_mul(4),
-            writes: 1,
-            ..Moves::NONE
-        };
-        let moved = Moves {
-            times: third.saturating_mul(2),
-            reads: 3,
-            sums: 2,
-            writes: 2,
-            ..Moves::NONE
-        };
         [
             self.written(third.saturating_mul(2), 2),
             self.updated(third),
-            zeroed,
-            moved,
+            zeroed(third.saturating_mul(4)),
+            moved(third.saturating_mul(2)),
         ]
+    }
+
+    // A group with parity is opened for each three blocks a row, by writing zeros to each row of four extents.
+    fn demoted(self) -> [Moves; 4] {
+        let rows = u32::from(self.geometry.rows());
+        let opened = self.blocks.div_ceil(3 * rows);
+        [
+            zeroed(opened.saturating_mul(4 * rows)),
+            moved(self.operations()),
+            Moves::NONE,
+            Moves::NONE,
+        ]
+    }
+
+    // Of four extents of the added disk three take the rows of another one, and the fourth is in a new group with the three that these
+    // leave. With eight extents a disk or more the free group keeps its own.
+    fn balanced(self) -> [Moves; 4] {
+        let shifted = self.operations() / 4 * 3;
+        alone(Moves {
+            times: shifted.saturating_mul(u32::from(self.geometry.rows())),
+            reads: 1,
+            kept: 1,
+            writes: 1,
+            ..Moves::NONE
+        })
+    }
+
+    // Each row of a group that isn't free is the sum of its three others.
+    fn rebuilt(self) -> [Moves; 4] {
+        alone(Moves {
+            times: self
+                .filled_groups()
+                .saturating_mul(u32::from(self.geometry.rows())),
+            reads: 3,
+            kept: 3,
+            sums: 2,
+            writes: 1,
+            ..Moves::NONE
+        })
     }
 
     // Each write goes to the cache, and at the end each block to two disks.
@@ -165,6 +221,27 @@ impl Round {
             Moves::NONE,
             Moves::NONE,
         ]
+    }
+}
+
+// So many blocks of zeros are written.
+fn zeroed(times: u32) -> Moves {
+    Moves {
+        times,
+        writes: 1,
+        ..Moves::NONE
+    }
+}
+
+// So many blocks are moved to the parity level: each is read where it stood, and written in place of zeros.
+fn moved(times: u32) -> Moves {
+    Moves {
+        times,
+        reads: 3,
+        kept: 1,
+        sums: 2,
+        writes: 2,
+        ..Moves::NONE
     }
 }
 

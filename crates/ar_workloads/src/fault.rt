@@ -10,6 +10,9 @@ pub enum WorkloadFault {
     /// A command was not answered as it has to be.
     #[error("{0}: a command was not GOOD")]
     Command(&'static str),
+    /// An event in the background moved no block, or there was one block more to move than there has to be.
+    #[error("{0}: an event in the background moved no block, or one too many")]
+    Background(&'static str),
     /// A block doesn't stand where the workload needs it.
     #[error("{0}: a block stands at another level")]
     Level(&'static str),

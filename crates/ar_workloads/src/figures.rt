@@ -9,7 +9,7 @@ const NANOS: u128 = 1_000_000_000;
 #[derive(Clone, Copy, Debug, PartialEq, Eq)]
 pub struct Figures {
     pub operations: u64,
-    /// Bytes of data that came or went with the commands.
+    /// Bytes of data that came or went with the commands, or were moved.
     pub bytes: u64,
     /// Nanoseconds of the array.
     pub array: u64,

@@ -1,14 +1,18 @@
 // An array that is made ready for a workload, and the operations on it.
-ghost use Rattle.std.specs.Prelude.{◌≡◌, ◌≤◌, ◌<◌, All, map, IfOk};
+ghost use Rattle.std.specs.Prelude.{◌≡◌, ◌≤◌, ◌<◌, ◌*◌, All, map, IfOk};
+ghost use Rattle.ar_disks.specs.Geometry.{rows_of};
 ghost use Rattle.ar_extents.specs.Set.{CanCount};
 
 use crate::cost::Round;
 use crate::data::Data;
 use crate::fault::WorkloadFault;
 use crate::workload::{Access, Plan, Stands, Workload};
-use ar_core::{Array, CAPACITY_LIMIT, Event, Flush, Health, LevelOf, Outcome, Stored};
+use ar_core::{
+    Array, Balance, CAPACITY_LIMIT, EventOf, Flush, Health, LevelOf, Move, NewDisk, OutcomeOf,
+    Rebuild, Stored,
+};
 use ar_disks::{Addr, Geometry, Host, MemDisk};
-use ar_scsi::Status;
+use ar_scsi::{Reply, Status};
 use bytes::Bytes;
 use rand::RngExt;
 use rand_core::Rng;
@@ -30,7 +34,9 @@ pub trait Sink {
 #[derive(Clone, Copy, Debug, PartialEq, Eq)]
 pub struct Size {
     pub geometry: Geometry,
-    /// Extents of each of the four disks, and so groups.
+    /// How many disks: 4, 8 or 12.
+    pub disks: u8,
+    /// Extents of each disk. Four of them make a group.
     pub extents: u16,
 }
 
@@ -43,16 +49,23 @@ pub struct Stage {
     size: Size,
     // The unit whose blocks are read and written.
     unit: Addr,
-    // Another, which uses the rest of the room while the blocks of the first one go to the parity level.
+    // Another, which uses the rest of the room while the blocks of the first one go to the parity level, or slots between them.
     ballast: Addr,
     // How often the blocks were gone over since the unit was made ready. Each time other data are written.
     passes: u32,
 }
 
 impl Size {
+    /// Blocks that all disks have.
+    pub fn places(self) -> usize
+        ensures { result ≡ self.disks * self.extents * rows_of self.geometry }
+    {
+        usize::from(self.disks) * usize::from(self.extents) * usize::from(self.geometry.rows())
+    }
+
     // Groups that blocks can fill: one stays free.
     fn groups(self) -> u32 {
-        u32::from(self.extents).saturating_sub(1)
+        (u32::from(self.disks) * u32::from(self.extents) / 4).saturating_sub(1)
     }
 
     // Blocks that so many mirrored groups hold.
@@ -71,7 +84,8 @@ impl Size {
         match stands {
             Stands::Nowhere | Stands::Everywhere => self.room(),
             Stands::Mirrored => self.mirrored(self.groups()),
-            Stands::Parity => self.mirrored(self.groups() / 2),
+            // Of an even number of mirrored groups half of the slots are as many as half of the groups have.
+            Stands::Half | Stands::Parity | Stands::Scattered => self.mirrored(self.groups() / 2),
         }
     }
 }
@@ -85,11 +99,10 @@ impl Stage {
         } else {
             0
         };
-        let (Ok(disks), Some(unit), Some(ballast)) = (new_disks(alloc, size), unit(0), unit(1))
-        else {
+        let (Some(unit), Some(ballast)) = (unit(0), unit(1)) else {
             return Err(WorkloadFault::NoMemory);
         };
-        let array = Array::start(alloc, disks, cache).map_err(|_| WorkloadFault::NoMemory)?;
+        let array = new_array(alloc, size, cache)?;
         Ok(Stage {
             array,
             workload,
@@ -114,67 +127,146 @@ impl Stage {
     /// Whether each round needs the unit made ready anew, since a round changes where its blocks stand.
     pub fn wears_out(&self) -> bool {
         match self.plan.stands {
-            Stands::Nowhere => true,
+            Stands::Nowhere | Stands::Half | Stands::Scattered => true,
             Stands::Parity => self.plan.access == Access::WriteBlocks,
-            Stands::Mirrored | Stands::Everywhere => false,
+            Stands::Everywhere => self.plan.access.is_of_extents(),
+            Stands::Mirrored => false,
         }
     }
 
     /// Makes the unit ready: its blocks stand where the workload needs them.
     pub fn prepare(&mut self, alloc: Global, data: &Data) -> Result<(), WorkloadFault> {
+        if self.plan.access == Access::BalanceExtents {
+            self.array = new_array(alloc, self.size, 0)?;
+        }
         // There may be none.
-        let _ = self.array.step(alloc, Event::Remove(self.unit));
+        let _ = self.array.step(alloc, EventOf::Remove(self.unit));
         let blocks = self.size.blocks(self.plan.stands);
         self.make(alloc, self.unit, blocks)?;
         self.passes = 0;
-        if self.plan.stands != Stands::Nowhere {
-            self.write_blocks(alloc, self.unit, blocks, data)?;
-        }
-        if self.plan.stands == Stands::Parity {
-            self.push_down(alloc, data)?;
-        }
+        self.write_unit(alloc, blocks, data)?;
         self.flush()?;
         if self.plan.is_degraded {
             // It may be out.
-            let _ = self.array.step(alloc, Event::DiskOut(0));
+            let _ = self.array.step(alloc, EventOf::DiskOut(0));
         }
-        self.check_levels(self.plan.level_before())
+        self.take_disk(alloc)?;
+        self.check_levels(self.plan.level_before(), self.health_before())
     }
 
-    /// Checks that the operations of a round left the unit as they have to: nothing is cached, and written blocks are promoted.
+    // Takes a disk in, where the workload is about that.
+    fn take_disk(&mut self, alloc: Global) -> Result<(), WorkloadFault> {
+        match self.plan.access {
+            Access::BalanceExtents => self.add_disk(alloc),
+            Access::RebuildExtents => self.replace_disk(alloc),
+            _ => Ok(()),
+        }
+    }
+
+    fn add_disk(&mut self, alloc: Global) -> Result<(), WorkloadFault> {
+        let event = EventOf::AddDisk(fresh_disk(alloc, self.size)?);
+        match self.array.step(alloc, event) {
+            OutcomeOf::AddDisk(Ok(())) => Ok(()),
+            _other => Err(self.refused()),
+        }
+    }
+
+    fn replace_disk(&mut self, alloc: Global) -> Result<(), WorkloadFault> {
+        let _ = self.array.step(alloc, EventOf::DiskOut(0));
+        let event = EventOf::Replace(0, fresh_disk(alloc, self.size)?);
+        match self.array.step(alloc, event) {
+            OutcomeOf::Replace(Ok(())) => Ok(()),
+            _other => Err(self.refused()),
+        }
+    }
+
+    // Which disk is down when a round begins, and when it has ended.
+    fn health_before(&self) -> Health {
+        if self.plan.access == Access::RebuildExtents {
+            Health::Rebuilding(0, 0)
+        } else {
+            self.health_after()
+        }
+    }
+
+    fn health_after(&self) -> Health {
+        if self.plan.is_degraded {
+            Health::Out(0)
+        } else {
+            Health::Whole
+        }
+    }
+
+    /// Checks that the operations of a round left the unit as they have to: nothing is cached, written blocks are promoted, and
+    /// events in the background have no block left to move.
     pub fn check(&mut self, alloc: Global) -> Result<(), WorkloadFault> {
-        match self.array.step(alloc, Event::Flush) {
-            Outcome::Flush(Flush::Idle) => self.check_levels(self.plan.level_after()),
+        if self.moves_more(alloc) {
+            return Err(self.unmoved());
+        }
+        match self.array.step(alloc, EventOf::Flush) {
+            OutcomeOf::Flush(Flush::Idle) => {
+                self.check_levels(self.plan.level_after(), self.health_after())
+            }
             _ => Err(self.refused()),
         }
     }
 
-    // Fills the rest of the room, so that all blocks go to the parity level, and empties it again.
-    fn push_down(&mut self, alloc: Global, data: &Data) -> Result<(), WorkloadFault> {
+    // Whether an event in the background, if the workload is about one, still moves something.
+    fn moves_more(&mut self, alloc: Global) -> bool {
+        if self.plan.access.is_of_extents() {
+            return self.move_extent(alloc);
+        }
+        self.plan.access.is_in_background() && self.move_block(alloc) != Move::Idle
+    }
+
+    // Writes the blocks of the unit, so that they stand where they have to.
+    fn write_unit(&mut self, alloc: Global, blocks: u32, data: &Data) -> Result<(), WorkloadFault> {
+        match self.plan.stands {
+            Stands::Nowhere => Ok(()),
+            Stands::Mirrored | Stands::Half | Stands::Everywhere => {
+                self.write_blocks(alloc, self.unit, blocks, data)
+            }
+            Stands::Scattered => self.scatter(alloc, blocks, data),
+            Stands::Parity => self.push_down(alloc, blocks, data),
+        }
+    }
+
+    // Writes them in turn with those of another unit, which then goes, so that each second slot is a hole.
+    fn scatter(&mut self, alloc: Global, blocks: u32, data: &Data) -> Result<(), WorkloadFault> {
+        self.make(alloc, self.ballast, blocks)?;
+        for rb in 0..blocks {
+            self.write_block(alloc, self.unit, rb, data)?;
+            self.write_block(alloc, self.ballast, rb, data)?;
+        }
+        self.remove_ballast(alloc)
+    }
+
+    // Writes them, fills the rest of the room, so that all blocks go to the parity level, and empties it again.
+    fn push_down(&mut self, alloc: Global, blocks: u32, data: &Data) -> Result<(), WorkloadFault> {
+        self.write_blocks(alloc, self.unit, blocks, data)?;
         let rest = self.array.free_room();
         self.make(alloc, self.ballast, rest)?;
         self.write_blocks(alloc, self.ballast, rest, data)?;
-        match self.array.step(alloc, Event::Remove(self.ballast)) {
-            Outcome::Remove(Ok(())) => Ok(()),
+        self.remove_ballast(alloc)
+    }
+
+    fn remove_ballast(&mut self, alloc: Global) -> Result<(), WorkloadFault> {
+        match self.array.step(alloc, EventOf::Remove(self.ballast)) {
+            OutcomeOf::Remove(Ok(())) => Ok(()),
             _ => Err(self.refused()),
         }
     }
 
     fn make(&mut self, alloc: Global, addr: Addr, blocks: u32) -> Result<(), WorkloadFault> {
         let sectors = blocks.saturating_mul(self.size.geometry.sectors());
-        match self.array.step(alloc, Event::Make(addr, sectors)) {
-            Outcome::Make(Ok(())) => Ok(()),
+        match self.array.step(alloc, EventOf::Make(addr, sectors)) {
+            OutcomeOf::Make(Ok(())) => Ok(()),
             _ => Err(self.refused()),
         }
     }
 
-    // Every block has to stand at this level, and disk 0 has to be out exactly where the workload is about that.
-    fn check_levels(&self, level: LevelOf) -> Result<(), WorkloadFault> {
-        let health = if self.plan.is_degraded {
-            Health::Out(0)
-        } else {
-            Health::Whole
-        };
+    // Every block has to stand at this level, and no disk may be down but as the workload needs it.
+    fn check_levels(&self, level: LevelOf, health: Health) -> Result<(), WorkloadFault> {
         if self.array.health() != health {
             return Err(WorkloadFault::Health(self.workload.name()));
         }
@@ -202,6 +294,12 @@ impl Stage {
                 Access::WriteBlocks => self.write_blocks(alloc, self.unit, round.blocks, data)?,
                 Access::ReadSectors => self.read_sectors(alloc, round.blocks, rng, sink)?,
                 Access::WriteSectors => self.write_sectors(alloc, round.blocks, rng, data)?,
+                Access::DemoteBlocks | Access::CleanBlocks => {
+                    self.move_blocks(alloc, round.operations())?
+                }
+                Access::BalanceExtents | Access::RebuildExtents => {
+                    self.move_extents(alloc, round.operations())?
+                }
             }
         }
         self.flush()
@@ -229,18 +327,74 @@ impl Stage {
         blocks: u32,
         data: &Data,
     ) -> Result<(), WorkloadFault> {
-        let sectors = self.size.geometry.sectors();
         for rb in 0..blocks {
-            let lba = rb.saturating_mul(sectors);
-            self.write(
-                alloc,
-                addr,
-                lba,
-                sectors as u8,
-                data.block(rb.wrapping_add(self.passes))?,
-            )?;
+            self.write_block(alloc, addr, rb, data)?;
         }
         Ok(())
+    }
+
+    fn write_block(
+        &mut self,
+        alloc: Global,
+        addr: Addr,
+        rb: u32,
+        data: &Data,
+    ) -> Result<(), WorkloadFault> {
+        let sectors = self.size.geometry.sectors();
+        self.write(
+            alloc,
+            addr,
+            rb.saturating_mul(sectors),
+            sectors as u8,
+            data.block(rb.wrapping_add(self.passes))?,
+        )
+    }
+
+    // So many events in the background, each of which has to move a block.
+    fn move_blocks(&mut self, alloc: Global, count: u32) -> Result<(), WorkloadFault> {
+        for _ in 0..count {
+            if !matches!(self.move_block(alloc), Move::Moved { .. }) {
+                return Err(self.unmoved());
+            }
+        }
+        Ok(())
+    }
+
+    // An event in the background: a demotion, or else cleaning.
+    fn move_block(&mut self, alloc: Global) -> Move {
+        let event = if self.plan.access == Access::DemoteBlocks {
+            EventOf::Demote
+        } else {
+            EventOf::Clean
+        };
+        match self.array.step(alloc, event) {
+            OutcomeOf::Demote(moved) | OutcomeOf::Clean(moved) => moved,
+            _ => Move::Broken,
+        }
+    }
+
+    // So many events in the background, each of which has to move an extent or to form a group.
+    fn move_extents(&mut self, alloc: Global, count: u32) -> Result<(), WorkloadFault> {
+        for _ in 0..count {
+            if !self.move_extent(alloc) {
+                return Err(self.unmoved());
+            }
+        }
+        Ok(())
+    }
+
+    // One step of balancing, or else of a rebuild. Says whether it changed anything.
+    fn move_extent(&mut self, alloc: Global) -> bool {
+        let event = if self.plan.access == Access::BalanceExtents {
+            EventOf::Balance
+        } else {
+            EventOf::Rebuild
+        };
+        match self.array.step(alloc, event) {
+            OutcomeOf::Balance(answer) => is_balanced(answer),
+            OutcomeOf::Rebuild(answer) => is_rebuilt(answer),
+            _other => false,
+        }
     }
 
     // Reads sectors anywhere, as many as there are blocks.
@@ -309,14 +463,22 @@ impl Stage {
         payload: Bytes,
     ) -> Result<Bytes, WorkloadFault> {
         let Addr { host, lun } = addr;
-        let event = Event::Cmd {
+        let event = EventOf::Cmd {
             host,
             lun,
             cdb,
             payload,
         };
         match self.array.step(alloc, event) {
-            Outcome::Cmd(reply) if reply.status == Status::Good => Ok(reply.payload),
+            OutcomeOf::Cmd(reply) => self.payload_of(reply),
+            _other => Err(self.refused()),
+        }
+    }
+
+    // The data of a reply, which has to be GOOD.
+    fn payload_of(&self, reply: Reply) -> Result<Bytes, WorkloadFault> {
+        match reply.status {
+            Status::Good => Ok(reply.payload),
             _ => Err(self.refused()),
         }
     }
@@ -332,6 +494,10 @@ impl Stage {
     fn refused(&self) -> WorkloadFault {
         WorkloadFault::Command(self.workload.name())
     }
+
+    fn unmoved(&self) -> WorkloadFault {
+        WorkloadFault::Background(self.workload.name())
+    }
 }
 
 // A command block of ten bytes: the operation code, where the sectors begin, and how many there are.
@@ -346,12 +512,35 @@ fn unit(number: u8) -> Option<Addr> {
     Some(Addr { host, lun: 0 })
 }
 
-// Four disks.
+// Whether a step of balancing changed anything.
+fn is_balanced(answer: Balance) -> bool {
+    matches!(answer, Balance::Formed(_) | Balance::Shifted { .. })
+}
+
+// Whether a step of a rebuild did.
+fn is_rebuilt(answer: Rebuild) -> bool {
+    matches!(answer, Rebuild::Rebuilt(..) | Rebuild::Finished)
+}
+
+// An array of new disks without a unit.
+fn new_array(alloc: Global, size: Size, cache: u32) -> Result<Array<MemDisk>, WorkloadFault>
+    requires { cache ≤ 65536 }
+{
+    let disks = new_disks(alloc, size).map_err(|_| WorkloadFault::NoMemory)?;
+    Array::start(alloc, disks, cache).map_err(|_| WorkloadFault::NoMemory)
+}
+
+// A new disk for an array to take in.
+fn fresh_disk(alloc: Global, size: Size) -> Result<NewDisk<MemDisk>, WorkloadFault> {
+    let disk = new_disk(alloc, size).map_err(|_| WorkloadFault::NoMemory)?;
+    Ok(NewDisk::new(disk))
+}
+
 fn new_disks(alloc: Global, size: Size) -> Result<Vec<MemDisk>, AllocError>
     ensures { IfOk result (λ disks. All CanCount disks.items) }
 {
     let mut disks = Vec::new(alloc);
-    for _ in 0..4u8 {
+    for _ in 0..size.disks {
         disks.push(new_disk(alloc, size)?)?;
     }
     Ok(disks)

@@ -25,8 +25,20 @@ pub enum Workload {
     DegradedRead,
     /// Writes of whole blocks at the parity level with a disk out, which promote them.
     DegradedWrite,
-    /// Writes of whole blocks of a full array of many groups, all of which are searched for a hole.
-    ManyGroups,
+    /// Demotions of all blocks, which stand mirrored.
+    Demote,
+    /// Cleaning of groups half of whose slots are holes, as long as it moves blocks.
+    Clean,
+    /// Balancing of a full array to which a disk was added, as long as it changes anything.
+    Balance,
+    /// The rebuild of a disk of a full array.
+    Rebuild,
+    /// Writes of whole blocks of a full array of 64 groups.
+    ManyGroups64,
+    /// The same of 1,024 groups.
+    ManyGroups1024,
+    /// The same of 3,072 groups.
+    ManyGroups3072,
 }
 
 /// Where the blocks of the unit stand when a round begins.
@@ -36,6 +48,10 @@ pub enum Stands {
     Nowhere,
     /// In mirrored groups, as many as there are but one.
     Mirrored,
+    /// In mirrored groups, fewer than half, and all other groups are free.
+    Half,
+    /// In mirrored groups, an even number and no more than all but one, every second slot of which is a hole.
+    Scattered,
     /// In parity groups, fewer than half, and all other groups are free.
     Parity,
     /// In parity groups, all but one of them, with all the room.
@@ -53,12 +69,30 @@ pub enum Access {
     ReadSectors,
     /// A sector at random is written.
     WriteSectors,
+    /// The oldest mirrored block is moved to a group with parity.
+    DemoteBlocks,
+    /// A block of the emptiest group is moved to a hole of another.
+    CleanBlocks,
+    /// A group's extent is moved to the disk that was added, or a group is formed.
+    BalanceExtents,
+    /// An extent of a disk that was replaced is rebuilt.
+    RebuildExtents,
 }
 
 impl Access {
     /// Whether it goes anywhere, instead of in order.
     pub fn is_random(self) -> bool {
         matches!(self, Access::ReadSectors | Access::WriteSectors)
+    }
+
+    /// Whether it is an event that no host asks for.
+    pub fn is_in_background(self) -> bool {
+        matches!(self, Access::DemoteBlocks | Access::CleanBlocks) || self.is_of_extents()
+    }
+
+    /// Whether it is such an event, and of a whole extent.
+    pub fn is_of_extents(self) -> bool {
+        matches!(self, Access::BalanceExtents | Access::RebuildExtents)
     }
 }
 
@@ -78,24 +112,25 @@ impl Plan {
     pub fn level_before(self) -> LevelOf {
         match self.stands {
             Stands::Nowhere => LevelOf::Unplaced,
-            Stands::Mirrored => LevelOf::Mirrored,
+            Stands::Mirrored | Stands::Half | Stands::Scattered => LevelOf::Mirrored,
             Stands::Parity | Stands::Everywhere => LevelOf::Parity,
         }
     }
 
-    /// And after them: first writes that use all the room end at the parity level, and written blocks are promoted where there
-    /// are free groups.
+    /// And after them: first writes that use all the room end at the parity level, written blocks are promoted where there are
+    /// free groups, and demoted blocks have left the mirrored level.
     pub fn level_after(self) -> LevelOf {
         match (self.stands, self.access) {
             (Stands::Nowhere, _) => LevelOf::Parity,
             (Stands::Parity, Access::WriteBlocks) => LevelOf::Mirrored,
+            (_, Access::DemoteBlocks) => LevelOf::Parity,
             _ => self.level_before(),
         }
     }
 }
 
 impl Workload {
-    pub const ALL: [Workload; 11] = [
+    pub const ALL: [Workload; 17] = [
         Workload::Fill,
         Workload::Overwrite,
         Workload::OverwriteCached,
@@ -106,7 +141,13 @@ impl Workload {
         Workload::ParityWrite,
         Workload::DegradedRead,
         Workload::DegradedWrite,
-        Workload::ManyGroups,
+        Workload::Demote,
+        Workload::Clean,
+        Workload::Balance,
+        Workload::Rebuild,
+        Workload::ManyGroups64,
+        Workload::ManyGroups1024,
+        Workload::ManyGroups3072,
     ];
 
     /// The name on the command line and in the report.
@@ -122,7 +163,13 @@ impl Workload {
             Workload::ParityWrite => "parity-write",
             Workload::DegradedRead => "degraded-read",
             Workload::DegradedWrite => "degraded-write",
-            Workload::ManyGroups => "many-groups",
+            Workload::Demote => "demote",
+            Workload::Clean => "clean",
+            Workload::Balance => "balance",
+            Workload::Rebuild => "rebuild",
+            Workload::ManyGroups64 => "many-groups-64",
+            Workload::ManyGroups1024 => "many-groups-1024",
+            Workload::ManyGroups3072 => "many-groups-3072",
         }
     }
 
@@ -134,9 +181,17 @@ impl Workload {
             .copied()
     }
 
-    /// Whether it is measured in a geometry. As many groups of large extents would take 4 GiB.
+    /// Whether it is measured in a geometry. As many groups of large extents would take up to 12 GiB.
     pub fn runs_in(self, geometry: Geometry) -> bool {
-        self != Workload::ManyGroups || geometry == Geometry::SMALL
+        !self.is_of_many_groups() || geometry == Geometry::SMALL
+    }
+
+    /// Whether it is about how many groups there are.
+    pub fn is_of_many_groups(self) -> bool {
+        matches!(
+            self,
+            Workload::ManyGroups64 | Workload::ManyGroups1024 | Workload::ManyGroups3072
+        )
     }
 
     /// What it does.
@@ -153,7 +208,13 @@ impl Workload {
             Workload::ParityWrite | Workload::DegradedWrite => {
                 (Stands::Parity, Access::WriteBlocks)
             }
-            Workload::ManyGroups => (Stands::Everywhere, Access::WriteBlocks),
+            Workload::Demote => (Stands::Half, Access::DemoteBlocks),
+            Workload::Clean => (Stands::Scattered, Access::CleanBlocks),
+            Workload::Balance => (Stands::Everywhere, Access::BalanceExtents),
+            Workload::Rebuild => (Stands::Everywhere, Access::RebuildExtents),
+            Workload::ManyGroups64 | Workload::ManyGroups1024 | Workload::ManyGroups3072 => {
+                (Stands::Everywhere, Access::WriteBlocks)
+            }
         };
         Plan {
             stands,
