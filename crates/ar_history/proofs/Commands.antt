@@ -1,0 +1,211 @@
+-- What a host's command leaves of a history.
+use Rattle.std.proofs.Common.{◌≡◌, ◌≢◌, ℕ, Bool, true, false, cond, List, [], ◌∷◌, ◌++◌, length, refl, sym, ap, subst, ◌∙◌, inl, inr, arith}
+use Rattle.std.specs.Prelude.{◌==◌, ◌&&◌, count_by, ◌+◌}
+use Rattle.std.proofs.lemmas.Bool.{eqb-true}
+use Rattle.std.proofs.lemmas.List.Sums.{sum_by-append}
+use Rattle.ar_disks.specs.declared.address.Host.{Host}
+use Rattle.ar_scsi.specs.declared.reply.Reply.{Reply}
+use Rattle.ar_scsi.specs.declared.reply.Status.{Status}
+use Rattle.ar_scsi.specs.declared.reply.Status.TheVariants.{Good, CheckCondition, Busy}
+use Rattle.ar_scsi.specs.Reply.{busy}
+use Rattle.ar_unit.specs.Unit.{UnitState, Absent, Present, Entry as UnitEntry, Cmd as UnitCmd, answer, after, unit_run, IsGiven}
+use Rattle.ar_unit.specs.Broken.{Shape, shape_of, where_broken, broken_answer}
+use Rattle.ar_unit.proofs.Laws.{after-shape, answer-with_bytes, broken_answer-is}
+use Rattle.ar_image.specs.Sectors.{Address, same_address}
+use Rattle.ar_image.specs.Image.{ArrayState, is_broken, image, image_at}
+use Rattle.ar_extents.specs.Changes.{is_broken as is_broken_set}
+use Rattle.ar_image.proofs.Breaking.{broken_is}
+use Rattle.ar_image.proofs.Images.{image_here}
+use Rattle.ar_core.specs.Events.{Event, Outcome}
+use Rattle.ar_core.specs.Step.{Steps, is_busy, addr_in}
+use Rattle.ar_core.specs.declared.event.EventOf.TheVariants.{Cmd as CmdEvent}
+use Rattle.ar_core.specs.declared.event.OutcomeOf.TheVariants.{Cmd as CmdOutcome}
+use Rattle.ar_core.proofs.Causes.{was_sound}
+use Rattle.ar_history.specs.declared.entry.Entry.{Entry}
+use Rattle.ar_history.specs.declared.entry.Entry.TheVariants.{Cmd}
+use Rattle.ar_history.specs.History.{replay, is_command}
+use Rattle.ar_history.specs.Kept.{KeptState, SameLength, IsKept, with_mark, standing, exchange_of}
+use Rattle.ar_history.specs.Seat.{SeatState}
+use Rattle.ar_history.specs.declared.entry.Exchange.{Exchange}
+use Rattle.ar_history.specs.Serving.{IsBusyFor, IsRecorded, IsUnrecorded, DoesCommand}
+use Rattle.ar_history.proofs.Keeping.{kept_more}
+
+abbrev no_entry : List UnitEntry
+no_entry = []
+
+busy_is : (s : Status) → is_busy s ≡ true → s ≡ Busy
+busy_is Busy e = refl
+busy_is Good e = absurd (cc)
+busy_is CheckCondition e = absurd (cc)
+
+not_busy : (s : Status) → is_busy s ≡ false → s ≢ Busy
+not_busy Busy e same = absurd (cc)
+not_busy Good e same = absurd (cc)
+not_busy CheckCondition e same = absurd (cc)
+
+both : (p q : Bool) → p && q ≡ true → (p ≡ true) × (q ≡ true)
+both true true e = (refl, refl)
+both true false e = absurd (cc)
+both false q e = absurd (cc)
+
+same_is : (a b : Address) → same_address a b ≡ true → a ≡ b
+same_is (x, y) (u, v) e =
+    let p = both (x == u) (y == v) e in
+    ap (λ (n : ℕ). (n, y)) (eqb-true x u p.0) ∙ ap (λ (n : ℕ). (u, n)) (eqb-true y v p.1)
+
+-- one more command in a list
+pub count_command : (history : List Entry) (entry : Entry) → is_command entry ≡ true → count_by is_command (history ++ entry ∷ []) ≡ count_by is_command history + 1
+count_command history entry is =
+    let more = sum_by-append (λ (e : Entry). cond {A = ℕ} (is_command e) 1 0) history (entry ∷ []) in
+    let one : cond {A = ℕ} (is_command entry) 1 0 ≡ 1 = ap (λ (b : Bool). cond {A = ℕ} b 1 0) is in
+    omega (arith, more, one)
+
+pub count_total : (was now : ℕ) (history : List Entry) (entry : Entry) → is_command entry ≡ true → was ≡ count_by is_command history → now ≡ was + 1
+    → now ≡ count_by is_command (history ++ entry ∷ [])
+count_total was now history entry is before more = more ∙ ap (λ (n : ℕ). n + 1) before ∙ sym (count_command history entry is)
+
+-- a unit that a command leaves, at every address
+left_at : (u : UnitState) (cdb bytes : List ℕ) (b quiet : Bool) → (b ≡ true → quiet ≡ false → (answer u cdb bytes).state ≡ u)
+    → unit_run u (cond b (cond quiet no_entry (UnitCmd cdb bytes ∷ [])) no_entry) ≡ u
+left_at u cdb bytes false quiet left = refl
+left_at u cdb bytes true true left = refl
+left_at u cdb bytes true false left = left refl refl
+
+-- a reply that isn't recorded leaves every unit
+pub same_images : (old new : ArrayState) (host : Host) (lun : ℕ) (cdb payload : List ℕ) (reply : Reply)
+    → Steps old (CmdEvent host lun cdb payload) (CmdOutcome reply) new → IsBusyFor reply → is_broken new ≡ false → (a : Address) → image new a ≡ image old a
+same_images old new host lun cdb payload reply steps none now a =
+    let here = image_here (image_at old) (addr_in host lun) in
+    steps.images now a
+    ∙ left_at (image old a) cdb payload (same_address (host.number, lun) a) (is_busy reply.status)
+    (λ same answered.
+    elim none [
+      | inl is ↦ absurd (let no : true ≡ false = sym is ∙ answered in cc)
+      | inr bytes ↦
+          (let table : reply ≡ (answer (image_at old (addr_in host lun)) cdb payload).reply =
+          (steps.answers.sound now).given.answered (not_busy reply.status answered) in
+          let unit : image_at old (addr_in host lun) ≡ image old a = sym here ∙ ap (λ (x : Address). image old x) (same_is (host.number, lun) a same) in
+          let is : reply ≡ (answer (image old a) cdb payload).reply = table ∙ ap (λ (u : UnitState). (answer u cdb payload).reply) unit in
+          answer-with_bytes (image old a) cdb payload (λ empty. bytes (ap (λ (r : Reply). r.payload) is ∙ empty)))
+    ])
+
+-- whether a unit is there, and its length, no command changes
+lengths_if : (b quiet : Bool) (u : UnitState) (cdb bytes : List ℕ) → SameLength (unit_run u (cond b (cond quiet no_entry (UnitCmd cdb bytes ∷ [])) no_entry)) u
+lengths_if false quiet u cdb bytes = record { present = refl; sectors = refl }
+lengths_if true true u cdb bytes = record { present = refl; sectors = refl }
+lengths_if true false u cdb bytes = record {
+  present = ap (λ (s : Shape). s.present) (after-shape u (UnitCmd cdb bytes));
+  sectors = ap (λ (s : Shape). s.sectors) (after-shape u (UnitCmd cdb bytes));
+}
+
+-- so the history stays what the array holds, where each unit stays or the data are lost
+pub kept_unrecorded : (old new : ArrayState) (host : Host) (lun : ℕ) (cdb payload : List ℕ) (reply : Reply) (history : List Entry) → IsKept old history
+    → Steps old (CmdEvent host lun cdb payload) (CmdOutcome reply) new
+    → (is_broken new ≡ false → (a : Address) → image new a ≡ image old a) → IsKept new history
+kept_unrecorded old new host lun cdb payload reply history kept steps same = record {
+  legal = kept.legal;
+  images = λ now a. same now a ∙ kept.images (was_sound (CmdEvent host lun cdb payload) old new steps.disks now) a;
+  lengths = λ a.
+      (let after = lengths_if (same_address (host.number, lun) a) (is_busy reply.status) (image old a) cdb payload in
+      record {
+        present = ap (λ (s : Shape). s.present) (steps.shapes a) ∙ after.present ∙ (kept.lengths a).present;
+        sectors = ap (λ (s : Shape). s.sectors) (steps.shapes a) ∙ after.sectors ∙ (kept.lengths a).sectors;
+      });
+}
+
+pub broken_unrecorded : (old new : ArrayState) (host : Host) (lun : ℕ) (cdb payload : List ℕ) (reply : Reply) (history : List Entry) → IsKept old history
+    → Steps old (CmdEvent host lun cdb payload) (CmdOutcome reply) new → is_broken new ≡ true → IsKept new history
+broken_unrecorded old new host lun cdb payload reply history kept steps lost =
+    kept_unrecorded old new host lun cdb payload reply history kept steps (λ now. absurd (let no : true ≡ false = sym lost ∙ now in cc))
+
+-- the reply of a command that was answered
+pub reply_kept : (old new : ArrayState) (host : Host) (lun : ℕ) (cdb payload : List ℕ) (reply : Reply) (history : List Entry) → IsKept old history
+    → Steps old (CmdEvent host lun cdb payload) (CmdOutcome reply) new → is_busy reply.status ≡ false → is_broken new ≡ false
+    → reply ≡ (answer (replay history (host.number, lun)) cdb payload).reply
+reply_kept old new host lun cdb payload reply history kept steps answered now =
+    (steps.answers.sound now).given.answered (not_busy reply.status answered)
+    ∙ ap (λ (u : UnitState). (answer u cdb payload).reply)
+    (sym (image_here (image_at old) (addr_in host lun)) ∙ kept.images (was_sound (CmdEvent host lun cdb payload) old new steps.disks now) (host.number, lun))
+
+-- and the history with it
+pub kept_recorded : (old new : ArrayState) (host : Host) (lun : ℕ) (cdb payload : List ℕ) (reply : Reply) (history : List Entry) → IsKept old history
+    → Steps old (CmdEvent host lun cdb payload) (CmdOutcome reply) new → is_busy reply.status ≡ false → is_broken new ≡ false
+    → IsKept new (history ++ Cmd host (exchange_of lun cdb payload reply) ∷ [])
+kept_recorded old new host lun cdb payload reply history kept steps answered now =
+    kept_more old new (CmdEvent host lun cdb payload) (CmdOutcome reply) history (Cmd host (exchange_of lun cdb payload reply)) kept steps
+    (λ a. ap (λ (b : Bool). cond (same_address (host.number, lun) a) (cond b no_entry (UnitCmd cdb payload ∷ [])) no_entry) answered)
+    (reply_kept old new host lun cdb payload reply history kept steps answered now)
+
+-- a unit's shape, by what is known of it
+shape_marked : (u v : UnitState) → SameLength u v → shape_of (with_mark (shape_of u).attention v) ≡ shape_of u
+shape_marked Absent Absent same = refl
+shape_marked Absent (Present t l) same = let p = same.present in absurd (cc)
+shape_marked (Present s m) Absent same = let p = same.present in absurd (cc)
+shape_marked (Present s m) (Present t l) same = ap (λ n. record { present = true; sectors = n; attention = m }) (sym same.sectors)
+
+-- what a broken array answers, by the history
+pub broken_reply : (old : KeptState) (new : ArrayState) (host : Host) (lun : ℕ) (cdb payload : List ℕ) (reply : Reply) → IsKept old.array old.history
+    → Steps old.array (CmdEvent host lun cdb payload) (CmdOutcome reply) new → is_broken new ≡ true
+    → IsGiven (where_broken cdb (answer (standing old (host.number, lun)) cdb payload).reply) reply
+broken_reply old new host lun cdb payload reply kept steps lost =
+    let a : Address = (host.number, lun) in
+    let unit : shape_of (image_at old.array (addr_in host lun)) ≡ shape_of (standing old a) =
+    ap shape_of (sym (image_here (image_at old.array) (addr_in host lun))) ∙ sym (shape_marked (image old.array a) (replay old.history a) (kept.lengths a)) in
+    subst (λ (r : Reply). IsGiven r reply)
+    (ap (λ (s : Shape). broken_answer s cdb (length payload)) unit ∙ broken_answer-is (standing old a) cdb payload)
+    (steps.answers.broken lost)
+
+-- a broken array stays broken
+pub stays_lost : (old new : ArrayState) (event : Event) (outcome : Outcome) → Steps old event outcome new → is_broken old ≡ true → is_broken new ≡ true
+stays_lost old new event outcome steps lost = ap is_broken_set (steps.disks.stays_broken (broken_is old.store.disks.health lost))
+
+-- a command after which the array is broken
+pub unrecorded_lost : (old : KeptState) (before : SeatState) (lun : ℕ) (cdb payload : List ℕ) (reply : Reply) (new : KeptState) → IsKept old.array old.history
+    → Steps old.array (CmdEvent before.host lun cdb payload) (CmdOutcome reply) new.array → is_broken new.array ≡ true → new.history ≡ old.history
+    → IsUnrecorded old before lun cdb payload reply new before
+unrecorded_lost old before lun cdb payload reply new kept steps lost same = record {
+  history = same;
+  transcript = refl;
+  busy_is = λ now. absurd (let no : true ≡ false = sym lost ∙ now in cc);
+  images = λ now. absurd (let no : true ≡ false = sym lost ∙ now in cc);
+  broken = λ _. broken_reply old new.array before.host lun cdb payload reply kept steps lost;
+}
+
+-- a command that is BUSY
+pub unrecorded_busy : (old : KeptState) (before : SeatState) (lun : ℕ) (cdb payload : List ℕ) (first : Reply) (new : KeptState)
+    → Steps old.array (CmdEvent before.host lun cdb payload) (CmdOutcome first) new.array → IsBusyFor first → is_broken new.array ≡ false → new.history ≡ old.history
+    → IsUnrecorded old before lun cdb payload busy new before
+unrecorded_busy old before lun cdb payload first new steps none now same = record {
+  history = same;
+  transcript = refl;
+  busy_is = λ _. refl;
+  images = λ _. same_images old.array new.array before.host lun cdb payload first steps none now;
+  broken = λ lost. absurd (let no : true ≡ false = sym lost ∙ now in cc);
+}
+
+-- and how it was done
+pub does_busy : (old new : ArrayState) (host : Host) (lun : ℕ) (cdb payload : List ℕ) (first : Reply)
+    → Steps old (CmdEvent host lun cdb payload) (CmdOutcome first) new → IsBusyFor first → is_broken new ≡ false → DoesCommand old host lun cdb payload busy new
+does_busy old new host lun cdb payload first steps none now =
+    elim none [
+      | inl is ↦
+          (let same : first ≡ busy = (steps.answers.sound now).given.refused (busy_is first.status is) in
+          inl (inl (subst (λ (r : Reply). Steps old (CmdEvent host lun cdb payload) (CmdOutcome r) new) same steps)))
+      | inr bytes ↦ inr (record { first = first; steps = steps; bytes = bytes; busy_is = refl })
+    ]
+
+-- a command that was answered
+pub recorded : (old : KeptState) (before : SeatState) (lun : ℕ) (cdb payload : List ℕ) (reply : Reply) (position : ℕ) (new : KeptState) (after : SeatState)
+    (ours theirs : Exchange) → IsKept old.array old.history
+    → Steps old.array (CmdEvent before.host lun cdb payload) (CmdOutcome reply) new.array → is_busy reply.status ≡ false → is_broken new.array ≡ false
+    → position ≡ length old.history → new.history ≡ old.history ++ Cmd before.host ours ∷ [] → after.transcript ≡ before.transcript ++ theirs ∷ []
+    → ours ≡ exchange_of lun cdb payload reply → theirs ≡ exchange_of lun cdb payload reply
+    → IsRecorded old before lun cdb payload reply position new after
+recorded old before lun cdb payload reply position new after ours theirs kept steps answered now at history transcript one other = record {
+  position_is = at;
+  history = history ∙ ap (λ (x : Exchange). old.history ++ Cmd before.host x ∷ []) one;
+  transcript = transcript ∙ ap (λ (x : Exchange). before.transcript ++ x ∷ []) other;
+  reply_is = reply_kept old.array new.array before.host lun cdb payload reply old.history kept steps answered now;
+  not_busy = answered;
+  sound = now;
+}

@@ -1,0 +1,55 @@
+-- What a kept array keeps: its history, of which the array is what the history makes.
+use Rattle.std.specs.Prelude.{◌≡◌, ℕ, Bool, false, if◌then◌else◌, Ok, List, [], ◌∷◌}
+use Rattle.ar_scsi.specs.declared.reply.Reply.{Reply}
+use Rattle.ar_unit.specs.Unit.{UnitState, Absent, Present}
+use Rattle.ar_unit.specs.Broken.{shape_of}
+use Rattle.ar_image.specs.Image.{ArrayState, is_broken, image}
+use Rattle.ar_image.specs.Sectors.{Address}
+use Rattle.ar_core.specs.Events.{Event, Outcome}
+use Rattle.ar_core.specs.Step.{is_busy}
+use Rattle.ar_core.specs.declared.event.EventOf.TheVariants.{Make as MakeEvent, Grow as GrowEvent, Remove as RemoveEvent, Cmd as CmdEvent}
+use Rattle.ar_core.specs.declared.event.OutcomeOf.TheVariants.{Make as MakeOutcome, Grow as GrowOutcome, Remove as RemoveOutcome, Cmd as CmdOutcome}
+use Rattle.ar_history.specs.declared.entry.Exchange.{Exchange}
+use Rattle.ar_history.specs.declared.entry.Entry.{Entry}
+use Rattle.ar_history.specs.declared.entry.Entry.TheVariants.{Make, Grow, Remove, Cmd}
+use Rattle.ar_history.specs.History.{IsLegal, replay}
+
+-- the array, the history, and for how many entries there is room
+pub record KeptState : Type 0 where
+  pub array : ArrayState
+  pub history : List Entry
+  pub room : ℕ
+
+-- both units are there and as long, or neither is there
+pub record SameLength (one other : UnitState) : Type 0 where
+  pub present : (shape_of one).present ≡ (shape_of other).present
+  pub sectors : (shape_of one).sectors ≡ (shape_of other).sectors
+
+-- The history is legal, and until the data are lost each unit is what the history makes of it. Whether a unit is there, and its
+-- length, hold for a broken array too; its mark is told then without an entry.
+pub record IsKept (s : ArrayState) (history : List Entry) : Type 0 where
+  pub legal : IsLegal history
+  pub images : is_broken s ≡ false → (a : Address) → image s a ≡ replay history a
+  pub lengths : (a : Address) → SameLength (image s a) (replay history a)
+
+-- a unit with this mark
+abbrev pub with_mark : Bool → UnitState → UnitState
+with_mark mark Absent = Absent
+with_mark mark (Present sectors attention) = Present sectors mark
+
+-- the unit that a history makes, with the mark that the array has for it: of a broken array they may differ
+abbrev pub standing : KeptState → Address → UnitState
+standing k a = with_mark (shape_of (image k.array a)).attention (replay k.history a)
+
+-- a command and its reply
+abbrev pub exchange_of : ℕ → List ℕ → List ℕ → Reply → Exchange
+exchange_of lun cdb payload reply = record { lun = lun; cdb = cdb; payload = payload; reply = reply }
+
+-- what an event leaves in the history: a making, a growth or a removal that was done, or a command that was answered, BUSY apart
+abbrev pub entry_of : Event → Outcome → List Entry
+entry_of (MakeEvent addr sectors) (MakeOutcome (Ok done)) = Make addr sectors ∷ []
+entry_of (GrowEvent addr sectors) (GrowOutcome (Ok done)) = Grow addr sectors ∷ []
+entry_of (RemoveEvent addr) (RemoveOutcome (Ok done)) = Remove addr ∷ []
+entry_of (CmdEvent host lun cdb payload) (CmdOutcome reply) =
+    if is_busy reply.status then [] else Cmd host (exchange_of lun cdb payload reply) ∷ []
+entry_of event outcome = []

@@ -1,0 +1,66 @@
+-- What is asked of a kept array, and how it is done.
+use Rattle.std.specs.Prelude.{◌≡◌, ◌⊎◌, Bool, true, false, Option, Some, None, Ok, Err}
+use Rattle.ar_disks.specs.Disk.{DiskState}
+use Rattle.ar_scsi.specs.Reply.{busy}
+use Rattle.ar_book.specs.declared.refusal.Refusal.TheVariants.{NoMemory}
+use Rattle.ar_image.specs.declared.refusal.Refusal.TheVariants.{Unit as UnitRefused}
+use Rattle.ar_image.specs.Image.{ArrayState, is_broken}
+use Rattle.ar_core.specs.Events.{Event, Outcome}
+use Rattle.ar_core.specs.Step.{Steps}
+use Rattle.ar_core.specs.declared.event.EventOf.TheVariants as events
+use Rattle.ar_core.specs.declared.event.OutcomeOf.TheVariants as outcomes
+use Rattle.ar_history.specs.declared.entry.Entry.{Entry}
+use Rattle.ar_history.specs.declared.entry.Entry.TheVariants as entries
+use Rattle.ar_history.specs.declared.operation.OperationOf.{OperationOf}
+use Rattle.ar_history.specs.declared.operation.OperationOf.TheVariants.{Make, Grow, Remove, AddDisk, DiskOut, Replace}
+use Rattle.ar_history.specs.declared.operation.Task.{Task}
+use Rattle.ar_history.specs.declared.operation.Task.TheVariants.{Flush, Rebuild, Clean, Balance, Demote}
+
+-- the event that an operation is
+abbrev pub event_of : OperationOf DiskState → Event
+event_of (Make addr sectors) = events.Make addr sectors
+event_of (Grow addr sectors) = events.Grow addr sectors
+event_of (Remove addr) = events.Remove addr
+event_of (AddDisk disk) = events.AddDisk disk
+event_of (DiskOut disk) = events.DiskOut disk
+event_of (Replace number disk) = events.Replace number disk
+
+-- the event that a piece of work is
+abbrev pub event_in : Task → Event
+event_in Flush = events.Flush
+event_in Rebuild = events.Rebuild
+event_in Clean = events.Clean
+event_in Balance = events.Balance
+event_in Demote = events.Demote
+
+-- the entry of an event that is an operation on a unit, where it is done
+abbrev pub entry_asked : Event → Option Entry
+entry_asked (events.Make addr sectors) = Some (entries.Make addr sectors)
+entry_asked (events.Grow addr sectors) = Some (entries.Grow addr sectors)
+entry_asked (events.Remove addr) = Some (entries.Remove addr)
+entry_asked event = None
+
+-- the operation on a unit was done
+abbrev pub is_done : Outcome → Bool
+is_done (outcomes.Make (Ok done)) = true
+is_done (outcomes.Grow (Ok done)) = true
+is_done (outcomes.Remove (Ok done)) = true
+is_done outcome = false
+
+-- the answer for want of memory
+abbrev pub IsNoMemory : Event → Outcome → Type 0
+IsNoMemory (events.Make addr sectors) outcome = outcome ≡ outcomes.Make (Err (UnitRefused NoMemory))
+IsNoMemory (events.Grow addr sectors) outcome = outcome ≡ outcomes.Grow (Err (UnitRefused NoMemory))
+IsNoMemory (events.Remove addr) outcome = outcome ≡ outcomes.Remove (Err (UnitRefused NoMemory))
+IsNoMemory (events.Cmd host lun cdb payload) outcome = outcome ≡ outcomes.Cmd busy
+IsNoMemory event outcome = ⊥
+
+-- the event was not begun, since the history could not grow: the array is as it was. A broken one records nothing, and answers each event.
+pub record IsRefused (old : ArrayState) (event : Event) (outcome : Outcome) (new : ArrayState) : Type 0 where
+  pub answer : IsNoMemory event outcome
+  pub unchanged : new ≡ old
+  pub sound : is_broken old ≡ false
+
+-- the event was one step of the array, or was not begun
+abbrev pub Does : ArrayState → Event → Outcome → ArrayState → Type 0
+Does old event outcome new = Steps old event outcome new ⊎ IsRefused old event outcome new

@@ -1,0 +1,66 @@
+-- How a host's command is done, and what it leaves in history and transcript.
+use Rattle.std.specs.Prelude.{◌≡◌, ◌≢◌, ◌⊎◌, ℕ, true, false, List, [], ◌∷◌, ◌++◌, length, Option, Some, None}
+use Rattle.ar_disks.specs.declared.address.Host.{Host}
+use Rattle.ar_scsi.specs.declared.reply.Reply.{Reply}
+use Rattle.ar_scsi.specs.Reply.{busy}
+use Rattle.ar_unit.specs.Unit.{answer, IsGiven}
+use Rattle.ar_unit.specs.Broken.{where_broken}
+use Rattle.ar_image.specs.Sectors.{Address}
+use Rattle.ar_image.specs.Image.{ArrayState, is_broken, image}
+use Rattle.ar_core.specs.Step.{Steps, is_busy}
+use Rattle.ar_core.specs.declared.event.EventOf.TheVariants.{Cmd as CmdEvent}
+use Rattle.ar_core.specs.declared.event.OutcomeOf.TheVariants.{Cmd as CmdOutcome}
+use Rattle.ar_history.specs.declared.entry.Exchange.{Exchange}
+use Rattle.ar_history.specs.declared.entry.Entry.TheVariants.{Cmd}
+use Rattle.ar_history.specs.History.{replay}
+use Rattle.ar_history.specs.Kept.{KeptState, exchange_of, standing}
+use Rattle.ar_history.specs.Operations.{Does}
+use Rattle.ar_history.specs.Seat.{SeatState}
+
+-- a command with another reply
+abbrev pub with_reply : Exchange → Reply → Exchange
+with_reply exchange reply = record exchange { reply = reply }
+
+-- no entry is made of a command that the array answered so: BUSY, or with bytes, whose copies need memory
+abbrev pub IsBusyFor : Reply → Type 0
+IsBusyFor reply = (is_busy reply.status ≡ true) ⊎ (reply.payload ≢ [])
+
+-- The command was answered: history and transcript have grown by it, and its reply is the one that its unit gives, as the history
+-- so far has made the unit.
+pub record IsRecorded (old : KeptState) (before : SeatState) (lun : ℕ) (cdb payload : List ℕ) (reply : Reply) (position : ℕ)
+    (new : KeptState) (after : SeatState) : Type 0 where
+  pub position_is : position ≡ length old.history
+  pub history : new.history ≡ old.history ++ Cmd before.host (exchange_of lun cdb payload reply) ∷ []
+  pub transcript : after.transcript ≡ before.transcript ++ exchange_of lun cdb payload reply ∷ []
+  pub reply_is : reply ≡ (answer (replay old.history (before.host.number, lun)) cdb payload).reply
+  pub not_busy : is_busy reply.status ≡ false
+  pub sound : is_broken new.array ≡ false
+
+-- It was not: history and transcript stay. Either the reply is BUSY, and each unit is as it was; or the array is broken after it, and
+-- the reply is what a broken array says in place of the unit's.
+pub record IsUnrecorded (old : KeptState) (before : SeatState) (lun : ℕ) (cdb payload : List ℕ) (reply : Reply)
+    (new : KeptState) (after : SeatState) : Type 0 where
+  pub history : new.history ≡ old.history
+  pub transcript : after.transcript ≡ before.transcript
+  pub busy_is : is_broken new.array ≡ false → reply ≡ busy
+  pub images : is_broken new.array ≡ false → (a : Address) → image new.array a ≡ image old.array a
+  pub broken :
+      is_broken new.array ≡ true
+      → IsGiven (where_broken cdb (answer (standing old (before.host.number, lun)) cdb payload).reply) reply
+
+-- by the position of its entry
+abbrev pub Serves : KeptState → SeatState → ℕ → List ℕ → List ℕ → Reply → Option ℕ → KeptState → SeatState → Type 0
+Serves old before lun cdb payload reply (Some position) new after = IsRecorded old before lun cdb payload reply position new after
+Serves old before lun cdb payload reply None new after = IsUnrecorded old before lun cdb payload reply new after
+
+-- the array took the command as one step, but memory for the copies of its reply was refused, and BUSY stands in the reply's place
+pub record IsUncopied (old : ArrayState) (host : Host) (lun : ℕ) (cdb payload : List ℕ) (reply : Reply) (new : ArrayState) : Type 0 where
+  pub first : Reply
+  pub steps : Steps old (CmdEvent host lun cdb payload) (CmdOutcome first) new
+  pub bytes : first.payload ≢ []
+  pub busy_is : reply ≡ busy
+
+-- the command was one step of the array, or was not begun, or its reply was lost
+abbrev pub DoesCommand : ArrayState → Host → ℕ → List ℕ → List ℕ → Reply → ArrayState → Type 0
+DoesCommand old host lun cdb payload reply new =
+    Does old (CmdEvent host lun cdb payload) (CmdOutcome reply) new ⊎ IsUncopied old host lun cdb payload reply new

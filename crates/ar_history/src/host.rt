@@ -1,0 +1,225 @@
+// Commands of hosts.
+ghost use Rattle.std.specs.Prelude.{◌≡◌, ◌≢◌, ◌⊎◌, ◌+◌, ◌<◌, ◌++◌, ◌∷◌, ◌↔◌, [], None, true, false, IsSome, IfOk, OnOk, length, vec_len, vec_capacity};
+ghost use Rattle.ar_image.specs.Image.{is_broken};
+ghost use Rattle.ar_scsi.specs.Reply.{busy};
+ghost use Rattle.ar_core.specs.Step.{Steps, is_busy};
+ghost use Rattle.ar_history.specs.Kept.{exchange_of};
+ghost use Rattle.ar_history.specs.Serving.{Serves, DoesCommand, IsBusyFor, with_reply};
+
+use crate::entry::shared;
+use crate::operate::is_lost;
+use crate::{Entry, Exchange, Kept, Seat};
+use ar_core::{Array, EventOf, OutcomeOf};
+use ar_disks::{Disk, Host};
+use ar_scsi::{Reply, Status};
+use bytes::Bytes;
+use std::alloc::{AllocError, Global};
+use std::sync::ledger::{Book, Ledger};
+
+/// What a host's command was answered.
+#[derive(Debug, Drop, PartialEq, Eq)]
+pub struct Served {
+    pub reply: Reply,
+    /// The position of the command's entry in the history, from 0. There is none where the reply is BUSY, or the array has lost its
+    /// data.
+    pub at: Option<u64>,
+}
+
+// Both copies of a command, for the history and for the transcript, whose reply is still to come.
+#[derive(Drop)]
+struct Draft {
+    ours: Exchange,
+    theirs: Exchange,
+}
+
+impl<D: Disk + Drop, L: Ledger> Kept<D, L> {
+    /// Does a host's command, by its seat: the command block is padded with zeros, and `payload` is the data that came with it.
+    /// Where the command is answered, history and transcript have both grown by it and its reply, which is the one that the
+    /// unit's own part of the history gives. A command for which memory is refused is BUSY, and no unit has changed. A broken array
+    /// records nothing more.
+    pub fn host(&mut self, seat: &mut Seat<L>, lun: u8, cdb: [u8; 16], payload: Bytes) -> Served
+        ensures serves { Serves self.old seat.old lun cdb payload result.reply result.at self.new seat.new }
+        ensures does { DoesCommand self.old.array seat.old.host lun cdb payload result.reply self.new.array }
+        ensures host { seat.new.host ≡ seat.old.host }
+    {
+        if is_lost(&self.array) {
+            return self.unrecorded(seat.host, lun, cdb, payload);
+        }
+        match self.draft(seat, lun, cdb, &payload) {
+            Ok(draft) => self.serve(seat, draft, payload),
+            Err(_) => Served::busy(),
+        }
+    }
+
+    // A command to a broken array.
+    fn unrecorded(&mut self, host: Host, lun: u8, cdb: [u8; 16], payload: Bytes) -> Served
+        requires { is_broken self.old.array ≡ true }
+        ensures broken { is_broken self.new.array ≡ true }
+        ensures steps { Steps self.old.array (EventOf.Cmd host lun cdb payload) (OutcomeOf.Cmd result.reply) self.new.array }
+        ensures at { result.at ≡ None }
+        ensures history { self.new.history ≡ self.old.history }
+    {
+        let reply = command(&mut self.array, self.alloc, host, lun, cdb, payload);
+        Served { reply, at: None }
+    }
+
+    // Both copies of a command, and room for them in history and transcript.
+    fn draft(
+        &mut self,
+        seat: &mut Seat<L>,
+        lun: u8,
+        cdb: [u8; 16],
+        payload: &Bytes,
+    ) -> Result<Draft, AllocError>
+        ensures ours { IfOk result (λ draft. draft.ours ≡ exchange_of lun cdb payload.now busy) }
+        ensures theirs { IfOk result (λ draft. draft.theirs ≡ exchange_of lun cdb payload.now busy) }
+        ensures room { OnOk result (length self.new.history < self.new.room) }
+        ensures seat_room { OnOk result (length seat.new.transcript < seat.new.room) }
+
+        ensures array { self.new.array ≡ self.old.array }
+        ensures history { self.new.history ≡ self.old.history }
+        ensures transcript { seat.new.transcript ≡ seat.old.transcript }
+        ensures host { seat.new.host ≡ seat.old.host }
+    {
+        self.history.reserve(1)?;
+        seat.transcript.reserve(1)?;
+        Draft::new(lun, cdb, payload)
+    }
+
+    // Does a command for whose copies there is room, and records it where it was answered.
+    fn serve(&mut self, seat: &mut Seat<L>, draft: Draft, payload: Bytes) -> Served
+        requires sound { is_broken self.old.array ≡ false }
+        requires same { draft.theirs ≡ draft.ours }
+        requires payload { draft.ours.payload ≡ payload }
+        requires room { length self.old.history < self.old.room }
+        requires seat_room { length seat.old.transcript < seat.old.room }
+        ensures serves { Serves self.old seat.old draft.ours.lun draft.ours.cdb payload result.reply result.at self.new seat.new }
+        ensures does { DoesCommand self.old.array seat.old.host draft.ours.lun draft.ours.cdb payload result.reply self.new.array }
+        ensures host { seat.new.host ≡ seat.old.host }
+    {
+        let reply = command(
+            &mut self.array,
+            self.alloc,
+            seat.host,
+            draft.ours.lun,
+            draft.ours.cdb,
+            payload,
+        );
+        if is_lost(&self.array) {
+            return Served { reply, at: None };
+        }
+        let mut draft = draft;
+        if !draft.answer(&reply) {
+            return Served::busy();
+        }
+        let at = record(&mut self.history, &mut self.book, seat, draft);
+        Served {
+            reply,
+            at: Some(at),
+        }
+    }
+}
+
+impl Served {
+    // BUSY, for want of memory.
+    fn busy() -> Served
+        ensures reply { result.reply ≡ busy }
+        ensures at { result.at ≡ None }
+    {
+        Served {
+            reply: Reply::busy(),
+            at: None,
+        }
+    }
+}
+
+impl Draft {
+    // Two copies of a command, which share its data.
+    fn new(lun: u8, cdb: [u8; 16], payload: &Bytes) -> Result<Draft, AllocError>
+        ensures ours { IfOk result (λ draft. draft.ours ≡ exchange_of lun cdb payload.now busy) }
+        ensures theirs { IfOk result (λ draft. draft.theirs ≡ exchange_of lun cdb payload.now busy) }
+    {
+        Ok(Draft {
+            ours: exchange(lun, cdb, payload)?,
+            theirs: exchange(lun, cdb, payload)?,
+        })
+    }
+
+    // Gives both copies the reply. It isn't done for BUSY, nor where memory for the copies of the reply's bytes is refused.
+    fn answer(&mut self, reply: &Reply) -> bool
+        ensures ours { result ≡ true → self.new.ours ≡ with_reply self.old.ours reply.now }
+        ensures theirs { result ≡ true → self.new.theirs ≡ with_reply self.old.theirs reply.now }
+        ensures answered { result ≡ true → is_busy reply.now.status ≡ false }
+        ensures busy { result ≡ false → IsBusyFor reply.now }
+    {
+        if matches!(reply.status, Status::Busy) {
+            return false;
+        }
+        let Ok(ours) = reply.clone() else {
+            return false;
+        };
+        let Ok(theirs) = reply.clone() else {
+            return false;
+        };
+        self.ours.reply = ours;
+        self.theirs.reply = theirs;
+        true
+    }
+}
+
+// A command whose reply is still to come.
+fn exchange(lun: u8, cdb: [u8; 16], payload: &Bytes) -> Result<Exchange, AllocError>
+    ensures { IfOk result (λ exchange. exchange ≡ exchange_of lun cdb payload.now busy) }
+{
+    Ok(Exchange {
+        lun,
+        cdb,
+        payload: shared(payload)?,
+        reply: Reply::busy(),
+    })
+}
+
+// Does a command.
+fn command<D: Disk + Drop>(
+    array: &mut Array<D>,
+    alloc: Global,
+    host: Host,
+    lun: u8,
+    cdb: [u8; 16],
+    payload: Bytes,
+) -> Reply
+    ensures { Steps array.old (EventOf.Cmd host lun cdb payload) (OutcomeOf.Cmd result) array.new }
+{
+    let event = EventOf::Cmd {
+        host,
+        lun,
+        cdb,
+        payload,
+    };
+    match array.step(alloc, event) {
+        OutcomeOf::Cmd(reply) => reply,
+        _ => unreachable!(),
+    }
+}
+
+// Puts a command into history and transcript, and answers its position.
+fn record<L: Ledger>(
+    history: &mut Vec<Entry>,
+    book: &mut Book<L>,
+    seat: &mut Seat<L>,
+    draft: Draft,
+) -> u64
+    requires room { vec_len history.old < vec_capacity history.old }
+    requires seat_room { length seat.old.transcript < seat.old.room }
+    ensures position { result ≡ length history.old.items }
+    ensures history { history.new.items ≡ history.old.items ++ Entry.Cmd seat.old.host draft.ours ∷ [] }
+    ensures total { book.new.total ≡ book.old.total + 1 }
+    ensures transcript { seat.new.transcript ≡ seat.old.transcript ++ draft.theirs ∷ [] }
+    ensures host { seat.new.host ≡ seat.old.host }
+{
+    let Draft { ours, theirs } = draft;
+    let at = history.len() as u64;
+    history.push_reserved(Entry::Cmd(seat.host, ours));
+    seat.append(book, theirs);
+    at
+}

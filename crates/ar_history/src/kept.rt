@@ -1,0 +1,105 @@
+// The array and its history.
+ghost use Rattle.std.specs.Prelude.{◌≡◌, ◌<◌, ◌+◌, [], ◌∷◌, map};
+ghost use Rattle.ar_book.specs.Tables.{free_groups};
+ghost use Rattle.ar_history.specs.Seat.{SeatState};
+
+use crate::{Entry, Seat};
+use ar_core::Array;
+use ar_disks::{Disk, Host};
+use std::alloc::Global;
+use std::marker::Model;
+use std::sync::ledger::{Blank, Book, Ledger, Share};
+
+/// An array with its stored history. The ledger counts the commands in it, and each seat's share those of its host.
+#[derive(Drop)]
+pub struct Kept<D: Disk, L: Ledger> {
+    pub(crate) alloc: Global,
+    pub(crate) array: Array<D>,
+    pub(crate) history: Vec<Entry>,
+    pub(crate) book: Book<L>,
+}
+
+impl<D: Disk, L: Ledger> Model for Kept<D, L> {
+    ghost use Rattle.std.specs.Prelude.{◌≡◌, count_by, vec_capacity};
+    ghost use Rattle.ar_history.specs.History.{is_command};
+    ghost use Rattle.ar_history.specs.Kept.{KeptState, IsKept};
+
+    ghost Value = { KeptState };
+
+    ghost view = { λ k. record { array = k.array; history = k.history.items; room = vec_capacity k.history } };
+
+    ghost invariant = { λ k. IsKept k.array k.history.items × (k.book.total ≡ count_by is_command k.history.items) };
+}
+
+impl<D: Disk, L: Ledger> Kept<D, L> {
+    /// An array that has no unit, with an empty history, and the seats of hosts 0 to 3 in their order.
+    pub fn start(alloc: Global, blank: Blank, array: Array<D>) -> (Kept<D, L>, [Seat<L>; 4])
+        requires name { blank.name ≡ L.name }
+        requires parts { blank.parts ≡ L.parts }
+        requires four { blank.parts ≡ 4 }
+        requires no_unit { array.store.book.units ≡ [] }
+        ensures array { result.0.array ≡ array }
+        ensures history { result.0.history ≡ [] }
+        ensures hosts { map (λ (s : SeatState). s.host.number) result.1 ≡ 0 ∷ 1 ∷ 2 ∷ 3 ∷ [] }
+        ensures transcripts { map (λ (s : SeatState). s.transcript) result.1 ≡ [] ∷ [] ∷ [] ∷ [] ∷ [] }
+    {
+        let (book, mut rest) = blank.open::<L>();
+        let kept = Kept {
+            alloc,
+            array,
+            history: Vec::new(alloc),
+            book,
+        };
+        (kept, seats(alloc, &mut rest))
+    }
+
+    /// How many groups are free.
+    pub fn free_groups(&self) -> u32
+        ensures { result ≡ free_groups self.now.array.store.book }
+    {
+        self.array.free_groups()
+    }
+}
+
+// The seats of the four hosts, each with a part of the ledger.
+fn seats<L: Ledger>(alloc: Global, share: &mut Share<L>) -> [Seat<L>; 4]
+    requires parts { share.old.parts ≡ 4 }
+    requires amount { share.old.amount ≡ 0 }
+    ensures hosts { map (λ (s : SeatState). s.host.number) result ≡ 0 ∷ 1 ∷ 2 ∷ 3 ∷ [] }
+    ensures transcripts { map (λ (s : SeatState). s.transcript) result ≡ [] ∷ [] ∷ [] ∷ [] ∷ [] }
+{
+    [
+        seat(alloc, share, 0),
+        seat(alloc, share, 1),
+        seat(alloc, share, 2),
+        seat(alloc, share, 3),
+    ]
+}
+
+// The seat of a host, with one part.
+fn seat<L: Ledger>(alloc: Global, share: &mut Share<L>, number: u8) -> Seat<L>
+    requires number { number < 4 }
+    requires parts { 0 < share.old.parts }
+    requires amount { share.old.amount ≡ 0 }
+    ensures host { result.host.number ≡ number }
+    ensures transcript { result.transcript ≡ [] }
+    ensures parts { share.new.parts + 1 ≡ share.old.parts }
+    ensures amount { share.new.amount ≡ 0 }
+{
+    Seat {
+        host: host(number),
+        transcript: Vec::new(alloc),
+        share: share.split_off(1, 0),
+    }
+}
+
+// The host of a number.
+fn host(number: u8) -> Host
+    requires { number < 4 }
+    ensures { result.number ≡ number }
+{
+    match Host::new(number) {
+        Some(host) => host,
+        None => unreachable!(),
+    }
+}

@@ -1,0 +1,130 @@
+// Operations and work in the background.
+ghost use Rattle.std.specs.Prelude.{◌≡◌, ◌⊎◌, ◌<◌, ◌++◌, true, false, Some, IsTrue, length};
+ghost use Rattle.ar_image.specs.Image.{is_broken, image};
+ghost use Rattle.ar_image.specs.Sectors.{Address};
+ghost use Rattle.ar_core.specs.Step.{Steps, is_quiet};
+ghost use Rattle.ar_history.specs.Kept.{entry_of};
+ghost use Rattle.ar_history.specs.Operations.{Does, event_of, event_in, entry_asked, is_done};
+
+use crate::{Entry, Kept, Operation, OperationOf, Task};
+use ar_core::{Array, Event, EventOf, Health, Outcome, OutcomeOf, Refusal, UnitRefusal};
+use ar_disks::{Addr, Disk};
+use std::sync::ledger::Ledger;
+
+const NO_MEMORY: Refusal = Refusal::Unit(UnitRefusal::NoMemory);
+
+impl<D: Disk + Drop, L: Ledger> Kept<D, L> {
+    /// Does one operation, and answers it as the array does. A making, a growth or a removal for which the history can't grow is
+    /// refused for want of memory, and nothing has changed then; one that is done is the history's next entry. Nothing else
+    /// changes the history.
+    pub fn operate(&mut self, operation: Operation<D>) -> Outcome<D>
+        ensures does { Does self.old.array (event_of operation) result self.new.array }
+        ensures recorded { self.new.history ≡ self.old.history ++ entry_of (event_of operation) result }
+    {
+        match operation {
+            OperationOf::Make(addr, sectors) => self.make(addr, sectors),
+            OperationOf::Grow(addr, sectors) => self.grow(addr, sectors),
+            OperationOf::Remove(addr) => self.remove(addr),
+            OperationOf::AddDisk(disk) => self.quiet(EventOf::AddDisk(disk)),
+            OperationOf::DiskOut(disk) => self.quiet(EventOf::DiskOut(disk)),
+            OperationOf::Replace(number, disk) => self.quiet(EventOf::Replace(number, disk)),
+        }
+    }
+
+    /// Does one piece of work in the background, and answers it as the array does. The history stays, and until the data are
+    /// lost every unit.
+    pub fn background(&mut self, task: Task) -> Outcome<D>
+        ensures steps { Steps self.old.array (event_in task) result self.new.array }
+        ensures history { self.new.history ≡ self.old.history }
+        ensures images { is_broken self.new.array ≡ false → (a : Address) → image self.new.array a ≡ image self.old.array a }
+    {
+        match task {
+            Task::Flush => self.quiet(EventOf::Flush),
+            Task::Rebuild => self.quiet(EventOf::Rebuild),
+            Task::Clean => self.quiet(EventOf::Clean),
+            Task::Balance => self.quiet(EventOf::Balance),
+            Task::Demote => self.quiet(EventOf::Demote),
+        }
+    }
+
+    fn make(&mut self, addr: Addr, sectors: u32) -> Outcome<D>
+        ensures does { Does self.old.array (EventOf.Make addr sectors) result self.new.array }
+        ensures recorded { self.new.history ≡ self.old.history ++ entry_of (EventOf.Make addr sectors) result }
+    {
+        if !self.can_record() {
+            return OutcomeOf::Make(Err(NO_MEMORY));
+        }
+        self.change(EventOf::Make(addr, sectors), Entry::Make(addr, sectors))
+    }
+
+    fn grow(&mut self, addr: Addr, sectors: u32) -> Outcome<D>
+        ensures does { Does self.old.array (EventOf.Grow addr sectors) result self.new.array }
+        ensures recorded { self.new.history ≡ self.old.history ++ entry_of (EventOf.Grow addr sectors) result }
+    {
+        if !self.can_record() {
+            return OutcomeOf::Grow(Err(NO_MEMORY));
+        }
+        self.change(EventOf::Grow(addr, sectors), Entry::Grow(addr, sectors))
+    }
+
+    fn remove(&mut self, addr: Addr) -> Outcome<D>
+        ensures does { Does self.old.array (EventOf.Remove addr) result self.new.array }
+        ensures recorded { self.new.history ≡ self.old.history ++ entry_of (EventOf.Remove addr) result }
+    {
+        if !self.can_record() {
+            return OutcomeOf::Remove(Err(NO_MEMORY));
+        }
+        self.change(EventOf::Remove(addr), Entry::Remove(addr))
+    }
+
+    // Does an event that is nothing to any unit.
+    fn quiet(&mut self, event: Event<D>) -> Outcome<D>
+        requires { is_quiet event ≡ true }
+        ensures steps { Steps self.old.array event result self.new.array }
+        ensures history { self.new.history ≡ self.old.history }
+        ensures images { is_broken self.new.array ≡ false → (a : Address) → image self.new.array a ≡ image self.old.array a }
+    {
+        self.array.step(self.alloc, event)
+    }
+
+    // Does an event whose entry the history takes where the event is done.
+    fn change(&mut self, event: Event<D>, entry: Entry) -> Outcome<D>
+        requires asked { entry_asked event ≡ Some entry }
+        requires room { is_broken self.old.array ≡ false → length self.old.history < self.old.room }
+        ensures steps { Steps self.old.array event result self.new.array }
+        ensures recorded { self.new.history ≡ self.old.history ++ entry_of event result }
+    {
+        let outcome = self.array.step(self.alloc, event);
+        if is_done(&outcome) {
+            self.history.push_reserved(entry);
+        }
+        outcome
+    }
+
+    // Whether the history has room for one entry more, which is made where there is none. A broken array records nothing, and needs none.
+    pub(crate) fn can_record(&mut self) -> bool
+        ensures array { self.new.array ≡ self.old.array }
+        ensures history { self.new.history ≡ self.old.history }
+        ensures room { result ≡ true → is_broken self.new.array ≡ false → length self.new.history < self.new.room }
+        ensures sound { result ≡ false → is_broken self.old.array ≡ false }
+    {
+        is_lost(&self.array) || self.history.reserve(1).is_ok()
+    }
+}
+
+// Whether an array has lost its data.
+pub(crate) fn is_lost<D: Disk>(array: &Array<D>) -> bool
+    ensures { result ≡ is_broken array.now }
+{
+    matches!(array.health(), Health::Broken)
+}
+
+// Whether a unit was made, has grown or was removed.
+fn is_done<D: Disk>(outcome: &Outcome<D>) -> bool
+    ensures { result ≡ is_done outcome.now }
+{
+    matches!(
+        outcome,
+        OutcomeOf::Make(Ok(())) | OutcomeOf::Grow(Ok(())) | OutcomeOf::Remove(Ok(()))
+    )
+}
