@@ -1,3 +1,4 @@
+pub mod Audit
 pub mod History
 pub mod Kept
 pub mod Operations

@@ -1,6 +1,7 @@
 // The array and its history.
 ghost use Rattle.std.specs.Prelude.{◌≡◌, ◌<◌, ◌+◌, [], ◌∷◌, map};
 ghost use Rattle.ar_book.specs.Tables.{free_groups};
+ghost use Rattle.ar_history.specs.Kept.{IsKept};
 ghost use Rattle.ar_history.specs.Seat.{SeatState};
 
 use crate::{Entry, Seat};
@@ -51,6 +52,15 @@ impl<D: Disk, L: Ledger> Kept<D, L> {
             book,
         };
         (kept, seats(alloc, &mut rest))
+    }
+
+    /// What was done to units so far, in the order in which it was done. The array is what it makes: each unit until data are
+    /// lost, and for good whether it is there and how long it is.
+    pub fn history(&self) -> &[Entry]
+        ensures history { result.now ≡ self.now.history }
+        ensures kept { IsKept self.now.array self.now.history }
+    {
+        self.history.as_slice()
     }
 
     /// How many groups are free.

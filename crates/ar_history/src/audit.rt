@@ -1,0 +1,135 @@
+// The audit: whether each host's transcript is its part of the history.
+ghost use Rattle.std.specs.Prelude.{◌≡◌, ◌≤◌, ◌∷◌, [], Some, None, All, IfOk, OnOk, IfErr, MatchOption, map, sum, count_by, length};
+ghost use Rattle.ar_history.specs.Audit.{DiffersAt, IsHostsPart, IsFirstMismatch, IsIsolated, Agrees, Departs, command_of, IsSame};
+ghost use Rattle.ar_history.specs.History.{is_command, part};
+ghost use Rattle.ar_history.specs.Seat.{SeatState};
+
+use crate::{Entry, Exchange, Kept, Seat};
+use ar_disks::{Disk, Host};
+use std::sync::ledger::Ledger;
+
+/// What an audit found, where each transcript is its host's part of the history.
+#[derive(Clone, Copy, Debug, PartialEq, Eq)]
+pub struct Report {
+    /// How many commands each of hosts 0 to 3 has in its transcript, and in the history.
+    pub commands: [u64; 4],
+}
+
+/// The first transcript that isn't its host's part of the history.
+#[derive(Clone, Copy, Debug, PartialEq, Eq)]
+pub struct Mismatch {
+    pub host: Host,
+    /// The first place where the two lists differ, from 0. Where one of them begins the other, it is the shorter one's length.
+    pub position: u64,
+}
+
+impl<D: Disk, L: Ledger> Kept<D, L> {
+    /// Compares each host's transcript with its part of the history: Ok exactly where all four are the same, else the first
+    /// host of which they aren't, and the first place where they differ. At Ok each reply in a transcript is the one that the
+    /// unit's own makings, growths, removals and commands before it give. It takes no memory, and walks the history once for each
+    /// host.
+    pub fn close(&self, seats: &[Seat<L>; 4]) -> Result<Report, Mismatch>
+        requires order { map (λ (s : SeatState). s.host.number) seats.now ≡ 0 ∷ 1 ∷ 2 ∷ 3 ∷ [] }
+        ensures parts { OnOk result (All (IsHostsPart self.now.history) seats.now) }
+        ensures commands { IfOk result (λ report. report.commands ≡ map (λ (s : SeatState). length s.transcript) seats.now) }
+        ensures isolated { OnOk result (All (IsIsolated self.now.history) seats.now) }
+        ensures none_else { IfOk result (λ report. sum report.commands ≡ count_by is_command self.now.history) }
+        ensures mismatch { IfErr result (λ mismatch. IsFirstMismatch self.now.history seats.now mismatch.host.number mismatch.position) }
+    {
+        audited(self.history.as_slice(), seats)
+    }
+}
+
+/// Compares a host's transcript with its part of a history: the first place where they differ, if there is one. Where one of them
+/// begins the other, it is the shorter one's length.
+pub fn first_difference(history: &[Entry], host: Host, transcript: &[Exchange]) -> Option<u64>
+    ensures { MatchOption result
+        (transcript.now ≡ part host.number history.now)
+        (λ position. DiffersAt position transcript.now (part host.number history.now)) }
+{
+    let mut at = 0;
+    for entry in history {
+        match follow(entry, host, transcript, at) {
+            Some(next) => at = next,
+            None => return Some(at as u64),
+        }
+    }
+    if at < transcript.len() {
+        Some(at as u64)
+    } else {
+        None
+    }
+}
+
+// Compares the transcripts of four seats with their hosts' parts of a history.
+fn audited<L: Ledger>(history: &[Entry], seats: &[Seat<L>; 4]) -> Result<Report, Mismatch>
+    requires order { map (λ (s : SeatState). s.host.number) seats.now ≡ 0 ∷ 1 ∷ 2 ∷ 3 ∷ [] }
+    ensures parts { OnOk result (All (IsHostsPart history.now) seats.now) }
+    ensures commands { IfOk result (λ report. report.commands ≡ map (λ (s : SeatState). length s.transcript) seats.now) }
+    ensures mismatch { IfErr result (λ mismatch. IsFirstMismatch history.now seats.now mismatch.host.number mismatch.position) }
+{
+    Ok(Report {
+        commands: [
+            count(history, &seats[0])?,
+            count(history, &seats[1])?,
+            count(history, &seats[2])?,
+            count(history, &seats[3])?,
+        ],
+    })
+}
+
+// How many commands a seat's transcript has, where it is its host's part of the history.
+fn count<L: Ledger>(history: &[Entry], seat: &Seat<L>) -> Result<u64, Mismatch>
+    ensures part { OnOk result (IsHostsPart history.now seat.now) }
+    ensures count { IfOk result (λ count. count ≡ length seat.now.transcript) }
+    ensures host { IfErr result (λ mismatch. mismatch.host ≡ seat.now.host) }
+    ensures position { IfErr result (λ mismatch. DiffersAt mismatch.position seat.now.transcript (part seat.now.host.number history.now)) }
+{
+    let host = seat.host();
+    let transcript = seat.transcript();
+    match first_difference(history, host, transcript) {
+        None => Ok(transcript.len() as u64),
+        Some(position) => Err(Mismatch { host, position }),
+    }
+}
+
+// Where a transcript goes on after an entry that agrees with it; there is none where the entry doesn't.
+fn follow(entry: &Entry, host: Host, transcript: &[Exchange], at: usize) -> Option<usize>
+    requires { at ≤ length transcript.now }
+    ensures { MatchOption result
+        (Departs host.number entry.now transcript.now at)
+        (λ next. Agrees host.number entry.now transcript.now at next) }
+{
+    let Some(command) = command_of(entry, host) else {
+        return Some(at);
+    };
+    match transcript.get(at) {
+        None => None,
+        Some(line) => {
+            if is_same(line, command) {
+                Some(at + 1)
+            } else {
+                None
+            }
+        }
+    }
+}
+
+// The command that an entry is, if it is one of this host.
+fn command_of(entry: &Entry, host: Host) -> Option<&Exchange>
+    ensures { MatchOption result
+        (command_of host.number entry.now ≡ None)
+        (λ command. command_of host.number entry.now ≡ Some command.now) }
+{
+    match entry {
+        Entry::Cmd(whose, exchange) if whose.number() == host.number() => Some(exchange),
+        _ => None,
+    }
+}
+
+// Whether two commands and their replies are the same, byte by byte.
+fn is_same(one: &Exchange, other: &Exchange) -> bool
+    ensures { IsSame result one.now other.now }
+{
+    *one == *other
+}
