@@ -7,12 +7,14 @@ use Rattle.ar_extents.specs.declared.health.Health.{Health}
 use Rattle.ar_extents.specs.declared.health.Health.TheVariants.{Whole, Out, Rebuilding, Broken}
 use Rattle.ar_extents.specs.Health.{is_lost, is_out, IsDown, after_fault, HealthFits, rebuilt_disk, next_extent}
 use Rattle.ar_extents.specs.Set.{SetState, IsKept, HasShape, HasExtent, disk_in, faults_of, content, IsSound, IsLost}
-use Rattle.ar_extents.specs.Follows.{Follows, Faulted, TwoHit, Keeps, KeepsBut, Anywhere}
+use Rattle.ar_extents.specs.Follows.{Follows, Faulted, TwoHit, Keeps, KeepsBut, Anywhere, IsPlace, HasNoUsed, Spares, WorksOn}
 use Rattle.ar_extents.specs.declared.answers.Got.{Got}
 use Rattle.ar_extents.specs.declared.answers.Put.{Put}
 use Rattle.ar_extents.specs.Access.{OthersStay, Touches, Accesses, IsRead, IsWritten, next_place, is_read, is_written, lost_got, lost_put}
-use Rattle.ar_extents.proofs.Follows.{follows_refl}
-use Rattle.ar_extents.proofs.Faults.{is_out-sound, sound_before, other_in_use, in_use_before, out_fault, rebuilding_fault, down_disk, broken_fault}
+use Rattle.ar_extents.proofs.Follows.{follows_refl, keeps_fewer}
+use Rattle.ar_extents.proofs.Losses.{lost_or_sound}
+use Rattle.ar_extents.proofs.GroupLemmas.{place_is, same_place}
+use Rattle.ar_extents.proofs.Faults.{is_out-sound, is_out-after_fault, sound_before, other_in_use, in_use_before, out_fault, rebuilding_fault, down_disk, broken_fault}
 
 -- the set once one of its disks has answered
 abbrev pub answered_set : SetState → List DiskState → ℕ → Bool → SetState
@@ -37,12 +39,15 @@ touches s disks d answered kept exists used answers others = record {
 same_faults : (old new : SetState) (d : ℕ) (answered : Bool) → Touches old new d answered → (x : ℕ) → x ≢ d → faults_of new x ≡ faults_of old x
 same_faults old new d answered t x ne = ap (λ (disk : DiskState). disk.faults) (t.others.others x ne)
 
-faults_grow : (old new : SetState) (d : ℕ) (answered : Bool) → Touches old new d answered → (x : ℕ) → faults_of old x ≤ faults_of new x
-faults_grow old new d true t x =
+none_faulted : (old new : SetState) (d : ℕ) → Touches old new d true → (x : ℕ) → faults_of new x ≡ faults_of old x
+none_faulted old new d t x =
     elim (eqb_tells x d) [
-      | inl q ↦ (let P : ℕ → Type 0 = λ n. faults_of old n ≤ faults_of new n in subst P (sym q.1) (let f = t.faults in omega arith))
-      | inr q ↦ (let f = same_faults old new d true t x q.1 in omega arith)
+      | inl q ↦ (let P : ℕ → Type 0 = λ n. faults_of new n ≡ faults_of old n in subst P (sym q.1) t.faults)
+      | inr q ↦ same_faults old new d true t x q.1
     ]
+
+faults_grow : (old new : SetState) (d : ℕ) (answered : Bool) → Touches old new d answered → (x : ℕ) → faults_of old x ≤ faults_of new x
+faults_grow old new d true t x = let f = none_faulted old new d t x in omega arith
 faults_grow old new d false t x =
     elim (eqb_tells x d) [
       | inl q ↦ (let P : ℕ → Type 0 = λ n. faults_of old n ≤ faults_of new n in subst P (sym q.1) (let f = t.faults in omega arith))
@@ -51,6 +56,16 @@ faults_grow old new d false t x =
 
 faulted : (old new : SetState) (d : ℕ) → Touches old new d false → Faulted old new d
 faulted old new d t = let f = t.faults in omega arith
+
+-- the one disk that faulted is out, or the set is broken
+noticed : (old new : SetState) (d : ℕ) → Touches old new d false → (x : ℕ) → Faulted old new x → is_out new.health x ≡ true
+noticed old new d t x more =
+    elim (eqb_tells x d) [
+      | inl q ↦
+          (let P : ℕ → Type 0 = λ n. is_out new.health n ≡ true in
+          subst P (sym q.1) (ap (λ (h : Health). is_out h d) t.health ∙ is_out-after_fault old.health d))
+      | inr q ↦ absurd (let f = same_faults old new d false t x q.1 in omega arith)
+    ]
 
 two_hit : (old new : SetState) (d : ℕ) → Touches old new d false → (d ≢ down_disk old.health) × IsDown old.health (down_disk old.health) → TwoHit old new
 two_hit old new d t was = record {
@@ -68,6 +83,7 @@ follows_touched old new d true t = record {
   extents = t.extents;
   count = t.others.len;
   faults = faults_grow old new d true t;
+  noticed = λ x more. absurd (let f = none_faulted old new d t x in omega arith);
   usable = λ place sound. let P : Health → Type 0 = λ h. is_lost h place.disk place.extent ≡ false in subst P t.health sound;
   out = λ x is. inl (sym t.health ∙ is);
   rebuilding = λ x done is. sym t.health ∙ is;
@@ -78,6 +94,7 @@ follows_touched old new d false t = record {
   extents = t.extents;
   count = t.others.len;
   faults = faults_grow old new d false t;
+  noticed = noticed old new d t;
   usable = λ place sound.
       let P : Health → Type 0 = λ h. is_lost h place.disk place.extent ≡ false in
       sound_before old.health d place.disk place.extent (subst P t.health sound);
@@ -117,10 +134,8 @@ counting_touched : (old new : SetState) (d : ℕ) (answered : Bool) → IsKept o
 counting_touched old new d true kept t x exists used =
     let P : Health → Type 0 = λ h. is_out h x ≡ false in
     let few = kept.counting x (omega (arith, t.others.len)) (subst P t.health used) in
-    elim (eqb_tells x d) [
-      | inl q ↦ (let Q : ℕ → Type 0 = λ n. faults_of new n ≡ faults_of old n in let f : faults_of new x ≡ faults_of old x = subst Q (sym q.1) t.faults in omega arith)
-      | inr q ↦ (let f = same_faults old new d true t x q.1 in omega arith)
-    ]
+    let f = none_faulted old new d t x in
+    omega arith
 counting_touched old new d false kept t x exists used =
     let P : Health → Type 0 = λ h. is_out h x ≡ false in
     let used_after = subst P t.health used in
@@ -187,12 +202,6 @@ keeps_read old new d extent row answered into others reads = record {
       ];
 }
 
-same_place : (p q : Place) → p.disk ≡ q.disk → p.extent ≡ q.extent → p ≡ q
-same_place p q disk extent =
-    let P : ℕ → Type 0 = λ d. let there : Place = record { disk = d; extent = q.extent } in p ≡ there in
-    let Q : ℕ → Type 0 = λ e. let there : Place = record { disk = p.disk; extent = e } in p ≡ there in
-    subst P disk (subst Q extent refl)
-
 -- a write changes one row
 pub keeps_written : (old new : SetState) (place : Place) (row : ℕ) (answered : Bool) (from : List ℕ) → OthersStay old.disks new.disks place.disk
     → Writes (disk_in old.disks place.disk) (disk_in new.disks place.disk) place.extent row answered from → KeepsBut place row old new
@@ -203,7 +212,7 @@ keeps_written old new place row answered from others writes = record {
     rows = λ p ne r.
         elim (eqb_tells p.disk place.disk) [
           | inl q ↦ (let P : ℕ → Type 0 = λ n. block_at (disk_in new.disks n) p.extent r ≡ block_at (disk_in old.disks n) p.extent r in
-              subst P (sym q.1) (writes.other_extents p.extent r (λ e. ne (same_place p place q.1 e))))
+              subst P (sym q.1) (writes.other_extents p.extent r (λ e. ne (place_is p place q.1 e))))
           | inr q ↦ ap (λ (disk : DiskState). block_at disk p.extent r) (others.others p.disk q.1)
         ];
   };
@@ -226,6 +235,42 @@ accesses_sound old new place answered sound t = record {
   sound = λ is. t;
   follows = follows_touched old new place.disk answered t;
   loose = t.loose;
+}
+
+access_touches : (a b : SetState) (place : Place) (answered : Bool) → Accesses a b place answered → Spares (HasNoUsed a (IsPlace place)) a b
+access_touches a b place answered access = record {
+  disks = λ d none.
+      elim (lost_or_sound a place) [
+        | inl lost ↦ ap (λ (s : SetState). disk_in s.disks d) (access.lost lost)
+        | inr sound ↦ (access.sound sound).others.others d (none place refl sound)
+      ];
+}
+
+-- a read is work on its extent
+pub works_read : (a b : SetState) (place : Place) (answered : Bool) → Accesses a b place answered → Keeps Anywhere a b → WorksOn (IsPlace place) a b
+works_read a b place answered access keeps = record {
+  follows = access.follows;
+  loose = access.loose;
+  lost = keeps_fewer Anywhere (IsLost a) a b (λ p is. tt) keeps;
+  touches = access_touches a b place answered access;
+}
+
+-- and so is a write
+pub works_written : (a b : SetState) (place : Place) (row : ℕ) (answered : Bool) → Accesses a b place answered → KeepsBut place row a b
+    → WorksOn (IsPlace place) a b
+works_written a b place row answered access keeps = record {
+  follows = access.follows;
+  loose = access.loose;
+  lost = record {
+    rows = λ p lost r.
+        elim (same_place p place) [
+          | inl same ↦
+              (let P : Place → Type 0 = λ q. IsLost a q in
+              ap (λ (s : SetState). content s p r) (access.lost (subst P same lost)))
+          | inr ne ↦ keeps.other_places.rows p ne r
+        ];
+  };
+  touches = access_touches a b place answered access;
 }
 
 -- The answers of a read, told of the state `self` that the call began with: `old` is what its fields show.

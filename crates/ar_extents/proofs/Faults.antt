@@ -19,6 +19,13 @@ is_lost-after_fault (Out x) d e = elim (eqb_tells d x) [ inl t ↦ rw (t.0, t.0)
 is_lost-after_fault (Rebuilding x done) d e = elim (eqb_tells d x) [ inl t ↦ rw (t.0, t.0) refl | inr t ↦ rw t.0 refl ]
 is_lost-after_fault Broken d e = refl
 
+-- and is out, or the set is broken
+pub is_out-after_fault : (h : Health) (d : ℕ) → is_out (after_fault h d) d ≡ true
+is_out-after_fault Whole d = grind (arith, nat_tests)
+is_out-after_fault (Out x) d = elim (eqb_tells d x) [ inl t ↦ rw (t.0, t.0) refl | inr t ↦ rw t.0 refl ]
+is_out-after_fault (Rebuilding x done) d = elim (eqb_tells d x) [ inl t ↦ rw (t.0, t.0) refl | inr t ↦ rw t.0 refl ]
+is_out-after_fault Broken d = refl
+
 -- what is sound after a fault was so before
 pub sound_before : (h : Health) (d x e : ℕ) → is_lost (after_fault h d) x e ≡ false → is_lost h x e ≡ false
 sound_before Whole d x e sound = refl

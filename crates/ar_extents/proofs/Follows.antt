@@ -1,14 +1,16 @@
 -- Runs of reads and writes: what holds of each holds of all together.
-use Rattle.std.proofs.Common.{◌≡◌, ◌≢◌, ◌⊎◌, inl, inr, ℕ, ◌<◌, Bool, List, [], ◌∷◌, length, refl, sym, ◌∙◌, ap, subst, arith}
+use Rattle.std.proofs.Common.{◌≡◌, ◌≢◌, ◌⊎◌, inl, inr, ℕ, ◌<◌, Bool, true, List, [], ◌∷◌, length, refl, sym, ◌∙◌, ap, subst, arith}
+use Rattle.std.proofs.lemmas.Bool.{cases_lt}
 use Rattle.std.proofs.lemmas.List.{get_or-set_other, get_or_append_left}
 use Rattle.ar_disks.specs.declared.address.Place.{Place}
 use Rattle.ar_disks.specs.Disk.{DiskState, block_at}
 use Rattle.ar_extents.specs.declared.health.Health.{Health}
 use Rattle.ar_extents.specs.declared.health.Health.TheVariants.{Whole, Out, Rebuilding, Broken}
-use Rattle.ar_extents.specs.Health.{IsDown}
-use Rattle.ar_extents.specs.Set.{SetState, HasExtent, disk_in, no_disk, content}
+use Rattle.ar_extents.specs.Health.{IsDown, is_out}
+use Rattle.ar_extents.specs.Set.{SetState, HasExtent, disk_in, faults_of, no_disk, content, IsLost}
 use Rattle.ar_extents.specs.Changes.{replaced, added}
-use Rattle.ar_extents.specs.Follows.{Follows, Faulted, IsHit, TwoHit, Keeps}
+use Rattle.ar_extents.specs.Follows.{Follows, Faulted, IsHit, TwoHit, Keeps, WorksOn}
+use Rattle.ar_extents.proofs.Losses.{stays_lost, stays_out}
 
 -- nothing happened
 pub follows_refl : (s : SetState) → Follows s s
@@ -17,6 +19,7 @@ follows_refl s = record {
   extents = refl;
   count = refl;
   faults = λ d. omega arith;
+  noticed = λ d more. absurd (omega arith);
   usable = λ place sound. sound;
   out = λ d is. inl is;
   rebuilding = λ d done is. is;
@@ -71,6 +74,10 @@ broken_then : (a b c : SetState) → Follows a b → Follows b c → (b.health �
 broken_then a b c ab bc (inl was) = elim (ab.broken was) [ inl is ↦ inl is | inr two ↦ inr (two_before a b c bc two) ]
 broken_then a b c ab bc (inr two) = inr (two_then a b c ab bc two)
 
+noticed_then : (a b c : SetState) (d : ℕ) → Follows a b → Follows b c → Faulted a c d → is_out c.health d ≡ true
+noticed_then a b c d ab bc more =
+    elim (cases_lt (faults_of a d) (faults_of b d)) [ inl first ↦ stays_out b c d bc (ab.noticed d first) | inr none ↦ bc.noticed d (omega arith) ]
+
 -- two runs, one after the other
 pub follows_then : (a b c : SetState) → Follows a b → Follows b c → Follows a c
 follows_then a b c ab bc = record {
@@ -78,6 +85,7 @@ follows_then a b c ab bc = record {
   extents = bc.extents ∙ ab.extents;
   count = bc.count ∙ ab.count;
   faults = λ d. let first = ab.faults d in let second = bc.faults d in omega arith;
+  noticed = λ d more. noticed_then a b c d ab bc more;
   usable = λ place sound. ab.usable place (bc.usable place sound);
   out = λ d is. out_then a b c d ab bc (bc.out d is);
   rebuilding = λ d done is. ab.rebuilding d done (bc.rebuilding d done is);
@@ -96,6 +104,35 @@ keeps_then these a b c ab bc = record { rows = λ place is row. bc.rows place is
 pub keeps_fewer : (these those : Place → Type 0) (a b : SetState) → ((place : Place) → those place → these place) → Keeps these a b → Keeps those a b
 keeps_fewer these those a b fewer ab = record { rows = λ place is row. ab.rows place (fewer place is) row }
 
+-- a lost extent that keeps its content in two runs keeps it in both together
+pub lost_then : (a b c : SetState) → Follows a b → Keeps (IsLost a) a b → Keeps (IsLost b) b c → Keeps (IsLost a) a c
+lost_then a b c ab first second = record { rows = λ p lost row. second.rows p (stays_lost a b p ab lost) row ∙ first.rows p lost row }
+
+-- no work
+pub works_refl : (these : Place → Type 0) (s : SetState) → WorksOn these s s
+works_refl these s = record { follows = follows_refl s; loose = refl; lost = keeps_refl (IsLost s) s; touches = record { disks = λ d none. refl } }
+
+-- work on some extents, and more on them
+pub works_then : (these : Place → Type 0) (a b c : SetState) → WorksOn these a b → WorksOn these b c → WorksOn these a c
+works_then these a b c ab bc = record {
+  follows = follows_then a b c ab.follows bc.follows;
+  loose = bc.loose ∙ ab.loose;
+  lost = lost_then a b c ab.follows ab.lost bc.lost;
+  touches = record {
+    disks = λ d none.
+        bc.touches.disks d (λ p is sound. none p is (ab.follows.usable p sound)) ∙ ab.touches.disks d none;
+  };
+}
+
+-- work on some extents is work on more
+pub works_more : (these those : Place → Type 0) (a b : SetState) → ((place : Place) → these place → those place) → WorksOn these a b → WorksOn those a b
+works_more these those a b more ab = record {
+  follows = ab.follows;
+  loose = ab.loose;
+  lost = ab.lost;
+  touches = record { disks = λ d none. ab.touches.disks d (λ p is sound. none p (more p is) sound) };
+}
+
 -- what isn't about disks or health may change in any run
 pub follows_loose : (s : SetState) (loose : List (List Bool)) → Follows s (record s { loose = loose })
 follows_loose s loose = record {
@@ -103,6 +140,7 @@ follows_loose s loose = record {
   extents = refl;
   count = refl;
   faults = λ d. omega arith;
+  noticed = λ d more. absurd (omega arith);
   usable = λ place sound. sound;
   out = λ d is. inl is;
   rebuilding = λ d done is. is;

@@ -8,11 +8,11 @@ use Rattle.ar_disks.specs.Members.{member, AreDisjoint}
 use Rattle.ar_extents.specs.Health.{is_lost, after_fault}
 use Rattle.ar_extents.specs.Set.{SetState, HasExtent, content, IsSound}
 use Rattle.ar_extents.specs.Changes.{replaced, with_done}
-use Rattle.ar_extents.specs.Follows.{Follows, Keeps}
+use Rattle.ar_extents.specs.Follows.{Follows, Keeps, IsPlace, IsEither, WorksOn}
 use Rattle.ar_extents.specs.Access.{next_place}
 use Rattle.ar_extents.specs.Groups.{IsGroup, IsMember, IsOutside, without_disk}
 use Rattle.ar_extents.proofs.Faults.{is_lost-after_fault, sound_before}
-use Rattle.ar_extents.proofs.Follows.{has_extent_then, keeps_replaced, keeps_disks}
+use Rattle.ar_extents.proofs.Follows.{has_extent_then, keeps_replaced, keeps_disks, works_more}
 use Rattle.ar_extents.proofs.Losses.{lost_not_sound, sound_with_done}
 
 -- an extent is told by its two numbers
@@ -108,3 +108,14 @@ content_with_done s p row block there has rebuilt sound =
       | inl same ↦ rebuilt same
       | inr ne ↦ has (sound_with_done s p there.extent ne sound)
     ]
+
+-- work on one member is work on the group
+pub works_member : (m : Members) (i : ℕ) (a b : SetState) → i < 4 → WorksOn (IsPlace (member m i)) a b → WorksOn (IsMember m) a b
+works_member m i a b lt works =
+    works_more (IsPlace (member m i)) (IsMember m) a b (λ p is. record { position = i; below = lt; is = is }) works
+
+-- and so is work on two
+pub works_pair : (m : Members) (i j : ℕ) (a b : SetState) → i < 4 → j < 4 → WorksOn (IsEither (member m i) (member m j)) a b → WorksOn (IsMember m) a b
+works_pair m i j a b li lj works =
+    works_more (IsEither (member m i) (member m j)) (IsMember m) a b
+    (λ p is. elim is [ inl one ↦ record { position = i; below = li; is = one } | inr other ↦ record { position = j; below = lj; is = other } ]) works

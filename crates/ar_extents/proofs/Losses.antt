@@ -5,7 +5,7 @@ use Rattle.std.proofs.lemmas.Bool.Decides.{eqb_tells, leb_tells, nat_tests}
 use Rattle.ar_disks.specs.declared.address.Place.{Place}
 use Rattle.ar_extents.specs.declared.health.Health.{Health}
 use Rattle.ar_extents.specs.declared.health.Health.TheVariants.{Whole, Out, Rebuilding, Broken}
-use Rattle.ar_extents.specs.Health.{is_lost, is_missing, IsDown, after_done, rebuilt_disk, next_extent}
+use Rattle.ar_extents.specs.Health.{is_lost, is_missing, is_out, IsDown, IsRebuilding, after_done, rebuilt_disk, next_extent}
 use Rattle.ar_extents.specs.Set.{SetState, IsSound, IsLost, IsMissing}
 use Rattle.ar_extents.specs.Follows.{Follows, Faulted, TwoHit}
 use Rattle.ar_extents.specs.Access.{next_place}
@@ -51,6 +51,16 @@ missing_of_lost Broken d e lost = inr refl
 pub lost_missing_or_broken : (s : SetState) (p : Place) → IsLost s p → IsMissing s p ⊎ (s.health ≡ Broken)
 lost_missing_or_broken s p lost = missing_of_lost s.health p.disk p.extent lost
 
+missing_at_mark : (h : Health) → IsRebuilding h → is_missing h (rebuilt_disk h) (next_extent h) ≡ true
+missing_at_mark Whole is = absurd is
+missing_at_mark (Out x) is = absurd is
+missing_at_mark (Rebuilding x done) is = grind (arith, nat_tests)
+missing_at_mark Broken is = absurd is
+
+-- the extent that is rebuilt next is missing
+pub next_missing : (s : SetState) → IsRebuilding s.health → IsMissing s (next_place s)
+next_missing s is = missing_at_mark s.health is
+
 sound_beside : (h : Health) (d e x f : ℕ) → is_missing h d e ≡ true → d ≢ x → is_lost h x f ≡ false
 sound_beside Whole d e x f missing ne = absurd cc
 sound_beside (Out y) d e x f missing ne =
@@ -68,6 +78,27 @@ other_sound s p q missing apart = sound_beside s.health p.disk p.extent q.disk q
 pub stays_lost : (a b : SetState) (p : Place) → Follows a b → IsLost a p → IsLost b p
 stays_lost a b p ab lost =
     elim (lost_or_sound b p) [ inl is ↦ is | inr sound ↦ absurd (lost_not_sound a p lost (ab.usable p sound)) ]
+
+lost_out : (h : Health) (d e : ℕ) → is_out h d ≡ true → is_lost h d e ≡ true
+lost_out Whole d e out = out
+lost_out (Out x) d e out = out
+lost_out (Rebuilding x done) d e out = absurd cc
+lost_out Broken d e out = refl
+
+out_of : (h : Health) (d : ℕ) → ((e : ℕ) → is_lost h d e ≡ true) → ((x done : ℕ) → h ≡ Rebuilding x done → ⊥) → is_out h d ≡ true
+out_of Whole d all not_rebuilt = all 0
+out_of (Out x) d all not_rebuilt = all 0
+out_of (Rebuilding x done) d all not_rebuilt = absurd (not_rebuilt x done refl)
+out_of Broken d all not_rebuilt = refl
+
+out_not_rebuilt : (h : Health) (d x done : ℕ) → is_out h d ≡ true → h ≡ Rebuilding x done → ⊥
+out_not_rebuilt h d x done out is = let P : Health → Type 0 = λ k. is_out k d ≡ true in let k : false ≡ true = subst P is out in cc
+
+-- a disk that is out stays so, or the set is broken
+pub stays_out : (a b : SetState) (d : ℕ) → Follows a b → is_out a.health d ≡ true → is_out b.health d ≡ true
+stays_out a b d ab out =
+    out_of b.health d (λ e. let p : Place = record { disk = d; extent = e } in stays_lost a b p ab (lost_out a.health d e out))
+    (λ x done is. out_not_rebuilt a.health d x done out (ab.rebuilding x done is))
 
 broken_of : (h : Health) → ((d e : ℕ) → is_lost h d e ≡ true) → ((x done : ℕ) → h ≡ Rebuilding x done → ⊥) → h ≡ Broken
 broken_of Whole all not_rebuilt = absurd (let k : false ≡ true = all 0 0 in cc)

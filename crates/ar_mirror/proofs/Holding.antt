@@ -1,23 +1,24 @@
 -- What slots go on holding, and what two writes make of them.
-use Rattle.std.proofs.Common.{◌≡◌, ◌≢◌, ◌⊎◌, inl, inr, ℕ, ◌+◌, ◌*◌, ◌/◌, ◌<◌, List, Bool, refl, sym, ◌∙◌, ap, subst, arith}
+use Rattle.std.proofs.Common.{◌≡◌, ◌≢◌, ◌⊎◌, inl, inr, ℕ, ◌+◌, ◌*◌, ◌/◌, ◌<◌, List, refl, sym, ◌∙◌, ap, subst, arith}
 use Rattle.ar_disks.specs.declared.geometry.Geometry.{Geometry}
 use Rattle.ar_disks.specs.declared.address.Place.{Place}
 use Rattle.ar_disks.specs.declared.address.Members.{Members}
 use Rattle.ar_disks.specs.Geometry.{rows_of}
 use Rattle.ar_disks.specs.Members.{member, AreApart, AreDisjoint}
 use Rattle.ar_extents.specs.declared.health.Health.TheVariants.{Broken}
-use Rattle.ar_extents.specs.Set.{SetState, content, disk_in, IsSound}
-use Rattle.ar_extents.specs.Follows.{Follows, Keeps, KeepsBut}
+use Rattle.ar_extents.specs.Set.{SetState, content, IsSound}
+use Rattle.ar_extents.specs.Follows.{Follows, Keeps, KeepsBut, IsPlace, WorksOn}
 use Rattle.ar_extents.specs.Access.{Accesses, Puts, is_written}
 use Rattle.ar_extents.specs.declared.answers.Put.{Put}
 use Rattle.ar_extents.specs.declared.answers.Put.TheVariants.{Written, Missing, Broken as PutBroken}
-use Rattle.ar_extents.proofs.Follows.{follows_then}
-use Rattle.ar_extents.proofs.Losses.{missing_lost, broken_lost, lost_not_sound, lost_or_sound}
+use Rattle.ar_extents.proofs.Follows.{works_then, works_more}
+use Rattle.ar_extents.proofs.Access.{works_written}
+use Rattle.ar_extents.proofs.Losses.{missing_lost, broken_lost, lost_not_sound}
 use Rattle.ar_extents.specs.Groups.{IsGroup}
 use Rattle.ar_extents.proofs.GroupLemmas.{same_place}
 use Rattle.ar_mirror.specs.Slots.{slots_of, row_of, one_of, other_of}
 use Rattle.ar_mirror.specs.Holds.{BothHave, Holds}
-use Rattle.ar_mirror.specs.Calls.{IsInPair, KeepsButSlot, OtherSlotsHold, OtherGroupsHold, TouchesPair}
+use Rattle.ar_mirror.specs.Calls.{IsInPair, KeepsButSlot, OtherSlotsHold, OtherGroupsHold}
 use Rattle.ar_mirror.proofs.SlotLemmas.{pair_fits, same_slot, members_differ, members_disjoint, pair_apart}
 
 -- a row of two extents that keep it
@@ -124,19 +125,14 @@ broken_has s one other row block is = record {
   other_has = λ sound. absurd (lost_not_sound s other (broken_lost s other is) sound);
 }
 
--- an access leaves the other disks
-pub access_others : (a b : SetState) (p : Place) (answered : Bool) (d : ℕ) → Accesses a b p answered → d ≢ p.disk → disk_in b.disks d ≡ disk_in a.disks d
-access_others a b p answered d access ne =
-    elim (lost_or_sound a p) [
-      | inl lost ↦ ap (λ (s : SetState). disk_in s.disks d) (access.lost lost)
-      | inr sound ↦ (access.sound sound).others.others d ne
-    ]
-
 -- what one write promised
 record Wrote (a b : SetState) (p : Place) (row : ℕ) (block : List ℕ) (answered : Put) : Type 0 where
   answer : Puts a b p row block answered
   access : Accesses a b p (is_written answered)
   keeps : KeepsBut p row a b
+
+wrote_works : (a b : SetState) (p : Place) (row : ℕ) (block : List ℕ) (answered : Put) → Wrote a b p row block answered → WorksOn (IsPlace p) a b
+wrote_works a b p row block answered wrote = works_written a b p row (is_written answered) wrote.access wrote.keeps
 
 -- what it promised of a place, under that place's other name
 wrote_at : (a b : SetState) (p q : Place) (row r : ℕ) (block : List ℕ) (answered : Put) → p ≡ q → row ≡ r → Wrote a b p row block answered → Wrote a b q r block answered
@@ -151,15 +147,17 @@ pub record SlotWritten (m : Members) (slot : ℕ) (a c : SetState) (block : List
   pub slots : OtherSlotsHold m slot a c
   pub groups : OtherGroupsHold m a c
   pub keeps : KeepsButSlot m slot a c
-  pub follows : Follows a c
-  pub touches : TouchesPair m slot a c
-  pub loose : c.loose ≡ a.loose
+  pub works : WorksOn (IsInPair a.geometry m slot) a c
 
 both_written : (m : Members) (slot : ℕ) (a b c : SetState) (block : List ℕ) (first second : Put) → IsGroup a m → slot < slots_of a.geometry
     → Wrote a b (one_of a.geometry m slot) (row_of a.geometry slot) block first → Wrote b c (other_of a.geometry m slot) (row_of a.geometry slot) block second
     → SlotWritten m slot a c block
 both_written m slot a b c block first second group hs one other =
-    let follows = follows_then a b c one.access.follows other.access.follows in
+    let pair = IsInPair a.geometry m slot in
+    let works = works_then pair a b c
+    (works_more (IsPlace (one_of a.geometry m slot)) pair a b (λ p is. inl is) (wrote_works a b (one_of a.geometry m slot) (row_of a.geometry slot) block first one))
+    (works_more (IsPlace (other_of a.geometry m slot)) pair b c (λ p is. inr is) (wrote_works b c (other_of a.geometry m slot) (row_of a.geometry slot) block second other)) in
+    let follows = works.follows in
     let keeps = pair_kept m slot a b c one.keeps other.keeps in
     record {
       holds = holds_at c a.geometry m slot block follows.geometry
@@ -168,13 +166,7 @@ both_written m slot a b c block first second group hs one other =
       slots = slots_hold m slot a c group.apart hs follows keeps;
       groups = groups_hold m slot a c hs follows keeps;
       keeps = keeps;
-      follows = follows;
-      touches = record {
-        others = λ d not_one not_other.
-            access_others b c (other_of a.geometry m slot) (is_written second) d other.access not_other
-            ∙ access_others a b (one_of a.geometry m slot) (is_written first) d one.access not_one;
-      };
-      loose = other.access.loose ∙ one.access.loose;
+      works = works;
     }
 
 -- the same, of extents and a row that are found to be the slot's

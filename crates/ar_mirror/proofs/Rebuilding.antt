@@ -1,5 +1,5 @@
 -- What slots hold while an extent is rebuilt.
-use Rattle.std.proofs.Common.{◌≡◌, ◌⊎◌, inl, inr, ℕ, zero, suc, ◌+◌, ◌*◌, ◌/◌, ◌<◌, true, List, refl, sym, ◌∙◌, ap, subst, arith}
+use Rattle.std.proofs.Common.{◌≡◌, ◌⊎◌, inl, inr, ℕ, zero, suc, ◌+◌, ◌*◌, ◌/◌, ◌<◌, Bool, true, List, refl, sym, ◌∙◌, ap, subst, arith}
 use Rattle.std.proofs.lemmas.Bool.Decides.{nat_tests}
 use Rattle.ar_disks.specs.declared.address.Place.{Place}
 use Rattle.ar_disks.specs.declared.address.Members.{Members}
@@ -7,9 +7,10 @@ use Rattle.ar_extents.specs.declared.health.Health.{Health}
 use Rattle.ar_extents.specs.declared.health.Health.TheVariants.{Whole, Out, Rebuilding, Broken}
 use Rattle.ar_extents.specs.Health.{is_missing, IsRebuilding, rebuilt_disk, next_extent}
 use Rattle.ar_extents.specs.Set.{SetState, content, IsSound, IsMissing}
-use Rattle.ar_extents.specs.Follows.{Follows, KeepsBut}
-use Rattle.ar_extents.specs.Access.{next_place}
-use Rattle.ar_extents.proofs.Losses.{missing_lost, lost_not_sound}
+use Rattle.ar_extents.specs.Follows.{Follows, Keeps, KeepsBut, Anywhere, Spares, HasNoneOf, IsEither}
+use Rattle.ar_extents.specs.Access.{Accesses, Touches, next_place}
+use Rattle.ar_extents.proofs.Losses.{missing_lost, next_missing, lost_not_sound}
+use Rattle.ar_extents.proofs.Access.{works_read}
 use Rattle.ar_mirror.specs.Slots.{one_of, other_of, row_of, slots_of, partner_of}
 use Rattle.ar_disks.specs.Geometry.{rows_of}
 use Rattle.ar_disks.specs.Members.{member}
@@ -17,16 +18,6 @@ use Rattle.ar_mirror.specs.Holds.{Holds}
 use Rattle.ar_mirror.specs.Calls.{AllSlotsHold, IsCopied}
 use Rattle.ar_mirror.proofs.SlotLemmas.{pair_fits}
 use Rattle.ar_mirror.proofs.Holding.{holds_at}
-
-missing_at_mark : (h : Health) → IsRebuilding h → is_missing h (rebuilt_disk h) (next_extent h) ≡ true
-missing_at_mark Whole is = absurd is
-missing_at_mark (Out x) is = absurd is
-missing_at_mark (Rebuilding x done) is = grind (arith, nat_tests)
-missing_at_mark Broken is = absurd is
-
--- the extent that is rebuilt next is missing
-pub next_missing : (s : SetState) → IsRebuilding s.health → IsMissing s (next_place s)
-next_missing s is = missing_at_mark s.health is
 
 -- a row of an extent that is sound, when only a missing one was written
 kept_when_sound : (a b : SetState) (p : Place) (written row : ℕ) → IsRebuilding a.health → Follows a b → KeepsBut (next_place a) written a b → IsSound b p → content b p row ≡ content a p row
@@ -70,3 +61,17 @@ rebuilt_has a b m slot position block lt (inr is) copied has =
     let partner = ap (λ n. member m (partner_of n)) is ∙ ap (λ n. member m n) (partner_of_other (slot / rows_of a.geometry) (pair_fits a.geometry slot lt)) in
     let P : Place → Type 0 = λ p. IsSound a p in
     copied.same ∙ ap (λ (p : Place). content a p (row_of a.geometry slot)) partner ∙ has.one_has (subst P partner copied.was_sound)
+
+-- a read of one extent leaves all disks but its own,
+pub read_spares : (a b : SetState) (from next : Place) (answered : Bool) → Accesses a b from answered → Keeps Anywhere a b
+    → Spares (HasNoneOf (IsEither from next)) a b
+read_spares a b from next answered access keeps =
+    record { disks = λ d none. (works_read a b from answered access keeps).touches.disks d (λ p is sound. none p (inl is)) }
+
+-- and a write to the extent that is rebuilt all but the replaced one
+pub write_spares : (a b c : SetState) (from : Place) (answered : Bool) → Spares (HasNoneOf (IsEither from (next_place a))) a b → b.health ≡ a.health
+    → Touches b c (rebuilt_disk b.health) answered → Spares (HasNoneOf (IsEither from (next_place a))) a c
+write_spares a b c from answered before health touched = record {
+  disks = λ d none.
+      touched.others.others d (λ is. none (next_place a) (inr refl) (is ∙ ap rebuilt_disk health)) ∙ before.disks d none;
+}

@@ -1,5 +1,5 @@
 -- What the calls on a mirrored group answer, and what they leave as it was.
-use Rattle.std.specs.Prelude.{◌≡◌, ◌≢◌, ◌⊎◌, ℕ, ◌<◌, List}
+use Rattle.std.specs.Prelude.{◌≡◌, ◌≢◌, ℕ, ◌<◌, List}
 use Rattle.ar_disks.specs.declared.geometry.Geometry.{Geometry}
 use Rattle.ar_disks.specs.declared.address.Place.{Place}
 use Rattle.ar_disks.specs.declared.address.Members.{Members}
@@ -9,7 +9,8 @@ use Rattle.ar_extents.specs.declared.outcome.Outcome.{Outcome}
 use Rattle.ar_extents.specs.declared.outcome.Outcome.TheVariants.{Done, Broken}
 use Rattle.ar_extents.specs.declared.outcome.RowOutcome.{RowOutcome}
 use Rattle.ar_extents.specs.declared.outcome.RowOutcome.TheVariants.{Done as RowDone, GivenUp, Broken as RowBroken}
-use Rattle.ar_extents.specs.Set.{SetState, disk_in, content, IsSound, IsLost}
+use Rattle.ar_extents.specs.Set.{SetState, content, IsSound, IsLost}
+use Rattle.ar_extents.specs.Follows.{IsEither}
 use Rattle.ar_extents.specs.Access.{next_place, IsGivenUp}
 use Rattle.ar_mirror.specs.Slots.{one_of, other_of, row_of, slots_of}
 use Rattle.ar_mirror.specs.Holds.{Holds}
@@ -27,7 +28,7 @@ Gives old new m slot bytes Broken = Unit {0}
 
 -- the extent is one of the slot's pair
 abbrev pub IsInPair : Geometry → Members → ℕ → Place → Type 0
-IsInPair g m slot p = (p ≡ one_of g m slot) ⊎ (p ≡ other_of g m slot)
+IsInPair g m slot p = IsEither (one_of g m slot) (other_of g m slot) p
 
 -- no block but those of the slot's row in its pair may have changed
 pub record KeepsButSlot (m : Members) (slot : ℕ) (old new : SetState) : Type 0 where
@@ -40,10 +41,6 @@ pub record OtherSlotsHold (m : Members) (slot : ℕ) (old new : SetState) : Type
 -- every slot of every group that shares no extent with this one holds what it held
 pub record OtherGroupsHold (m : Members) (old new : SetState) : Type 0 where
   pub groups : (n : Members) → AreDisjoint m n → (t : ℕ) → t < slots_of old.geometry → (block : List ℕ) → Holds old n t block → Holds new n t block
-
--- no disk but those of the slot's pair was accessed
-pub record TouchesPair (m : Members) (slot : ℕ) (old new : SetState) : Type 0 where
-  pub others : (d : ℕ) → d ≢ (one_of old.geometry m slot).disk → d ≢ (other_of old.geometry m slot).disk → disk_in new.disks d ≡ disk_in old.disks d
 
 -- every slot of every mirrored group holds what it held
 pub record AllSlotsHold (old new : SetState) : Type 0 where

@@ -3,7 +3,7 @@ ghost use Rattle.std.specs.Prelude.{◌≡◌, ◌≢◌, ◌<◌, length};
 ghost use Rattle.ar_disks.specs.Geometry.{rows_of, block_len_of};
 ghost use Rattle.ar_disks.specs.Members.{member};
 ghost use Rattle.ar_extents.specs.Health.{IsRebuilding};
-ghost use Rattle.ar_extents.specs.Follows.{Follows, KeepsBut};
+ghost use Rattle.ar_extents.specs.Follows.{Follows, KeepsBut, Spares, HasNoneOf, IsEither};
 ghost use Rattle.ar_extents.specs.Access.{next_place};
 ghost use Rattle.ar_extents.specs.Set.{HasExtent};
 ghost use Rattle.ar_extents.specs.Groups.{IsGroup};
@@ -34,6 +34,7 @@ pub fn rebuild_row<D: Disk>(
     ensures keeps { KeepsBut (next_place set.old) row set.old set.new }
     ensures slots { AllSlotsHold set.old set.new }
     ensures follows { Follows set.old set.new }
+    ensures touches { Spares (HasNoneOf (IsEither (member members.now (partner_of position)) (next_place set.old))) set.old set.new }
     ensures loose { set.new.loose ≡ set.old.loose }
     ensures scratch { scratch.new.geometry ≡ scratch.old.geometry }
 {
@@ -51,6 +52,7 @@ fn copy_row<D: Disk>(set: &mut DiskSet<D>, from: Place, row: u16, block: &mut Bl
     ensures answer { Rebuilds set.old set.new from row result }
     ensures keeps { KeepsBut (next_place set.old) row set.old set.new }
     ensures follows { Follows set.old set.new }
+    ensures touches { Spares (HasNoneOf (IsEither from (next_place set.old))) set.old set.new }
     ensures loose { set.new.loose ≡ set.old.loose }
     ensures len { length block.new ≡ length block.old }
 {

@@ -1,11 +1,12 @@
 // Reads and writes of slots.
 ghost use Rattle.std.specs.Prelude.{◌≡◌, ◌<◌, length};
 ghost use Rattle.ar_disks.specs.Geometry.{block_len_of};
-ghost use Rattle.ar_extents.specs.Follows.{Follows, Keeps, Anywhere};
+ghost use Rattle.ar_extents.specs.Follows.{Keeps, Anywhere, IsPlace, WorksOn};
+ghost use Rattle.ar_extents.specs.Set.{IsSound};
 ghost use Rattle.ar_extents.specs.Groups.{IsGroup, outcome_of};
-ghost use Rattle.ar_mirror.specs.Slots.{slots_of};
+ghost use Rattle.ar_mirror.specs.Slots.{slots_of, one_of};
 ghost use Rattle.ar_mirror.specs.Holds.{Holds};
-ghost use Rattle.ar_mirror.specs.Calls.{Gives, KeepsButSlot, OtherSlotsHold, OtherGroupsHold, TouchesPair};
+ghost use Rattle.ar_mirror.specs.Calls.{Gives, IsInPair, KeepsButSlot, OtherSlotsHold, OtherGroupsHold};
 
 use crate::pair::pair_of;
 use ar_disks::{Block, Disk, Members};
@@ -20,9 +21,10 @@ pub fn get<D: Disk>(set: &mut DiskSet<D>, members: &Members, slot: u16, into: &m
     ensures outcome { result ≡ outcome_of set.new.health }
     ensures gives { Gives set.old set.new members.now slot into.new result }
     ensures keeps { Keeps Anywhere set.old set.new }
-    ensures follows { Follows set.old set.new }
-    ensures touches { TouchesPair members.now slot set.old set.new }
-    ensures loose { set.new.loose ≡ set.old.loose }
+    ensures works { WorksOn (IsInPair set.old.geometry members.now slot) set.old set.new }
+    // While the first member is sound, the other isn't asked.
+    ensures first { IsSound set.new (one_of set.old.geometry members.now slot)
+        → WorksOn (IsPlace (one_of set.old.geometry members.now slot)) set.old set.new }
     ensures len { length into.new ≡ length into.old }
 {
     let pair = pair_of(set.geometry(), members, slot);
@@ -49,9 +51,7 @@ pub fn put<D: Disk>(set: &mut DiskSet<D>, members: &Members, slot: u16, from: &B
     ensures slots { OtherSlotsHold members.now slot set.old set.new }
     ensures groups { OtherGroupsHold members.now set.old set.new }
     ensures keeps { KeepsButSlot members.now slot set.old set.new }
-    ensures follows { Follows set.old set.new }
-    ensures touches { TouchesPair members.now slot set.old set.new }
-    ensures loose { set.new.loose ≡ set.old.loose }
+    ensures works { WorksOn (IsInPair set.old.geometry members.now slot) set.old set.new }
 {
     let pair = pair_of(set.geometry(), members, slot);
     match set.put(pair.one, pair.row, from) {

@@ -5,3 +5,4 @@ pub mod SlotLemmas
 pub mod Frames
 pub mod Standing
 pub mod Outcomes
+pub mod Working

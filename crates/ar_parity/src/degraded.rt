@@ -4,8 +4,8 @@ ghost use Rattle.ar_disks.specs.Block.{xor};
 ghost use Rattle.ar_disks.specs.Geometry.{rows_of, block_len_of};
 ghost use Rattle.ar_disks.specs.Members.{member};
 ghost use Rattle.ar_extents.specs.Set.{IsLost};
-ghost use Rattle.ar_extents.specs.Follows.{Follows, Keeps, Anywhere};
-ghost use Rattle.ar_extents.specs.Groups.{IsGroup};
+ghost use Rattle.ar_extents.specs.Follows.{Keeps, Anywhere, WorksOn};
+ghost use Rattle.ar_extents.specs.Groups.{IsGroup, IsMember};
 ghost use Rattle.ar_parity.specs.Row.{Blocks, block};
 ghost use Rattle.ar_parity.specs.Group.{RowAgrees};
 ghost use Rattle.ar_parity.specs.Call.{Tells, OnDone};
@@ -38,8 +38,7 @@ pub fn sum_of_two<D: Disk>(
         → into.new ≡ xor (block blocks beside) (block blocks lost)) }
     ensures health { OnDone result (set.new.health ≡ set.old.health) }
     ensures keeps { Keeps Anywhere set.old set.new }
-    ensures follows { Follows set.old set.new }
-    ensures loose { set.new.loose ≡ set.old.loose }
+    ensures works { WorksOn (IsMember members.now) set.old set.new }
     ensures len { length into.new ≡ length into.old }
     ensures spare_len { length spare.new ≡ length spare.old }
 {
@@ -70,8 +69,7 @@ pub fn sum_of_three<D: Disk>(
     ensures block { OnDone result ((blocks : Blocks) → RowAgrees set.old members.now row blocks → into.new ≡ block blocks lost) }
     ensures health { OnDone result (set.new.health ≡ set.old.health) }
     ensures keeps { Keeps Anywhere set.old set.new }
-    ensures follows { Follows set.old set.new }
-    ensures loose { set.new.loose ≡ set.old.loose }
+    ensures works { WorksOn (IsMember members.now) set.old set.new }
     ensures len { length into.new ≡ length into.old }
     ensures spare_len { length spare.new ≡ length spare.old }
 {

@@ -2,9 +2,11 @@
 ghost use Rattle.std.specs.Prelude.{◌≡◌, ◌≢◌, ℕ, ◌*◌, ◌<◌, List, length};
 ghost use Rattle.ar_disks.specs.Block.{zeros};
 ghost use Rattle.ar_disks.specs.Geometry.{rows_of, block_len_of};
-ghost use Rattle.ar_extents.specs.Follows.{Follows, Keeps, Anywhere};
-ghost use Rattle.ar_extents.specs.Groups.{IsGroup, IsOutside, outcome_of};
-ghost use Rattle.ar_parity.specs.Row.{row_of, data_position, zero_blocks};
+ghost use Rattle.ar_disks.specs.Members.{member};
+ghost use Rattle.ar_extents.specs.Follows.{Keeps, Anywhere, IsPlace, IsEither, WorksOn};
+ghost use Rattle.ar_extents.specs.Set.{IsSound};
+ghost use Rattle.ar_extents.specs.Groups.{IsGroup, IsMember, IsOutside, outcome_of};
+ghost use Rattle.ar_parity.specs.Row.{row_of, data_position, parity_position, zero_blocks};
 ghost use Rattle.ar_parity.specs.Group.{RowAgrees, Holds, KeepsButRow};
 ghost use Rattle.ar_parity.specs.Call.{OnDone, Changes};
 
@@ -27,8 +29,7 @@ pub fn open_zero<D: Disk>(set: &mut DiskSet<D>, members: &Members, scratch: &mut
     ensures rows { (row : ℕ) → row < rows_of set.old.geometry
         → RowAgrees set.new members.now row (zero_blocks (block_len_of set.old.geometry)) }
     ensures keeps { Keeps (IsOutside members.now) set.old set.new }
-    ensures follows { Follows set.old set.new }
-    ensures loose { set.new.loose ≡ set.old.loose }
+    ensures works { WorksOn (IsMember members.now) set.old set.new }
     ensures scratch { scratch.new.geometry ≡ scratch.old.geometry }
 {
     let zero = &mut scratch.first;
@@ -59,8 +60,10 @@ pub fn get<D: Disk>(
     ensures outcome { result ≡ outcome_of set.new.health }
     ensures gives { OnDone result ((b : List ℕ) → Holds set.old members.now slot b → into.new ≡ b) }
     ensures keeps { Keeps Anywhere set.old set.new }
-    ensures follows { Follows set.old set.new }
-    ensures loose { set.new.loose ≡ set.old.loose }
+    ensures works { WorksOn (IsMember members.now) set.old set.new }
+    // While the slot's member is sound, no other is asked.
+    ensures first { IsSound set.new (member members.now (data_position slot))
+        → WorksOn (IsPlace (member members.now (data_position slot))) set.old set.new }
     ensures len { length into.new ≡ length into.old }
     ensures scratch { scratch.new.geometry ≡ scratch.old.geometry }
 {
@@ -93,8 +96,10 @@ pub fn put<D: Disk>(
     ensures holds { (b : List ℕ) → Holds set.old members.now slot b → Holds set.new members.now slot from.now }
     ensures slots { (k : ℕ) → k ≢ slot → (b : List ℕ) → Holds set.old members.now k b → Holds set.new members.now k b }
     ensures keeps { KeepsButRow members.now (row_of slot) set.old set.new }
-    ensures follows { Follows set.old set.new }
-    ensures loose { set.new.loose ≡ set.old.loose }
+    ensures works { WorksOn (IsMember members.now) set.old set.new }
+    // While the slot's member is sound, no other is asked but the one with the row's parity.
+    ensures known { IsSound set.new (member members.now (data_position slot))
+        → WorksOn (IsEither (member members.now (data_position slot)) (member members.now (parity_position (row_of slot)))) set.old set.new }
     ensures scratch { scratch.new.geometry ≡ scratch.old.geometry }
 {
     change(

@@ -4,8 +4,8 @@ ghost use Rattle.ar_disks.specs.Geometry.{rows_of};
 ghost use Rattle.ar_disks.specs.Members.{member};
 ghost use Rattle.ar_extents.specs.Health.{IsRebuilding};
 ghost use Rattle.ar_extents.specs.Access.{next_place};
-ghost use Rattle.ar_extents.specs.Follows.{Follows, KeepsBut};
-ghost use Rattle.ar_extents.specs.Groups.{IsGroup};
+ghost use Rattle.ar_extents.specs.Follows.{Follows, KeepsBut, Spares, HasNoneOf};
+ghost use Rattle.ar_extents.specs.Groups.{IsGroup, IsMember};
 ghost use Rattle.ar_parity.specs.Row.{Blocks};
 ghost use Rattle.ar_parity.specs.Group.{RowAgrees};
 ghost use Rattle.ar_parity.specs.Call.{Rebuilds};
@@ -36,6 +36,7 @@ pub fn rebuild_row<D: Disk>(
     ensures agrees { (r : ℕ) (blocks : Blocks) → RowAgrees set.old members.now r blocks → RowAgrees set.new members.now r blocks }
     ensures keeps { KeepsBut (member members.now position) row set.old set.new }
     ensures follows { Follows set.old set.new }
+    ensures touches { Spares (HasNoneOf (IsMember members.now)) set.old set.new }
     ensures loose { set.new.loose ≡ set.old.loose }
     ensures scratch { scratch.new.geometry ≡ scratch.old.geometry }
 {

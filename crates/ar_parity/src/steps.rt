@@ -4,7 +4,7 @@ ghost use Rattle.ar_disks.specs.Block.{xor};
 ghost use Rattle.ar_disks.specs.Geometry.{rows_of, block_len_of};
 ghost use Rattle.ar_disks.specs.Members.{member};
 ghost use Rattle.ar_extents.specs.Set.{IsLost};
-ghost use Rattle.ar_extents.specs.Follows.{Follows, Keeps, KeepsBut, Anywhere};
+ghost use Rattle.ar_extents.specs.Follows.{Keeps, KeepsBut, Anywhere, IsPlace, WorksOn};
 ghost use Rattle.ar_extents.specs.Groups.{IsGroup};
 ghost use Rattle.ar_parity.specs.Group.{Stands};
 ghost use Rattle.ar_parity.specs.Call.{Tells, OnDone};
@@ -27,8 +27,7 @@ pub fn write<D: Disk>(
     ensures answer { Tells set.new result }
     ensures here { Stands set.new members.now row position from.now }
     ensures keeps { KeepsBut (member members.now position) row set.old set.new }
-    ensures follows { Follows set.old set.new }
-    ensures loose { set.new.loose ≡ set.old.loose }
+    ensures works { WorksOn (IsPlace (member members.now position)) set.old set.new }
 {
     match set.put(members.at(position), row, from) {
         Put::Written | Put::Missing => Outcome::Done,
@@ -56,8 +55,7 @@ pub fn read_beside<D: Disk>(
     ensures bytes { OnDone result ((b : List ℕ) → Stands set.old members.now row position b → into.new ≡ b) }
     ensures health { OnDone result (set.new.health ≡ set.old.health) }
     ensures keeps { Keeps Anywhere set.old set.new }
-    ensures follows { Follows set.old set.new }
-    ensures loose { set.new.loose ≡ set.old.loose }
+    ensures works { WorksOn (IsPlace (member members.now position)) set.old set.new }
     ensures len { length into.new ≡ length into.old }
 {
     match set.get(members.at(position), row, into) {
@@ -88,8 +86,7 @@ pub fn add_beside<D: Disk>(
     ensures bytes { OnDone result ((b : List ℕ) → Stands set.old members.now row position b → into.new ≡ xor into.old b) }
     ensures health { OnDone result (set.new.health ≡ set.old.health) }
     ensures keeps { Keeps Anywhere set.old set.new }
-    ensures follows { Follows set.old set.new }
-    ensures loose { set.new.loose ≡ set.old.loose }
+    ensures works { WorksOn (IsPlace (member members.now position)) set.old set.new }
     ensures len { length into.new ≡ length into.old }
     ensures spare_len { length spare.new ≡ length spare.old }
 {

@@ -2,9 +2,9 @@
 ghost use Rattle.std.specs.Prelude.{◌≡◌, ◌≢◌, ℕ, ◌<◌, length};
 ghost use Rattle.ar_disks.specs.Geometry.{rows_of, block_len_of};
 ghost use Rattle.ar_disks.specs.Members.{member};
-ghost use Rattle.ar_extents.specs.Set.{IsLost, content};
-ghost use Rattle.ar_extents.specs.Follows.{Follows};
-ghost use Rattle.ar_extents.specs.Groups.{IsGroup};
+ghost use Rattle.ar_extents.specs.Set.{IsLost, IsSound, content};
+ghost use Rattle.ar_extents.specs.Follows.{IsEither, WorksOn};
+ghost use Rattle.ar_extents.specs.Groups.{IsGroup, IsMember};
 ghost use Rattle.ar_parity.specs.Row.{Blocks, block, changed, parity_position};
 ghost use Rattle.ar_parity.specs.Group.{Stands, RowAgrees, KeepsButRow};
 ghost use Rattle.ar_parity.specs.Call.{Tells, Changes};
@@ -38,8 +38,7 @@ fn write_both<D: Disk>(
     ensures others { (i : ℕ) → i < 4 → i ≢ position → i ≢ parity
         → content set.new (member members.now i) row ≡ content set.old (member members.now i) row }
     ensures keeps { KeepsButRow members.now row set.old set.new }
-    ensures follows { Follows set.old set.new }
-    ensures loose { set.new.loose ≡ set.old.loose }
+    ensures works { WorksOn (IsEither (member members.now position) (member members.now parity)) set.old set.new }
 {
     match write(set, members, position, row, from) {
         Outcome::Done => write(set, members, parity, row, sum),
@@ -69,8 +68,7 @@ fn update<D: Disk>(
     ensures agrees { (blocks : Blocks) → RowAgrees set.old members.now row blocks → before.now ≡ block blocks position
         → RowAgrees set.new members.now row (changed blocks position (parity_position row) from.now) }
     ensures keeps { KeepsButRow members.now row set.old set.new }
-    ensures follows { Follows set.old set.new }
-    ensures loose { set.new.loose ≡ set.old.loose }
+    ensures works { WorksOn (IsEither (member members.now position) (member members.now (parity_position row))) set.old set.new }
     ensures sum_len { length sum.new ≡ length sum.old }
 {
     let parity = parity_at(row);
@@ -107,8 +105,7 @@ fn put_lost<D: Disk>(
     ensures agrees { (blocks : Blocks) → RowAgrees set.old members.now row blocks
         → RowAgrees set.new members.now row (changed blocks position (parity_position row) from.now) }
     ensures keeps { KeepsButRow members.now row set.old set.new }
-    ensures follows { Follows set.old set.new }
-    ensures loose { set.new.loose ≡ set.old.loose }
+    ensures works { WorksOn (IsMember members.now) set.old set.new }
     ensures sum_len { length sum.new ≡ length sum.old }
     ensures spare_len { length spare.new ≡ length spare.old }
 {
@@ -140,8 +137,10 @@ pub fn change<D: Disk>(
     ensures answer { Tells set.new result }
     ensures changes { Changes set.old set.new members.now row position from.now }
     ensures keeps { KeepsButRow members.now row set.old set.new }
-    ensures follows { Follows set.old set.new }
-    ensures loose { set.new.loose ≡ set.old.loose }
+    ensures works { WorksOn (IsMember members.now) set.old set.new }
+    // While the member is sound, no disk but its own and the parity's is asked.
+    ensures known { IsSound set.new (member members.now position)
+        → WorksOn (IsEither (member members.now position) (member members.now (parity_position row))) set.old set.new }
     ensures scratch { scratch.new.geometry ≡ scratch.old.geometry }
 {
     let sum = &mut scratch.second;

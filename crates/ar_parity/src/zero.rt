@@ -2,8 +2,8 @@
 ghost use Rattle.std.specs.Prelude.{◌≡◌, ◌<◌, length};
 ghost use Rattle.ar_disks.specs.Block.{zeros};
 ghost use Rattle.ar_disks.specs.Geometry.{rows_of, block_len_of};
-ghost use Rattle.ar_extents.specs.Follows.{Follows};
-ghost use Rattle.ar_extents.specs.Groups.{IsGroup};
+ghost use Rattle.ar_extents.specs.Follows.{WorksOn};
+ghost use Rattle.ar_extents.specs.Groups.{IsGroup, IsMember};
 ghost use Rattle.ar_parity.specs.Row.{zero_blocks};
 ghost use Rattle.ar_parity.specs.Group.{RowAgrees, KeepsButRow};
 ghost use Rattle.ar_parity.specs.Call.{Tells};
@@ -20,8 +20,7 @@ pub fn zero_row<D: Disk>(set: &mut DiskSet<D>, members: &Members, row: u16, zero
     ensures answer { Tells set.new result }
     ensures agrees { RowAgrees set.new members.now row (zero_blocks (block_len_of set.old.geometry)) }
     ensures keeps { KeepsButRow members.now row set.old set.new }
-    ensures follows { Follows set.old set.new }
-    ensures loose { set.new.loose ≡ set.old.loose }
+    ensures works { WorksOn (IsMember members.now) set.old set.new }
 {
     for position in 0..4 {
         match write(set, members, position, row, zero) {

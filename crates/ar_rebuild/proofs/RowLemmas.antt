@@ -15,12 +15,12 @@ use Rattle.ar_extents.specs.Access.{next_place, IsGivenUp}
 use Rattle.ar_extents.specs.Groups.{IsGroup}
 use Rattle.ar_extents.proofs.Follows.{follows_refl, follows_then, keeps_refl}
 use Rattle.ar_extents.proofs.GroupLemmas.{group_then}
-use Rattle.ar_extents.proofs.Losses.{missing_lost, lost_not_sound}
+use Rattle.ar_extents.proofs.Losses.{missing_lost, next_missing, lost_not_sound}
 use Rattle.ar_mirror.specs.Slots.{row_of, slots_of as mirror_slots_of, partner_of}
 use Rattle.ar_mirror.specs.Holds.{Holds as MirrorHolds}
 use Rattle.ar_mirror.specs.Calls.{IsInPair, IsCopied}
 use Rattle.ar_mirror.proofs.SlotLemmas.{pair_fits, row_fits, members_differ}
-use Rattle.ar_mirror.proofs.Rebuilding.{next_missing, rebuilt_has}
+use Rattle.ar_mirror.proofs.Rebuilding.{rebuilt_has}
 use Rattle.ar_mirror.proofs.Frames.{done_holds as mirror_done}
 use Rattle.ar_parity.specs.Row.{Blocks, block, row_of as parity_row_of}
 use Rattle.ar_parity.specs.Group.{RowAgrees, Holds as ParityHolds}

@@ -1,8 +1,19 @@
 use Rattle.ar_parity.proofs.Agrees.{three_sum_done}
+use Rattle.ar_extents.specs.Groups.{IsMember}
+use Rattle.ar_extents.proofs.Follows.{works_then}
+use Rattle.ar_extents.proofs.GroupLemmas.{works_member}
 use Rattle.ar_parity.proofs.degraded.sum_of_three.Goals as goal
 
 pub returns-in-Done-clause-block : goal.returns-in-Done-clause-block
 returns-in-Done-clause-block g c =
     three_sum_done c.add_beside.result c.args.set.now c.sum_of_two.new.set c.args.members.now c.args.row c.args.lost c.another-third.result
     c.sum_of_two.new.into c.add_beside.new.into c.another-third.ensures.below
-    c.in-Done.ensures.follows c.in-Done.ensures.keeps c.in-Done.ensures.sum c.add_beside.ensures.bytes
+    c.in-Done.ensures.works.follows c.in-Done.ensures.keeps c.in-Done.ensures.sum c.add_beside.ensures.bytes
+
+pub returns-in-Done-clause-works : goal.returns-in-Done-clause-works
+returns-in-Done-clause-works g c =
+    let m = c.args.members.now in
+    let b = c.sum_of_two.new.set in
+    let d = c.add_beside.new.set in
+    works_then (IsMember m) c.args.set.now b d c.in-Done.ensures.works
+    (works_member m c.another-third.result b d c.another-third.ensures.below c.add_beside.ensures.works)

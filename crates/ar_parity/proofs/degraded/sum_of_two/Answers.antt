@@ -1,4 +1,7 @@
 use Rattle.ar_parity.proofs.Agrees.{two_sum_done}
+use Rattle.ar_extents.specs.Groups.{IsMember}
+use Rattle.ar_extents.proofs.Follows.{works_then}
+use Rattle.ar_extents.proofs.GroupLemmas.{works_member}
 use Rattle.ar_parity.proofs.degraded.sum_of_two.Goals as goal
 
 pub returns-in-Done-clause-sum : goal.returns-in-Done-clause-sum
@@ -7,4 +10,13 @@ returns-in-Done-clause-sum g c =
     c.lowest_beside-low.result c.highest_beside-high.result c.read_beside.new.into c.add_beside.new.into
     c.requires.lost_below c.requires.below c.requires.apart c.lowest_beside-low.ensures.position
     c.highest_beside-high.ensures.position c.lowest_beside-low.ensures.below c.highest_beside-high.ensures.below
-    c.in-Done.ensures.follows c.in-Done.ensures.keeps c.in-Done.ensures.bytes c.add_beside.ensures.bytes
+    c.in-Done.ensures.works.follows c.in-Done.ensures.keeps c.in-Done.ensures.bytes c.add_beside.ensures.bytes
+
+pub returns-in-Done-clause-works : goal.returns-in-Done-clause-works
+returns-in-Done-clause-works g c =
+    let m = c.args.members.now in
+    let a = c.args.set.now in
+    let b = c.read_beside.new.set in
+    let d = c.add_beside.new.set in
+    works_then (IsMember m) a b d (works_member m c.lowest_beside-low.result a b c.lowest_beside-low.ensures.below c.in-Done.ensures.works)
+    (works_member m c.highest_beside-high.result b d c.highest_beside-high.ensures.below c.add_beside.ensures.works)

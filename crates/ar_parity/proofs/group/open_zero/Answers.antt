@@ -1,7 +1,7 @@
 use Rattle.std.proofs.Common.{◌∙◌, ap, arith}
 use Rattle.ar_disks.specs.Geometry.{rows_of, block_len_of}
-use Rattle.ar_extents.proofs.Follows.{follows_then, keeps_then}
-use Rattle.ar_extents.specs.Groups.{IsOutside}
+use Rattle.ar_extents.proofs.Follows.{keeps_then, works_then}
+use Rattle.ar_extents.specs.Groups.{IsMember, IsOutside}
 use Rattle.ar_parity.proofs.Updates.{zeros_then}
 use Rattle.ar_parity.proofs.SlotLemmas.{zero_slots}
 use Rattle.ar_parity.proofs.group.open_zero.Goals as goal
@@ -11,10 +11,9 @@ loop-row-preserved g c =
     let inv = c.loop-row.invariant in
     let row = c.zero_row.ensures in
     record {
-      follows = follows_then c.args.set.now c.loop-row.set c.zero_row.new.set inv.follows row.follows;
+      works = works_then (IsMember c.args.members.now) c.args.set.now c.loop-row.set c.zero_row.new.set inv.works row.works;
       keeps = keeps_then (IsOutside c.args.members.now) c.args.set.now c.loop-row.set c.zero_row.new.set inv.keeps row.keeps.other_places;
-      loose = row.loose ∙ inv.loose;
-      agrees = zeros_then c.args.set.now c.loop-row.set c.zero_row.new.set c.args.members.now c.loop-row.row inv.follows row.follows row.keeps inv.agrees row.agrees;
+      agrees = zeros_then c.args.set.now c.loop-row.set c.zero_row.new.set c.args.members.now c.loop-row.row inv.works.follows row.works.follows row.keeps inv.agrees row.agrees;
       healthy = λ lt. c.in-Done.ensures.answer;
     }
 
@@ -26,3 +25,7 @@ returns-clause-rows g c = λ row lt.
 pub returns-clause-slots : goal.returns-clause-slots
 returns-clause-slots g c =
     zero_slots c.loop-row.set c.args.members.now (rows_of c.args.set.now.geometry) (block_len_of c.args.set.now.geometry) (returns-clause-rows g c)
+
+pub returns-in-Broken-clause-works : goal.returns-in-Broken-clause-works
+returns-in-Broken-clause-works g c =
+    works_then (IsMember c.args.members.now) c.args.set.now c.loop-row.set c.zero_row.new.set c.loop-row.invariant.works c.zero_row.ensures.works

@@ -1,17 +1,16 @@
-use Rattle.std.proofs.Common.{◌≡◌, ◌≢◌, ℕ, ◌<◌}
+use Rattle.std.proofs.Common.{◌≢◌, ℕ, ◌<◌}
 use Rattle.ar_disks.specs.Geometry.{block_len_of}
 use Rattle.ar_extents.specs.declared.health.Health.TheVariants.{Broken as AllBroken}
-use Rattle.ar_extents.specs.Follows.{Follows, Keeps}
-use Rattle.ar_extents.specs.Groups.{IsOutside}
+use Rattle.ar_extents.specs.Follows.{Keeps, WorksOn}
+use Rattle.ar_extents.specs.Groups.{IsMember, IsOutside}
 use Rattle.ar_parity.specs.Row.{zero_blocks}
 use Rattle.ar_parity.specs.Group.{RowAgrees}
 use Rattle.ar_parity.proofs.group.open_zero.Given as goal
 
 abbrev pub invariant-loop-row : goal.invariant-loop-row
 invariant-loop-row g l = record {
-  follows : Follows l.initial.set l.set;
+  works : WorksOn (IsMember l.members) l.initial.set l.set;
   keeps : Keeps (IsOutside l.members) l.initial.set l.set;
-  loose : l.set.loose ≡ l.initial.set.loose;
   agrees : (r : ℕ) → r < l.row → RowAgrees l.set l.members r (zero_blocks (block_len_of l.initial.set.geometry));
   healthy : 0 < l.row → l.set.health ≢ AllBroken;
 }

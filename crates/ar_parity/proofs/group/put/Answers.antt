@@ -6,7 +6,7 @@ pub returns-clause-slots : goal.returns-clause-slots
 returns-clause-slots g c =
     let done = c.change.ensures in
     others_kept_at c.args.set.now c.change.new.set c.args.members.now c.args.slot c.row_of_slot.result c.data_at.result c.args.from.now
-    c.row_of_slot.ensures c.data_at.ensures.position done.follows done.changes done.keeps
+    c.row_of_slot.ensures c.data_at.ensures.position done.works.follows done.changes done.keeps
 
 pub returns-clause-outcome : goal.returns-clause-outcome
 returns-clause-outcome g c = outcome_told c.change.new.set c.change.result c.change.ensures.answer

@@ -1,6 +1,9 @@
 use Rattle.std.proofs.Common.{arith}
 use Rattle.ar_parity.specs.Row.{parity_position}
 use Rattle.ar_parity.proofs.Updates.{lost_changed, broken_changed}
+use Rattle.ar_extents.specs.Groups.{IsMember}
+use Rattle.ar_extents.proofs.Follows.{works_then}
+use Rattle.ar_extents.proofs.GroupLemmas.{works_member}
 use Rattle.ar_parity.proofs.update.put_lost.Goals as goal
 
 pub returns-in-Done-clause-agrees : goal.returns-in-Done-clause-agrees
@@ -8,10 +11,18 @@ returns-in-Done-clause-agrees g c =
     lost_changed c.args.set.now c.sum_of_two.new.set c.write.new.set c.args.members.now c.args.row c.args.position c.parity_at-parity.result
     (parity_position c.args.row) c.args.from.now c.sum_of_two.new.into c.xor_into.new.target c.requires.group.apart
     c.parity_at-parity.ensures.position c.requires.below c.parity_at-parity.ensures.below c.requires.apart
-    c.requires.whole c.requires.lost c.in-Done.ensures.follows c.in-Done.ensures.keeps c.write.ensures.follows c.write.ensures.keeps
+    c.requires.whole c.requires.lost c.in-Done.ensures.works.follows c.in-Done.ensures.keeps c.write.ensures.works.follows c.write.ensures.keeps
     c.xor_into.ensures.sum c.write.ensures.here c.in-Done.ensures.sum
 
 pub returns-in-Broken-clause-agrees : goal.returns-in-Broken-clause-agrees
 returns-in-Broken-clause-agrees g c =
     broken_changed c.args.set.now c.sum_of_two.new.set c.args.members.now c.args.row c.args.position (parity_position c.args.row) c.args.from.now
-    c.in-Broken.ensures.follows c.in-Broken.ensures.answer c.requires.below (omega arith) c.requires.apart c.requires.whole
+    c.in-Broken.ensures.works.follows c.in-Broken.ensures.answer c.requires.below (omega arith) c.requires.apart c.requires.whole
+
+pub returns-in-Done-clause-works : goal.returns-in-Done-clause-works
+returns-in-Done-clause-works g c =
+    let m = c.args.members.now in
+    let b = c.sum_of_two.new.set in
+    let d = c.write.new.set in
+    works_then (IsMember m) c.args.set.now b d c.in-Done.ensures.works
+    (works_member m c.parity_at-parity.result b d c.parity_at-parity.ensures.below c.write.ensures.works)

@@ -1,14 +1,14 @@
-use Rattle.std.proofs.Common.{◌≡◌, ◌≢◌, ℕ, ◌<◌}
+use Rattle.std.proofs.Common.{◌≢◌, ℕ, ◌<◌}
 use Rattle.ar_extents.specs.declared.health.Health.TheVariants.{Broken as AllBroken}
-use Rattle.ar_extents.specs.Follows.{Follows}
+use Rattle.ar_extents.specs.Follows.{WorksOn}
+use Rattle.ar_extents.specs.Groups.{IsMember}
 use Rattle.ar_parity.specs.Group.{Stands, KeepsButRow}
 use Rattle.ar_parity.proofs.zero.zero_row.Given as goal
 
 abbrev pub invariant-loop-position : goal.invariant-loop-position
 invariant-loop-position g l = record {
-  follows : Follows l.initial.set l.set;
+  works : WorksOn (IsMember l.members) l.initial.set l.set;
   keeps : KeepsButRow l.members l.row l.initial.set l.set;
-  loose : l.set.loose ≡ l.initial.set.loose;
   stands : (i : ℕ) → i < l.position → Stands l.set l.members l.row i l.zero;
   healthy : 0 < l.position → l.set.health ≢ AllBroken;
 }

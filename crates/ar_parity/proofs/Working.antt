@@ -1,0 +1,62 @@
+-- Which members of a group are worked on.
+use Rattle.std.proofs.Common.{◌≡◌, inl, inr, ℕ, ◌<◌, Bool, refl, sym, ◌∙◌, ap, subst}
+use Rattle.ar_disks.specs.declared.address.Place.{Place}
+use Rattle.ar_disks.specs.declared.address.Members.{Members}
+use Rattle.ar_disks.specs.Members.{member}
+use Rattle.ar_extents.specs.declared.health.Health.{Health}
+use Rattle.ar_extents.specs.Health.{IsRebuilding, rebuilt_disk}
+use Rattle.ar_extents.specs.Set.{SetState, IsSound}
+use Rattle.ar_extents.specs.Follows.{Follows, Keeps, KeepsBut, Anywhere, Spares, HasNoneOf, IsPlace, IsEither, WorksOn}
+use Rattle.ar_extents.specs.Access.{Accesses, Touches, next_place}
+use Rattle.ar_extents.specs.Groups.{IsMember}
+use Rattle.ar_extents.proofs.Follows.{works_more}
+use Rattle.ar_extents.proofs.Access.{works_read}
+use Rattle.ar_extents.proofs.Losses.{missing_lost, next_missing, lost_not_sound}
+use Rattle.ar_parity.specs.Row.{Blocks}
+use Rattle.ar_parity.specs.Group.{RowAgrees}
+use Rattle.ar_parity.proofs.Agrees.{add_up_then, agrees_read}
+
+-- a member was read, by its place
+pub member_read : (m : Members) (i : ℕ) (a b : SetState) (place : Place) (answered : Bool) → place ≡ member m i
+    → Accesses a b place answered → Keeps Anywhere a b → WorksOn (IsPlace (member m i)) a b
+member_read m i a b place answered at access keeps =
+    let P : Place → Type 0 = λ p. WorksOn (IsPlace p) a b in subst P at (works_read a b place answered access keeps)
+
+-- work on the one, and on the other of two members
+pub first_of_two : (m : Members) (i j : ℕ) (a b : SetState) → WorksOn (IsPlace (member m i)) a b → WorksOn (IsEither (member m i) (member m j)) a b
+first_of_two m i j a b works = works_more (IsPlace (member m i)) (IsEither (member m i) (member m j)) a b (λ p is. inl is) works
+
+pub second_of_two : (m : Members) (i j : ℕ) (a b : SetState) → WorksOn (IsPlace (member m j)) a b → WorksOn (IsEither (member m i) (member m j)) a b
+second_of_two m i j a b works = works_more (IsPlace (member m j)) (IsEither (member m i) (member m j)) a b (λ p is. inr is) works
+
+-- The extent that is rebuilt was written, once its group was read: no disk but the members' was accessed,
+pub row_spares : (a b c : SetState) (m : Members) (position : ℕ) (answered : Bool) → position < 4 → member m position ≡ next_place a
+    → WorksOn (IsMember m) a b → b.health ≡ a.health → Touches b c (rebuilt_disk b.health) answered → Spares (HasNoneOf (IsMember m)) a c
+row_spares a b c m position answered below next works health touched = record {
+  disks = λ d none.
+      touched.others.others d
+      (λ is. none (member m position) (record { position = position; below = below; is = refl })
+      (is ∙ ap rebuilt_disk health ∙ sym (ap (λ (p : Place). p.disk) next)))
+      ∙ works.touches.disks d (λ p is sound. none p is);
+}
+
+-- and every row agrees on what it agreed on.
+pub rebuilt_agrees : (a b c : SetState) (m : Members) (row : ℕ) → IsRebuilding a.health
+    → WorksOn (IsMember m) a b → Keeps Anywhere a b → b.health ≡ a.health → Follows b c → KeepsBut (next_place b) row b c
+    → (r : ℕ) (blocks : Blocks) → RowAgrees a m r blocks → RowAgrees c m r blocks
+rebuilt_agrees a b c m row rebuilding works keeps health bc but r blocks agrees =
+    let read = agrees_read a b m r blocks works.follows keeps agrees in
+    record {
+      add_up = add_up_then b c blocks bc read.add_up;
+      stand = λ i lt. record {
+        content_is = λ sound.
+            (let before = bc.usable (member m i) sound in
+            but.other_places.rows (member m i)
+            (λ is.
+            (let P : Health → Type 0 = λ h. IsRebuilding h in
+            let Q : Place → Type 0 = λ p. IsSound b p in
+            lost_not_sound b (next_place b) (missing_lost b (next_place b) (next_missing b (subst P (sym health) rebuilding))) (subst Q is before)))
+            r
+            ∙ (read.stand i lt).content_is before);
+      };
+    }
