@@ -1,12 +1,15 @@
 -- What a write to a slot and a change of a home come to.
-use Rattle.std.proofs.Common.{◌≡◌, ◌≢◌, ◌≤◌, inl, inr, ℕ, List, length, Option, None, Some, refl, sym, ap, subst, ◌∙◌, arith}
+use Rattle.std.proofs.Common.{◌≡◌, ◌≢◌, ◌≤◌, inl, inr, ℕ, Bool, List, length, Option, None, Some, refl, sym, ap, subst, ◌∙◌, arith}
 use Rattle.ar_disks.specs.declared.address.Key.{Key}
+use Rattle.ar_disks.specs.declared.address.Place.{Place}
 use Rattle.ar_disks.specs.Geometry.{block_len_of}
 use Rattle.ar_extents.specs.declared.health.Health.TheVariants.{Broken}
 use Rattle.ar_extents.specs.declared.outcome.Outcome.TheVariants.{Done, Broken as NotDone}
-use Rattle.ar_extents.specs.Set.{SetState}
-use Rattle.ar_extents.specs.Follows.{Follows, Keeps, Anywhere}
-use Rattle.ar_extents.proofs.Follows.{follows_refl, follows_then}
+use Rattle.ar_extents.specs.Set.{SetState, IsLost}
+use Rattle.ar_extents.specs.Follows.{Follows, Keeps, Anywhere, IsPlace, WorksOn}
+use Rattle.ar_extents.specs.Access.{Accesses}
+use Rattle.ar_extents.proofs.Follows.{follows_refl, follows_then, keeps_refl, lost_then}
+use Rattle.ar_extents.proofs.Access.{works_read}
 use Rattle.ar_book.specs.declared.class.Slot.{Slot}
 use Rattle.ar_book.specs.Tables.{Tables, home, class_of, free_groups, HasBlock, HasSlot}
 use Rattle.ar_book.specs.Changes.{assigned, stamped}
@@ -24,11 +27,23 @@ use Rattle.ar_store.proofs.Changes.{space_moved, others_moved, block_moved, unit
 
 -- no access
 pub accessed_refl : (s : SetState) → IsAccessed s s
-accessed_refl s = record { follows = follows_refl s; loose = refl }
+accessed_refl s = record { follows = follows_refl s; loose = refl; lost = keeps_refl (IsLost s) s }
 
 -- accesses one after another
 pub accessed_then : (a b c : SetState) → IsAccessed a b → IsAccessed b c → IsAccessed a c
-accessed_then a b c ab bc = record { follows = follows_then a b c ab.follows bc.follows; loose = bc.loose ∙ ab.loose }
+accessed_then a b c ab bc = record {
+  follows = follows_then a b c ab.follows bc.follows;
+  loose = bc.loose ∙ ab.loose;
+  lost = lost_then a b c ab.follows ab.lost bc.lost;
+}
+
+-- work on some extents
+pub accessed_work : (these : Place → Type 0) (a b : SetState) → WorksOn these a b → IsAccessed a b
+accessed_work these a b works = record { follows = works.follows; loose = works.loose; lost = works.lost }
+
+-- the read of one
+pub accessed_read : (a b : SetState) (place : Place) (answered : Bool) → Accesses a b place answered → Keeps Anywhere a b → IsAccessed a b
+accessed_read a b place answered access keeps = accessed_work (IsPlace place) a b (works_read a b place answered access keeps)
 
 -- what stands, over two calls
 pub stand_then : (a b c : StoreState) → Follows b.disks c.disks → AllStand a b → AllStand b c → AllStand a c

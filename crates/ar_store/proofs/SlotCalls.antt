@@ -6,7 +6,8 @@ use Rattle.ar_extents.specs.declared.outcome.Outcome.{Outcome}
 use Rattle.ar_extents.specs.declared.outcome.Outcome.TheVariants.{Done, Broken}
 use Rattle.ar_extents.specs.Set.{SetState}
 use Rattle.ar_extents.specs.Groups.{IsGroup}
-use Rattle.ar_extents.specs.Follows.{Follows, Keeps, Anywhere}
+use Rattle.ar_extents.specs.Follows.{Follows, Keeps, Anywhere, IsPlace}
+use Rattle.ar_extents.proofs.Follows.{works_refl}
 use Rattle.ar_mirror.specs.Calls.{Gives, KeepsButSlot, OtherSlotsHold as OtherMirrorSlotsHold}
 use Rattle.ar_mirror.specs.Holds.{Holds as MirrorHolds}
 use Rattle.ar_parity.specs.Group.{Holds as ParityHolds, KeepsButRow}
@@ -16,7 +17,7 @@ use Rattle.ar_book.specs.declared.class.Class.TheVariants.{Free, Mirrored, Parit
 use Rattle.ar_book.specs.declared.class.Slot.{Slot}
 use Rattle.ar_book.specs.Tables.{Tables, slots_of, HasSlot}
 use Rattle.ar_store.specs.Store.{StoreState, store_of, members_of, class_in}
-use Rattle.ar_store.specs.Slots.{ClassHolds, SlotHolds, HoldsAny, CanWrite, IsWritten, AllStand, OtherSlotsHold}
+use Rattle.ar_store.specs.Slots.{ClassHolds, SlotHolds, HoldsAny, CanWrite, IsWritten, NeedsIn, first_in, AsksFor, AllStand, OtherSlotsHold}
 use Rattle.ar_store.specs.Kept.{IsSpace}
 use Rattle.ar_store.specs.Calls.{IsAccessed, OnDone}
 use Rattle.ar_store.proofs.Classes.{mirror_written, parity_written}
@@ -42,6 +43,13 @@ module _ (s : StoreState) (slot : Slot) (m : Members) (space : IsSpace s) (has :
   given_in c bytes o is_c given =
       subst (λ (x : Members). OnDone o ((block : List ℕ) → ClassHolds (class_in s slot.group) s.disks x slot.slot block → bytes ≡ block)) is_m
       (subst (λ (x : Class). OnDone o ((block : List ℕ) → ClassHolds x s.disks m slot.slot block → bytes ≡ block)) is_c given)
+
+  -- no disk was asked that the read doesn't need
+  pub asked_in : (c : Class) (b : SetState) → c ≡ class_in s slot.group → AsksFor c s.disks b m slot.slot
+      → AsksFor (class_in s slot.group) s.disks b (members_of s slot.group) slot.slot
+  asked_in c b is_c asks =
+      subst (λ (x : Members). AsksFor (class_in s slot.group) s.disks b x slot.slot) is_m
+      (subst (λ (x : Class). AsksFor x s.disks b m slot.slot) is_c asks)
 
   -- the slot was written
   written_in : (c : Class) (b : SetState) (block : List ℕ) → c ≡ class_in s slot.group → IsWritten c s.disks b m slot.slot block
@@ -81,3 +89,7 @@ pub read_leaves : (a b : SetState) (t : Tables) → IsSpace (store_of a t) → I
 read_leaves a b t space access keeps =
     let after = space_read a b t space access keeps in
     record { space = after; stand = all_stand a b t space after access.follows (slots_read a b t access.follows keeps) }
+
+-- nothing was asked
+pub asked_none : (class : Class) (s : SetState) (m : Members) (i : ℕ) → AsksFor class s s m i
+asked_none class s m i = record { works = works_refl (NeedsIn class s.geometry m i) s; first = λ _. works_refl (IsPlace (first_in class s.geometry m i)) s }

@@ -2,8 +2,8 @@
 use Rattle.std.specs.Prelude.{◌≡◌, ℕ, ◌*◌, ◌≤◌, ◌<◌, ◌⊎◌}
 use Rattle.ar_disks.specs.Block.{zeros}
 use Rattle.ar_disks.specs.Geometry.{rows_of, block_len_of}
-use Rattle.ar_extents.specs.Set.{SetState}
-use Rattle.ar_extents.specs.Follows.{Follows}
+use Rattle.ar_extents.specs.Set.{SetState, IsLost}
+use Rattle.ar_extents.specs.Follows.{Follows, Keeps}
 use Rattle.ar_extents.specs.declared.health.Health.TheVariants.{Broken as AllBroken}
 use Rattle.ar_book.specs.declared.class.Class.{Class}
 use Rattle.ar_book.specs.Tables.{Tables, free_groups}
@@ -17,10 +17,12 @@ use Rattle.ar_store.specs.Placing.{slot_at}
 use Rattle.ar_extents.specs.declared.outcome.Outcome.{Outcome}
 use Rattle.ar_extents.specs.declared.outcome.Outcome.TheVariants.{Done, Broken}
 
--- rows were read and written: no disk was lost without a cause, and what is loose stays so
+-- Rows were read and written: no disk was lost without a cause, and what is loose stays so. An extent that isn't used, of a disk that
+-- is out or isn't rebuilt so far, keeps what stands in its rows: the rebuild alone writes them.
 pub record IsAccessed (old new : SetState) : Type 0 where
   pub follows : Follows old new
   pub loose : new.loose ≡ old.loose
+  pub lost : Keeps (IsLost old) old new
 
 -- what is said of a call that is done
 abbrev pub OnDone : Outcome → Type 0 → Type 0

@@ -11,7 +11,7 @@ impl<D: Disk> Space<D> {
     ghost use Rattle.ar_extents.specs.Groups.{outcome_of};
     ghost use Rattle.ar_extents.specs.Follows.{Keeps, Anywhere};
     ghost use Rattle.ar_book.specs.Tables.{HasSlot};
-    ghost use Rattle.ar_store.specs.Slots.{SlotHolds, OtherSlotsHold, AllStand};
+    ghost use Rattle.ar_store.specs.Slots.{SlotHolds, OtherSlotsHold, AllStand, AsksForSlot};
     ghost use Rattle.ar_store.specs.Calls.{OnDone};
     ghost use Rattle.ar_store.specs.Spaces.{store_in, IsReady, Stays};
 
@@ -23,6 +23,7 @@ impl<D: Disk> Space<D> {
         ensures outcome { result ≡ outcome_of self.new.disks.health }
         ensures given { OnDone result ((block : List ℕ) → SlotHolds (store_in self.old) slot block → into.new ≡ block) }
         ensures book { self.new.book ≡ self.old.book }
+        ensures asks { AsksForSlot (store_in self.old) (store_in self.new) slot }
         ensures keeps { Keeps Anywhere self.old.disks self.new.disks }
         ensures stand { AllStand (store_in self.old) (store_in self.new) }
         ensures stays { Stays self.old self.new }

@@ -29,15 +29,16 @@ impl<D: Disk> Model for Store<D> {
 }
 
 impl<D: Disk> Store<D> {
-    ghost use Rattle.std.specs.Prelude.{◌≡◌, ◌≢◌, ◌↔◌, ℕ, length, None, IsSome};
+    ghost use Rattle.std.specs.Prelude.{◌≡◌, ◌≢◌, ◌↔◌, ℕ, length, None, Some, IsSome};
     ghost use Rattle.ar_disks.specs.Block.{zeros};
     ghost use Rattle.ar_disks.specs.Geometry.{block_len_of};
     ghost use Rattle.ar_disks.specs.declared.address.Key.{Key};
     ghost use Rattle.ar_extents.specs.Groups.{outcome_of};
     ghost use Rattle.ar_extents.specs.Follows.{Keeps, Anywhere};
+    ghost use Rattle.ar_book.specs.declared.class.Slot.{Slot};
     ghost use Rattle.ar_book.specs.Tables.{home, HasBlock};
     ghost use Rattle.ar_book.specs.Changes.{Moved};
-    ghost use Rattle.ar_store.specs.Slots.{stands, AllStand, OthersStand, BesideHold, SurvivesLossOf};
+    ghost use Rattle.ar_store.specs.Slots.{stands, AllStand, OthersStand, BesideHold, AsksForSlot, SurvivesLossOf};
     ghost use Rattle.ar_store.specs.Kept.{IsKept};
     ghost use Rattle.ar_store.specs.Placing.{Puts, SameUnits, IsVacant};
     ghost use Rattle.ar_store.specs.Calls.{IsAccessed, Opens, IfOpened, HoldsZeros};
@@ -71,7 +72,7 @@ impl<D: Disk> Store<D> {
     }
 
     /// Reads the block of a key into `into`, a block of the store's length. A block without a home is read as zeros, and no disk is
-    /// accessed then. No row of any disk changes. After `Broken` any bytes may stand in `into`; of a store that was broken before
+    /// accessed then; else none that the read doesn't need, as `AsksFor` says. No row of any disk changes. After `Broken` any bytes may stand in `into`; of a store that was broken before
     /// nothing has changed.
     pub fn get(&mut self, key: Key, into: &mut Block) -> Outcome
         requires whole { length into.old ≡ block_len_of self.old.disks.geometry }
@@ -79,6 +80,7 @@ impl<D: Disk> Store<D> {
         ensures zeros { home self.old.book key ≡ None → (self.new ≡ self.old) × (result ≡ Outcome.Done) × (into.new ≡ zeros (block_len_of self.old.disks.geometry)) }
         ensures outcome { home self.old.book key ≢ None → result ≡ outcome_of self.new.disks.health }
         ensures stands { AllStand self.old self.new }
+        ensures asks { (slot : Slot) → home self.old.book key ≡ Some slot → AsksForSlot self.old self.new slot }
         ensures keeps { Keeps Anywhere self.old.disks self.new.disks }
         ensures book { self.new.book ≡ self.old.book }
         ensures accessed { IsAccessed self.old.disks self.new.disks }

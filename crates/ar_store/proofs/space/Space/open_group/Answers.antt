@@ -1,6 +1,7 @@
 use Rattle.std.proofs.Common.{◌≡◌, inl, inr, sym, refl, ap, ◌∙◌}
 use Rattle.ar_disks.specs.declared.address.Key.{Key}
 use Rattle.ar_extents.proofs.Outcomes.{done_sound, broken_is}
+use Rattle.ar_extents.specs.Groups.{IsMember}
 use Rattle.ar_book.specs.declared.class.Class.{Class}
 use Rattle.ar_book.specs.declared.class.Class.TheVariants.{Free, Mirrored, Parity}
 use Rattle.ar_book.specs.Tables.{Tables, home, free_groups}
@@ -11,7 +12,7 @@ use Rattle.ar_store.specs.Spaces.{Stays}
 use Rattle.ar_store.proofs.Options.{some_is}
 use Rattle.ar_store.proofs.Changes.{mirrored_not_parity}
 use Rattle.ar_store.proofs.Openings.{zeroed, opened_group, opened_there, opened_free, after_opening, class_mirrored, not_many, opened_not_broken, idle_not_broken}
-use Rattle.ar_store.proofs.Fills.{accessed_refl}
+use Rattle.ar_store.proofs.Fills.{accessed_refl, accessed_work}
 use Rattle.ar_store.proofs.space.Space.open_group.Goals as goal
 
 pub returns-in_default : goal.returns-in_default
@@ -85,7 +86,7 @@ returns-in-Done g c =
     let zero = c.open_zero.ensures in
     let answer = sym c.in-Done.is ∙ zero.outcome in
     let tables = opening.opened ∙ ap (λ x. opened s.book c.in-Some.group x) c.in-Parity.is in
-    let access : IsAccessed s.disks b = record { follows = zero.follows; loose = zero.loose } in
+    let access : IsAccessed s.disks b = accessed_work (IsMember c.members-members.result) s.disks b zero.works in
     let zeros = zeroed s.disks b s.book u c.in-Some.group c.members-members.result c.requires.ready.space opening.lowest tables c.members-members.ensures
     access zero.keeps zero.slots in
     record {
@@ -97,7 +98,7 @@ returns-in-Done g c =
       free = λ _. opened_free s.book u c.in-Some.group c.args.class c.requires.ready.space.tables opening.lowest (opening.when.0 refl) c.requires.class opening.opened;
       stand = zeros.stand;
       stays = record {
-        ready = record { space = zeros.space; scratch = zero.scratch ∙ c.requires.ready.scratch ∙ sym zero.follows.geometry };
+        ready = record { space = zeros.space; scratch = zero.scratch ∙ c.requires.ready.scratch ∙ sym zero.works.follows.geometry };
         units = zeros.units;
         accessed = access;
       };
@@ -112,7 +113,7 @@ returns-in-Broken g c =
     let zero = c.open_zero.ensures in
     let broken = broken_is b.health (sym c.in-Broken.is ∙ zero.outcome) in
     let tables = opening.opened ∙ ap (λ x. opened s.book c.in-Some.group x) c.in-Parity.is in
-    let access : IsAccessed s.disks b = record { follows = zero.follows; loose = zero.loose } in
+    let access : IsAccessed s.disks b = accessed_work (IsMember c.members-members.result) s.disks b zero.works in
     let zeros = zeroed s.disks b s.book u c.in-Some.group c.members-members.result c.requires.ready.space opening.lowest tables c.members-members.ensures
     access zero.keeps zero.slots in
     record {
@@ -127,7 +128,7 @@ returns-in-Broken g c =
       free = λ _. opened_free s.book u c.in-Some.group c.args.class c.requires.ready.space.tables opening.lowest (opening.when.0 refl) c.requires.class opening.opened;
       stand = zeros.stand;
       stays = record {
-        ready = record { space = zeros.space; scratch = zero.scratch ∙ c.requires.ready.scratch ∙ sym zero.follows.geometry };
+        ready = record { space = zeros.space; scratch = zero.scratch ∙ c.requires.ready.scratch ∙ sym zero.works.follows.geometry };
         units = zeros.units;
         accessed = access;
       };

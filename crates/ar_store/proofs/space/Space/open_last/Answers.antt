@@ -1,6 +1,8 @@
 use Rattle.std.proofs.Common.{◌≡◌, sym, ◌∙◌}
+use Rattle.ar_extents.specs.Groups.{IsMember}
 use Rattle.ar_book.specs.declared.class.Class.TheVariants.{Parity}
 use Rattle.ar_store.specs.Calls.{IsAccessed}
+use Rattle.ar_store.proofs.Fills.{accessed_work}
 use Rattle.ar_store.proofs.Openings.{zeroed, opened_group, opened_there}
 use Rattle.ar_store.proofs.space.Space.open_last.Goals as goal
 
@@ -24,7 +26,7 @@ returns g c =
     let b = c.open_zero.new.set in
     let opening = c.open_last-group.ensures in
     let zero = c.open_zero.ensures in
-    let access : IsAccessed s.disks b = record { follows = zero.follows; loose = zero.loose } in
+    let access : IsAccessed s.disks b = accessed_work (IsMember c.members-members.result) s.disks b zero.works in
     let zeros = zeroed s.disks b s.book c.open_last-group.new.self c.open_last-group.result c.members-members.result c.requires.ready.space opening.lowest
     opening.opened c.members-members.ensures access zero.keeps zero.slots in
     record {
@@ -32,7 +34,7 @@ returns g c =
       opened = opening.opened;
       stand = zeros.stand;
       stays = record {
-        ready = record { space = zeros.space; scratch = zero.scratch ∙ c.requires.ready.scratch ∙ sym zero.follows.geometry };
+        ready = record { space = zeros.space; scratch = zero.scratch ∙ c.requires.ready.scratch ∙ sym zero.works.follows.geometry };
         units = zeros.units;
         accessed = access;
       };

@@ -1,9 +1,12 @@
 use Rattle.std.proofs.Common.{◌≡◌, sym, refl, ◌∙◌}
+use Rattle.ar_extents.specs.Groups.{IsMember}
+use Rattle.ar_mirror.specs.Calls.{IsInPair}
 use Rattle.ar_book.specs.declared.class.Class.TheVariants.{Free, Mirrored, Parity}
 use Rattle.ar_store.specs.Calls.{IsAccessed}
 use Rattle.ar_store.specs.Spaces.{store_in}
 use Rattle.ar_store.proofs.Changes.{units_refl}
-use Rattle.ar_store.proofs.SlotCalls.{asked_group, asked_slot, never_free, given_in, mirror_given, read_leaves}
+use Rattle.ar_store.proofs.Fills.{accessed_work}
+use Rattle.ar_store.proofs.SlotCalls.{asked_group, asked_slot, never_free, given_in, asked_in, mirror_given, read_leaves}
 use Rattle.ar_store.proofs.space.Space.read_at.Goals as goal
 
 pub unreachable-requires : goal.unreachable-requires
@@ -28,17 +31,19 @@ returns-in-Mirrored g c =
     let m = c.members-members.result in
     let b = c.get.new.set in
     let read = c.get.ensures in
-    let access : IsAccessed s.disks b = record { follows = read.follows; loose = read.loose } in
+    let access : IsAccessed s.disks b = accessed_work (IsInPair s.disks.geometry m c.args.slot.slot) s.disks b read.works in
     let leaves = read_leaves s.disks b s.book c.requires.ready.space access read.keeps in
     record {
       outcome = read.outcome;
       given = given_in s c.args.slot m c.requires.ready.space c.requires.slot c.members-members.ensures Mirrored c.get.new.into c.get.result (sym c.in-Mirrored.is ∙ c.class.ensures)
           (mirror_given s.disks b m c.args.slot.slot c.get.new.into c.get.result read.gives);
       book = refl;
+      asks = asked_in s c.args.slot m c.requires.ready.space c.requires.slot c.members-members.ensures Mirrored b (sym c.in-Mirrored.is ∙ c.class.ensures)
+          (record { works = read.works; first = read.first });
       keeps = read.keeps;
       stand = leaves.stand;
       stays = record {
-        ready = record { space = leaves.space; scratch = c.requires.ready.scratch ∙ sym read.follows.geometry };
+        ready = record { space = leaves.space; scratch = c.requires.ready.scratch ∙ sym read.works.follows.geometry };
         units = units_refl s.book;
         accessed = access;
       };
@@ -63,17 +68,19 @@ returns-in-Parity g c =
     let m = c.members-members.result in
     let b = c.get-in-Parity.new.set in
     let read = c.get-in-Parity.ensures in
-    let access : IsAccessed s.disks b = record { follows = read.follows; loose = read.loose } in
+    let access : IsAccessed s.disks b = accessed_work (IsMember m) s.disks b read.works in
     let leaves = read_leaves s.disks b s.book c.requires.ready.space access read.keeps in
     record {
       outcome = read.outcome;
       given = given_in s c.args.slot m c.requires.ready.space c.requires.slot c.members-members.ensures Parity c.get-in-Parity.new.into c.get-in-Parity.result
           (sym c.in-Parity.is ∙ c.class.ensures) read.gives;
       book = refl;
+      asks = asked_in s c.args.slot m c.requires.ready.space c.requires.slot c.members-members.ensures Parity b (sym c.in-Parity.is ∙ c.class.ensures)
+          (record { works = read.works; first = read.first });
       keeps = read.keeps;
       stand = leaves.stand;
       stays = record {
-        ready = record { space = leaves.space; scratch = read.scratch ∙ c.requires.ready.scratch ∙ sym read.follows.geometry };
+        ready = record { space = leaves.space; scratch = read.scratch ∙ c.requires.ready.scratch ∙ sym read.works.follows.geometry };
         units = units_refl s.book;
         accessed = access;
       };

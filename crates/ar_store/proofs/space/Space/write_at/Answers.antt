@@ -1,8 +1,11 @@
 use Rattle.std.proofs.Common.{◌≡◌, sym, refl, ◌∙◌}
+use Rattle.ar_extents.specs.Groups.{IsMember}
+use Rattle.ar_mirror.specs.Calls.{IsInPair}
 use Rattle.ar_book.specs.declared.class.Class.TheVariants.{Free, Mirrored, Parity}
 use Rattle.ar_store.specs.Calls.{IsAccessed}
 use Rattle.ar_store.specs.Spaces.{store_in}
 use Rattle.ar_store.proofs.Changes.{units_refl}
+use Rattle.ar_store.proofs.Fills.{accessed_work}
 use Rattle.ar_store.proofs.Spaces.{slots_written, space_written}
 use Rattle.ar_store.proofs.SlotCalls.{asked_group, asked_slot, never_free, written_mirrored, written_parity}
 use Rattle.ar_store.proofs.space.Space.write_at.Goals as goal
@@ -28,18 +31,18 @@ returns-in-Mirrored g c =
     let s = store_in c.args.self.now in
     let b = c.put.new.set in
     let put = c.put.ensures in
-    let access : IsAccessed s.disks b = record { follows = put.follows; loose = put.loose } in
+    let access : IsAccessed s.disks b = accessed_work (IsInPair s.disks.geometry c.members-members.result c.args.slot.slot) s.disks b put.works in
     let written = written_mirrored s c.args.slot c.members-members.result c.requires.ready.space c.requires.slot c.members-members.ensures b c.args.from.now
     (sym c.in-Mirrored.is ∙ c.class.ensures) put.holds put.slots put.keeps in
     record {
       outcome = put.outcome;
       here = written.here;
-      others = slots_written s.disks b s.book c.args.slot c.args.from.now c.requires.ready.space c.requires.slot put.follows written;
+      others = slots_written s.disks b s.book c.args.slot c.args.from.now c.requires.ready.space c.requires.slot put.works.follows written;
       book = refl;
       stays = record {
         ready = record {
           space = space_written s.disks b s.book c.args.slot c.args.from.now c.requires.ready.space c.requires.slot access c.requires.whole written;
-          scratch = c.requires.ready.scratch ∙ sym put.follows.geometry;
+          scratch = c.requires.ready.scratch ∙ sym put.works.follows.geometry;
         };
         units = units_refl s.book;
         accessed = access;
@@ -63,18 +66,18 @@ returns-in-Parity g c =
     let s = store_in c.args.self.now in
     let b = c.put-in-Parity.new.set in
     let put = c.put-in-Parity.ensures in
-    let access : IsAccessed s.disks b = record { follows = put.follows; loose = put.loose } in
+    let access : IsAccessed s.disks b = accessed_work (IsMember c.members-members.result) s.disks b put.works in
     let written = written_parity s c.args.slot c.members-members.result c.requires.ready.space c.requires.slot c.members-members.ensures b c.args.from.now
     (sym c.in-Parity.is ∙ c.class.ensures) put.holds put.slots put.keeps in
     record {
       outcome = put.outcome;
       here = written.here;
-      others = slots_written s.disks b s.book c.args.slot c.args.from.now c.requires.ready.space c.requires.slot put.follows written;
+      others = slots_written s.disks b s.book c.args.slot c.args.from.now c.requires.ready.space c.requires.slot put.works.follows written;
       book = refl;
       stays = record {
         ready = record {
           space = space_written s.disks b s.book c.args.slot c.args.from.now c.requires.ready.space c.requires.slot access c.requires.whole written;
-          scratch = put.scratch ∙ c.requires.ready.scratch ∙ sym put.follows.geometry;
+          scratch = put.scratch ∙ c.requires.ready.scratch ∙ sym put.works.follows.geometry;
         };
         units = units_refl s.book;
         accessed = access;

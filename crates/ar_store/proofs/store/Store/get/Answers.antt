@@ -1,16 +1,18 @@
 use Rattle.std.proofs.Common.{◌≡◌, None, refl, sym, ap, subst, ◌∙◌, arith}
-use Rattle.std.proofs.lemmas.Option.{none-some}
+use Rattle.std.proofs.lemmas.Option.{none-some, same_Some}
 use Rattle.ar_disks.specs.Block.{zeros}
 use Rattle.ar_disks.specs.Geometry.{block_len_of}
 use Rattle.ar_extents.specs.Groups.{outcome_of}
 use Rattle.ar_extents.specs.Follows.{Keeps, Anywhere}
 use Rattle.ar_book.specs.Tables.{home}
 use Rattle.ar_book.proofs.Homes.{home_slot}
-use Rattle.ar_store.specs.Store.{StoreState}
-use Rattle.ar_store.specs.Slots.{AllStand}
+use Rattle.ar_book.specs.declared.class.Slot.{Slot}
+use Rattle.ar_store.specs.Store.{StoreState, members_of, class_in}
+use Rattle.ar_store.specs.Slots.{AllStand, AsksForSlot}
 use Rattle.ar_store.specs.Calls.{IsAccessed}
 use Rattle.ar_store.specs.Spaces.{store_in}
 use Rattle.ar_store.proofs.Standing.{stands_nowhere}
+use Rattle.ar_store.proofs.SlotCalls.{asked_none}
 use Rattle.ar_store.proofs.Fields.{ready_in, fields_stay, free_then, given_stands, given_done}
 use Rattle.ar_store.proofs.Fills.{accessed_refl, same_free, done_not_broken}
 use Rattle.ar_store.proofs.store.Store.get.Goals as goal
@@ -46,6 +48,10 @@ returns-in_default-health g c =
       zeros = λ none. absurd (none-some c.in-Some.slot (sym none ∙ ap (λ (s : StoreState). home s.book c.args.key) (sym view) ∙ is));
       outcome = λ _. read.outcome;
       stands = subst (λ (s : StoreState). AllStand s (store_in b)) view read.stand;
+      asks = λ slot placed.
+          (let P : Slot → Type 0 = λ x. AsksForSlot c.args.self.now (store_in b) x in
+          let here = sym is ∙ ap (λ (s : StoreState). home s.book c.args.key) view ∙ placed in
+          subst P (same_Some c.in-Some.slot slot here) (subst (λ (s : StoreState). AsksForSlot s (store_in b) c.in-Some.slot) view read.asks));
       keeps = subst (λ (s : StoreState). Keeps Anywhere s.disks b.disks) view read.keeps;
       book = read.book ∙ ap (λ (s : StoreState). s.book) view;
       accessed = subst (λ (s : StoreState). IsAccessed s.disks b.disks) view read.stays.accessed;
@@ -64,6 +70,7 @@ returns-in-Broken g c =
       zeros = λ none. absurd (none-some c.in-Some.slot (sym none ∙ is));
       outcome = λ _. sym (ap outcome_of broken);
       stands = record { blocks = λ _ k. refl };
+      asks = λ slot _. asked_none (class_in s slot.group) s.disks (members_of s slot.group) slot.slot;
       keeps = record { rows = λ _ _ _. refl };
       book = refl;
       accessed = accessed_refl s.disks;
@@ -81,6 +88,7 @@ returns-in_default g c =
       zeros = λ _. (refl, refl, zero);
       outcome = λ placed. absurd (placed none);
       stands = record { blocks = λ _ k. refl };
+      asks = λ slot placed. absurd (none-some slot (sym none ∙ placed));
       keeps = record { rows = λ _ _ _. refl };
       book = refl;
       accessed = accessed_refl s.disks;

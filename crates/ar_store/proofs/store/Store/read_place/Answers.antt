@@ -3,14 +3,16 @@ use Rattle.ar_store.specs.Store.{StoreState, store_of}
 use Rattle.ar_store.specs.Slots.{AllStand}
 use Rattle.ar_store.specs.Calls.{IsAccessed}
 use Rattle.ar_store.proofs.SlotCalls.{read_leaves}
+use Rattle.ar_store.proofs.Fills.{accessed_read}
 use Rattle.ar_store.proofs.Fields.{fields_read}
 use Rattle.ar_store.proofs.store.Store.read_place.Goals as goal
 
 pub invariant_of-self : goal.invariant_of-self
 invariant_of-self g c =
     let a = c.self.inside.space in
+    let b = c.get.new.self in
     let read = c.get.ensures in
-    fields_read a c.get.new.self c.self.inside.block c.self.invariant (record { follows = read.access.follows; loose = read.access.loose }) read.keeps
+    fields_read a b c.self.inside.block c.self.invariant (accessed_read a.disks b c.args.place _ read.access read.keeps) read.keeps
 
 pub returns-clause-stands : goal.returns-clause-stands
 returns-clause-stands g c =
@@ -18,9 +20,11 @@ returns-clause-stands g c =
     let b = c.get.new.self in
     let read = c.get.ensures in
     subst (λ (s : StoreState). AllStand s (store_of b a.book)) c.self.view_is
-    (read_leaves a.disks b a.book c.self.invariant.kept.space (record { follows = read.access.follows; loose = read.access.loose }) read.keeps).stand
+    (read_leaves a.disks b a.book c.self.invariant.kept.space (accessed_read a.disks b c.args.place _ read.access read.keeps) read.keeps).stand
 
 pub returns-clause-accessed : goal.returns-clause-accessed
 returns-clause-accessed g c =
+    let a = c.self.inside.space in
+    let b = c.get.new.self in
     let read = c.get.ensures in
-    subst (λ (s : StoreState). IsAccessed s.disks c.get.new.self) c.self.view_is (record { follows = read.access.follows; loose = read.access.loose })
+    subst (λ (s : StoreState). IsAccessed s.disks b) c.self.view_is (accessed_read a.disks b c.args.place _ read.access read.keeps)
