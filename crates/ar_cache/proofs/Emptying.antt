@@ -5,7 +5,7 @@ use Rattle.ar_disks.specs.declared.geometry.Geometry.{Geometry}
 use Rattle.ar_cache.specs.Backing.{Keeps}
 use Rattle.ar_cache.specs.Cache.{CacheState, KnowsAll, SameSeen, with_entries}
 
--- the first entries are left, and no key is seen with another block
+-- the first entries are left, the others were destaged, and no key is seen with another block
 pub record IsEmptying {S : Type 0} (block_at : S → Key → List ℕ) (geometry : S → Geometry) (knows : S → Key → Bool) (is_broken : S → Bool) (follows : S → S → Type 0) (old : CacheState) (from : S) (new : CacheState) (to : S) : Type 0 where
   pub within : length new.entries ≤ length old.entries
   pub left : new ≡ with_entries old (take (length new.entries) old.entries)

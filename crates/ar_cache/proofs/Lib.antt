@@ -5,4 +5,5 @@ pub mod Keeping
 pub mod Keys
 pub mod Lookups
 pub mod Sound
+pub mod Turns
 pub mod Uses

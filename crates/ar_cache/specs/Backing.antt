@@ -1,5 +1,5 @@
 -- What a cache asks of the store behind it.
-use Rattle.std.specs.Prelude.{◌≡◌, ◌≢◌, Bool, true, false, IsTrue, List, ℕ}
+use Rattle.std.specs.Prelude.{◌≡◌, ◌≢◌, Bool, true, false, IsTrue, List, [], ◌∷◌, ℕ}
 use Rattle.ar_disks.specs.declared.address.Key.{Key}
 use Rattle.ar_disks.specs.declared.geometry.Geometry.{Geometry}
 use Rattle.ar_cache.specs.declared.answers.Stored.{Stored}
@@ -32,3 +32,8 @@ pub record SameBlocks (old new : Key → List ℕ) : Type 0 where
 pub record Writes (old new : Key → List ℕ) (key : Key) (block : List ℕ) : Type 0 where
   pub written : new key ≡ block
   pub others : (other : Key) → other ≢ key → new other ≡ old other
+
+-- a step was made for each of these keys, in turn
+abbrev pub InTurn : {S : Type 0} → (S → Key → S → Type 0) → List Key → S → S → Type 0
+InTurn step [] from to = to ≡ from
+InTurn {S} step (key ∷ keys) from to = (next : S) × step from key next × InTurn step keys next to

@@ -1,5 +1,5 @@
 -- What a cache is: blocks under keys that the backing has not yet got.
-use Rattle.std.specs.Prelude.{◌≡◌, ◌≢◌, ◌⊎◌, ℕ, ◌-◌, ◌<◌, ◌≤◌, ◌==◌, ◌&&◌, not, Bool, IsTrue, IsSome, List, [], ◌∷◌, Option, Some, option_map, All, length, take, filter, unwrap_or, if◌then◌else◌}
+use Rattle.std.specs.Prelude.{◌≡◌, ◌≢◌, ◌⊎◌, ℕ, ◌-◌, ◌<◌, ◌≤◌, ◌==◌, ◌&&◌, not, Bool, IsTrue, IsSome, List, [], ◌∷◌, Option, Some, option_map, All, is_some, length, take, drop, filter, nat_lt, unwrap_or, if◌then◌else◌}
 use Rattle.std.specs.List.{IsDistinct}
 use Rattle.std.specs.Option.{option_map_or}
 use Rattle.std.specs.Map.{keys_of, lookup, remove_entry}
@@ -86,6 +86,22 @@ last_key es = option_map (λ e. e.0) (last_entry es)
 -- the entries once there is room for one more: a full cache has let its least recently used go
 abbrev pub with_room : CacheState → List (Key × List ℕ)
 with_room cache = take (cache.capacity - 1) cache.entries
+
+-- the key of the least recently used entry, where there is one
+abbrev pub last_keys : List (Key × List ℕ) → List Key
+last_keys es = keys_of (drop (length es - 1) es)
+
+-- the key that gives way to a new one: the least recently used of a full cache
+abbrev pub giving_way : CacheState → List Key
+giving_way cache = if nat_lt (length cache.entries) cache.capacity then [] else last_keys cache.entries
+
+-- the key whose entry a put of this one destages
+abbrev pub pushed_out : CacheState → Key → List Key
+pushed_out cache key = if is_some (cached cache key) then [] else giving_way cache
+
+-- the key itself, where a put left no entry of it: its block went straight to the backing
+abbrev pub put_through : CacheState → Key → List Key
+put_through cache key = if is_some (cached cache key) then [] else (key ∷ [])
 
 -- A new key was put: its block is the most recently used entry, or, where memory for it was refused, it went to the
 -- backing and no entry is there. A full cache has let its least recently used go in both cases.

@@ -65,4 +65,7 @@ pub trait Backing {
 
     /// Reads after reads read.
     ghost reads_trans: { (a b c : Self) → reads a b → reads b c → reads a c };
+
+    /// What a put makes of a backing after reads, it makes of it as it was before them.
+    ghost puts_after: { (a b c : Self) → (key : Key) → reads a b → puts b key c → puts a key c };
 }

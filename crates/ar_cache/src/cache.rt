@@ -1,9 +1,10 @@
 // A cache's calls, each of which changes entries, the backing, or both.
-ghost use Rattle.std.specs.Prelude.{◌≡◌, ◌≢◌, ◌≤◌, ◌<◌, ◌↔◌, ◌∷◌, length, [], IfOk, IfSome, IsTrue, IsSome, false};
+ghost use Rattle.std.specs.Prelude.{◌≡◌, ◌≢◌, ◌≤◌, ◌<◌, ◌↔◌, ◌∷◌, ◌++◌, length, reverse, [], IfOk, IfSome, IsTrue, IsSome, false};
+ghost use Rattle.std.specs.Map.{keys_of};
 ghost use Rattle.std.specs.Bool.{OnTrue, OnFalse};
 ghost use Rattle.ar_disks.specs.Geometry.{block_len_of};
 ghost use Rattle.ar_disks.specs.declared.address.Key.{Key};
-ghost use Rattle.ar_cache.specs.Backing.{IsHonest, stored, Keeps, SameBlocks, Writes};
+ghost use Rattle.ar_cache.specs.Backing.{InTurn, IsHonest, stored, Keeps, SameBlocks, Writes};
 
 use crate::answers::{Flush, Stored};
 use crate::backing::Backing;
@@ -45,7 +46,7 @@ impl Model for Cache {
 
 impl Cache {
     ghost use Rattle.ar_cache.specs.Cache.{CacheState, IsSound, KnowsAll, SameSeen, Sees, Spares, TakesIn, Flushes, Gives, IsPut, StopsAt};
-    ghost use Rattle.ar_cache.specs.Cache.{answer_of, cached, seen, with_entries, with_room, without_addr, without_key, without_last, same_addr, turned};
+    ghost use Rattle.ar_cache.specs.Cache.{answer_of, cached, giving_way, last_keys, pushed_out, put_through, seen, with_entries, with_room, without_addr, without_key, without_last, same_addr, turned};
 
     /// A cache without entries, for so many of them (at most 65,536; 0 writes through). It fails where memory is refused.
     pub fn new(alloc: Global, geometry: Geometry, capacity: u32) -> Result<Cache, AllocError>
@@ -122,8 +123,8 @@ impl Cache {
             × (self.new ≡ with_entries self.old ((key, block.now) ∷ without_key self.old.entries key)) }
         ensures absent { cached self.old key ≡ None
             → result ≡ Stored.Done → TakesIn self.old self.new key block.now }
-        ensures room { IsSome (cached self.new key)
-            → length self.old.entries < self.old.capacity → backing.new ≡ backing.old }
+        ensures puts { result ≡ Stored.Done
+            → InTurn B.puts (pushed_out self.old key ++ put_through self.new key) backing.old backing.new }
         ensures broken { result ≡ Stored.Broken → self.new ≡ self.old }
         ensures fits { length self.new.entries ≤ self.new.capacity }
         ensures all_known { KnowsAll (B.knows backing.new) self.new }
@@ -203,6 +204,8 @@ impl Cache {
         requires geometry { B.geometry backing.old ≡ self.old.geometry }
         requires all_known { KnowsAll (B.knows backing.old) self.old }
         ensures emptied { result ≡ Stored.Done → self.new ≡ with_entries self.old [] }
+        ensures puts { result ≡ Stored.Done
+            → InTurn B.puts (reverse (keys_of self.old.entries)) backing.old backing.new }
         ensures quiet { self.old.entries ≡ [] → backing.new ≡ backing.old }
         ensures broken { result ≡ Stored.Broken
             → StopsAt B.block_at B.is_broken B.follows self.old self.new backing.old backing.new }
@@ -260,8 +263,8 @@ impl Cache {
         ensures blocks { result ≡ Stored.Done
             → Spares self.old (B.block_at backing.old) self.new (B.block_at backing.new) key }
         ensures taken { result ≡ Stored.Done → TakesIn self.old self.new key block.now }
-        ensures room { IsSome (cached self.new key)
-            → length self.old.entries < self.old.capacity → backing.new ≡ backing.old }
+        ensures puts { result ≡ Stored.Done
+            → InTurn B.puts (giving_way self.old ++ put_through self.new key) backing.old backing.new }
         ensures broken { result ≡ Stored.Broken → self.new ≡ self.old }
         ensures fits { length self.new.entries ≤ self.new.capacity }
         ensures all_known { KnowsAll (B.knows backing.new) self.new }
@@ -270,6 +273,9 @@ impl Cache {
         ensures through { cached self.new key ≡ None → result ≡ stored (B.is_broken backing.new) }
         ensures keeps { Keeps B.geometry B.knows B.is_broken B.follows backing.old backing.new }
     {
+        if self.capacity == 0 {
+            return backing.put(key, block);
+        }
         if self.len() < self.capacity as usize {
             self.put_beside(key, block, backing)
         } else {
@@ -290,7 +296,7 @@ impl Cache {
         ensures blocks { result ≡ Stored.Done
             → Spares self.old (B.block_at backing.old) self.new (B.block_at backing.new) key }
         ensures taken { result ≡ Stored.Done → TakesIn self.old self.new key block.now }
-        ensures room { IsSome (cached self.new key) → backing.new ≡ backing.old }
+        ensures puts { result ≡ Stored.Done → InTurn B.puts (put_through self.new key) backing.old backing.new }
         ensures broken { result ≡ Stored.Broken → self.new ≡ self.old }
         ensures fits { length self.new.entries ≤ self.new.capacity }
         ensures all_known { KnowsAll (B.knows backing.new) self.new }
@@ -312,11 +318,14 @@ impl Cache {
         requires whole { length block.now ≡ block_len_of self.old.geometry }
         requires absent { cached self.old key ≡ None }
         requires full { self.old.capacity ≤ length self.old.entries }
+        requires some { 0 < self.old.capacity }
         ensures sees { result ≡ Stored.Done
             → Sees self.old (B.block_at backing.old) self.new (B.block_at backing.new) key block.now }
         ensures blocks { result ≡ Stored.Done
             → Spares self.old (B.block_at backing.old) self.new (B.block_at backing.new) key }
         ensures taken { result ≡ Stored.Done → TakesIn self.old self.new key block.now }
+        ensures puts { result ≡ Stored.Done
+            → InTurn B.puts (last_keys self.old.entries ++ put_through self.new key) backing.old backing.new }
         ensures broken { result ≡ Stored.Broken → self.new ≡ self.old }
         ensures fits { length self.new.entries ≤ self.new.capacity }
         ensures all_known { KnowsAll (B.knows backing.new) self.new }
@@ -360,19 +369,15 @@ impl Cache {
         }
     }
 
-    // Puts an entry in front, in the place of the last where the cache is full, and says whether there was memory and
-    // room for it.
+    // Puts an entry in front, in the place of the last where the cache is full, and says whether there was memory for it.
     fn insert(&mut self, key: Key, block: &Block) -> bool
         requires absent { cached self.old key ≡ None }
         requires whole { length block.now ≡ block_len_of self.old.geometry }
+        requires some { 0 < self.old.capacity }
         ensures put { OnTrue result
             (self.new ≡ with_entries self.old ((key, block.now) ∷ with_room self.old)) }
-        ensures room { IsTrue result → 0 < self.old.capacity }
         ensures refused { OnFalse result (self.new ≡ self.old) }
     {
-        if self.capacity == 0 {
-            return false;
-        }
         let Some(mut copy) = self.blank() else {
             return false;
         };

@@ -151,6 +151,7 @@ commands_served old new addr n cdb bytes reply unit quiet serves settles =
         busy = λ status. kept (settles.busy status);
         nothing = λ lba fua is. kept (settles.nothing lba fua is);
         forced = settles.forced;
+        stored = settles.stored;
       };
       others = λ now b other.
           image_same old new b (unit_follows old.store.book new.store.book b serves.follows.store.units) serves.follows.store.accessed.follows.geometry
@@ -240,6 +241,7 @@ commands_told old new addr n cdb bytes reply unit tells is cleared seen =
         busy = λ _. quiet;
         nothing = λ _ _ _. quiet;
         forced = λ lba count _ good. (let status = sym (ap (λ (r : Reply). r.status) is) ∙ good in absurd (cc));
+        stored = λ lba count fua _ good. (let status = sym (ap (λ (r : Reply). r.status) is) ∙ good in absurd (cc));
       };
       others = λ now b other. image_same old new b (other_unit b other) shape (λ k _. seen.same k);
       shape = told_shape old new addr cdb bytes reply unit.there there len gone tells is;
@@ -257,8 +259,8 @@ absent_mark t a none = by (lookup (same_addr a) t.units) none
     by (Some u) e = absurd (cc)
 
 -- no WRITE is GOOD there
-absent_write : (cdb : List ℕ) (lba count : ℕ) (reply : Reply) → IsGiven (absent_reply cdb) reply → reading cdb ≡ Ok (Write lba count true) → reply.status ≡ Good → ⊥
-absent_write cdb lba count reply given is good = by (operation_code cdb == 0x12) refl
+absent_write : (cdb : List ℕ) (lba count : ℕ) (fua : Bool) (reply : Reply) → IsGiven (absent_reply cdb) reply → reading cdb ≡ Ok (Write lba count fua) → reply.status ≡ Good → ⊥
+absent_write cdb lba count fua reply given is good = by (operation_code cdb == 0x12) refl
   where
     served : reply ≡ absent_reply cdb
     served = given.answered (λ busy. let status = sym good ∙ busy in cc)
@@ -300,7 +302,8 @@ commands_absent s addr cdb bytes reply none given =
         lost = λ _. quiet;
         busy = λ _. quiet;
         nothing = λ _ _ _. quiet;
-        forced = λ lba count is good. absurd (absent_write cdb lba count reply given is good);
+        forced = λ lba count is good. absurd (absent_write cdb lba count true reply given is good);
+        stored = λ lba count fua is good. absurd (absent_write cdb lba count fua reply given is good);
       };
       others = λ now b other. refl;
       shape =

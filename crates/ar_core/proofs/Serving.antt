@@ -23,7 +23,7 @@ use Rattle.ar_unit.specs.Sectors.{cut, written, joined}
 use Rattle.ar_unit.specs.Unit.{Present, Answered, leaving, read_reply, write_answer, IsGiven}
 use Rattle.ar_book.specs.Tables.{unit_in, blocks_of as blocks_for}
 use Rattle.ar_cache.specs.Backing.{stored}
-use Rattle.ar_image.specs.Sectors.{sector_in, sectors_in, blocks_of, key_of}
+use Rattle.ar_image.specs.Sectors.{sector_in, sectors_in, blocks_of, key_of, keys_in}
 use Rattle.ar_image.specs.Image.{ArrayState, is_broken, geometry_of, seen_at, knows_in, length_at, mark_at, unit_sectors, IsPadded}
 use Rattle.ar_image.specs.Following.{Follows}
 use Rattle.ar_image.specs.Laws.{follows_refl, places_refl}
@@ -31,6 +31,7 @@ use Rattle.ar_image.specs.Seen.{IsUnit, SamePlaces, SameSeen, Writes, present_at
 use Rattle.ar_core.specs.Served.{Serves, Settles}
 use Rattle.ar_core.specs.Step.{is_write}
 use Rattle.ar_image.specs.Seen.{IsForced}
+use Rattle.ar_image.specs.Storing.{StoresBlocks}
 use Rattle.ar_image.specs.declared.transfer.Transfer.{Transfer}
 use Rattle.ar_image.specs.declared.transfer.Transfer.TheVariants.{Done, Broken, NoMemory}
 use Rattle.ar_cache.specs.declared.answers.Stored.{Stored}
@@ -272,18 +273,26 @@ not_below a b test = grind (arith, nat_tests)
 
 -- a command that left everything where it was
 pub settles_quiet : (old new : ArrayState) (addr : Addr) (command : Result Command Sense) (reply : Reply) → SamePlaces old new
-    → ((lba count : ℕ) → command ≡ Ok (Write lba count true) → reply.status ≡ Good → IsForced new addr lba count) → Settles old addr command reply new
-settles_quiet old new addr command reply same forced = record { reads = λ _. same; refused = λ _ _. same; lost = λ _. same; busy = λ _. same; nothing = λ _ _ _. same; forced = forced }
+    → ((lba count : ℕ) (fua : Bool) → command ≡ Ok (Write lba count fua) → reply.status ≡ Good → ⊥) → Settles old addr command reply new
+settles_quiet old new addr command reply same none = record {
+  reads = λ _. same;
+  refused = λ _ _. same;
+  lost = λ _. same;
+  busy = λ _. same;
+  nothing = λ _ _ _. same;
+  forced = λ lba count is good. absurd (none lba count true is good);
+  stored = λ lba count fua is good. absurd (none lba count fua is good);
+}
 
 -- no WRITE was asked for
 pub settles_read : (old new : ArrayState) (addr : Addr) (command : Result Command Sense) (reply : Reply) → is_write command ≡ false → SamePlaces old new → Settles old addr command reply new
 settles_read old new addr command reply other same =
-    settles_quiet old new addr command reply same (λ lba count is good. (let test = sym (ap is_write is) ∙ other in absurd (cc)))
+    settles_quiet old new addr command reply same (λ lba count fua is good. (let test = sym (ap is_write is) ∙ other in cc))
 
 -- a WRITE was refused
 pub settles_check : (s : ArrayState) (addr : Addr) (command : Result Command Sense) (sense : Sense) (reply : Reply) → reply ≡ check sense → Settles s addr command reply s
 settles_check s addr command sense reply is =
-    settles_quiet s s addr command reply (places_refl s) (λ lba count _ good. (let status = sym (ap (λ (r : Reply). r.status) is) ∙ good in absurd (cc)))
+    settles_quiet s s addr command reply (places_refl s) (λ lba count fua _ good. (let status = sym (ap (λ (r : Reply). r.status) is) ∙ good in cc))
 
 -- a block that has some of the unit's sectors is the unit's
 block_counted : (g : Geometry) (rb n : ℕ) → rb * sectors_of g < n → rb < blocks_for g n
@@ -360,6 +369,15 @@ forced_same addr lba count l n new fua is forced =
     let set : fua ≡ true = cc in
     subst (λ k. IsForced new addr l k) many (subst (λ k. IsForced new addr k count) first (forced set))
 
+stored_same : (addr : Addr) (lba count l n : ℕ) (old new : ArrayState) (fua f : Bool) → write_of lba count fua ≡ write_of l n f
+    → StoresBlocks (keys_in (geometry_of old) addr lba count) fua old new → StoresBlocks (keys_in (geometry_of old) addr l n) f old new
+stored_same addr lba count l n old new fua f is stored =
+    let first : lba ≡ l = cc in
+    let many : count ≡ n = cc in
+    let same : fua ≡ f = cc in
+    subst (λ b. StoresBlocks (keys_in (geometry_of old) addr l n) b old new) same
+    (subst (λ k. StoresBlocks (keys_in (geometry_of old) addr l k) fua old new) many (subst (λ k. StoresBlocks (keys_in (geometry_of old) addr k count) fua old new) first stored))
+
 -- a WRITE of no sectors leaves everything where it was
 unwritten_same : (old new : ArrayState) (lba count l : ℕ) (fua f : Bool) → write_of lba count fua ≡ write_of l 0 f → (count ≡ 0 → new ≡ old) → SamePlaces old new
 unwritten_same old new lba count l fua f is none =
@@ -370,20 +388,23 @@ unwritten_same old new lba count l fua f is none =
 -- a WRITE that was not refused
 pub settles_write : (old new : ArrayState) (addr : Addr) (lba count : ℕ) (fua : Bool) (answer : Stored) (reply : Reply) → is_broken old ≡ false
     → (answer ≡ Kept → reply ≡ good []) → (answer ≡ Lost → reply ≡ check internal_target_failure) → (answer ≡ Kept → IsTrue fua → IsForced new addr lba count)
+    → (answer ≡ Kept → StoresBlocks (keys_in (geometry_of old) addr lba count) fua old new)
     → (count ≡ 0 → new ≡ old) → Settles old addr (Ok (Write lba count fua)) reply new
-settles_write old new addr lba count fua Kept reply sound done lost forced none = record {
+settles_write old new addr lba count fua Kept reply sound done lost forced stored none = record {
   reads = λ other. absurd (cc);
   refused = λ status _. (let told = sym (ap (λ (r : Reply). r.status) (done refl)) ∙ status in absurd (cc));
   lost = λ gone. absurd (cc);
   busy = λ status. (let told = sym (ap (λ (r : Reply). r.status) (done refl)) ∙ status in absurd (cc));
   nothing = λ l f is. unwritten_same old new lba count l fua f is none;
   forced = λ l n is good. forced_same addr lba count l n new fua is (forced refl);
+  stored = λ l n f is good. stored_same addr lba count l n old new fua f is (stored refl);
 }
-settles_write old new addr lba count fua Lost reply sound done lost forced none = record {
+settles_write old new addr lba count fua Lost reply sound done lost forced stored none = record {
   reads = λ other. absurd (cc);
   refused = λ _ other. absurd (other (lost refl));
   lost = λ gone. absurd (cc);
   busy = λ status. (let told = sym (ap (λ (r : Reply). r.status) (lost refl)) ∙ status in absurd (cc));
   nothing = λ l f is. unwritten_same old new lba count l fua f is none;
   forced = λ l n is good. (let told = sym (ap (λ (r : Reply). r.status) (lost refl)) ∙ good in absurd (cc));
+  stored = λ l n f is good. (let told = sym (ap (λ (r : Reply). r.status) (lost refl)) ∙ good in absurd (cc));
 }

@@ -11,10 +11,12 @@ use Rattle.ar_scsi.specs.Reply.{check}
 use Rattle.ar_scsi.specs.Sense.{internal_target_failure}
 use Rattle.ar_unit.specs.Unit.{Answered, Cmd, unit_run, IsGiven, IsServed}
 use Rattle.ar_unit.specs.Broken.{shape_of}
-use Rattle.ar_image.specs.Image.{ArrayState, is_broken, seen_at, image_at}
+use Rattle.ar_image.specs.Image.{ArrayState, geometry_of, is_broken, seen_at, image_at}
 use Rattle.ar_image.specs.Following.{Follows}
 use Rattle.ar_store.specs.Calls.{IsAccessed}
 use Rattle.ar_core.specs.Step.{Obeys, is_write, is_busy}
+use Rattle.ar_image.specs.Sectors.{keys_in}
+use Rattle.ar_image.specs.Storing.{StoresBlocks}
 use Rattle.ar_image.specs.Seen.{IsForced, SamePlaces, present_at}
 
 -- The unit was served as the table says, by its sectors before the command, and is left with the table's, and no other unit's
@@ -25,8 +27,8 @@ pub record Serves (old : ArrayState) (addr : Addr) (table : Answered) (otherwise
   pub others : is_broken new ≡ false → (k : Key) → k.addr ≢ addr → seen_at new k ≡ seen_at old k
   pub broken : IsTrue (is_broken new) → IsGiven otherwise reply
 
--- Where the unit's blocks are kept afterwards: as before, but after a WRITE that was done; and none of that is in the cache where
--- it came with FORCE UNIT ACCESS.
+-- Where the unit's blocks are kept afterwards: as before, but after a WRITE that was done, which has put each of its blocks once; and
+-- none of these is in the cache where it came with FORCE UNIT ACCESS.
 pub record Settles (old : ArrayState) (addr : Addr) (command : Result Command Sense) (reply : Reply) (new : ArrayState) : Type 0 where
   pub reads : is_write command ≡ false → SamePlaces old new
   pub refused : reply.status ≡ CheckCondition → reply ≢ check internal_target_failure → SamePlaces old new
@@ -34,6 +36,8 @@ pub record Settles (old : ArrayState) (addr : Addr) (command : Result Command Se
   pub busy : reply.status ≡ Busy → SamePlaces old new
   pub nothing : (lba : ℕ) (fua : Bool) → command ≡ Ok (Write lba 0 fua) → SamePlaces old new
   pub forced : (lba count : ℕ) → command ≡ Ok (Write lba count true) → reply.status ≡ Good → IsForced new addr lba count
+  pub stored : (lba count : ℕ) (fua : Bool) → command ≡ Ok (Write lba count fua) → reply.status ≡ Good
+      → StoresBlocks (keys_in (geometry_of old) addr lba count) fua old new
 
 -- What a command does to the array: its unit obeys, and each unit, its own too, is what the command makes of it.
 pub record Commands (old : ArrayState) (addr : Addr) (cdb bytes : List ℕ) (reply : Reply) (new : ArrayState) : Type 0 where

@@ -22,12 +22,13 @@ use Rattle.ar_core.specs.Events.{Event}
 use Rattle.ar_core.specs.declared.event.EventOf.TheVariants.{Make as MakeEvent, Grow as GrowEvent, Remove as RemoveEvent, Cmd as CmdEvent, Flush as FlushEvent, Demote as DemoteEvent, Clean as CleanEvent, Balance as BalanceEvent, AddDisk as AddDiskEvent, DiskOut as DiskOutEvent, Replace as ReplaceEvent, Rebuild as RebuildEvent}
 use Rattle.ar_core.specs.Events.{Outcome}
 use Rattle.ar_core.specs.declared.event.OutcomeOf.TheVariants.{Make as MakeOutcome, Grow as GrowOutcome, Remove as RemoveOutcome, Cmd as CmdOutcome, Flush as FlushOutcome, Demote as DemoteOutcome, Clean as CleanOutcome, Balance as BalanceOutcome, AddDisk as AddDiskOutcome, DiskOut as DiskOutOutcome, Replace as ReplaceOutcome, Rebuild as RebuildOutcome}
-use Rattle.ar_image.specs.Sectors.{Address, address_of, same_address}
-use Rattle.ar_image.specs.Image.{ArrayState, is_broken, mark_at, image_at, image}
+use Rattle.ar_image.specs.Sectors.{Address, address_of, keys_in, same_address}
+use Rattle.ar_image.specs.Image.{ArrayState, geometry_of, is_broken, mark_at, image_at, image}
 use Rattle.ar_core.specs.Causes.{HasCause}
 use Rattle.ar_core.specs.Quiet.{IsQuiet}
 use Rattle.ar_store.specs.Calls.{IsAccessed}
 use Rattle.ar_image.specs.Seen.{IsForced}
+use Rattle.ar_image.specs.Storing.{StoresBlocks}
 use Rattle.ar_image.specs.Changes.{Makes, Grows, Removes}
 use Rattle.ar_image.specs.Flush.{FlushesOne}
 use Rattle.ar_image.specs.Moves.{DemotesOne, CleansOne}
@@ -108,6 +109,9 @@ pub record Obeys (old : ArrayState) (addr : Addr) (cdb bytes : List ℕ) (reply 
   pub nothing : (lba : ℕ) (fua : Bool) → reading cdb ≡ Ok (Write lba 0 fua) → MovesNothing old addr cdb new
   -- a WRITE with FORCE UNIT ACCESS leaves none of its blocks in the cache (SBC-2, WRITE (10) command)
   pub forced : (lba count : ℕ) → reading cdb ≡ Ok (Write lba count true) → reply.status ≡ Good → IsForced new addr lba count
+  -- a WRITE that was done has put each of its blocks once, in ascending order, and no other, and then forced each where it was asked
+  pub stored : (lba count : ℕ) (fua : Bool) → reading cdb ≡ Ok (Write lba count fua) → reply.status ≡ Good
+      → StoresBlocks (keys_in (geometry_of old) addr lba count) fua old new
 
 -- the event was answered by an outcome of its kind
 abbrev pub Answers : ArrayState → Event → Outcome → ArrayState → Type 0

@@ -7,13 +7,15 @@ ghost use Rattle.ar_scsi.specs.Reply.{good, check, busy};
 ghost use Rattle.ar_scsi.specs.Sense.{internal_target_failure, logical_block_address_out_of_range, data_phase_error, capacity_data_has_changed};
 ghost use Rattle.ar_unit.specs.Unit.{obeyed, IsGiven, leaving, read_reply, write_answer};
 ghost use Rattle.ar_unit.specs.Broken.{broken_obeyed};
-ghost use Rattle.ar_cache.specs.Backing.{stored};
+ghost use Rattle.ar_cache.specs.Backing.{InTurn, stored};
 ghost use Rattle.ar_cache.specs.Cache.{cached};
 ghost use Rattle.ar_image.specs.Image.{is_broken, geometry_of, seen_at, unit_sectors, mark_at, with_book};
 ghost use Rattle.ar_image.specs.Seen.{IsUnit, SamePlaces, SameSeen, IsSpared, Writes, present_at, sectors_read};
 ghost use Rattle.ar_core.specs.Served.{Serves, Settles, Commands};
 ghost use Rattle.ar_image.specs.Following.{Follows};
+ghost use Rattle.ar_image.specs.Sectors.{keys_in};
 ghost use Rattle.ar_image.specs.Seen.{IsForced};
+ghost use Rattle.ar_image.specs.Storing.{ForcesBlock, PutsBlock, StoresBlocks};
 ghost use Rattle.ar_book.specs.Changes.{unmarked};
 
 use crate::{Array, Stored};
@@ -211,6 +213,7 @@ impl<D: Disk> Array<D> {
         ensures answer { result ≡ stored (is_broken self.new) }
         ensures writes { result ≡ Stored.Done → Writes self.old addr lba count bytes.now self.new }
         ensures forced { result ≡ Stored.Done → IsTrue fua → IsForced self.new addr lba count }
+        ensures stored { result ≡ Stored.Done → StoresBlocks (keys_in (geometry_of self.old) addr lba count) fua self.old self.new }
         ensures nothing { count ≡ 0 → self.new ≡ self.old }
         ensures follows { Follows self.old self.new }
     {
@@ -228,6 +231,7 @@ impl<D: Disk> Array<D> {
         requires sound { is_broken self.old ≡ false }
         ensures answer { result ≡ stored (is_broken self.new) }
         ensures writes { result ≡ Stored.Done → Writes self.old addr lba count bytes.now self.new }
+        ensures puts { result ≡ Stored.Done → InTurn PutsBlock (keys_in (geometry_of self.old) addr lba count) self.old self.new }
         ensures nothing { count ≡ 0 → self.new ≡ self.old }
         ensures follows { Follows self.old self.new }
     {
@@ -250,6 +254,7 @@ impl<D: Disk> Array<D> {
         requires sound { is_broken self.old ≡ false }
         ensures answer { result ≡ stored (is_broken self.new) }
         ensures forced { result ≡ Stored.Done → IsForced self.new addr lba count }
+        ensures forces { result ≡ Stored.Done → InTurn ForcesBlock (keys_in (geometry_of self.old) addr lba count) self.old self.new }
         ensures spared { result ≡ Stored.Done → 0 < count → IsSpared self.old.cache self.new.cache addr
             (lba / sectors_of (geometry_of self.old)) ((lba + count - 1) / sectors_of (geometry_of self.old) + 1) }
         ensures seen { result ≡ Stored.Done → SameSeen self.old self.new }

@@ -1,10 +1,13 @@
 // The array: what is written from the cache to the disks.
-ghost use Rattle.std.specs.Prelude.{◌≡◌, IsTrue, []};
+ghost use Rattle.std.specs.Prelude.{◌≡◌, IsTrue, false, [], reverse};
 ghost use Rattle.ar_disks.specs.declared.address.Addr.{Addr};
-ghost use Rattle.ar_cache.specs.Backing.{stored};
+ghost use Rattle.std.specs.Map.{keys_of};
+ghost use Rattle.ar_store.specs.Placing.{Puts};
+ghost use Rattle.ar_cache.specs.Backing.{InTurn, stored};
 ghost use Rattle.ar_cache.specs.Cache.{with_entries};
 ghost use Rattle.ar_image.specs.Following.{Follows};
 ghost use Rattle.ar_image.specs.Image.{is_broken, image_at, image_on_disks};
+ghost use Rattle.ar_image.specs.Storing.{LeavesSome};
 
 use crate::{Array, EventOf, Flush, OutcomeOf, Stored};
 use ar_disks::Disk;
@@ -27,6 +30,9 @@ impl<D: Disk> Array<D> {
         ensures images { result ≡ Stored.Done → (addr : Addr) → image_at self.new addr ≡ image_at self.old addr }
         ensures on_disks { result ≡ Stored.Done → (addr : Addr) → image_at self.new addr ≡ image_on_disks self.new.store addr }
         ensures emptied { result ≡ Stored.Done → self.new.cache ≡ with_entries self.old.cache [] }
+        ensures puts { result ≡ Stored.Done
+            → InTurn Puts (reverse (keys_of self.old.cache.entries)) self.old.store.book self.new.store.book }
+        ensures stopped { result ≡ Stored.Broken → is_broken self.old ≡ false → LeavesSome self.old.cache self.new.cache }
         ensures follows { Follows self.old self.new }
     {
         self.blocks.flush_all()

@@ -3,6 +3,7 @@ pub mod Breaking
 pub mod Images
 pub mod Moving
 pub mod Pieces
+pub mod Putting
 pub mod Rebuilding
 pub mod Seeing
 pub mod Sparing

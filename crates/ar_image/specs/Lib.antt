@@ -11,6 +11,7 @@ pub mod Rebuild
 pub mod Sectors
 pub mod Seen
 pub mod Start
+pub mod Storing
 -- the words of lower crates that clauses of this crate cite
 pub use Rattle.ar_store.specs.Store
 pub use Rattle.ar_store.specs.Slots

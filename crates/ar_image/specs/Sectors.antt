@@ -1,5 +1,5 @@
 -- The sectors of a unit, as they lie in its blocks.
-use Rattle.std.specs.Prelude.{ℕ, ◌/◌, ◌%◌, ◌==◌, ◌&&◌, Bool, List, map}
+use Rattle.std.specs.Prelude.{ℕ, ◌+◌, ◌-◌, ◌/◌, ◌%◌, ◌==◌, ◌&&◌, if◌then◌else◌, Bool, List, [], map}
 use Rattle.std.specs.List.{range_with_len}
 use Rattle.ar_disks.specs.declared.address.Addr.{Addr}
 use Rattle.ar_disks.specs.declared.address.Key.{Key}
@@ -24,6 +24,15 @@ key_of addr rb = record { addr = addr; rb = rb }
 -- a unit's blocks by their number
 abbrev pub blocks_of : (Key → List ℕ) → Addr → ℕ → List ℕ
 blocks_of block_at addr rb = block_at (key_of addr rb)
+
+-- the keys of so many of a unit's blocks, in ascending order
+abbrev pub keys_from : Addr → ℕ → ℕ → List Key
+keys_from addr first count = map (key_of addr) (range_with_len first count)
+
+-- the keys of the blocks that sectors of a unit lie in, in ascending order
+abbrev pub keys_in : Geometry → Addr → ℕ → ℕ → List Key
+keys_in g addr lba count =
+    if count == 0 then [] else keys_from addr (lba / sectors_of g) ((lba + count - 1) / sectors_of g + 1 - lba / sectors_of g)
 
 -- sector i of a unit whose block of each number is given
 unfoldable pub sector_in : Geometry → (ℕ → List ℕ) → ℕ → List ℕ

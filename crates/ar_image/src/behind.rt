@@ -5,7 +5,7 @@ ghost use Rattle.ar_store.specs.Slots.{stands};
 ghost use Rattle.ar_store.specs.Placing.{Puts};
 ghost use Rattle.ar_image.specs.Image.{knows_in};
 ghost use Rattle.ar_image.specs.Following.{StoreFollows, StoreReads};
-ghost use Rattle.ar_image.specs.Laws.{store_refl, store_then, reads_refl, reads_then};
+ghost use Rattle.ar_image.specs.Laws.{book_puts_after, store_refl, store_then, reads_refl, reads_then};
 
 use ar_cache::{Backing, Stored};
 use ar_disks::{Block, Disk, Key};
@@ -51,6 +51,8 @@ impl<D: Disk> Backing for Behind<D> {
     ghost reads_refl = { λ s. reads_refl s.store };
 
     ghost reads_trans = { λ a b c first later. reads_then a.store b.store c.store first later };
+
+    ghost puts_after = { λ a b c key reads put. book_puts_after a.store b.store c.store key reads put };
 }
 
 // A store's answer, as a cache hears it.

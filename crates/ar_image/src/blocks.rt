@@ -10,7 +10,8 @@ ghost use Rattle.ar_book.specs.Tables.{has_unit};
 ghost use Rattle.ar_cache.specs.Cache.{cached};
 ghost use Rattle.ar_image.specs.Image.{is_broken, geometry_of, seen_at, knows_in, mark_at};
 ghost use Rattle.ar_image.specs.Following.{Follows};
-ghost use Rattle.ar_image.specs.Laws.{follows_refl, follows_then, places_refl, places_then};
+ghost use Rattle.ar_image.specs.Laws.{follows_refl, follows_then, places_refl, places_then, puts_after_reads};
+ghost use Rattle.ar_image.specs.Storing.{PutsBlock};
 
 use crate::behind::Behind;
 use crate::{Flush, Refusal, Stored};
@@ -54,7 +55,7 @@ impl<D: Disk> Backing for Blocks<D> {
 
     ghost reads = { SamePlaces };
 
-    ghost puts = { λ old key new. Follows old new };
+    ghost puts = { PutsBlock };
 
     fn get(&mut self, key: Key, into: &mut Block) -> Stored {
         if self.is_broken() {
@@ -77,6 +78,8 @@ impl<D: Disk> Backing for Blocks<D> {
     ghost reads_refl = { places_refl };
 
     ghost reads_trans = { places_then };
+
+    ghost puts_after = { puts_after_reads };
 }
 
 impl<D: Disk> Blocks<D> {

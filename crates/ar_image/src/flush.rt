@@ -1,13 +1,16 @@
 // What is given from the cache to the disks.
-ghost use Rattle.std.specs.Prelude.{◌≡◌, ◌≢◌, ◌≤◌, ◌+◌, ℕ, None, false, IsTrue, []};
+ghost use Rattle.std.specs.Prelude.{◌≡◌, ◌≢◌, ◌≤◌, ◌+◌, ◌-◌, ℕ, None, false, IsTrue, [], reverse};
 ghost use Rattle.ar_disks.specs.declared.address.Key.{Key};
-ghost use Rattle.ar_cache.specs.Backing.{stored};
+ghost use Rattle.std.specs.Map.{keys_of};
+ghost use Rattle.ar_store.specs.Placing.{Puts};
+ghost use Rattle.ar_cache.specs.Backing.{InTurn, stored};
 ghost use Rattle.ar_cache.specs.Cache.{cached, with_entries};
 ghost use Rattle.ar_image.specs.Flush.{FlushesOne};
 ghost use Rattle.ar_image.specs.Following.{Follows};
 ghost use Rattle.ar_image.specs.Image.{is_broken};
-ghost use Rattle.ar_image.specs.Sectors.{key_of};
+ghost use Rattle.ar_image.specs.Sectors.{key_of, keys_from};
 ghost use Rattle.ar_image.specs.Seen.{SameSeen, IsSpared};
+ghost use Rattle.ar_image.specs.Storing.{ForcesBlock, LeavesSome};
 
 use crate::{Blocks, Flush, Stored};
 use ar_disks::{Addr, Disk, Key};
@@ -29,6 +32,9 @@ impl<D: Disk> Blocks<D> {
     pub fn flush_all(&mut self) -> Stored
         ensures answer { result ≡ stored (is_broken self.new) }
         ensures emptied { result ≡ Stored.Done → self.new.cache ≡ with_entries self.old.cache [] }
+        ensures puts { result ≡ Stored.Done
+            → InTurn Puts (reverse (keys_of self.old.cache.entries)) self.old.store.book self.new.store.book }
+        ensures stopped { result ≡ Stored.Broken → is_broken self.old ≡ false → LeavesSome self.old.cache self.new.cache }
         ensures lost { IsTrue (is_broken self.old) → self.new ≡ self.old }
         ensures seen { result ≡ Stored.Done → SameSeen self.old self.new }
         ensures follows { Follows self.old self.new }
@@ -45,6 +51,7 @@ impl<D: Disk> Blocks<D> {
         ensures answer { result ≡ stored (is_broken self.new) }
         ensures gone { result ≡ Stored.Done → cached self.new.cache key ≡ None }
         ensures others { result ≡ Stored.Done → (k : Key) → k ≢ key → cached self.new.cache k ≡ cached self.old.cache k }
+        ensures forces { result ≡ Stored.Done → ForcesBlock self.old key self.new }
         ensures seen { result ≡ Stored.Done → SameSeen self.old self.new }
         ensures follows { Follows self.old self.new }
     {
@@ -58,6 +65,7 @@ impl<D: Disk> Blocks<D> {
         ensures answer { result ≡ stored (is_broken self.new) }
         ensures forced { result ≡ Stored.Done → (rb : ℕ) → first ≤ rb → rb ≤ last → cached self.new.cache (key_of addr rb) ≡ None }
         ensures spared { result ≡ Stored.Done → IsSpared self.old.cache self.new.cache addr first (last + 1) }
+        ensures in_turn { result ≡ Stored.Done → InTurn ForcesBlock (keys_from addr first (last + 1 - first)) self.old self.new }
         ensures seen { result ≡ Stored.Done → SameSeen self.old self.new }
         ensures follows { Follows self.old self.new }
     {

@@ -4,8 +4,8 @@ ghost use Rattle.std.specs.List.{concat};
 ghost use Rattle.ar_disks.specs.declared.address.Key.{Key};
 ghost use Rattle.ar_disks.specs.Geometry.{sectors_of, block_len_of};
 ghost use Rattle.ar_disks.specs.Block.{sectors_at};
-ghost use Rattle.ar_cache.specs.Backing.{stored, Keeps, SameBlocks};
-ghost use Rattle.ar_image.specs.Sectors.{sector_in, sectors_in, key_of, blocks_of};
+ghost use Rattle.ar_cache.specs.Backing.{stored, InTurn, Keeps, SameBlocks};
+ghost use Rattle.ar_image.specs.Sectors.{sector_in, sectors_in, key_of, keys_in, blocks_of};
 
 use crate::Stored;
 use ar_cache::Backing;
@@ -110,6 +110,7 @@ fn write_part<B: Backing>(
     ensures outside { result ≡ Stored.Done → (i : ℕ) → (i < first) ⊎ (first + count ≤ i) → i < sectors_of geometry
         → sectors_at (B.block_at blocks.new key) i 1 ≡ sectors_at (B.block_at blocks.old key) i 1 }
     ensures others { result ≡ Stored.Done → (k : Key) → k ≢ key → B.block_at blocks.new k ≡ B.block_at blocks.old k }
+    ensures puts { result ≡ Stored.Done → B.puts blocks.old key blocks.new }
     ensures answer { result ≡ stored (B.is_broken blocks.new) }
     ensures keeps { Keeps B.geometry B.knows B.is_broken B.follows blocks.old blocks.new }
     ensures len { length block.new ≡ length block.old }
@@ -146,6 +147,7 @@ pub fn write_sectors<B: Backing>(
     ensures outside { result ≡ Stored.Done → (i : ℕ) → (i < lba) ⊎ (lba + count ≤ i)
         → sector_in geometry (blocks_of (B.block_at blocks.new) addr) i ≡ sector_in geometry (blocks_of (B.block_at blocks.old) addr) i }
     ensures others { result ≡ Stored.Done → (k : Key) → k.addr ≢ addr → B.block_at blocks.new k ≡ B.block_at blocks.old k }
+    ensures puts { result ≡ Stored.Done → InTurn B.puts (keys_in geometry addr lba count) blocks.old blocks.new }
     ensures nothing { count ≡ 0 → blocks.new ≡ blocks.old }
     ensures answer { result ≡ stored (B.is_broken blocks.new) }
     ensures keeps { Keeps B.geometry B.knows B.is_broken B.follows blocks.old blocks.new }

@@ -105,6 +105,8 @@ impl Backing for Shelf {
     ghost reads_refl = { λ _. tt };
 
     ghost reads_trans = { λ _ _ _ _ _. tt };
+
+    ghost puts_after = { λ _ _ _ _ _ _. tt };
 }
 
 // Copies the block under a key, where there is one of this length.

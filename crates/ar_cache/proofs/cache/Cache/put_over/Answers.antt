@@ -1,8 +1,11 @@
-use Rattle.std.proofs.Common.{◌≡◌, ◌≢◌, ◌≤◌, ◌∷◌, length, IsTrue, Some, None, inr, refl, sym, ap, ◌∙◌, subst}
+use Rattle.std.proofs.Common.{◌≡◌, ◌≢◌, ◌≤◌, [], ◌∷◌, length, IsTrue, Some, None, inr, refl, sym, ap, ◌∙◌, subst}
 use Rattle.std.proofs.lemmas.Bool.{false≢true}
 use Rattle.ar_disks.specs.declared.address.Key.{Key}
-use Rattle.ar_cache.specs.Cache.{cached, last_key, Sees, SameSeen, KnowsAll, with_entries, without_last}
+use Rattle.ar_cache.specs.Backing.{InTurn}
+use Rattle.ar_cache.specs.Cache.{cached, last_key, last_keys, put_through, Sees, SameSeen, KnowsAll, with_entries, without_last}
 use Rattle.ar_cache.proofs.Lookups.{others_given, absent_apart, seen_given, seen_front, seen_through, sees_after, absent_without_last, known_front, known_without_last, known_kept}
+use Rattle.ar_cache.proofs.Keys.{same_key_refl}
+use Rattle.ar_cache.proofs.Turns.{in_turn_then, in_turn_one, in_turn_last}
 use Rattle.ar_cache.proofs.Uses.{with_room_full, fits_put, fits_without_last, ≤_antisym}
 use Rattle.ar_cache.proofs.cache.Cache.put_over.Goals as goal
 
@@ -22,7 +25,7 @@ returns-then-insert-clause-sees g c done =
 pub returns-then-insert-clause-fits : goal.returns-then-insert-clause-fits
 returns-then-insert-clause-fits g c =
     let old = c.args.self.now in
-    subst (λ s. length s.entries ≤ s.capacity) (sym c.if-insert.ensures.put) (fits_put old c.args.key c.args.block.now (c.if-insert.ensures.room refl))
+    subst (λ s. length s.entries ≤ s.capacity) (sym c.if-insert.ensures.put) (fits_put old c.args.key c.args.block.now c.requires.some)
 
 pub returns-then-insert-clause-all_known : goal.returns-then-insert-clause-all_known
 returns-then-insert-clause-all_known g c =
@@ -101,3 +104,29 @@ returns-in-Done-clause-blocks g c done =
           ∙ others_given c.destage_last.result old.entries f h q c.in_default.not-Broken d.given (λ e. ap g.B.Backing.block_at (d.quiet e)) (apart c.requires.full);
       held = λ is. absurd (false≢true (rw gone at is));
     }
+
+pub returns-then-insert-clause-puts : goal.returns-then-insert-clause-puts
+returns-then-insert-clause-puts g c done =
+    let old = c.args.self.now in
+    let d = c.destage_last.ensures in
+    let step = g.B.Backing.puts in
+    let f = g.B.Backing.block_at c.args.backing.now in
+    let h = g.B.Backing.block_at c.destage_last.new.backing in
+    let held : put_through c.insert.new.self c.args.key ≡ [] = ap (λ s. put_through s c.args.key) c.if-insert.ensures.put ∙ rw (same_key_refl c.args.key) in
+    in_turn_then step (last_keys old.entries) (put_through c.insert.new.self c.args.key) c.args.backing.now c.destage_last.new.backing c.destage_last.new.backing
+    (in_turn_last step c.destage_last.result old.entries f h c.args.backing.now c.destage_last.new.backing c.in_default.not-Broken d.given d.put d.quiet)
+    (subst (λ ks. InTurn step ks c.destage_last.new.backing c.destage_last.new.backing) (sym held) refl)
+
+pub returns-in-Done-clause-puts : goal.returns-in-Done-clause-puts
+returns-in-Done-clause-puts g c done =
+    let old = c.args.self.now in
+    let d = c.destage_last.ensures in
+    let step = g.B.Backing.puts in
+    let f = g.B.Backing.block_at c.args.backing.now in
+    let h = g.B.Backing.block_at c.destage_last.new.backing in
+    let new = c.drop_last.ensures ∙ ap (λ s. with_entries s (without_last s.entries)) c.if-insert.ensures.refused in
+    let gone : cached c.drop_last.new.self c.args.key ≡ None = subst (λ s. cached s c.args.key ≡ None) (sym new) (absent_without_last old.entries c.args.key d.sound.distinct c.requires.absent) in
+    let through : put_through c.drop_last.new.self c.args.key ≡ c.args.key ∷ [] = rw gone in
+    in_turn_then step (last_keys old.entries) (put_through c.drop_last.new.self c.args.key) c.args.backing.now c.destage_last.new.backing c.put.new.self
+    (in_turn_last step c.destage_last.result old.entries f h c.args.backing.now c.destage_last.new.backing c.in_default.not-Broken d.given d.put d.quiet)
+    (subst (λ ks. InTurn step ks c.destage_last.new.backing c.put.new.self) (sym through) (in_turn_one step c.args.key c.destage_last.new.backing c.put.new.self (c.in-Done.ensures.puts refl)))

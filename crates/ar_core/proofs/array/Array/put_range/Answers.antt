@@ -2,6 +2,9 @@ use Rattle.std.proofs.Common.{◌<◌, ◌*◌, ◌+◌, subst, sym, ap, ◌∙�
 use Rattle.ar_disks.specs.declared.geometry.Geometry.{Geometry}
 use Rattle.ar_disks.specs.Geometry.{sectors_of, block_len_of}
 use Rattle.ar_image.specs.Image.{ArrayState, is_broken, geometry_of}
+use Rattle.ar_cache.specs.Backing.{InTurn}
+use Rattle.ar_image.specs.Sectors.{keys_in}
+use Rattle.ar_image.specs.Storing.{PutsBlock}
 use Rattle.ar_image.specs.Following.{Follows}
 use Rattle.ar_image.specs.Seen.{IsUnit, Writes}
 use Rattle.ar_core.proofs.Serving.{key_known, padded_written, range_written}
@@ -34,3 +37,8 @@ returns-clause-writes g c = λ done.
     subst (λ (s : ArrayState). Writes s c.args.addr c.args.lba c.args.count c.args.bytes.now c.write_sectors.new.blocks) c.self.view_is
     (range_written c.self.inside.blocks c.write_sectors.new.blocks c.args.addr c.args.lba c.args.count c.args.bytes.now c.geometry-geometry.result c.geometry-geometry.ensures
     (c.write_sectors.ensures.inside done) (c.write_sectors.ensures.outside done) (c.write_sectors.ensures.others done))
+
+pub returns-clause-puts : goal.returns-clause-puts
+returns-clause-puts g c = λ done.
+    subst (λ (s : ArrayState). InTurn PutsBlock (keys_in (geometry_of s) c.args.addr c.args.lba c.args.count) s c.write_sectors.new.blocks) c.self.view_is
+    (subst (λ (h : Geometry). InTurn PutsBlock (keys_in h c.args.addr c.args.lba c.args.count) c.self.inside.blocks c.write_sectors.new.blocks) c.geometry-geometry.ensures (c.write_sectors.ensures.puts done))

@@ -1,10 +1,14 @@
-use Rattle.std.proofs.Common.{◌≡◌, ℕ, ◌≤◌, None, sym, ap, subst, ◌∙◌, inl, inr, arith}
+use Rattle.std.proofs.Common.{◌≡◌, ℕ, ◌-◌, ◌≤◌, [], ◌∷◌, None, sym, ap, subst, ◌∙◌, inl, inr, arith}
 use Rattle.std.proofs.lemmas.Bool.{cases_lt}
 use Rattle.ar_disks.specs.declared.address.Key.{Key}
+use Rattle.ar_cache.specs.Backing.{InTurn}
+use Rattle.ar_cache.proofs.Turns.{in_turn_then, in_turn_one}
 use Rattle.ar_cache.specs.Cache.{cached}
-use Rattle.ar_image.specs.Sectors.{key_of}
+use Rattle.ar_image.specs.Sectors.{key_of, keys_from}
 use Rattle.ar_image.specs.Image.{is_broken}
 use Rattle.ar_image.specs.Laws.{follows_then}
+use Rattle.ar_image.specs.Storing.{ForcesBlock}
+use Rattle.ar_image.proofs.Putting.{keys_from-more}
 use Rattle.ar_image.proofs.Sparing.{kept_sound, spared_then}
 use Rattle.ar_image.proofs.blocks.Blocks.force.Goals as goal
 
@@ -30,6 +34,10 @@ loop-rb-preserved g c =
       spared =
           spared_then c.args.self.now.cache c.loop-rb.self.cache c.flush_key.new.self.cache c.args.addr c.args.first rb sofar.spared ordered
           (call.others c.in-Done.is);
+      in_turn =
+          subst (λ ks. InTurn ForcesBlock ks c.args.self.now c.flush_key.new.self) (sym (keys_from-more c.args.addr c.args.first rb ordered))
+          (in_turn_then ForcesBlock (keys_from c.args.addr c.args.first (rb - c.args.first)) (key_of c.args.addr rb ∷ []) c.args.self.now c.loop-rb.self c.flush_key.new.self
+          sofar.in_turn (in_turn_one ForcesBlock (key_of c.args.addr rb) c.loop-rb.self c.flush_key.new.self (call.forces c.in-Done.is)));
       within = λ _. omega arith;
       seen = record { same = λ k. (call.seen c.in-Done.is).same k ∙ sofar.seen.same k };
       follows = follows_then c.args.self.now c.loop-rb.self c.flush_key.new.self sofar.follows call.follows;

@@ -1,8 +1,10 @@
 use Rattle.std.proofs.Common.{◌≡◌, ℕ, ◌+◌, ◌-◌, ◌<◌, ◌≤◌, false, None}
+use Rattle.ar_cache.specs.Backing.{InTurn}
 use Rattle.ar_cache.specs.Cache.{cached}
-use Rattle.ar_image.specs.Sectors.{key_of}
+use Rattle.ar_image.specs.Sectors.{key_of, keys_from}
 use Rattle.ar_image.specs.Image.{is_broken}
 use Rattle.ar_image.specs.Following.{Follows}
+use Rattle.ar_image.specs.Storing.{ForcesBlock}
 use Rattle.ar_image.specs.Seen.{SameSeen, IsSpared}
 use Rattle.ar_image.proofs.blocks.Blocks.force.Given as goal
 
@@ -13,6 +15,7 @@ invariant-loop-rb g l = record {
   forced : (k : ℕ) → l.first ≤ k → k < l.rb → cached l.self.cache (key_of l.addr k) ≡ None;
   ordered : l.first ≤ l.rb;
   spared : IsSpared l.fn.self.cache l.self.cache l.addr l.first l.rb;
+  in_turn : InTurn ForcesBlock (keys_from l.addr l.first (l.rb - l.first)) l.fn.self l.self;
   within : l.first < l.rb → l.rb ≤ l.last + 1;
   seen : SameSeen l.fn.self l.self;
   follows : Follows l.fn.self l.self;

@@ -1,6 +1,9 @@
 use Rattle.std.proofs.Common.{subst}
 use Rattle.ar_cache.specs.Backing.{Writes}
 use Rattle.ar_image.specs.Image.{ArrayState, seen_at}
+use Rattle.ar_image.specs.Storing.{PutsBlock}
+use Rattle.ar_image.specs.declared.behind.Behind.{Behind}
+use Rattle.ar_image.proofs.Putting.{put_stored}
 use Rattle.ar_image.proofs.Seeing.{seen_put}
 use Rattle.ar_image.proofs.blocks.BlocksBacking.put.Goals as goal
 
@@ -10,3 +13,10 @@ returns-clause-written g c = λ done.
     let new : ArrayState = record { store = c.put.new.backing.store; cache = c.put.new.self } in
     subst (λ (s : ArrayState). Writes (seen_at s) (seen_at new) c.args.key c.args.from.now) c.self.view_is
     (seen_put old new c.args.key c.args.from.now (c.put.ensures.sees done))
+
+pub returns-clause-puts : goal.returns-clause-puts
+returns-clause-puts g c = λ done.
+    let new : ArrayState = record { store = c.put.new.backing.store; cache = c.put.new.self } in
+    subst (λ (s : ArrayState). PutsBlock s c.args.key new) c.self.view_is
+    (put_stored (λ (b : Behind g.row.D.Denot). b.store) c.self.inside.behind c.put.new.backing c.self.inside.cache c.put.new.self c.args.key c.args.from.now
+    (c.put.ensures.sees done) (λ some. (c.put.ensures.present some).2) (λ none. c.put.ensures.absent none done) (c.put.ensures.puts done))

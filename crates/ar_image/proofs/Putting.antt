@@ -1,0 +1,133 @@
+-- Blocks that are put, and forced to the disks.
+use Rattle.std.proofs.Common.{◌≡◌, ◌⊎◌, false, ℕ, ◌==◌, ◌+◌, ◌-◌, ◌/◌, ◌%◌, ◌<◌, ◌≤◌, List, [], ◌∷◌, ◌++◌, None, IsSome, min, refl, sym, ap, subst, ◌∙◌, inl, inr, arith}
+use Rattle.std.specs.List.{range_with_len}
+use Rattle.std.proofs.lemmas.Bool.{cases_lt, ne_eqb}
+use Rattle.std.proofs.lemmas.List.FromFn.{map-range_with_len_more}
+use Rattle.ar_disks.specs.declared.address.Addr.{Addr}
+use Rattle.ar_disks.specs.declared.address.Key.{Key}
+use Rattle.ar_disks.specs.declared.geometry.Geometry.{Geometry}
+use Rattle.ar_disks.specs.declared.geometry.Geometry.TheVariants.{Paper, Small}
+use Rattle.ar_disks.specs.Geometry.{sectors_of}
+use Rattle.ar_extents.specs.Follows.{Keeps, Anywhere}
+use Rattle.ar_extents.proofs.Follows.{keeps_refl}
+use Rattle.ar_store.specs.Store.{StoreState}
+use Rattle.ar_store.specs.Slots.{stands}
+use Rattle.ar_store.specs.Placing.{Puts}
+use Rattle.ar_cache.specs.Backing.{InTurn}
+use Rattle.ar_cache.specs.Cache.{CacheState, Sees, TakesIn, cached, with_entries, without_key}
+use Rattle.ar_cache.proofs.Turns.{in_turn_seen}
+use Rattle.ar_image.specs.Image.{ArrayState, seen_at}
+use Rattle.ar_image.specs.Sectors.{key_of, keys_from, keys_in}
+use Rattle.ar_image.specs.Storing.{PutsBlock, destaged}
+use Rattle.ar_image.proofs.Seeing.{seen_by}
+
+-- a put of the cache over the store
+pub put_stored : {S : Type 0} (store : S → StoreState) (b n : S) (before after : CacheState) (key : Key) (block : List ℕ)
+    → Sees before (stands (store b)) after (stands (store n)) key block
+    → (IsSome (cached before key) → after ≡ with_entries before ((key, block) ∷ without_key before.entries key))
+    → (cached before key ≡ None → TakesIn before after key block)
+    → InTurn (λ (o : S) (k : Key) (m : S). Puts (store o).book k (store m).book) (destaged before key after) b n
+    → PutsBlock (record { store = store b; cache = before }) key (record { store = store n; cache = after })
+put_stored store b n before after key block sees present absent puts =
+    let new : ArrayState = record { store = store n; cache = after } in
+    let is : block ≡ seen_at new key = sym (seen_by new key ∙ sees.put) in
+    record {
+      present = λ some. subst (λ (x : List ℕ). after ≡ with_entries before ((key, x) ∷ without_key before.entries key)) is (present some);
+      absent = λ none. subst (λ (x : List ℕ). TakesIn before after key x) is (absent none);
+      tables = in_turn_seen (λ s. (store s).book) (λ o k m. Puts (store o).book k (store m).book) Puts (λ o m k h. h) (destaged before key after) b n puts;
+      rows = λ none.
+          let same = subst (λ ks. InTurn (λ o k m. Puts (store o).book k (store m).book) ks b n) none puts in
+          subst (λ s. Keeps Anywhere (store b).disks (store s).disks) (sym same) (keeps_refl Anywhere (store b).disks);
+    }
+
+-- a range of sectors that isn't empty lies in some blocks
+pub keys_in-some : (g : Geometry) (addr : Addr) (lba n : ℕ) → 0 < n
+    → keys_in g addr lba n ≡ keys_from addr (lba / sectors_of g) ((lba + n - 1) / sectors_of g + 1 - lba / sectors_of g)
+keys_in-some g addr lba n some =
+    let no : (n == 0) ≡ false = ne_eqb n 0 (λ none. omega (arith, none, some)) in
+    rw no refl
+
+-- the part of a range that lies in one block: its first sector's block is its last's
+last-of-part : (g : Geometry) (at part : ℕ) → 0 < part → at % sectors_of g + part ≤ sectors_of g → (at + part - 1) / sectors_of g ≡ at / sectors_of g
+last-of-part Paper at part some within = omega arith
+last-of-part Small at part some within = omega arith
+
+-- before the first sector of a block lies the block before
+block-before : (g : Geometry) (at : ℕ) → 0 < at → at % sectors_of g ≡ 0 → (at - 1) / sectors_of g + 1 ≡ at / sectors_of g
+block-before Paper at some edge = omega arith
+block-before Small at some edge = omega arith
+
+-- a block follows those before it
+block-order : (g : Geometry) (lba at : ℕ) → lba ≤ at → lba / sectors_of g ≤ at / sectors_of g
+block-order Paper lba at from = omega arith
+block-order Small lba at from = omega arith
+
+-- the first part of a range
+keys_in-first : (g : Geometry) (addr : Addr) (lba at part : ℕ) → at ≡ lba → 0 < part → at % sectors_of g + part ≤ sectors_of g
+    → keys_in g addr lba (at + part - lba) ≡ keys_in g addr lba (at - lba) ++ key_of addr (at / sectors_of g) ∷ []
+keys_in-first g addr lba at part same some within =
+    let this : ℕ = at / sectors_of g in
+    let first : lba / sectors_of g ≡ this = ap (λ n. n / sectors_of g) (sym same) in
+    let end : lba + (at + part - lba) - 1 ≡ at + part - 1 = omega (arith, same) in
+    let one : this + 1 - lba / sectors_of g ≡ 1 = omega (arith, first) in
+    let none : at - lba ≡ 0 = omega (arith, same) in
+    keys_in-some g addr lba (at + part - lba) (omega (arith, same, some))
+    ∙ ap (λ n. keys_from addr (lba / sectors_of g) (n / sectors_of g + 1 - lba / sectors_of g)) end
+    ∙ ap (λ b. keys_from addr (lba / sectors_of g) (b + 1 - lba / sectors_of g)) (last-of-part g at part some within)
+    ∙ ap (keys_from addr (lba / sectors_of g)) one
+    ∙ ap (λ b. key_of addr b ∷ []) first
+    ∙ ap (λ n. keys_in g addr lba n ++ key_of addr this ∷ []) (sym none)
+
+-- a later part of a range, which begins with a block
+keys_in-later : (g : Geometry) (addr : Addr) (lba at part : ℕ) → lba < at → at % sectors_of g ≡ 0 → 0 < part → at % sectors_of g + part ≤ sectors_of g
+    → keys_in g addr lba (at + part - lba) ≡ keys_in g addr lba (at - lba) ++ key_of addr (at / sectors_of g) ∷ []
+keys_in-later g addr lba at part from whole some within =
+    let first : ℕ = lba / sectors_of g in
+    let this : ℕ = at / sectors_of g in
+    let end : lba + (at + part - lba) - 1 ≡ at + part - 1 = omega (arith, from) in
+    let before : (at - 1) / sectors_of g + 1 ≡ this = block-before g at (omega (arith, from)) whole in
+    let ordered : first ≤ this = block-order g lba at (omega (arith, from)) in
+    let more : this + 1 - first ≡ this - first + 1 = omega (arith, ordered) in
+    let here : first + (this - first) ≡ this = omega (arith, ordered) in
+    let so_far : keys_in g addr lba (at - lba) ≡ keys_from addr first (this - first) =
+    keys_in-some g addr lba (at - lba) (omega (arith, from))
+    ∙ (let last : lba + (at - lba) - 1 ≡ at - 1 = omega (arith, from) in ap (λ n. keys_from addr first (n / sectors_of g + 1 - first)) last)
+    ∙ ap (λ b. keys_from addr first (b - first)) before in
+    keys_in-some g addr lba (at + part - lba) (omega (arith, from, some))
+    ∙ ap (λ n. keys_from addr first (n / sectors_of g + 1 - first)) end
+    ∙ ap (λ b. keys_from addr first (b + 1 - first)) (last-of-part g at part some within)
+    ∙ ap (keys_from addr first) more
+    ∙ map-range_with_len_more (key_of addr) first (this - first) this here
+    ∙ ap (λ l. l ++ key_of addr this ∷ []) (sym so_far)
+
+-- one more part of a range, whose parts so far end with a block
+pub keys_in-more : (g : Geometry) (addr : Addr) (lba at part : ℕ) → lba ≤ at → 0 < part → at % sectors_of g + part ≤ sectors_of g → (at ≡ lba) ⊎ (at % sectors_of g ≡ 0)
+    → keys_in g addr lba (at + part - lba) ≡ keys_in g addr lba (at - lba) ++ key_of addr (at / sectors_of g) ∷ []
+keys_in-more g addr lba at part from some within edge =
+    elim (cases_lt lba at) [
+      | inl later ↦
+          elim edge [
+            | inl same ↦ keys_in-first g addr lba at part same some within
+            | inr whole ↦ keys_in-later g addr lba at part later whole some within
+          ]
+      | inr not ↦ keys_in-first g addr lba at part (omega (arith, from, not)) some within
+    ]
+
+-- one more block
+pub keys_from-more : (addr : Addr) (first rb : ℕ) → first ≤ rb → keys_from addr first (rb + 1 - first) ≡ keys_from addr first (rb - first) ++ key_of addr rb ∷ []
+keys_from-more addr first rb ordered =
+    let more : rb + 1 - first ≡ rb - first + 1 = omega (arith, ordered) in
+    let here : first + (rb - first) ≡ rb = omega (arith, ordered) in
+    ap (keys_from addr first) more ∙ map-range_with_len_more (key_of addr) first (rb - first) rb here
+
+block-ended : (g : Geometry) (at part : ℕ) → part ≡ sectors_of g - at % sectors_of g → (at + part) % sectors_of g ≡ 0
+block-ended Paper at part is = omega arith
+block-ended Small at part is = omega arith
+
+-- where a part of a range ends: with its block, or with the range
+pub part-edge : (g : Geometry) (at left part : ℕ) → part ≡ min (sectors_of g - at % sectors_of g) left → ((at + part) % sectors_of g ≡ 0) ⊎ (part ≡ left)
+part-edge g at left part is =
+    elim (cases_lt (sectors_of g - at % sectors_of g) left) [
+      | inl block ↦ inl (block-ended g at part (omega (arith, is, block)))
+      | inr rest ↦ inr (omega (arith, is, rest))
+    ]
