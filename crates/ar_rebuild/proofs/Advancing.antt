@@ -1,12 +1,13 @@
 -- How a step of a rebuild moves health, and what can be used after it.
 use Rattle.std.proofs.Common.{◌≡◌, ◌≢◌, inl, inr, ℕ, ◌+◌, ◌-◌, ◌<◌, Bool, true, false, if◌then◌else◌, refl, sym, ap, subst, ◌∙◌, true≢false, arith}
+use Rattle.std.proofs.lemmas.Bool.{cases_lt}
 use Rattle.std.proofs.lemmas.Bool.Decides.{eqb_tells}
 use Rattle.ar_disks.specs.declared.address.Place.{Place}
 use Rattle.ar_extents.specs.declared.health.Health.{Health}
 use Rattle.ar_extents.specs.declared.health.Health.TheVariants.{Whole, Out, Rebuilding, Broken}
-use Rattle.ar_extents.specs.Health.{IsDown, IsRebuilding, rebuilt_disk, next_extent, after_done}
-use Rattle.ar_extents.specs.Set.{SetState}
-use Rattle.ar_extents.specs.Follows.{Faulted, Keeps}
+use Rattle.ar_extents.specs.Health.{is_out, IsDown, IsRebuilding, rebuilt_disk, next_extent, after_done}
+use Rattle.ar_extents.specs.Set.{SetState, faults_of}
+use Rattle.ar_extents.specs.Follows.{Follows, Faulted, Keeps}
 use Rattle.ar_extents.specs.Access.{next_place, IsGivenUp}
 use Rattle.ar_extents.specs.Changes.{is_broken, with_done}
 use Rattle.ar_extents.proofs.Follows.{keeps_then, keeps_disks}
@@ -54,6 +55,20 @@ quiet_not_rebuilding : (h : Health) (x n : ℕ) → IsQuiet h → h ≢ Rebuildi
 unfolding is_rebuilding
 quiet_not_rebuilding h x n quiet is = subst (λ (y : Health). IsQuiet y) is quiet
 
+none_out : (h : Health) (d : ℕ) → IsRebuilding h → is_out h d ≡ false
+none_out Whole d is = absurd is
+none_out (Out x) d is = absurd is
+none_out (Rebuilding x done) d is = refl
+none_out Broken d is = absurd is
+
+-- as long as a disk is being rebuilt none has faulted
+pub calm : (a b : SetState) → Follows a b → IsRebuilding b.health → (d : ℕ) → faults_of b d ≡ faults_of a d
+calm a b ab is d =
+    elim (cases_lt (faults_of a d) (faults_of b d)) [
+      | inl more ↦ absurd (true≢false (sym (ab.noticed d more) ∙ none_out b.health d is))
+      | inr none ↦ (let grown = ab.faults d in omega arith)
+    ]
+
 -- nothing was to be rebuilt, or the set was broken
 pub advances_idle : (s : SetState) → ((x n : ℕ) → s.health ≢ Rebuilding x n) → Advances s s
 advances_idle s none = record {
@@ -62,6 +77,7 @@ advances_idle s none = record {
   count = refl;
   loose = refl;
   faults = λ d. omega arith;
+  noticed = λ d more. absurd (omega arith);
   usable = λ place lt used. inl used;
   whole = λ is. inl is;
   out = λ d is. inl is;
@@ -85,6 +101,7 @@ stopped a b place is writes none lost out = record {
   count = writes.follows.count;
   loose = writes.loose;
   faults = writes.follows.faults;
+  noticed = writes.follows.noticed;
   usable = λ p lt used. inl (writes.follows.usable p used);
   whole = λ whole. absurd (lost whole);
   out = λ d gone. inr (out d gone);
@@ -157,6 +174,7 @@ advances_done a b place is rebuilding writes health =
       count = writes.follows.count;
       loose = writes.loose;
       faults = writes.follows.faults;
+      noticed = λ d more. absurd (let same = calm a b writes.follows (subst (λ (h : Health). IsRebuilding h) (sym health) rebuilding) d in omega arith);
       usable = λ p lt used.
           elim (same_place p (next_place b)) [
             | inl same ↦ inr (record { rebuilding = rebuilding; is = same ∙ next_same a b health })

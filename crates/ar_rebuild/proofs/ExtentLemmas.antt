@@ -1,5 +1,5 @@
 -- An extent whose rows are written can count as done, whatever it is used for.
-use Rattle.std.proofs.Common.{◌≡◌, inl, inr, ℕ, ◌<◌, false, List, length, refl, sym, ap, subst, ◌∙◌}
+use Rattle.std.proofs.Common.{◌≡◌, ◌≢◌, inl, inr, ℕ, ◌<◌, false, List, length, refl, sym, ap, subst, ◌∙◌}
 use Rattle.std.proofs.lemmas.Bool.Decides.{eqb_tells}
 use Rattle.ar_disks.specs.declared.address.Place.{Place}
 use Rattle.ar_disks.specs.declared.address.Members.{Members}
@@ -26,7 +26,7 @@ use Rattle.ar_store.specs.Slots.{ClassHolds}
 use Rattle.ar_store.specs.Kept.{IsSpace}
 use Rattle.ar_store.proofs.Spaces.{slot_group, slot_inside, groups_apart}
 use Rattle.ar_store.proofs.Alike.{class_alike}
-use Rattle.ar_rebuild.specs.Rows.{WritesNext, GroupIsWhole, WritesRows, CanBeDone, WritesExtent}
+use Rattle.ar_rebuild.specs.Rows.{WritesNext, HasNothingNext, GroupIsWhole, WritesRows, CanBeDone, WritesExtent}
 use Rattle.ar_rebuild.proofs.RowLemmas.{next_same, writes_refl, writes_alike}
 
 -- the extent at the mark is the next one
@@ -122,3 +122,17 @@ rows_done Done c a b t place m g position space is inside c_is m_is below at wri
     (subst (λ (x : Members). GroupIsWhole c a b x) m_is rows))
 rows_done GivenUp c a b t place m g position space is inside c_is m_is below at writes rows = rows
 rows_done Broken c a b t place m g position space is inside c_is m_is below at writes rows = rows
+
+-- An extent whose group is in use isn't nothing to write.
+pub used_next : (c : Class) (a : SetState) (t : Tables) (place : Place) (m : Members) (g position : ℕ) → a.health ≡ Rebuilding place.disk place.extent
+    → g < length t.groups → c ≡ class_of t g → c ≢ Free → m ≡ (group_in t.groups g).members → position < 4 → member m position ≡ place
+    → HasNothingNext (store_of a t) → ⊥
+used_next c a t place m g position is inside c_is used m_is below at nothing =
+    nothing.unused g inside (λ free. used (c_is ∙ free)) position below
+    (sym (next_is a place is) ∙ sym at ∙ ap (λ (x : Members). member x position) m_is)
+
+pub mirrored_used : Mirrored ≢ Free
+mirrored_used e = cc
+
+pub parity_used : Parity ≢ Free
+parity_used e = cc

@@ -4,8 +4,9 @@ use Rattle.ar_disks.specs.declared.address.Place.{Place}
 use Rattle.ar_disks.specs.Geometry.{block_len_of}
 use Rattle.ar_extents.specs.declared.health.Health.{Health}
 use Rattle.ar_extents.specs.declared.health.Health.TheVariants.{Rebuilding, Broken}
+use Rattle.ar_extents.specs.declared.outcome.RowOutcome.TheVariants.{Done as RowDone, GivenUp as RowGivenUp, Broken as RowBroken}
 use Rattle.ar_extents.specs.Health.{IsRebuilding, rebuilt_disk, next_extent}
-use Rattle.ar_extents.specs.Set.{SetState}
+use Rattle.ar_extents.specs.Set.{SetState, faults_of}
 use Rattle.ar_extents.specs.Changes.{with_done}
 use Rattle.ar_book.specs.Tables.{Tables, free_groups}
 use Rattle.ar_store.specs.Store.{store_of}
@@ -78,30 +79,33 @@ pub record IsCounted (a d : SetState) (r : Rebuild) : Type 0 where
   pub some : r ≢ Idle
   pub sound : r ≢ Lost
 
-pub counted : (r : Rebuild) (a b d : SetState) → b.health ≡ a.health → b.extents ≡ a.extents → Counts b d r → IsCounted a d r
+pub counted : (r : Rebuild) (a b d : SetState) → b.health ≡ a.health → b.extents ≡ a.extents → ((x : ℕ) → faults_of b x ≡ faults_of a x)
+    → Counts b d r → IsCounted a d r
 unfolding is_idle is_lost
-counted (Rebuilt extent left) a b d health extents counts = record {
+counted (Rebuilt extent left) a b d health extents calm counts = record {
   answer = record {
     was = sym health ∙ counts.was ∙ ap (λ h. Rebuilding (rebuilt_disk h) extent) health;
     rest = counts.rest ∙ extents;
     some = counts.some;
     health = counts.health ∙ ap (λ h. Rebuilding (rebuilt_disk h) (extent + 1)) health;
+    calm = λ x. counts.calm x ∙ calm x;
   };
   some = λ e. true≢false (sym (ap is_idle e));
   sound = λ e. true≢false (sym (ap is_lost e));
 }
-counted Finished a b d health extents counts = record {
+counted Finished a b d health extents calm counts = record {
   answer = record {
     was = subst (λ (h : Health). IsRebuilding h) health counts.was;
     last = ap (λ h. next_extent h + 1) (sym health) ∙ counts.last ∙ extents;
     health = counts.health;
+    calm = λ x. counts.calm x ∙ calm x;
   };
   some = λ e. true≢false (sym (ap is_idle e));
   sound = λ e. true≢false (sym (ap is_lost e));
 }
-counted Idle a b d health extents counts = absurd counts
-counted GivenUp a b d health extents counts = absurd counts
-counted Lost a b d health extents counts = absurd counts
+counted Idle a b d health extents calm counts = absurd counts
+counted GivenUp a b d health extents calm counts = absurd counts
+counted Lost a b d health extents calm counts = absurd counts
 
 -- a disk that gave up isn't nothing to do, nor a broken set
 pub gave_up : GivenUp ≢ Idle
@@ -115,6 +119,13 @@ gave_up_alone e = true≢false (sym (ap is_lost e))
 pub lost_not_idle : Lost ≢ Idle
 unfolding is_idle
 lost_not_idle e = true≢false (sym (ap is_idle e))
+
+-- nor is a row that wasn't written done
+pub given_up_not_done : RowGivenUp ≢ RowDone
+given_up_not_done e = cc
+
+pub broken_not_done : RowBroken ≢ RowDone
+broken_not_done e = cc
 
 -- a store whose disk is rebuilt keeps what it kept
 pub fields_advanced : {X : Type 0} (a b : Space X) (block : List ℕ) → a.disks.health ≢ Broken → FieldsAgree (store_in a) block a.scratch.geometry → IsReady b

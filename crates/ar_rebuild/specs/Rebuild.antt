@@ -1,9 +1,9 @@
 -- What a step of a rebuild answers, and what it makes of the disks.
-use Rattle.std.specs.Prelude.{◌≡◌, ◌⊎◌, ℕ, ◌+◌, ◌-◌, ◌<◌, ◌≤◌, length}
+use Rattle.std.specs.Prelude.{◌≡◌, ◌⊎◌, ℕ, ◌+◌, ◌-◌, ◌<◌, ◌≤◌, true, length}
 use Rattle.ar_disks.specs.declared.address.Place.{Place}
 use Rattle.ar_extents.specs.declared.health.Health.{Health}
 use Rattle.ar_extents.specs.declared.health.Health.TheVariants.{Whole, Out, Rebuilding, Broken as AllBroken}
-use Rattle.ar_extents.specs.Health.{IsDown, IsRebuilding, rebuilt_disk, next_extent}
+use Rattle.ar_extents.specs.Health.{is_out, IsDown, IsRebuilding, rebuilt_disk, next_extent}
 use Rattle.ar_extents.specs.Set.{SetState, faults_of, IsSound}
 use Rattle.ar_extents.specs.Follows.{Faulted, TwoHit}
 use Rattle.ar_extents.specs.Access.{next_place, IsGivenUp}
@@ -27,18 +27,20 @@ left_on AllBroken extents = 0
 abbrev pub rebuild_left : SetState → ℕ
 rebuild_left s = left_on s.health s.extents
 
--- This extent, the lowest that wasn't, is done, and so many aren't.
+-- This extent, the lowest that wasn't, is done, and so many aren't; no disk has faulted.
 pub record IsRebuilt (old new : SetState) (extent left : ℕ) : Type 0 where
   pub was : old.health ≡ Rebuilding (rebuilt_disk old.health) extent
   pub rest : extent + 1 + left ≡ old.extents
   pub some : 0 < left
   pub health : new.health ≡ Rebuilding (rebuilt_disk old.health) (extent + 1)
+  pub calm : (d : ℕ) → faults_of new d ≡ faults_of old d
 
--- The last extent is done, and all disks are sound.
+-- The last extent is done, all disks are sound, and none has faulted.
 pub record IsFinished (old new : SetState) : Type 0 where
   pub was : IsRebuilding old.health
   pub last : next_extent old.health + 1 ≡ old.extents
   pub health : new.health ≡ Whole
+  pub calm : (d : ℕ) → faults_of new d ≡ faults_of old d
 
 -- There was nothing to rebuild, and nothing has changed.
 pub record IsLeft (old new : SetState) : Type 0 where
@@ -83,7 +85,8 @@ pub record IsLostAgain (old new : SetState) (d : ℕ) : Type 0 where
   pub faulted : Faulted old new d
 
 -- How a step of a rebuild leaves the disks: as reads and writes do, but that the mark may have moved on by one extent. Their shape
--- and the loose extents stay, and fault counts only grow. No extent can be used that couldn't, but the one that was rebuilt. The
+-- and the loose extents stay; fault counts only grow, and a disk whose count has grown is out, or the set is broken. No extent can be
+-- used that couldn't, but the one that was rebuilt. The
 -- disks are whole only where they were, or the last extent was rebuilt; a disk is out only where it was, or where it is the
 -- replaced one and has faulted, and is being rebuilt only where it was, with one extent fewer done; the set is broken only where
 -- it was, or where two disks are hit; and nothing changes once it is broken.
@@ -93,6 +96,7 @@ pub record Advances (old new : SetState) : Type 0 where
   pub count : length new.disks ≡ length old.disks
   pub loose : new.loose ≡ old.loose
   pub faults : (d : ℕ) → faults_of old d ≤ faults_of new d
+  pub noticed : (d : ℕ) → Faulted old new d → is_out new.health d ≡ true
   pub usable : (place : Place) → place.extent < old.extents → IsSound new place → IsSound old place ⊎ IsNext old place
   pub whole : new.health ≡ Whole → (old.health ≡ Whole) ⊎ IsAtLast old
   pub out : (d : ℕ) → new.health ≡ Out d → (old.health ≡ Out d) ⊎ IsLostAgain old new d

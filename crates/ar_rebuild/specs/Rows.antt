@@ -1,17 +1,20 @@
 -- What the writing of an extent's rows makes of a set.
-use Rattle.std.specs.Prelude.{◌≡◌, ◌≢◌, ℕ, ◌<◌, List}
+use Rattle.std.specs.Prelude.{◌≡◌, ◌≢◌, ℕ, ◌<◌, List, length}
 use Rattle.ar_disks.specs.declared.address.Place.{Place}
 use Rattle.ar_disks.specs.declared.address.Members.{Members}
 use Rattle.ar_extents.specs.declared.health.Health.TheVariants.{Broken as AllBroken}
 use Rattle.ar_extents.specs.declared.outcome.RowOutcome.{RowOutcome}
 use Rattle.ar_extents.specs.declared.outcome.RowOutcome.TheVariants.{Done, GivenUp, Broken}
+use Rattle.ar_extents.specs.Health.{IsRebuilding}
 use Rattle.ar_extents.specs.Set.{SetState}
 use Rattle.ar_extents.specs.Follows.{Follows, Keeps}
 use Rattle.ar_extents.specs.Access.{next_place, IsGivenUp}
 use Rattle.ar_extents.specs.Changes.{with_done}
+use Rattle.ar_extents.specs.Groups.{IsOutside}
 use Rattle.ar_book.specs.declared.class.Class.{Class}
+use Rattle.ar_book.specs.declared.class.Class.TheVariants.{Free}
 use Rattle.ar_book.specs.Tables.{slots_of}
-use Rattle.ar_store.specs.Store.{StoreState, store_of}
+use Rattle.ar_store.specs.Store.{StoreState, store_of, members_of, class_in}
 use Rattle.ar_store.specs.Slots.{ClassHolds, SlotsHold}
 
 -- the extent isn't the one that is rebuilt next
@@ -41,6 +44,11 @@ WritesRows class old new m Broken = new.health ≡ AllBroken
 pub record CanBeDone (old new : StoreState) : Type 0 where
   pub slots : SlotsHold old (store_of (with_done new.disks) new.book)
   pub health : new.disks.health ≡ old.disks.health
+
+-- There is nothing to write of the extent that is rebuilt next: no group that is used has it.
+pub record HasNothingNext (s : StoreState) : Type 0 where
+  pub rebuilding : IsRebuilding s.disks.health
+  pub unused : (g : ℕ) → g < length s.book.groups → class_in s g ≢ Free → IsOutside (members_of s g) (next_place s.disks)
 
 -- what the writing of an extent answers, whatever it is used for
 abbrev pub WritesExtent : StoreState → StoreState → RowOutcome → Type 0

@@ -1,11 +1,12 @@
 use Rattle.std.proofs.Common.{◌∙◌, refl, sym, ap, subst}
 use Rattle.ar_extents.specs.Set.{SetState}
+use Rattle.ar_extents.specs.Changes.{with_done}
 use Rattle.ar_extents.specs.Follows.{Keeps}
 use Rattle.ar_rebuild.specs.Rows.{IsBesideNext}
 use Rattle.ar_rebuild.specs.Rebuild.{Advances}
 use Rattle.ar_rebuild.proofs.ExtentLemmas.{rebuilding_is}
-use Rattle.ar_rebuild.proofs.Advancing.{advances_given_up, advances_lost, advances_done, done_not_broken, keeps_done, out_not_broken}
-use Rattle.ar_rebuild.proofs.StepLemmas.{unharmed_stopped, unharmed_done, counted, gave_up, gave_up_alone, lost_not_idle}
+use Rattle.ar_rebuild.proofs.Advancing.{calm, advances_given_up, advances_lost, advances_done, done_not_broken, keeps_done, out_not_broken}
+use Rattle.ar_rebuild.proofs.StepLemmas.{unharmed_stopped, unharmed_done, counted, gave_up, gave_up_alone, lost_not_idle, given_up_not_done, broken_not_done}
 use Rattle.ar_rebuild.proofs.extent.rebuild_extent.Goals as goal
 
 pub returns-in-Done : goal.returns-in-Done
@@ -18,7 +19,8 @@ returns-in-Done g c =
     let is = c.count_done.ensures.done in
     let left = unharmed_done s.disks b.disks d s.book b.book c.args.place call.book c.requires.ready.space c.requires.rebuilding
     call.writes c.in-Done.ensures.answer is in
-    let told = counted c.count_done.result s.disks b.disks d health call.writes.follows.extents c.count_done.ensures.counts in
+    let told = counted c.count_done.result s.disks b.disks d health call.writes.follows.extents
+    (calm s.disks b.disks call.writes.follows (rebuilding_is b.disks c.args.place (health ∙ c.requires.rebuilding))) c.count_done.ensures.counts in
     record {
       answer = told.answer;
       idle = told.some;
@@ -31,6 +33,7 @@ returns-in-Done g c =
       stand = left.stand;
       slots = left.slots;
       keeps = subst (λ (x : SetState). Keeps (IsBesideNext s.disks) s.disks x) (sym is) (keeps_done s.disks b.disks call.writes);
+      nothing = λ none. is ∙ ap with_done (call.nothing none).0;
       advances = subst (λ (x : SetState). Advances s.disks x) (sym is)
           (advances_done s.disks b.disks c.args.place c.requires.rebuilding (rebuilding_is s.disks c.args.place c.requires.rebuilding) call.writes health);
     }
@@ -52,6 +55,7 @@ returns-in-GivenUp g c =
       stand = left.stand;
       slots = left.slots;
       keeps = call.writes.keeps;
+      nothing = λ none. absurd (given_up_not_done (sym c.in-GivenUp.is ∙ (call.nothing none).1));
       advances = advances_given_up s.disks b.disks c.args.place c.requires.rebuilding rebuilding call.writes given_up;
     }
 
@@ -71,5 +75,6 @@ returns-in-Broken g c =
       stand = left.stand;
       slots = left.slots;
       keeps = call.writes.keeps;
+      nothing = λ none. absurd (broken_not_done (sym c.in-Broken.is ∙ (call.nothing none).1));
       advances = advances_lost s.disks b.disks c.args.place c.requires.rebuilding call.writes broken;
     }

@@ -1,6 +1,6 @@
 use Rattle.std.proofs.Common.{sym}
 use Rattle.ar_book.specs.declared.class.Class.TheVariants.{Mirrored, Parity}
-use Rattle.ar_rebuild.proofs.ExtentLemmas.{loose_done, free_done, rows_done}
+use Rattle.ar_rebuild.proofs.ExtentLemmas.{loose_done, free_done, rows_done, used_next, mirrored_used, parity_used}
 use Rattle.ar_rebuild.proofs.extent.write_extent.Goals as goal
 
 pub returns-in_default-clause-answer : goal.returns-in_default-clause-answer
@@ -27,3 +27,15 @@ returns-in-Parity-clause-answer g c =
     rows_done c.sum_rows.result Parity s.disks c.sum_rows.new.set s.book c.args.place c.members-members.result c.in-Some.group
     c.position_of-position.result c.requires.ready.space c.requires.rebuilding c.in-Some.ensures.there c.in-Parity.ensures c.members-members.ensures
     c.position_of-position.ensures.below c.position_of-position.ensures.is c.sum_rows.ensures.writes c.sum_rows.ensures.answer
+
+pub returns-in-Mirrored-clause-nothing : goal.returns-in-Mirrored-clause-nothing
+returns-in-Mirrored-clause-nothing g c = λ none.
+    let s = c.args.space.now in
+    absurd (used_next Mirrored s.disks s.book c.args.place c.members-members.result c.in-Some.group c.position_of-position.result c.requires.rebuilding
+    c.in-Some.ensures.there c.in-Mirrored.ensures mirrored_used c.members-members.ensures c.position_of-position.ensures.below c.position_of-position.ensures.is none)
+
+pub returns-in-Parity-clause-nothing : goal.returns-in-Parity-clause-nothing
+returns-in-Parity-clause-nothing g c = λ none.
+    let s = c.args.space.now in
+    absurd (used_next Parity s.disks s.book c.args.place c.members-members.result c.in-Some.group c.position_of-position.result c.requires.rebuilding
+    c.in-Some.ensures.there c.in-Parity.ensures parity_used c.members-members.ensures c.position_of-position.ensures.below c.position_of-position.ensures.is none)
