@@ -1,5 +1,5 @@
 -- What a host's command leaves of a history.
-use Rattle.std.proofs.Common.{◌≡◌, ◌≢◌, ℕ, Bool, true, false, cond, List, [], ◌∷◌, ◌++◌, length, refl, sym, ap, subst, ◌∙◌, inl, inr, arith}
+use Rattle.std.proofs.Common.{◌≡◌, ◌≢◌, ℕ, Bool, true, false, cond, Option, Some, None, List, [], ◌∷◌, ◌++◌, length, refl, sym, ap, subst, ◌∙◌, inl, inr, arith}
 use Rattle.std.specs.Prelude.{◌==◌, ◌&&◌, count_by, ◌+◌}
 use Rattle.std.proofs.lemmas.Bool.{eqb-true}
 use Rattle.std.proofs.lemmas.List.Sums.{sum_by-append}
@@ -9,7 +9,7 @@ use Rattle.ar_scsi.specs.declared.reply.Status.{Status}
 use Rattle.ar_scsi.specs.declared.reply.Status.TheVariants.{Good, CheckCondition, Busy}
 use Rattle.ar_scsi.specs.Reply.{busy}
 use Rattle.ar_unit.specs.Unit.{UnitState, Absent, Present, Entry as UnitEntry, Cmd as UnitCmd, answer, after, unit_run, IsGiven}
-use Rattle.ar_unit.specs.Broken.{Shape, shape_of, where_broken, broken_answer}
+use Rattle.ar_unit.specs.Broken.{Shape, shape_of, shape_after, where_broken, broken_answer}
 use Rattle.ar_unit.proofs.Laws.{after-shape, answer-with_bytes, broken_answer-is}
 use Rattle.ar_image.specs.Sectors.{Address, same_address}
 use Rattle.ar_image.specs.Image.{ArrayState, is_broken, image, image_at}
@@ -17,7 +17,7 @@ use Rattle.ar_extents.specs.Changes.{is_broken as is_broken_set}
 use Rattle.ar_image.proofs.Breaking.{broken_is}
 use Rattle.ar_image.proofs.Images.{image_here}
 use Rattle.ar_core.specs.Events.{Event, Outcome}
-use Rattle.ar_core.specs.Step.{Steps, is_busy, addr_in}
+use Rattle.ar_core.specs.Step.{Steps, is_busy, addr_in, entry_at}
 use Rattle.ar_core.specs.declared.event.EventOf.TheVariants.{Cmd as CmdEvent}
 use Rattle.ar_core.specs.declared.event.OutcomeOf.TheVariants.{Cmd as CmdOutcome}
 use Rattle.ar_core.proofs.Causes.{was_sound}
@@ -27,13 +27,13 @@ use Rattle.ar_history.specs.History.{replay, is_command}
 use Rattle.ar_history.specs.Kept.{KeptState, SameLength, IsKept, with_mark, standing, exchange_of}
 use Rattle.ar_history.specs.Seat.{SeatState}
 use Rattle.ar_history.specs.declared.entry.Exchange.{Exchange}
-use Rattle.ar_history.specs.Serving.{IsBusyFor, IsRecorded, IsUnrecorded, DoesCommand}
+use Rattle.ar_history.specs.Serving.{IsBusyFor, IsRecorded, IsUnrecorded, Serves, Begins}
 use Rattle.ar_history.proofs.Keeping.{kept_more}
 
 abbrev no_entry : List UnitEntry
 no_entry = []
 
-busy_is : (s : Status) → is_busy s ≡ true → s ≡ Busy
+pub busy_is : (s : Status) → is_busy s ≡ true → s ≡ Busy
 busy_is Busy e = refl
 busy_is Good e = absurd (cc)
 busy_is CheckCondition e = absurd (cc)
@@ -155,6 +155,13 @@ broken_reply old new host lun cdb payload reply kept steps lost =
     (ap (λ (s : Shape). broken_answer s cdb (length payload)) unit ∙ broken_answer-is (standing old a) cdb payload)
     (steps.answers.broken lost)
 
+-- what is there of a unit after entries, by what was there before
+shape_run : (entries : List UnitEntry) (u v : UnitState) → shape_of u ≡ shape_of v → shape_of (unit_run u entries) ≡ shape_of (unit_run v entries)
+shape_run [] u v same = same
+shape_run (entry ∷ entries) u v same =
+    shape_run entries (after u entry) (after v entry)
+    (after-shape u entry ∙ ap (λ (s : Shape). shape_after s entry) same ∙ sym (after-shape v entry))
+
 -- a broken array stays broken
 pub stays_lost : (old new : ArrayState) (event : Event) (outcome : Outcome) → Steps old event outcome new → is_broken old ≡ true → is_broken new ≡ true
 stays_lost old new event outcome steps lost = ap is_broken_set (steps.disks.stays_broken (broken_is old.store.disks.health lost))
@@ -169,6 +176,10 @@ unrecorded_lost old before lun cdb payload reply new kept steps lost same = reco
   busy_is = λ now. absurd (let no : true ≡ false = sym lost ∙ now in cc);
   images = λ now. absurd (let no : true ≡ false = sym lost ∙ now in cc);
   broken = λ _. broken_reply old new.array before.host lun cdb payload reply kept steps lost;
+  shapes = λ _ a.
+      steps.shapes a
+      ∙ shape_run (entry_at a (CmdEvent before.host lun cdb payload) (CmdOutcome reply)) (image old.array a) (standing old a)
+      (sym (shape_marked (image old.array a) (replay old.history a) (kept.lengths a)));
 }
 
 -- a command that is BUSY
@@ -181,17 +192,18 @@ unrecorded_busy old before lun cdb payload first new steps none now same = recor
   busy_is = λ _. refl;
   images = λ _. same_images old.array new.array before.host lun cdb payload first steps none now;
   broken = λ lost. absurd (let no : true ≡ false = sym lost ∙ now in cc);
+  shapes = λ lost. absurd (let no : true ≡ false = sym lost ∙ now in cc);
 }
 
 -- and how it was done
-pub does_busy : (old new : ArrayState) (host : Host) (lun : ℕ) (cdb payload : List ℕ) (first : Reply)
-    → Steps old (CmdEvent host lun cdb payload) (CmdOutcome first) new → IsBusyFor first → is_broken new ≡ false → DoesCommand old host lun cdb payload busy new
-does_busy old new host lun cdb payload first steps none now =
+pub begins_busy : (old new : ArrayState) (host : Host) (lun : ℕ) (cdb payload : List ℕ) (first : Reply)
+    → Steps old (CmdEvent host lun cdb payload) (CmdOutcome first) new → IsBusyFor first → is_broken new ≡ false → Begins old host lun cdb payload busy new
+begins_busy old new host lun cdb payload first steps none now =
     elim none [
       | inl is ↦
           (let same : first ≡ busy = (steps.answers.sound now).given.refused (busy_is first.status is) in
-          inl (inl (subst (λ (r : Reply). Steps old (CmdEvent host lun cdb payload) (CmdOutcome r) new) same steps)))
-      | inr bytes ↦ inr (record { first = first; steps = steps; bytes = bytes; busy_is = refl })
+          inl (subst (λ (r : Reply). Steps old (CmdEvent host lun cdb payload) (CmdOutcome r) new) same steps))
+      | inr bytes ↦ inr (record { first = first; steps = steps; sound = now; bytes = bytes; busy_is = refl })
     ]
 
 -- a command that was answered
@@ -209,3 +221,53 @@ recorded old before lun cdb payload reply position new after ours theirs kept st
   not_busy = answered;
   sound = now;
 }
+
+-- what an array and a seat are seen as, but for their rooms
+same_kept : (old : KeptState) (s : ArrayState) (history : List Entry) → s ≡ old.array → history ≡ old.history
+    → record { array = s; history = history; room = old.room } ≡ old
+same_kept old s history array entries =
+    let first : KeptState = record { array = s; history = history; room = old.room } in
+    let second : KeptState = record { array = old.array; history = history; room = old.room } in
+    let one : first ≡ second = ap (λ (x : ArrayState). record { array = x; history = history; room = old.room }) array in
+    let two : second ≡ old = ap (λ (l : List Entry). record { array = old.array; history = l; room = old.room }) entries in
+    one ∙ two
+
+same_seat : (before : SeatState) (host : Host) (transcript : List Exchange) → host ≡ before.host → transcript ≡ before.transcript
+    → record { host = host; transcript = transcript; room = before.room } ≡ before
+same_seat before host transcript hosts lines =
+    let first : SeatState = record { host = host; transcript = transcript; room = before.room } in
+    let second : SeatState = record { host = before.host; transcript = transcript; room = before.room } in
+    let one : first ≡ second = ap (λ (h : Host). record { host = h; transcript = transcript; room = before.room }) hosts in
+    let two : second ≡ before = ap (λ (l : List Exchange). record { host = before.host; transcript = l; room = before.room }) lines in
+    one ∙ two
+
+-- a command is served as well from an array and a seat with more room
+serves_roomy : (old roomy : KeptState) (before ready : SeatState) (lun : ℕ) (cdb payload : List ℕ) (reply : Reply) (at : Option ℕ) (new : KeptState) (after : SeatState)
+    → Serves roomy ready lun cdb payload reply at new after
+    → Serves (record { array = roomy.array; history = roomy.history; room = old.room }) (record { host = ready.host; transcript = ready.transcript; room = before.room })
+    lun cdb payload reply at new after
+serves_roomy old roomy before ready lun cdb payload reply None new after serves = record {
+  history = serves.history;
+  transcript = serves.transcript;
+  busy_is = serves.busy_is;
+  images = serves.images;
+  broken = serves.broken;
+  shapes = serves.shapes;
+}
+serves_roomy old roomy before ready lun cdb payload reply (Some position) new after serves = record {
+  position_is = serves.position_is;
+  history = serves.history;
+  transcript = serves.transcript;
+  reply_is = serves.reply_is;
+  not_busy = serves.not_busy;
+  sound = serves.sound;
+}
+
+pub serves_from : (old roomy : KeptState) (before ready : SeatState) (lun : ℕ) (cdb payload : List ℕ) (reply : Reply) (at : Option ℕ) (new : KeptState) (after : SeatState)
+    → roomy.array ≡ old.array → roomy.history ≡ old.history → ready.host ≡ before.host → ready.transcript ≡ before.transcript
+    → Serves roomy ready lun cdb payload reply at new after → Serves old before lun cdb payload reply at new after
+serves_from old roomy before ready lun cdb payload reply at new after array history host transcript serves =
+    let mid : SeatState = record { host = ready.host; transcript = ready.transcript; room = before.room } in
+    subst (λ (s : SeatState). Serves old s lun cdb payload reply at new after) (same_seat before ready.host ready.transcript host transcript)
+    (subst (λ (k : KeptState). Serves k mid lun cdb payload reply at new after) (same_kept old roomy.array roomy.history array history)
+    (serves_roomy old roomy before ready lun cdb payload reply at new after serves))

@@ -2,3 +2,4 @@ pub mod Auditing
 pub mod Changing
 pub mod Commands
 pub mod Keeping
+pub mod Memory

@@ -1,13 +1,14 @@
 -- How a host's command is done, and what it leaves in history and transcript.
-use Rattle.std.specs.Prelude.{◌≡◌, ◌≢◌, ◌⊎◌, ℕ, true, false, List, [], ◌∷◌, ◌++◌, length, Option, Some, None}
+use Rattle.std.specs.Prelude.{◌≡◌, ◌≢◌, ◌⊎◌, ◌<◌, ℕ, true, false, List, [], ◌∷◌, ◌++◌, length, Option, Some, None}
 use Rattle.ar_disks.specs.declared.address.Host.{Host}
 use Rattle.ar_scsi.specs.declared.reply.Reply.{Reply}
 use Rattle.ar_scsi.specs.Reply.{busy}
-use Rattle.ar_unit.specs.Unit.{answer, IsGiven}
-use Rattle.ar_unit.specs.Broken.{where_broken}
+use Rattle.ar_extents.specs.Follows.{Keeps, Anywhere}
+use Rattle.ar_unit.specs.Unit.{answer, unit_run, IsGiven}
+use Rattle.ar_unit.specs.Broken.{shape_of, where_broken}
 use Rattle.ar_image.specs.Sectors.{Address}
 use Rattle.ar_image.specs.Image.{ArrayState, is_broken, image}
-use Rattle.ar_core.specs.Step.{Steps, is_busy}
+use Rattle.ar_core.specs.Step.{Steps, is_busy, entry_at}
 use Rattle.ar_core.specs.declared.event.EventOf.TheVariants.{Cmd as CmdEvent}
 use Rattle.ar_core.specs.declared.event.OutcomeOf.TheVariants.{Cmd as CmdOutcome}
 use Rattle.ar_history.specs.declared.entry.Exchange.{Exchange}
@@ -47,6 +48,12 @@ pub record IsUnrecorded (old : KeptState) (before : SeatState) (lun : ℕ) (cdb 
   pub broken :
       is_broken new.array ≡ true
       → IsGiven (where_broken cdb (answer (standing old (before.host.number, lun)) cdb payload).reply) reply
+  -- whether each unit is there, its length and its mark are then what the command leaves of them
+  pub shapes :
+      is_broken new.array ≡ true
+      → (a : Address)
+      → shape_of (image new.array a)
+      ≡ shape_of (unit_run (standing old a) (entry_at a (CmdEvent before.host lun cdb payload) (CmdOutcome reply)))
 
 -- by the position of its entry
 abbrev pub Serves : KeptState → SeatState → ℕ → List ℕ → List ℕ → Reply → Option ℕ → KeptState → SeatState → Type 0
@@ -57,10 +64,34 @@ Serves old before lun cdb payload reply None new after = IsUnrecorded old before
 pub record IsUncopied (old : ArrayState) (host : Host) (lun : ℕ) (cdb payload : List ℕ) (reply : Reply) (new : ArrayState) : Type 0 where
   pub first : Reply
   pub steps : Steps old (CmdEvent host lun cdb payload) (CmdOutcome first) new
+  pub sound : is_broken new ≡ false
   pub bytes : first.payload ≢ []
   pub busy_is : reply ≡ busy
+
+-- the command was one step of the array, or its reply was lost
+abbrev pub Begins : ArrayState → Host → ℕ → List ℕ → List ℕ → Reply → ArrayState → Type 0
+Begins old host lun cdb payload reply new =
+    Steps old (CmdEvent host lun cdb payload) (CmdOutcome reply) new ⊎ IsUncopied old host lun cdb payload reply new
 
 -- the command was one step of the array, or was not begun, or its reply was lost
 abbrev pub DoesCommand : ArrayState → Host → ℕ → List ℕ → List ℕ → Reply → ArrayState → Type 0
 DoesCommand old host lun cdb payload reply new =
     Does old (CmdEvent host lun cdb payload) (CmdOutcome reply) new ⊎ IsUncopied old host lun cdb payload reply new
+
+-- history and transcript have a place for one command more, and it has no data to share: nothing is asked for before it is begun
+pub record HasPlace (kept : KeptState) (seat : SeatState) (payload : List ℕ) : Type 0 where
+  pub history : length kept.history < kept.room
+  pub transcript : length seat.transcript < seat.room
+  pub no_data : payload ≡ []
+
+-- no home, no cache entry and no row of any disk has changed
+pub record LeavesBlocks (old new : ArrayState) : Type 0 where
+  pub tables : new.store.book ≡ old.store.book
+  pub cache : new.cache ≡ old.cache
+  pub rows : Keeps Anywhere old.store.disks new.store.disks
+
+-- of a broken array nothing is recorded, and nothing grows for it
+pub record GrowsNothing (old : KeptState) (before : SeatState) (new : KeptState) (after : SeatState) : Type 0 where
+  pub history : new.history ≡ old.history
+  pub room : new.room ≡ old.room
+  pub seat : after ≡ before

@@ -1,5 +1,5 @@
 // What a history and a transcript are made of.
-ghost use Rattle.std.specs.Prelude.{◌≡◌, IfOk};
+ghost use Rattle.std.specs.Prelude.{◌≡◌, [], IsOk, IfOk};
 
 use ar_disks::{Addr, Host};
 use ar_scsi::Reply;
@@ -29,9 +29,10 @@ pub enum Entry {
     Cmd(Host, Exchange),
 }
 
-// The same bytes, which are shared and not copied.
+// The same bytes, which are shared and not copied. None at all take no memory.
 pub(crate) fn shared(bytes: &Bytes) -> Result<Bytes, AllocError>
-    ensures { IfOk result (λ same. same ≡ bytes.now) }
+    ensures granted { bytes.now ≡ [] → IsOk result }
+    ensures same { IfOk result (λ same. same ≡ bytes.now) }
 {
     bytes.slice(0..bytes.len())
 }

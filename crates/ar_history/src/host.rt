@@ -1,10 +1,10 @@
 // Commands of hosts.
-ghost use Rattle.std.specs.Prelude.{◌≡◌, ◌≢◌, ◌⊎◌, ◌+◌, ◌<◌, ◌++◌, ◌∷◌, ◌↔◌, [], None, true, false, IsSome, IfOk, OnOk, length, vec_len, vec_capacity};
+ghost use Rattle.std.specs.Prelude.{◌≡◌, ◌≢◌, ◌⊎◌, ◌+◌, ◌<◌, ◌++◌, ◌∷◌, ◌↔◌, [], None, true, false, IsOk, IfOk, OnOk, length, vec_len, vec_capacity};
 ghost use Rattle.ar_image.specs.Image.{is_broken};
 ghost use Rattle.ar_scsi.specs.Reply.{busy};
 ghost use Rattle.ar_core.specs.Step.{Steps, is_busy};
 ghost use Rattle.ar_history.specs.Kept.{exchange_of};
-ghost use Rattle.ar_history.specs.Serving.{Serves, DoesCommand, IsBusyFor, with_reply};
+ghost use Rattle.ar_history.specs.Serving.{Serves, Begins, DoesCommand, HasPlace, LeavesBlocks, GrowsNothing, IsBusyFor, with_reply};
 
 use crate::entry::shared;
 use crate::operate::is_lost;
@@ -35,12 +35,18 @@ struct Draft {
 impl<D: Disk + Drop, L: Ledger> Kept<D, L> {
     /// Does a host's command, by its seat: the command block is padded with zeros, and `payload` is the data that came with it.
     /// Where the command is answered, history and transcript have both grown by it and its reply, which is the one that the
-    /// unit's own part of the history gives. A command for which memory is refused is BUSY, and no unit has changed. A broken array
-    /// records nothing more.
+    /// unit's own part of the history gives. Their places, and the shares of its data, come first: where one of these is refused
+    /// the command is BUSY and was not begun. So is one that was done and whose reply's bytes can't be shared, which has changed no unit.
+    /// A broken array records nothing more, and nothing grows for it.
     pub fn host(&mut self, seat: &mut Seat<L>, lun: u8, cdb: [u8; 16], payload: Bytes) -> Served
         ensures serves { Serves self.old seat.old lun cdb payload result.reply result.at self.new seat.new }
         ensures does { DoesCommand self.old.array seat.old.host lun cdb payload result.reply self.new.array }
         ensures host { seat.new.host ≡ seat.old.host }
+
+        // Want of memory, and what BUSY leaves.
+        ensures begun { HasPlace self.old seat.old payload → Begins self.old.array seat.old.host lun cdb payload result.reply self.new.array }
+        ensures busy { is_busy result.reply.status ≡ true → LeavesBlocks self.old.array self.new.array }
+        ensures lost { is_broken self.old.array ≡ true → GrowsNothing self.old seat.old self.new seat.new }
     {
         if is_lost(&self.array) {
             return self.unrecorded(seat.host, lun, cdb, payload);
@@ -58,6 +64,7 @@ impl<D: Disk + Drop, L: Ledger> Kept<D, L> {
         ensures steps { Steps self.old.array (EventOf.Cmd host lun cdb payload) (OutcomeOf.Cmd result.reply) self.new.array }
         ensures at { result.at ≡ None }
         ensures history { self.new.history ≡ self.old.history }
+        ensures room { self.new.room ≡ self.old.room }
     {
         let reply = command(&mut self.array, self.alloc, host, lun, cdb, payload);
         Served { reply, at: None }
@@ -75,6 +82,7 @@ impl<D: Disk + Drop, L: Ledger> Kept<D, L> {
         ensures theirs { IfOk result (λ draft. draft.theirs ≡ exchange_of lun cdb payload.now busy) }
         ensures room { OnOk result (length self.new.history < self.new.room) }
         ensures seat_room { OnOk result (length seat.new.transcript < seat.new.room) }
+        ensures granted { HasPlace self.old seat.old payload.now → IsOk result }
 
         ensures array { self.new.array ≡ self.old.array }
         ensures history { self.new.history ≡ self.old.history }
@@ -94,7 +102,7 @@ impl<D: Disk + Drop, L: Ledger> Kept<D, L> {
         requires room { length self.old.history < self.old.room }
         requires seat_room { length seat.old.transcript < seat.old.room }
         ensures serves { Serves self.old seat.old draft.ours.lun draft.ours.cdb payload result.reply result.at self.new seat.new }
-        ensures does { DoesCommand self.old.array seat.old.host draft.ours.lun draft.ours.cdb payload result.reply self.new.array }
+        ensures begun { Begins self.old.array seat.old.host draft.ours.lun draft.ours.cdb payload result.reply self.new.array }
         ensures host { seat.new.host ≡ seat.old.host }
     {
         let reply = command(
@@ -134,8 +142,9 @@ impl Served {
 }
 
 impl Draft {
-    // Two copies of a command, which share its data.
+    // Two copies of a command, which share its data: without data they take no memory.
     fn new(lun: u8, cdb: [u8; 16], payload: &Bytes) -> Result<Draft, AllocError>
+        ensures granted { payload.now ≡ [] → IsOk result }
         ensures ours { IfOk result (λ draft. draft.ours ≡ exchange_of lun cdb payload.now busy) }
         ensures theirs { IfOk result (λ draft. draft.theirs ≡ exchange_of lun cdb payload.now busy) }
     {
@@ -169,7 +178,8 @@ impl Draft {
 
 // A command whose reply is still to come.
 fn exchange(lun: u8, cdb: [u8; 16], payload: &Bytes) -> Result<Exchange, AllocError>
-    ensures { IfOk result (λ exchange. exchange ≡ exchange_of lun cdb payload.now busy) }
+    ensures granted { payload.now ≡ [] → IsOk result }
+    ensures copy { IfOk result (λ exchange. exchange ≡ exchange_of lun cdb payload.now busy) }
 {
     Ok(Exchange {
         lun,

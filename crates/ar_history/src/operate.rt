@@ -20,6 +20,10 @@ impl<D: Disk + Drop, L: Ledger> Kept<D, L> {
     pub fn operate(&mut self, operation: Operation<D>) -> Outcome<D>
         ensures does { Does self.old.array (event_of operation) result self.new.array }
         ensures recorded { self.new.history ≡ self.old.history ++ entry_of (event_of operation) result }
+
+        // Want of memory is told only where the history has no place for an entry, or by the array.
+        ensures begun { length self.old.history < self.old.room → Steps self.old.array (event_of operation) result self.new.array }
+        ensures lost { is_broken self.old.array ≡ true → self.new.room ≡ self.old.room }
     {
         match operation {
             OperationOf::Make(addr, sectors) => self.make(addr, sectors),
@@ -36,6 +40,7 @@ impl<D: Disk + Drop, L: Ledger> Kept<D, L> {
     pub fn background(&mut self, task: Task) -> Outcome<D>
         ensures steps { Steps self.old.array (event_in task) result self.new.array }
         ensures history { self.new.history ≡ self.old.history }
+        ensures room { self.new.room ≡ self.old.room }
         ensures images { is_broken self.new.array ≡ false → (a : Address) → image self.new.array a ≡ image self.old.array a }
     {
         match task {
@@ -50,6 +55,8 @@ impl<D: Disk + Drop, L: Ledger> Kept<D, L> {
     fn make(&mut self, addr: Addr, sectors: u32) -> Outcome<D>
         ensures does { Does self.old.array (EventOf.Make addr sectors) result self.new.array }
         ensures recorded { self.new.history ≡ self.old.history ++ entry_of (EventOf.Make addr sectors) result }
+        ensures begun { length self.old.history < self.old.room → Steps self.old.array (EventOf.Make addr sectors) result self.new.array }
+        ensures lost { is_broken self.old.array ≡ true → self.new.room ≡ self.old.room }
     {
         if !self.can_record() {
             return OutcomeOf::Make(Err(NO_MEMORY));
@@ -60,6 +67,8 @@ impl<D: Disk + Drop, L: Ledger> Kept<D, L> {
     fn grow(&mut self, addr: Addr, sectors: u32) -> Outcome<D>
         ensures does { Does self.old.array (EventOf.Grow addr sectors) result self.new.array }
         ensures recorded { self.new.history ≡ self.old.history ++ entry_of (EventOf.Grow addr sectors) result }
+        ensures begun { length self.old.history < self.old.room → Steps self.old.array (EventOf.Grow addr sectors) result self.new.array }
+        ensures lost { is_broken self.old.array ≡ true → self.new.room ≡ self.old.room }
     {
         if !self.can_record() {
             return OutcomeOf::Grow(Err(NO_MEMORY));
@@ -70,6 +79,8 @@ impl<D: Disk + Drop, L: Ledger> Kept<D, L> {
     fn remove(&mut self, addr: Addr) -> Outcome<D>
         ensures does { Does self.old.array (EventOf.Remove addr) result self.new.array }
         ensures recorded { self.new.history ≡ self.old.history ++ entry_of (EventOf.Remove addr) result }
+        ensures begun { length self.old.history < self.old.room → Steps self.old.array (EventOf.Remove addr) result self.new.array }
+        ensures lost { is_broken self.old.array ≡ true → self.new.room ≡ self.old.room }
     {
         if !self.can_record() {
             return OutcomeOf::Remove(Err(NO_MEMORY));
@@ -82,6 +93,7 @@ impl<D: Disk + Drop, L: Ledger> Kept<D, L> {
         requires { is_quiet event ≡ true }
         ensures steps { Steps self.old.array event result self.new.array }
         ensures history { self.new.history ≡ self.old.history }
+        ensures room { self.new.room ≡ self.old.room }
         ensures images { is_broken self.new.array ≡ false → (a : Address) → image self.new.array a ≡ image self.old.array a }
     {
         self.array.step(self.alloc, event)
@@ -93,6 +105,7 @@ impl<D: Disk + Drop, L: Ledger> Kept<D, L> {
         requires room { is_broken self.old.array ≡ false → length self.old.history < self.old.room }
         ensures steps { Steps self.old.array event result self.new.array }
         ensures recorded { self.new.history ≡ self.old.history ++ entry_of event result }
+        ensures room { self.new.room ≡ self.old.room }
     {
         let outcome = self.array.step(self.alloc, event);
         if is_done(&outcome) {
@@ -107,6 +120,8 @@ impl<D: Disk + Drop, L: Ledger> Kept<D, L> {
         ensures history { self.new.history ≡ self.old.history }
         ensures room { result ≡ true → is_broken self.new.array ≡ false → length self.new.history < self.new.room }
         ensures sound { result ≡ false → is_broken self.old.array ≡ false }
+        ensures granted { length self.old.history < self.old.room → result ≡ true }
+        ensures lost { is_broken self.old.array ≡ true → self.new.room ≡ self.old.room }
     {
         is_lost(&self.array) || self.history.reserve(1).is_ok()
     }

@@ -1,11 +1,14 @@
-use Rattle.std.proofs.Common.{ℕ, Option, sym, subst}
+use Rattle.std.proofs.Common.{ℕ, Option, sym, subst, inl}
 use Rattle.ar_core.specs.declared.event.EventOf.TheVariants.{Cmd as CmdEvent}
 use Rattle.ar_core.specs.declared.event.OutcomeOf.TheVariants.{Cmd as CmdOutcome}
 use Rattle.ar_core.specs.Step.{Steps}
+use Rattle.ar_history.specs.declared.entry.Exchange.{Exchange}
 use Rattle.ar_history.specs.Kept.{KeptState, IsKept}
 use Rattle.ar_history.specs.Seat.{SeatState}
-use Rattle.ar_history.specs.Serving.{Serves}
-use Rattle.ar_history.proofs.Commands.{unrecorded_lost}
+use Rattle.ar_history.specs.Serving.{Serves, LeavesBlocks}
+use Rattle.ar_image.specs.Image.{ArrayState}
+use Rattle.ar_history.proofs.Commands.{unrecorded_lost, serves_from}
+use Rattle.ar_history.proofs.Memory.{begun_does, leaves_blocks}
 use Rattle.ar_history.proofs.kept.Kept.host.Goals as goal
 
 pub returns-then-is_lost-clause-serves : goal.returns-then-is_lost-clause-serves
@@ -16,3 +19,24 @@ returns-then-is_lost-clause-serves g c =
     c.seat.view_is c.unrecorded.ensures.steps in
     subst (λ (at : Option ℕ). Serves c.args.self.now c.args.seat.now c.args.lun c.args.cdb c.args.payload c.unrecorded.result.reply at c.unrecorded.new.self c.args.seat.now) (sym c.unrecorded.ensures.at)
     (unrecorded_lost c.args.self.now c.args.seat.now c.args.lun c.args.cdb c.args.payload c.unrecorded.result.reply c.unrecorded.new.self kept steps c.unrecorded.ensures.broken c.unrecorded.ensures.history)
+
+pub returns-then-is_lost-clause-busy : goal.returns-then-is_lost-clause-busy
+returns-then-is_lost-clause-busy g c =
+    leaves_blocks c.args.self.now.array c.unrecorded.new.self.array c.seat.inside.host c.args.lun c.args.cdb c.args.payload
+    c.unrecorded.result.reply (inl (inl c.unrecorded.ensures.steps))
+
+pub returns-in-Ok-clause-serves : goal.returns-in-Ok-clause-serves
+returns-in-Ok-clause-serves g c =
+    serves_from c.args.self.now c.draft.new.self c.args.seat.now c.draft.new.seat c.args.lun c.args.cdb c.args.payload c.serve.result.reply
+    c.serve.result.at c.serve.new.self c.serve.new.seat c.in-Ok.ensures.array c.in-Ok.ensures.history c.in-Ok.ensures.host c.in-Ok.ensures.transcript
+    (subst (λ (x : Exchange). Serves c.draft.new.self c.draft.new.seat x.lun x.cdb c.args.payload c.serve.result.reply c.serve.result.at c.serve.new.self c.serve.new.seat)
+    c.in-Ok.ensures.ours c.serve.ensures.serves)
+
+pub returns-in-Ok-clause-busy : goal.returns-in-Ok-clause-busy
+returns-in-Ok-clause-busy g c =
+    λ is.
+    subst (λ (s : ArrayState). LeavesBlocks s c.serve.new.self.array) c.in-Ok.ensures.array
+    (leaves_blocks c.draft.new.self.array c.serve.new.self.array c.draft.new.seat.host c.in-Ok.draft.ours.lun c.in-Ok.draft.ours.cdb c.args.payload
+    c.serve.result.reply
+    (begun_does c.draft.new.self.array c.serve.new.self.array c.draft.new.seat.host c.in-Ok.draft.ours.lun c.in-Ok.draft.ours.cdb c.args.payload
+    c.serve.result.reply c.serve.ensures.begun) is)

@@ -12,8 +12,8 @@ use Rattle.ar_history.specs.declared.entry.Exchange.{Exchange}
 use Rattle.ar_history.specs.History.{is_command}
 use Rattle.ar_history.specs.Kept.{KeptState, IsKept, exchange_of}
 use Rattle.ar_history.specs.Seat.{SeatState}
-use Rattle.ar_history.specs.Serving.{IsBusyFor, IsUnrecorded, IsRecorded, Serves, DoesCommand}
-use Rattle.ar_history.proofs.Commands.{broken_unrecorded, kept_unrecorded, kept_recorded, same_images, recorded, count_total, unrecorded_lost, unrecorded_busy, does_busy}
+use Rattle.ar_history.specs.Serving.{IsBusyFor, IsUnrecorded, IsRecorded, Serves, Begins}
+use Rattle.ar_history.proofs.Commands.{broken_unrecorded, kept_unrecorded, kept_recorded, same_images, recorded, count_total, unrecorded_lost, unrecorded_busy, begins_busy}
 use Rattle.ar_history.proofs.kept.Kept.serve.Goals as goal
 
 pub invariant_of-self : goal.invariant_of-self
@@ -57,14 +57,14 @@ returns-then-not-answer-clause-serves g c =
     (subst (λ (s : SeatState). IsUnrecorded old s c.args.draft.ours.lun c.args.draft.ours.cdb c.args.payload busy new s) c.seat.view_is
     (unrecorded_busy old before c.args.draft.ours.lun c.args.draft.ours.cdb c.args.payload c.command-reply.result new c.command-reply.ensures none now refl))))
 
-pub returns-then-not-answer-clause-does : goal.returns-then-not-answer-clause-does
-returns-then-not-answer-clause-does g c =
+pub returns-then-not-answer-clause-begun : goal.returns-then-not-answer-clause-begun
+returns-then-not-answer-clause-begun g c =
     let none : IsBusyFor c.command-reply.result = c.if-not-answer.ensures.busy refl in
     let now : is_broken c.command-reply.new.array ≡ false = sym c.is_lost.ensures ∙ c.if-is_lost.false in
-    subst (λ (r : Reply). DoesCommand c.args.self.now.array c.args.seat.now.host c.args.draft.ours.lun c.args.draft.ours.cdb c.args.payload r c.command-reply.new.array) (sym c.busy.ensures.reply)
-    (subst (λ (k : KeptState). DoesCommand k.array c.args.seat.now.host c.args.draft.ours.lun c.args.draft.ours.cdb c.args.payload busy c.command-reply.new.array) c.self.view_is
-    (subst (λ (s : SeatState). DoesCommand c.self.inside.array s.host c.args.draft.ours.lun c.args.draft.ours.cdb c.args.payload busy c.command-reply.new.array) c.seat.view_is
-    (does_busy c.self.inside.array c.command-reply.new.array c.seat.inside.host c.args.draft.ours.lun c.args.draft.ours.cdb c.args.payload c.command-reply.result c.command-reply.ensures none now)))
+    subst (λ (r : Reply). Begins c.args.self.now.array c.args.seat.now.host c.args.draft.ours.lun c.args.draft.ours.cdb c.args.payload r c.command-reply.new.array) (sym c.busy.ensures.reply)
+    (subst (λ (k : KeptState). Begins k.array c.args.seat.now.host c.args.draft.ours.lun c.args.draft.ours.cdb c.args.payload busy c.command-reply.new.array) c.self.view_is
+    (subst (λ (s : SeatState). Begins c.self.inside.array s.host c.args.draft.ours.lun c.args.draft.ours.cdb c.args.payload busy c.command-reply.new.array) c.seat.view_is
+    (begins_busy c.self.inside.array c.command-reply.new.array c.seat.inside.host c.args.draft.ours.lun c.args.draft.ours.cdb c.args.payload c.command-reply.result c.command-reply.ensures none now)))
 
 pub invariant_of-self-2 : goal.invariant_of-self-2
 invariant_of-self-2 g c =
