@@ -61,6 +61,7 @@ cause_follows event old new stay follows = record {
   geometry = follows.geometry;
   extents = follows.extents;
   faults = λ d _. follows.faults d;
+  noticed = λ d fault. follows.noticed d fault.more;
   out = λ d out. elim (follows.out d out) [ inl was ↦ inl was | inr fault ↦ inr (inl (faults_in event old new d stay follows.count fault)) ];
   broken = λ lost. elim (follows.broken lost) [ inl was ↦ inl was | inr two ↦ inr (two_in event old new stay follows.count two) ];
   stays_broken = stays_broken old new follows;
@@ -72,6 +73,7 @@ cause_advances event old new stay advances = record {
   geometry = advances.geometry;
   extents = advances.extents;
   faults = λ d _. advances.faults d;
+  noticed = λ d fault. advances.noticed d fault.more;
   out = λ d out. elim (advances.out d out) [ inl was ↦ inl was | inr again ↦ inr (inl (faults_in event old new d stay advances.count again.faulted)) ];
   broken = λ lost. elim (advances.broken lost) [ inl was ↦ inl was | inr two ↦ inr (two_in event old new stay advances.count two) ];
   stays_broken = λ was. ap (λ (s : SetState). s.health) (advances.stays_broken was) ∙ was;
@@ -125,6 +127,7 @@ cause_failed s d there =
       geometry = refl;
       extents = refl;
       faults = λ x _. omega arith;
+      noticed = λ x fault. absurd (let more = fault.more in omega arith);
       out = λ x is. elim (does.out x is) [ inl was ↦ inl was | inr named ↦ inr (inr (taken x named)) ];
       broken = λ is.
           elim (does.broken is) [
@@ -145,6 +148,7 @@ cause_same event old new same =
       geometry = refl;
       extents = refl;
       faults = λ x _. omega arith;
+      noticed = λ x fault. absurd (let more = fault.more in omega arith);
       out = λ x is. inl is;
       broken = λ is. inl is;
       stays_broken = λ is. is;
@@ -156,15 +160,19 @@ cause_added s disk = record {
   geometry = refl;
   extents = refl;
   faults = λ d _. more d;
+  noticed = λ d fault. absurd (let more = fault.more in let same = here d fault.there in omega arith);
   out = λ d is. inl is;
   broken = λ is. inl is;
   stays_broken = λ is. is;
 }
   where
+    here : (d : ℕ) → d < length s.disks → faults_of (added s disk) d ≡ faults_of s d
+    here d there = ap (λ (x : DiskState). x.faults) (get_or_append_left s.disks (disk ∷ []) no_disk d there)
+
     more : (d : ℕ) → faults_of s d ≤ faults_of (added s disk) d
     more d =
         elim (cases_lt d (length s.disks)) [
-          | inl there ↦ (let same = ap (λ (x : DiskState). x.faults) (get_or_append_left s.disks (disk ∷ []) no_disk d there) in omega arith)
+          | inl there ↦ (let same = here d there in omega arith)
           | inr past ↦ (let none = ap (λ (x : DiskState). x.faults) (get_or_past s.disks d no_disk past) in omega arith)
         ]
 
@@ -173,10 +181,13 @@ pub cause_replaced : (s : SetState) (number : ℕ) (disk : DiskState) → (s.hea
 cause_replaced s number disk sound = record {
   geometry = refl;
   extents = refl;
-  faults = λ d stays.
-      (let same = ap (λ (x : DiskState). x.faults) (get_or-set_other s.disks number d disk no_disk (λ is. stays disk (ap (λ x. Replace x disk) (sym is)))) in
-      omega arith);
+  faults = λ d stays. (let same = here d stays in omega arith);
+  noticed = λ d fault. absurd (let more = fault.more in let same = here d fault.same in omega arith);
   out = λ d is. absurd (cc);
   broken = λ is. absurd (cc);
   stays_broken = λ was. absurd (sound was);
 }
+  where
+    here : (d : ℕ) → IsNotReplaced (Replace number disk) d → faults_of (replaced s number disk) d ≡ faults_of s d
+    here d stays =
+        ap (λ (x : DiskState). x.faults) (get_or-set_other s.disks number d disk no_disk (λ is. stays disk (ap (λ x. Replace x disk) (sym is))))

@@ -42,3 +42,7 @@ loop-rb-preserved g c =
       seen = record { same = λ k. (call.seen c.in-Done.is).same k ∙ sofar.seen.same k };
       follows = follows_then c.args.self.now c.loop-rb.self c.flush_key.new.self sofar.follows call.follows;
     }
+
+pub returns-in-Broken-clause-follows : goal.returns-in-Broken-clause-follows
+returns-in-Broken-clause-follows g c =
+    follows_then c.args.self.now c.loop-rb.self c.flush_key.new.self c.loop-rb.invariant.follows c.flush_key.ensures.follows
