@@ -1,7 +1,9 @@
 pub mod AnswerLemmas
 pub mod BlockLemmas
+pub mod Ending
 pub mod LineLemmas
 pub mod ParseLemmas
+pub mod Parting
 pub mod Playing
 pub mod StartLemmas
 pub mod WordLemmas

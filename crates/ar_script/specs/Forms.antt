@@ -8,6 +8,7 @@ use Rattle.ar_disks.specs.declared.address.Addr.{Addr}
 use Rattle.ar_scsi.specs.declared.command.Command.{Command}
 use Rattle.ar_scsi.specs.declared.command.Command.TheVariants.{TestReady, Inquiry, Capacity, Read, Write}
 use Rattle.ar_scsi.specs.Block.{Says}
+use Rattle.ar_scsi.specs.Field.{operation_code}
 use Rattle.ar_script.specs.Words.{IsNumber, IsBytePair, IsBlockWord}
 use Rattle.ar_script.specs.declared.fault.FaultKind.{FaultKind}
 use Rattle.ar_script.specs.declared.fault.FaultKind.TheVariants.{BadArgument, UnknownWord, NoMemory}
@@ -79,6 +80,12 @@ abbrev pub Commands : Words → Command → Data → Notation → Order → Type
 Commands words command sent notation order =
     (addr : Addr) × (cdb : List ℕ) × NamesUnit words addr × Says cdb command × (order ≡ Act (actions.Command addr cdb sent notation))
 
+-- the same by a block of this operation code, where blocks of two say such a command
+abbrev pub CommandsBy : ℕ → Words → Command → Data → Notation → Order → Type 0
+CommandsBy code words command sent notation order =
+    (addr : Addr) × (cdb : List ℕ) × NamesUnit words addr × (operation_code cdb ≡ code) × Says cdb command
+    × (order ≡ Act (actions.Command addr cdb sent notation))
+
 -- no data
 abbrev pub nothing : Data
 nothing = record { len = 0; byte = 0 }
@@ -114,9 +121,9 @@ pub record HasSectors (Lba : List ℕ → Type 0) (words : Words) : Type 0 where
   pub lba : Lba (word words 2)
   pub sectors : IsNumberOf 16 (word words 3)
 
--- `read H L LBA COUNT` and `read16 H L LBA COUNT`
-abbrev pub AsksRead : Words → Order → Type 0
-AsksRead words = Commands words (Read (value (word words 2)) (value (word words 3))) nothing Runs
+-- `read H L LBA COUNT` and `read16 H L LBA COUNT`, by the operation code of READ (10) and of READ (16)
+abbrev pub AsksRead : ℕ → Words → Order → Type 0
+AsksRead code words = CommandsBy code words (Read (value (word words 2)) (value (word words 3))) nothing Runs
 
 -- the words of a WRITE, which `fua` may end
 abbrev pub IsForced : Words → Type 0
@@ -130,11 +137,11 @@ pub record HasWritten (Lba : List ℕ → Type 0) (words : Words) : Type 0 where
   pub sectors : IsNumberOf 16 (word words 3)
   pub filled : IsBytePair (word words 4)
 
--- `write H L LBA COUNT BYTE`, and the same with `fua`; `write16` likewise
-abbrev pub AsksWrite : Words → Order → Type 0
-AsksWrite words order =
+-- `write H L LBA COUNT BYTE`, and the same with `fua`, by the operation code of WRITE (10); `write16` likewise, by that of WRITE (16)
+abbrev pub AsksWrite : ℕ → Words → Order → Type 0
+AsksWrite code words order =
     (byte : ℕ) × IsByte (word words 4) byte
-    × Commands words (Write (value (word words 2)) (value (word words 3)) (length words == 6)) (record { len = value (word words 3) * 512; byte = byte }) Runs order
+    × CommandsBy code words (Write (value (word words 2)) (value (word words 3)) (length words == 6)) (record { len = value (word words 3) * 512; byte = byte }) Runs order
 
 -- a unit and a command block, and perhaps a number of bytes and their value
 pub record HasBlock (words : Words) : Type 0 where
@@ -228,10 +235,10 @@ ReadsCommand name words result =
     MatchBool (bytes_eq name (codes "tur")) (Answers (HasUnit words) (AsksTur words) result) (
     MatchBool (bytes_eq name (codes "inquiry")) (Answers (HasUnitAndNumber 16 words) (AsksInquiry words) result) (
     MatchBool (bytes_eq name (codes "capacity")) (Answers (HasUnit words) (AsksCapacity words) result) (
-    MatchBool (bytes_eq name (codes "read")) (Answers (HasSectors (IsNumberOf 32) words) (AsksRead words) result) (
-    MatchBool (bytes_eq name (codes "write")) (Answers (HasWritten (IsNumberOf 32) words) (AsksWrite words) result) (
-    MatchBool (bytes_eq name (codes "read16")) (Answers (HasSectors IsNumber words) (AsksRead words) result) (
-    MatchBool (bytes_eq name (codes "write16")) (Answers (HasWritten IsNumber words) (AsksWrite words) result) (
+    MatchBool (bytes_eq name (codes "read")) (Answers (HasSectors (IsNumberOf 32) words) (AsksRead 0x28 words) result) (
+    MatchBool (bytes_eq name (codes "write")) (Answers (HasWritten (IsNumberOf 32) words) (AsksWrite 0x2A words) result) (
+    MatchBool (bytes_eq name (codes "read16")) (Answers (HasSectors IsNumber words) (AsksRead 0x88 words) result) (
+    MatchBool (bytes_eq name (codes "write16")) (Answers (HasWritten IsNumber words) (AsksWrite 0x8A words) result) (
     MatchBool (bytes_eq name (codes "cdb")) (Answers (HasBlock words) (AsksBlock words) result) (
     ReadsArrayOrder name words result))))))))
 

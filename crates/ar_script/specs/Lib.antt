@@ -1,5 +1,6 @@
 pub mod Blocks
 pub mod Forms
+pub mod Left
 pub mod Lines
 pub mod Orders
 pub mod Parts

@@ -1,13 +1,17 @@
 -- What a script has an array meet, line by line.
-use Rattle.std.specs.Prelude.{◌≡◌, ◌⊎◌, ℕ, ◌+◌, ◌≤◌, List, [], ◌∷◌, length, Some, None, Result, Ok, OnOk}
+use Rattle.std.specs.Prelude.{◌≡◌, ◌⊎◌, ⊤, ℕ, ◌+◌, ◌<◌, ◌≤◌, List, [], ◌∷◌, length, take, Option, Some, None, Result, Ok, Err, OnOk, IfErr}
 use Rattle.ar_disks.specs.Disk.{DiskState}
 use Rattle.ar_image.specs.Image.{ArrayState, geometry_of}
 use Rattle.ar_image.specs.Start.{IsStarted}
 use Rattle.ar_core.specs.Run.{Turn, Did, Looked, IsRun}
 use Rattle.ar_script.specs.declared.fault.Fault.{Fault}
+use Rattle.ar_script.specs.declared.fault.Fault.TheVariants.{Start, Line}
+use Rattle.ar_script.specs.declared.fault.FaultKind.{FaultKind}
+use Rattle.ar_script.specs.declared.fault.FaultKind.TheVariants.{TooManyLines}
 use Rattle.ar_script.specs.declared.order.Order.{Order}
 use Rattle.ar_script.specs.declared.order.Order.TheVariants.{Act, Ask}
 use Rattle.ar_script.specs.Forms.{ReadsLine}
+use Rattle.ar_script.specs.Lines.{IsOutside, line_fault, line_at, Took}
 use Rattle.ar_script.specs.Orders.{event_in}
 
 -- the order is met in this turn by an array of this shape: an action is its event, and a question a look
@@ -33,32 +37,63 @@ AreMet s [] (turn ∷ turns) = ⊥
 AreMet s (line ∷ lines) [] = AsksNothing line × AreMet s lines []
 AreMet s (line ∷ lines) (turn ∷ turns) = (AsksNothing line × AreMet s lines (turn ∷ turns)) ⊎ (AsksFor s line turn × AreMet s lines turns)
 
--- The array met lines, one after another, and was left so. The isolation theorem holds of their turns (`IsRun`): each unit answered
--- as one plain list of sectors that its own lines alone change. The shape of its disks stays.
-pub record Plays (old new : ArrayState) : Type 0 where
-  pub lines : List (List ℕ)
+-- The array met these lines, one after another, and was left so. The isolation theorem holds of their turns (`IsRun`): each unit
+-- answered as one plain list of sectors that its own lines alone change. The shape of its disks stays.
+pub record Plays (lines : List (List ℕ)) (old new : ArrayState) : Type 0 where
   pub turns : List Turn
   pub met : AreMet old lines turns
   pub run : IsRun old turns new
   pub geometry : geometry_of new ≡ geometry_of old
   pub extents : new.store.disks.extents ≡ old.store.disks.extents
 
--- so many lines were begun, and the array met each
-pub record PlaysAll (old new : ArrayState) (begun : ℕ) : Type 0 where
-  pub plays : Plays old new
-  pub all : length plays.lines ≡ begun
+-- these are the first lines of the script
+abbrev pub AreFirst : Option (List (List ℕ)) → List (List ℕ) → Type 0
+AreFirst None lines = ⊤
+AreFirst (Some script) lines = lines ≡ take (length lines) script
+
+-- and all of them
+abbrev pub AreAll : Option (List (List ℕ)) → List (List ℕ) → Type 0
+AreAll None lines = ⊤
+AreAll (Some script) lines = lines ≡ script
+
+-- What is told at a line is so: memory was refused, or a stream faulted; or the line has this fault, by its bytes or by what it says;
+-- or there are too many lines.
+abbrev pub IsSo : Option (List (List ℕ)) → ℕ → FaultKind → Type 0
+IsSo None n kind = ⊤
+IsSo (Some script) n kind =
+    IsOutside kind ⊎ (line_fault (line_at script n) ≡ Some kind) ⊎ ReadsLine (line_at script n) (Err kind)
+    ⊎ ((kind ≡ TooManyLines) × (1000000 < length script))
+
+-- it is told at the last of the lines that were met, or at the next
+abbrev pub IsToldAfter : Option (List (List ℕ)) → ℕ → Fault → Type 0
+IsToldAfter script met Start = ⊥
+IsToldAfter script met (Line n kind) = ((n ≡ met) ⊎ (n ≡ met + 1)) × IsSo script n kind
+
+-- The array met the first lines of a script, each once and in their order: all of them, where the script ended without a fault.
+pub record PlaysScript (script : Option (List (List ℕ))) (result : Result (Unit {0}) Fault) (old new : ArrayState) : Type 0 where
+  pub lines : List (List ℕ)
+  pub plays : Plays lines old new
+  pub first : AreFirst script lines
+  pub whole : OnOk result (AreAll script lines)
+  pub told : IfErr result (IsToldAfter script (length lines))
+
+-- so many lines were taken from a script, and the array met each; these are left
+pub record PlaysAll (script left : Option (List (List ℕ))) (old new : ArrayState) (begun : ℕ) : Type 0 where
+  pub lines : List (List ℕ)
+  pub plays : Plays lines old new
+  pub all : length lines ≡ begun
+  pub took : Took script left lines
 
 -- So many lines were begun, and the array met each, but that a fault may have come before the last was met: it could not be read, or
 -- memory for its data was refused.
-pub record PlaysTo (old new : ArrayState) (begun : ℕ) (result : Result (Unit {0}) Fault) : Type 0 where
-  pub plays : Plays old new
+pub record PlaysTo (script : Option (List (List ℕ))) (result : Result (Unit {0}) Fault) (old new : ArrayState) (begun : ℕ) : Type 0 where
+  pub plays : PlaysScript script result old new
   pub few : length plays.lines ≤ begun
   pub most : begun ≤ length plays.lines + 1
-  pub all : OnOk result (length plays.lines ≡ begun)
 
--- an array that began on these disks met lines
-pub record HasPlayed (disks : List DiskState) (cache : ℕ) : Type 0 where
+-- an array that began on these disks met the script
+pub record HasPlayed (disks : List DiskState) (cache : ℕ) (script : Option (List (List ℕ))) (result : Result (Unit {0}) Fault) : Type 0 where
   pub first : ArrayState
   pub last : ArrayState
   pub started : IsStarted disks cache first
-  pub plays : Plays first last
+  pub plays : PlaysScript script result first last

@@ -1,6 +1,7 @@
 // Command blocks for the commands that have a word of their own.
 ghost use Rattle.std.specs.Prelude.{◌≡◌, if◌then◌else◌};
 ghost use Rattle.ar_scsi.specs.Block.{Says};
+ghost use Rattle.ar_scsi.specs.Field.{operation_code};
 ghost use Rattle.ar_script.specs.Blocks.{inquiry_block, block_10, block_16};
 
 use ar_scsi::Command;
@@ -28,28 +29,32 @@ pub fn read_capacity() -> [u8; 16]
 
 /// READ (10) of so many sectors from `lba` on.
 pub fn read_10(lba: u32, count: u16) -> [u8; 16]
-    ensures { Says result (Command.Read lba count) }
+    ensures says { Says result (Command.Read lba count) }
+    ensures coded { operation_code result ≡ 0x28 }
 {
     transfer_10(0x28, 0, lba, count)
 }
 
 /// WRITE (10) of so many sectors from `lba` on, with FORCE UNIT ACCESS or without.
 pub fn write_10(lba: u32, count: u16, fua: bool) -> [u8; 16]
-    ensures { Says result (Command.Write lba count fua) }
+    ensures says { Says result (Command.Write lba count fua) }
+    ensures coded { operation_code result ≡ 0x2A }
 {
     transfer_10(0x2A, flags(fua), lba, count)
 }
 
 /// READ (16) of so many sectors from `lba` on.
 pub fn read_16(lba: u64, count: u16) -> [u8; 16]
-    ensures { Says result (Command.Read lba count) }
+    ensures says { Says result (Command.Read lba count) }
+    ensures coded { operation_code result ≡ 0x88 }
 {
     transfer_16(0x88, 0, lba, count)
 }
 
 /// WRITE (16) of so many sectors from `lba` on, with FORCE UNIT ACCESS or without.
 pub fn write_16(lba: u64, count: u16, fua: bool) -> [u8; 16]
-    ensures { Says result (Command.Write lba count fua) }
+    ensures says { Says result (Command.Write lba count fua) }
+    ensures coded { operation_code result ≡ 0x8A }
 {
     transfer_16(0x8A, flags(fua), lba, count)
 }

@@ -1,8 +1,9 @@
 // The lines of a script, read in large pieces.
-ghost use Rattle.std.specs.Prelude.{◌≡◌, ◌+◌, if◌then◌else◌, IfOk, ◌≢◌, ◌==◌, ◌&&◌, not, true, false, length, ◌-◌, ◌≤◌, ◌++◌, IsTrue, None, OnOk, IfErr, OnErr, unwrap_or, vec_len};
-ghost use Rattle.std.specs.List.{list_all};
-ghost use Rattle.std.specs.Io.Buffered.{reader_buffer};
-ghost use Rattle.ar_script.specs.Lines.{is_printable, IsLine, IsNumbered, IsReached, IsOfLine, part_fault};
+ghost use Rattle.std.specs.Prelude.{◌≡◌, ◌+◌, if◌then◌else◌, IfOk, ◌≢◌, ◌==◌, ◌&&◌, not, true, false, length, ◌-◌, ◌<◌, ◌≤◌, ◌++◌, [], ◌∷◌, IsTrue, None, OnOk, IfErr, OnErr, MatchOption, unwrap_or, vec_len};
+ghost use Rattle.std.specs.List.{list_all, position};
+ghost use Rattle.std.specs.Io.Buffered.{reader_buffer, reader_remaining};
+ghost use Rattle.std.specs.Io.KnownBytes.{Keeps, IsAtEnd, prepend_known};
+ghost use Rattle.ar_script.specs.Lines.{lines_of, bytes_left, HasBytes, IsLineOf, Took, IsAllTaken, IsPart, is_printable, IsLine, IsToldOfNext, StopsAt, IsNumbered, IsReached, IsOfLine, part_fault};
 
 use crate::{Fault, FaultKind};
 use std::alloc::Global;
@@ -27,9 +28,12 @@ pub struct Lines<R: Read + Drop> {
 }
 
 impl<R: Read + Drop> Lines<R> {
-    /// No line is read yet. It fails where memory is refused.
+    ghost use Rattle.ar_script.specs.Left.{lines_left};
+
+    /// All lines of the reader, of which none is read yet. It fails where memory is refused.
     pub fn new(alloc: Global, reader: R) -> io::Result<Lines<R>>
-        ensures { IfOk result (λ lines. lines.number ≡ 0) }
+        ensures fresh { IfOk result (λ lines. lines.number ≡ 0) }
+        ensures all { IfOk result (λ lines. lines_left lines ≡ lines_of (R.remaining reader)) }
     {
         let line = Vec::with_capacity(alloc, LINE_MAX)?;
         let source = BufReader::new(alloc, reader)?;
@@ -56,8 +60,14 @@ impl<R: Read + Drop> Lines<R> {
         !self.is_at_end && self.source.buffer().is_empty()
     }
 
-    /// Goes on to the next line, or says that there is none.
+    /// Goes on to the next line, or says that there is none. Where the reader tells its bytes, the line is the first of those that
+    /// were left, and there is none exactly where none was left.
     pub fn advance(&mut self) -> Result<bool, Fault>
+        ensures taken { IfOk result (λ more. Took (lines_left self.old) (lines_left self.new)
+            (if more then self.new.line.items ∷ [] else [])) }
+        ensures all_taken { IfOk result (λ more. more ≡ false → IsAllTaken (lines_left self.new)) }
+        ensures stops { IfErr result (StopsAt (lines_left self.old)) }
+
         ensures next { IfOk result (λ more. self.new.number ≡ self.old.number + (if more then 1 else 0)) }
         ensures ended { IfOk result (λ more. more ≡ false → self.new.is_at_end ≡ true) }
         ensures begun { (self.old.number ≤ self.new.number) × (self.new.number ≤ self.old.number + 1) }
@@ -97,7 +107,11 @@ impl<R: Read + Drop> Lines<R> {
 
 // Whether the input ends here.
 fn is_at_end<R: Read + Drop>(source: &mut BufReader<R>, was_at_end: bool) -> Result<bool, FaultKind>
-    ensures { IfErr result (λ kind. kind ≡ FaultKind.ReadFault) }
+    ensures kept { OnOk result (Keeps (reader_remaining R.remaining source.old) (reader_remaining R.remaining source.new)) }
+    ensures end { IfOk result (λ ended. ended ≡ true → IsAtEnd (bytes_left was_at_end (reader_remaining R.remaining source.old))) }
+    ensures more { IfOk result (λ ended. ended ≡ false
+        → (was_at_end ≡ false) × HasBytes (reader_remaining R.remaining source.old)) }
+    ensures fault { IfErr result (λ kind. kind ≡ FaultKind.ReadFault) }
 {
     if was_at_end {
         return Ok(true);
@@ -108,12 +122,15 @@ fn is_at_end<R: Read + Drop>(source: &mut BufReader<R>, was_at_end: bool) -> Res
     }
 }
 
-// Reads up to the end of a line, and says whether the input ended there.
+// Reads up to the end of a line that has begun, and says whether the input ended there.
 fn read_line<R: Read + Drop>(
     source: &mut BufReader<R>,
     line: &mut Vec<u8>,
 ) -> Result<bool, FaultKind>
     requires { IsLine line.old.items }
+    ensures taken { IfOk result (IsLineOf (prepend_known line.old.items (reader_remaining R.remaining source.old))
+        (reader_remaining R.remaining source.new) line.new.items) }
+    ensures told { IfErr result (IsToldOfNext (lines_of (prepend_known line.old.items (reader_remaining R.remaining source.old)))) }
     ensures whole { IsLine line.new.items }
     ensures few { IfErr result (λ kind. kind ≢ FaultKind.TooManyLines) }
 {
@@ -122,7 +139,8 @@ fn read_line<R: Read + Drop>(
             return Ok(is_at_end);
         }
     }
-    Err(FaultKind::LineTooLong)
+    // Each turn adds a byte to the line.
+    unreachable!()
 }
 
 // Reads what is buffered of a line. Where the line ends there, says whether the input does.
@@ -131,6 +149,13 @@ fn read_part<R: Read + Drop>(
     line: &mut Vec<u8>,
 ) -> Result<Option<bool>, FaultKind>
     requires { IsLine line.old.items }
+    ensures taken { IfOk result (λ end. MatchOption end
+        (Keeps (prepend_known line.old.items (reader_remaining R.remaining source.old))
+        (prepend_known line.new.items (reader_remaining R.remaining source.new)))
+        (IsLineOf (prepend_known line.old.items (reader_remaining R.remaining source.old))
+        (reader_remaining R.remaining source.new) line.new.items)) }
+    ensures longer { IfOk result (λ end. end ≡ None → vec_len line.old < vec_len line.new) }
+    ensures told { IfErr result (IsToldOfNext (lines_of (prepend_known line.old.items (reader_remaining R.remaining source.old)))) }
     ensures whole { IsLine line.new.items }
     ensures few { IfErr result (λ kind. kind ≢ FaultKind.TooManyLines) }
 {
@@ -147,12 +172,20 @@ fn read_part<R: Read + Drop>(
 
 // The bytes before the one that ends a line, and whether there is one.
 fn part_of(bytes: &[u8]) -> (&[u8], bool)
-    ensures { length result.0.now + (if result.1 then 1 else 0) ≤ length bytes.now }
+    ensures parts { IsPart bytes.now result.0.now result.1 }
+    ensures room { length result.0.now + (if result.1 then 1 else 0) ≤ length bytes.now }
 {
-    match bytes.iter().position(|byte| *byte == b'\n') {
+    match end_in(bytes) {
         Some(end) => (&bytes[..end], true),
         None => (bytes, false),
     }
+}
+
+// Where the first of the bytes is that ends a line.
+fn end_in(bytes: &[u8]) -> Option<usize>
+    ensures { result ≡ position (λ byte. byte == 10) bytes.now }
+{
+    bytes.iter().position(|byte| *byte == b'\n')
 }
 
 // Adds a part to a line. Of what fits, each byte has to be a printable character.

@@ -165,7 +165,7 @@ fn capacity(arguments: &[&str]) -> Option<Order>
 }
 
 fn read(arguments: &[&str]) -> Option<Order>
-    ensures { Gives (HasSectors (IsNumberOf 32) arguments.now) (AsksRead arguments.now) result }
+    ensures { Gives (HasSectors (IsNumberOf 32) arguments.now) (AsksRead 0x28 arguments.now) result }
 {
     let span = sectors(arguments)?;
     let lba = u32::try_from(span.lba).ok()?;
@@ -174,7 +174,7 @@ fn read(arguments: &[&str]) -> Option<Order>
 }
 
 fn read_16(arguments: &[&str]) -> Option<Order>
-    ensures { Gives (HasSectors IsNumber arguments.now) (AsksRead arguments.now) result }
+    ensures { Gives (HasSectors IsNumber arguments.now) (AsksRead 0x88 arguments.now) result }
 {
     let span = sectors(arguments)?;
     let cdb = blocks::read_16(span.lba, span.count);
@@ -182,7 +182,7 @@ fn read_16(arguments: &[&str]) -> Option<Order>
 }
 
 fn write(arguments: &[&str]) -> Option<Order>
-    ensures { Gives (HasWritten (IsNumberOf 32) arguments.now) (AsksWrite arguments.now) result }
+    ensures { Gives (HasWritten (IsNumberOf 32) arguments.now) (AsksWrite 0x2A arguments.now) result }
 {
     let to = written_in(arguments)?;
     let lba = u32::try_from(to.span.lba).ok()?;
@@ -191,7 +191,7 @@ fn write(arguments: &[&str]) -> Option<Order>
 }
 
 fn write_16(arguments: &[&str]) -> Option<Order>
-    ensures { Gives (HasWritten IsNumber arguments.now) (AsksWrite arguments.now) result }
+    ensures { Gives (HasWritten IsNumber arguments.now) (AsksWrite 0x8A arguments.now) result }
 {
     let to = written_in(arguments)?;
     let cdb = blocks::write_16(to.span.lba, to.span.count, to.fua);

@@ -1,9 +1,11 @@
 // Runs a script.
-ghost use Rattle.std.specs.Prelude.{◌≡◌, ◌≢◌, ◌≤◌, max, true, None, Err, IfErr, OnOk};
+ghost use Rattle.std.specs.Prelude.{◌≡◌, ◌≢◌, ◌≤◌, ◌⊎◌, max, true, None, Err, IfErr, OnOk};
 ghost use Rattle.ar_extents.specs.Changes.{start_fault};
-ghost use Rattle.ar_script.specs.Lines.{IsNumbered, IsReached, Ends, is_write_fault as tells_write_fault};
-ghost use Rattle.ar_script.specs.Orders.{MeetsLine};
-ghost use Rattle.ar_script.specs.Plays.{Plays, PlaysTo, HasPlayed};
+ghost use Rattle.ar_script.specs.Left.{lines_left};
+ghost use Rattle.ar_script.specs.Lines.{lines_of, IsNumbered, IsReached, Ends, is_write_fault as tells_write_fault};
+ghost use Rattle.ar_script.specs.Orders.{IsLost, MeetsLine};
+ghost use Rattle.ar_script.specs.Forms.{ReadsLine};
+ghost use Rattle.ar_script.specs.Plays.{PlaysScript, PlaysTo, HasPlayed};
 ghost use Rattle.ar_script.specs.Setups.{disks_of};
 
 use crate::lines::Lines;
@@ -30,7 +32,8 @@ pub struct Setup {
 /// Runs a script on a new array whose disks are in memory: reads the lines and writes text for each that asks for
 /// something. The first fault ends it, and all answers to the lines before it are written. Both sides are buffered;
 /// what was answered is written before more is read. So a write fault names the line that was reached, and the answers
-/// that were lost may be those of earlier lines.
+/// that were lost may be those of earlier lines. What the array met are the first of the reader's lines, each once and in
+/// their order, and without a fault all of them; a line's fault is one that the line has.
 pub fn run_script<R: Read + Drop, W: Write + Drop>(
     alloc: Global,
     reader: R,
@@ -38,7 +41,7 @@ pub fn run_script<R: Read + Drop, W: Write + Drop>(
     setup: Setup,
 ) -> Result<(), Fault>
     ensures begun { result ≢ Err Fault.Start → (setup.cache ≤ 65536) × (start_fault (disks_of setup) ≡ None) }
-    ensures played { result ≢ Err Fault.Start → HasPlayed (disks_of setup) setup.cache }
+    ensures played { result ≢ Err Fault.Start → HasPlayed (disks_of setup) setup.cache (lines_of (R.remaining reader)) result }
     ensures numbered { IfErr result IsNumbered }
 {
     let mut runner = Runner::start(alloc, setup)?;
@@ -53,7 +56,7 @@ fn run_on<R: Read + Drop, W: Write + Drop>(
     reader: R,
     writer: W,
 ) -> Result<(), Fault>
-    ensures plays { Plays runner.old runner.new }
+    ensures plays { PlaysScript (lines_of (R.remaining reader)) result runner.old runner.new }
     ensures numbered { IfErr result IsNumbered }
 {
     let Ok(mut lines) = Lines::new(alloc, reader) else {
@@ -70,7 +73,7 @@ fn write_answers<R: Read + Drop, W: Write + Drop>(
     writer: W,
 ) -> Result<(), Fault>
     requires fresh { lines.old.number ≡ 0 }
-    ensures plays { Plays runner.old runner.new }
+    ensures plays { PlaysScript (lines_left lines.old) result runner.old runner.new }
     ensures numbered { IfErr result IsNumbered }
 {
     let Ok(mut out) = BufWriter::new(alloc, writer) else {
@@ -99,7 +102,7 @@ fn run_lines<R: Read + Drop, W: Write + Drop>(
     out: &mut BufWriter<W>,
 ) -> Result<(), Fault>
     requires fresh { lines.old.number ≡ 0 }
-    ensures plays { PlaysTo runner.old runner.new lines.new.number result }
+    ensures plays { PlaysTo (lines_left lines.old) result runner.old runner.new lines.new.number }
     ensures ended { OnOk result (lines.new.is_at_end ≡ true) }
     ensures reached { IfErr result (IsReached lines.new.number) }
     ensures numbered { IfErr result IsNumbered }
@@ -112,8 +115,9 @@ fn run_lines<R: Read + Drop, W: Write + Drop>(
         if !lines.advance()? {
             return Ok(());
         }
-        let number = lines.number();
-        answer_line(alloc, runner, lines, out).map_err(|kind| fault_at(number, kind))?;
+        if let Err(kind) = answer_line(alloc, runner, lines, out) {
+            return Err(fault_at(lines.number(), kind));
+        }
     }
     Ok(())
 }
@@ -126,6 +130,7 @@ fn answer_line<R: Read + Drop, W: Write + Drop>(
     out: &mut BufWriter<W>,
 ) -> Result<(), FaultKind>
     ensures meets { MeetsLine lines.now.line.items runner.old result runner.new }
+    ensures told { IfErr result (λ kind. IsLost kind ⊎ ReadsLine lines.now.line.items (Err kind)) }
     ensures few { IfErr result (λ kind. kind ≢ FaultKind.TooManyLines) }
 {
     match order_in(alloc, lines.line())? {

@@ -1,5 +1,6 @@
-use Rattle.ar_script.proofs.Playing.{none_played}
+use Rattle.ar_script.specs.Lines.{lines_of}
+use Rattle.ar_script.proofs.Ending.{none_begun}
 use Rattle.ar_script.proofs.run.run_on.Goals as goal
 
 pub returns-in_default-clause-plays : goal.returns-in_default-clause-plays
-returns-in_default-clause-plays g c = none_played c.args.runner.now
+returns-in_default-clause-plays g c = none_begun (lines_of (g.R.Read.remaining c.args.reader)) c.args.runner.now c.fault_at.result c.fault_at.ensures.same

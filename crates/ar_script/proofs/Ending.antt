@@ -1,0 +1,210 @@
+-- The lines of a script, taken one after another, and how it ends.
+use Rattle.std.proofs.Common.{◌≡◌, ◌≢◌, ◌⊎◌, inl, inr, ℕ, suc, ◌+◌, ◌-◌, ◌<◌, ◌≤◌, max, Bool, true, false, cond, List, [], ◌∷◌, ◌++◌, length, take, get_or, Option, Some, None, Result, Ok, Err, IfErr, refl, sym, ap, subst, ◌∙◌, append_assoc, append-nil, length-append, le_refl, IsErr, arith}
+use Rattle.std.proofs.Math.Seq.{take-append_seam}
+use Rattle.std.proofs.lemmas.List.{get_or-append_right}
+use Rattle.ar_image.specs.Image.{ArrayState}
+use Rattle.ar_script.specs.declared.fault.Fault.{Fault}
+use Rattle.ar_script.specs.declared.fault.Fault.TheVariants.{Start, Line}
+use Rattle.ar_script.specs.declared.fault.FaultKind.{FaultKind}
+use Rattle.ar_script.specs.declared.fault.FaultKind.TheVariants.{TooManyLines, NoMemory, WriteFault}
+use Rattle.ar_script.specs.Forms.{ReadsLine}
+use Rattle.ar_script.specs.Lines.{Took, IsAllTaken, first_of, line_at, line_fault, IsOutside, IsToldOfNext, StopsAt, IsNumbered, IsOfLine}
+use Rattle.ar_script.specs.Orders.{IsLost, Meets, MeetsLine}
+use Rattle.ar_script.specs.Plays.{AreFirst, AreAll, IsSo, PlaysScript, PlaysAll, PlaysTo}
+use Rattle.ar_script.proofs.Playing.{none_played, met_all, met_or_not}
+
+-- ---- lines that were taken
+
+took_none : (script : Option (List (List ℕ))) → Took script script []
+took_none None = tt
+took_none (Some lines) = refl
+
+took_more : (script left rest : Option (List (List ℕ))) (lines more : List (List ℕ)) → Took script left lines → Took left rest more → Took script rest (lines ++ more)
+took_more None left rest lines more before next = tt
+took_more (Some all) None rest lines more before next = absurd before
+took_more (Some all) (Some left) None lines more before next = absurd next
+took_more (Some all) (Some left) (Some rest) lines more before next =
+    before ∙ ap (λ (l : List (List ℕ)). lines ++ l) next ∙ sym (append_assoc lines more rest)
+
+taken_first : (script left : Option (List (List ℕ))) (lines : List (List ℕ)) → Took script left lines → AreFirst script lines
+taken_first None left lines took = tt
+taken_first (Some all) None lines took = absurd took
+taken_first (Some all) (Some left) lines took = sym (ap (λ (l : List (List ℕ)). take (length lines) l) took ∙ take-append_seam lines left)
+
+taken_all : (script left : Option (List (List ℕ))) (lines : List (List ℕ)) → Took script left lines → IsAllTaken left → AreAll script lines
+taken_all None left lines took none = tt
+taken_all (Some all) None lines took none = absurd took
+taken_all (Some all) (Some left) lines took none = sym (took ∙ ap (λ (l : List (List ℕ)). lines ++ l) none ∙ append-nil lines)
+
+-- ---- what is told
+
+first_at : (lines : List (List ℕ)) → get_or lines 0 [] ≡ first_of lines
+first_at [] = refl
+first_at (line ∷ lines) = refl
+
+-- the line after those that were taken
+next_at : (script lines left : List (List ℕ)) (n : ℕ) → script ≡ lines ++ left → length lines ≡ n → line_at script (n + 1) ≡ first_of left
+next_at script lines left n took count =
+    let here : n + 1 - 1 ≡ n = omega arith in
+    let front : n - n ≡ 0 = omega arith in
+    ap (λ i. get_or script i []) here ∙ ap (λ (l : List (List ℕ)). get_or l n []) took ∙ get_or-append_right lines left n n [] count (le_refl n)
+    ∙ ap (λ i. get_or left i []) front ∙ first_at left
+
+some_more : (lines left : List (List ℕ)) (n : ℕ) → length lines ≡ n → left ≢ [] → n < length (lines ++ left)
+some_more lines [] n count some = absurd (some refl)
+some_more lines (line ∷ left) n count some = omega (arith, length-append lines (line ∷ left))
+
+so_outside : (script : Option (List (List ℕ))) (n : ℕ) (kind : FaultKind) → IsOutside kind → IsSo script n kind
+so_outside None n kind is = tt
+so_outside (Some lines) n kind is = inl is
+
+-- a line that couldn't be taken
+so_next : (script left : Option (List (List ℕ))) (lines : List (List ℕ)) (n : ℕ) (kind : FaultKind) → Took script left lines → length lines ≡ n
+    → (kind ≡ TooManyLines → n + 1 ≡ 1000001) → IsToldOfNext left kind → IsSo script (n + 1) kind
+so_next None left lines n kind took count many told = tt
+so_next (Some all) None lines n kind took count many told = absurd took
+so_next (Some all) (Some left) lines n kind took count many told =
+    elim told [
+      | inl outside ↦ inl outside
+      | inr other ↦ elim other [
+        | inl fault ↦ inr (inl (ap line_fault (next_at all lines left n took count) ∙ fault))
+        | inr over ↦ inr (inr (inr (over.0, too_many over.1 (many over.0))))
+      ]
+    ]
+  where
+    too_many : left ≢ [] → n + 1 ≡ 1000001 → 1000000 < length all
+    too_many some is = let more = some_more lines left n count some in let same = ap (λ (l : List (List ℕ)). length l) took in omega arith
+
+-- a line that says nothing that can be asked for
+so_said : (script left rest : Option (List (List ℕ))) (lines : List (List ℕ)) (line : List ℕ) (n : ℕ) (kind : FaultKind) → Took script left lines → length lines ≡ n
+    → Took left rest (line ∷ []) → ReadsLine line (Err kind) → IsSo script (n + 1) kind
+so_said None left rest lines line n kind took count next says = tt
+so_said (Some all) None rest lines line n kind took count next says = absurd took
+so_said (Some all) (Some left) None lines line n kind took count next says = absurd next
+so_said (Some all) (Some left) (Some rest) lines line n kind took count next says =
+    let same : line ≡ line_at all (n + 1) = sym (next_at all lines left n took count ∙ ap first_of next) in
+    inr (inr (inl (subst (λ (l : List ℕ). ReadsLine l (Err kind)) same says)))
+
+so_answered : (script left rest : Option (List (List ℕ))) (lines : List (List ℕ)) (line : List ℕ) (n : ℕ) (kind : FaultKind) → Took script left lines → length lines ≡ n
+    → Took left rest (line ∷ []) → IsLost kind ⊎ ReadsLine line (Err kind) → IsSo script (n + 1) kind
+so_answered script left rest lines line n kind took count next told =
+    elim told [
+      | inl lost ↦ so_outside script (n + 1) kind (elim lost [ inl memory ↦ inl memory | inr write ↦ inr (inr write) ])
+      | inr says ↦ so_said script left rest lines line n kind took count next says
+    ]
+
+-- ---- one line after another
+
+pub plays_none : (script : Option (List (List ℕ))) (s : ArrayState) → PlaysAll script script s s 0
+plays_none script s = record { lines = []; plays = none_played s; all = refl; took = took_none script }
+
+one_taken : (lines : List (List ℕ)) (line : List ℕ) (n : ℕ) → length lines ≡ n → length (lines ++ line ∷ []) ≡ suc n
+one_taken lines line n is = let more = length-append lines (line ∷ []) in omega arith
+
+pub plays_line : (script left rest : Option (List (List ℕ))) (old mid new : ArrayState) (n : ℕ) (line : List ℕ) (answer : Result (Unit {0}) FaultKind)
+    → PlaysAll script left old mid n → Took left rest (line ∷ []) → answer ≡ Ok tt → MeetsLine line mid answer new → PlaysAll script rest old new (suc n)
+plays_line script left rest old mid new n line answer before next is line_met = record {
+  lines = before.lines ++ line ∷ [];
+  plays = met_all before.lines old mid new line line_met.0 before.plays line_met.1
+      (subst (λ (r : Result (Unit {0}) FaultKind). Meets line_met.0 mid r new) is line_met.2);
+  all = one_taken before.lines line n before.all;
+  took = took_more script left rest before.lines (line ∷ []) before.took next;
+}
+
+-- ---- how a script ends
+
+-- after the last line
+pub plays_ended : (script left rest : Option (List (List ℕ))) (old new : ArrayState) (n begun : ℕ) → PlaysAll script left old new n → Took left rest [] → IsAllTaken rest
+    → begun ≡ n → PlaysTo script (Ok tt) old new begun
+plays_ended script left rest old new n begun done next none same =
+    let took = took_more script left rest done.lines [] done.took next in
+    let took_all : Took script rest done.lines = subst (λ (l : List (List ℕ)). Took script rest l) (append-nil done.lines) took in
+    record {
+      plays = record {
+        lines = done.lines;
+        plays = done.plays;
+        first = taken_first script rest done.lines took_all;
+        whole = taken_all script rest done.lines took_all none;
+        told = tt;
+      };
+      few = (let all = done.all in omega arith);
+      most = (let all = done.all in omega arith);
+    }
+
+near : (met n m : ℕ) → met ≡ n → (m ≡ n) ⊎ (m ≡ n + 1) → (m ≡ met) ⊎ (m ≡ met + 1)
+near met n m same is = subst (λ k. (m ≡ k) ⊎ (m ≡ k + 1)) (sym same) is
+
+-- at a fault that is told of the last line that was met, or of the next
+pub plays_stopped : (script left : Option (List (List ℕ))) (old new : ArrayState) (n begun m : ℕ) (kind : FaultKind) (fault : Fault) → PlaysAll script left old new n
+    → fault ≡ Line m kind → (m ≡ n) ⊎ (m ≡ n + 1) → IsSo script m kind → n ≤ begun → begun ≤ n + 1 → PlaysTo script (Err fault) old new begun
+plays_stopped script left old new n begun m kind fault done is after so few most =
+    subst (λ (f : Fault). PlaysTo script (Err f) old new begun) (sym is)
+    (record {
+      plays = record {
+        lines = done.lines;
+        plays = done.plays;
+        first = taken_first script left done.lines done.took;
+        whole = tt;
+        told = (near (length done.lines) n m done.all after, so);
+      };
+      few = (let all = done.all in omega arith);
+      most = (let all = done.all in omega arith);
+    })
+
+-- where the next line couldn't be taken
+unread : (script left : Option (List (List ℕ))) (old new : ArrayState) (n begun : ℕ) (fault : Fault) → PlaysAll script left old new n → StopsAt left fault → IsOfLine (n + 1) fault
+    → IsNumbered fault → n ≤ begun → begun ≤ n + 1 → PlaysTo script (Err fault) old new begun
+unread script left old new n begun Start done stops next numbered few most = absurd stops
+unread script left old new n begun (Line m kind) done stops next numbered few most =
+    let so = so_next script left done.lines n kind done.took done.all (λ many. sym next ∙ numbered.2 many) stops in
+    plays_stopped script left old new n begun m kind (Line m kind) done refl (inr next) (subst (λ k. IsSo script k kind) (sym next) so) few most
+
+pub plays_unread : (script left : Option (List (List ℕ))) (old new : ArrayState) (n begun : ℕ) (result : Result (Unit {0}) Fault) → PlaysAll script left old new n → IsErr result
+    → IfErr result (StopsAt left) → IfErr result (IsOfLine (n + 1)) → IfErr result IsNumbered → n ≤ begun → begun ≤ n + 1 → PlaysTo script result old new begun
+plays_unread script left old new n begun (Ok done) before is stops next numbered few most = absurd (cc)
+plays_unread script left old new n begun (Err fault) before is stops next numbered few most = unread script left old new n begun fault before stops next numbered few most
+
+-- where answers couldn't be written before the next line was begun
+pub plays_unwritten : (script left : Option (List (List ℕ))) (old new : ArrayState) (n number : ℕ) (fault : Fault) → PlaysAll script left old new n → number ≡ n
+    → 0 < number → fault ≡ Line (max number 1) WriteFault → PlaysTo script (Err fault) old new n
+plays_unwritten script left old new n number fault done same some is =
+    plays_stopped script left old new n n (max number 1) WriteFault fault done is (inl (omega arith)) (so_outside script (max number 1) WriteFault (inr (inr refl)))
+    (omega arith) (omega arith)
+
+-- at a line that was answered with a fault
+pub plays_fault : (script left rest : Option (List (List ℕ))) (old mid new : ArrayState) (n : ℕ) (line : List ℕ) (kind : FaultKind) (fault : Fault)
+    → PlaysAll script left old mid n → Took left rest (line ∷ []) → MeetsLine line mid (Err kind) new → IsLost kind ⊎ ReadsLine line (Err kind)
+    → fault ≡ Line (max (suc n) 1) kind → PlaysTo script (Err fault) old new (suc n)
+plays_fault script left rest old mid new n line kind fault before next line_met told is =
+    let same : max (suc n) 1 ≡ n + 1 = omega arith in
+    let so = so_answered script left rest before.lines line n kind before.took before.all next told in
+    let is_next = is ∙ ap (λ m. Line m kind) same in
+    elim (met_or_not before.lines old mid new line line_met.0 kind before.plays line_met.1 line_met.2) [
+      | inl unmet ↦
+          plays_stopped script left old new n (suc n) (n + 1) kind fault (record { lines = before.lines; plays = unmet; all = before.all; took = before.took }) is_next (inr refl) so
+          (omega arith) (omega arith)
+      | inr met ↦
+          plays_stopped script rest old new (suc n) (suc n) (n + 1) kind fault
+          (record {
+            lines = before.lines ++ line ∷ [];
+            plays = met;
+            all = one_taken before.lines line n before.all;
+            took = took_more script left rest before.lines (line ∷ []) before.took next;
+          })
+          is_next (inl (omega arith)) so (omega arith) (omega arith)
+    ]
+
+-- no line, where memory was refused before the first
+pub none_begun : (script : Option (List (List ℕ))) (s : ArrayState) (fault : Fault) → fault ≡ Line (max 1 1) NoMemory → PlaysScript script (Err fault) s s
+none_begun script s fault is =
+    (plays_stopped script script s s 0 0 1 NoMemory fault (plays_none script s) is (inr refl) (so_outside script 1 NoMemory (inl refl)) (le_refl 0) (omega arith)).plays
+
+-- ---- how many lines were begun, once one more was or none
+
+pub begun_more : (more : Bool) (old new : ℕ) → new ≡ old + cond more 1 0 → more ≡ true → new ≡ suc old
+begun_more true old new is more = omega arith
+begun_more false old new is more = absurd (cc)
+
+pub begun_same : (more : Bool) (old new : ℕ) → new ≡ old + cond more 1 0 → more ≡ false → new ≡ old
+begun_same true old new is more = absurd (cc)
+begun_same false old new is more = omega arith
