@@ -1,18 +1,17 @@
 -- The tree after each change of the book.
-use Rattle.std.proofs.Common.{◌≡◌, ◌≢◌, ℕ, zero, suc, ◌+◌, ◌-◌, ◌*◌, ◌<◌, ◌≤◌, ◌⊎◌, Bool, true, false, not, cond, eqb, Option, None, Some, IsSome, List, [], ◌∷◌, ◌++◌, length, get_or, slice_get, set, replicate, fold, refl, sym, ap, subst, ◌∙◌, inl, inr, arith, get_or-set_same, get_or-set_other}
+use Rattle.std.proofs.Common.{◌≡◌, ◌≢◌, ℕ, ◌+◌, ◌*◌, ◌<◌, ◌≤◌, Bool, true, false, not, cond, eqb, Option, None, Some, IsSome, List, [], ◌∷◌, ◌++◌, length, get_or, set, fold, refl, sym, ap, subst, ◌∙◌, inl, inr, arith, get_or-set_same, get_or-set_other}
 use Rattle.std.specs.Prelude.{nat_lt}
 use Rattle.std.specs.List.{IsDistinct, position, position_or_len}
-use Rattle.std.specs.Map.{lookup, keys_of, set_value}
-use Rattle.std.specs.Option.{unwrap_or, option_map, ForSome, MatchOption}
-use Rattle.std.proofs.lemmas.Bool.{cases_lt, cases_eq}
+use Rattle.std.specs.Map.{lookup, keys_of}
+use Rattle.std.specs.Option.{ForSome, MatchOption}
+use Rattle.std.proofs.lemmas.Bool.{cases_eq}
 use Rattle.std.proofs.lemmas.Bool.Decides.{nat_tests, Decides-ltb}
-use Rattle.std.proofs.lemmas.Option.{none-some, same_Some, slice_get-map, slice_get_within, get_or_from_slice_get}
+use Rattle.std.proofs.lemmas.Option.{none-some, same_Some, slice_get_within}
 use Rattle.std.proofs.lemmas.List.{length-set, ext_get_or}
-use Rattle.std.proofs.lemmas.List.Sums.{prefix_len_is, prefix_len-le-length}
+use Rattle.std.proofs.lemmas.List.Sums.{prefix_len-le-length}
 use Rattle.std.proofs.lemmas.List.Folds.{position_or_len_push}
 use Rattle.std.proofs.lemmas.Map.{keys-set_value}
-use Rattle.std.proofs.lemmas.Map.Keys.{apart_from_distinct}
-use Rattle.std.proofs.lemmas.Map.Entries.{place_from_lookup, length-keys_of}
+use Rattle.std.proofs.lemmas.Map.Entries.{length-keys_of}
 use Rattle.ar_disks.specs.Geometry.{rows_of}
 use Rattle.ar_disks.specs.Members.{with_member}
 use Rattle.ar_disks.specs.declared.address.Addr.{Addr}
@@ -20,19 +19,18 @@ use Rattle.ar_disks.specs.declared.address.Key.{Key}
 use Rattle.ar_disks.specs.declared.address.Place.{Place}
 use Rattle.ar_disks.specs.declared.address.Members.{Members}
 use Rattle.ar_disks.specs.declared.geometry.Geometry.{Geometry}
-use Rattle.ar_index.specs.declared.choices.Age.{Age}
 use Rattle.ar_index.specs.declared.choices.Choices.{Choices}
 use Rattle.ar_index.specs.Choices.{nothing}
 use Rattle.ar_book.specs.declared.class.Class.{Class}
-use Rattle.ar_book.specs.declared.class.Class.TheVariants.{Free}
 use Rattle.ar_book.specs.declared.class.Slot.{Slot}
-use Rattle.ar_book.specs.Tables.{GroupState, UnitState, Tables, no_group, no_unit, same_addr, group_in, unit_in, key_in, key_at, home, has_unit, HasBlock, HasSlot}
-use Rattle.ar_book.specs.Changes.{with_key, without_key, named, vacated, homed, restamped, new_unit, made, grown, unmarked, assigned, released, opened, free_group, formed, shifted}
+use Rattle.ar_book.specs.Tables.{GroupState, UnitState, Tables, same_addr, group_in, unit_in, key_at, home, HasBlock, HasSlot}
+use Rattle.ar_book.specs.Changes.{with_key, without_key, named, vacated, homed, restamped, made, grown, unmarked, opened, free_group, formed, shifted}
 use Rattle.ar_book.specs.Book.{TablesAgree}
-use Rattle.ar_book.specs.Index.{age_of, choices_in, leaves_from, leaves_of, free_leaf}
-use Rattle.ar_book.proofs.Keys.{addr_tells, addr_same, same_addr_self, same_addr_flips, make_key}
-use Rattle.ar_book.proofs.UnitLemmas.{found_in, has_by_block, unit_same, unit_other}
-use Rattle.ar_book.proofs.GroupLemmas.{there_group, named_size, named_shape, vacated_size, vacated_shape}
+use Rattle.ar_book.specs.Index.{age_of, choices_in, leaves_of, free_leaf}
+use Rattle.ar_book.proofs.Keys.{addr_tells, make_key}
+use Rattle.ar_book.proofs.UnitLemmas.{has_by_block, unit_same, unit_other}
+use Rattle.ar_book.proofs.UnitPlaces.{some_place}
+use Rattle.ar_book.proofs.GroupLemmas.{there_group, named_shape, vacated_size, vacated_shape}
 use Rattle.ar_book.proofs.KeptLemmas.{former_group}
 use Rattle.ar_book.proofs.Homes.{key_block}
 use Rattle.ar_book.proofs.AfterAssign.{assigned_stamp, assigned_order}
@@ -40,27 +38,11 @@ use Rattle.ar_book.proofs.AfterRelease.{released_stamp, released_order}
 use Rattle.ar_book.proofs.AfterMake.{made_stamp, made_order, grown_stamp, grown_order, unmarked_stamp, unmarked_order}
 use Rattle.ar_book.proofs.IndexLemmas.{leaves_length, leaf_of, refreshed, same_ages, same_choices, same_leaves, same_leaf, leaves_push}
 
--- a unit's place is the one that its entry has
-own_place : (us : List (Addr × UnitState)) (place : ℕ) (b : Addr) (u : UnitState) → IsDistinct same_addr (keys_of us) → slice_get us place ≡ Some (b, u) → position_or_len (same_addr b) (keys_of us) ≡ place
-own_place us place b u distinct at =
-    let inside : place < length us = slice_get_within us place (b, u) at in
-    let size : length (keys_of us) ≡ length us = length-keys_of us in
-    let key : slice_get (keys_of us) place ≡ Some b = slice_get-map (λ (e : Addr × UnitState). e.0) us place ∙ ap (λ o. option_map (λ (e : Addr × UnitState). e.0) o) at in
-    let here : get_or (keys_of us) place b ≡ b = get_or_from_slice_get (keys_of us) place b b key in
-    prefix_len_is (λ x. not (same_addr b x)) (keys_of us) place b (omega arith)
-    (λ k h.
-    let apart : same_addr (get_or (keys_of us) k b) (get_or (keys_of us) place b) ≡ false = apart_from_distinct same_addr (keys_of us) k place b distinct h (omega arith) in
-    ap not (same_addr_flips b (get_or (keys_of us) k b) ∙ ap (λ x. same_addr (get_or (keys_of us) k b) x) (sym here) ∙ apart))
-    (λ h. ap not (ap (λ x. same_addr b x) here ∙ same_addr_self b))
-
 -- a unit that is there has a place
 place_bound : (us : List (Addr × UnitState)) (a : Addr) → IsDistinct same_addr (keys_of us) → IsSome (lookup (same_addr a) us) → position_or_len (same_addr a) (keys_of us) < length (keys_of us)
 place_bound us a distinct there =
-    let p = place_from_lookup (same_addr a) us (unit_in us a) (found_in us a there) in
-    let same : a ≡ p.1 = addr_same a p.1 p.3 in
-    let at : slice_get us p.0 ≡ Some (a, unit_in us a) = p.2 ∙ ap (λ b. Some (b, unit_in us a)) (sym same) in
-    let inside : p.0 < length us = slice_get_within us p.0 (a, unit_in us a) at in
-    let own : position_or_len (same_addr a) (keys_of us) ≡ p.0 = own_place us p.0 a (unit_in us a) distinct at in
+    let p = some_place us a distinct there in
+    let inside : position_or_len (same_addr a) (keys_of us) < length us = slice_get_within us (position_or_len (same_addr a) (keys_of us)) (a, p.0) p.1 in
     omega (arith, length-keys_of us)
 
 -- an address that is there keeps its place where another is put behind all

@@ -1,13 +1,12 @@
 -- At which addresses a unit is after each call.
-use Rattle.std.proofs.Common.{◌≡◌, ◌≢◌, ℕ, ◌<◌, Bool, true, false, cond, not, nat_lt, nat_le, ◌||◌, ◌-◌, length, Option, Some, None, IsSome, is_some, List, ◌∷◌, [], ◌++◌, refl, sym, ap, ◌∙◌}
+use Rattle.std.proofs.Common.{◌≡◌, ◌≢◌, ℕ, Bool, true, false, cond, not, nat_lt, nat_le, ◌||◌, ◌-◌, length, Option, Some, None, is_some, List, refl, sym, ap, ◌∙◌}
 use Rattle.std.specs.Prelude.{◌==◌}
 use Rattle.std.specs.Map.{lookup, keys_of, remove_entry}
 use Rattle.std.specs.List.{list_any}
-use Rattle.std.proofs.lemmas.Bool.{cases_Bool}
 use Rattle.std.proofs.lemmas.Map.{lookup-remove_entry}
 use Rattle.std.proofs.lemmas.Map.Made.{is_some-lookup}
 use Rattle.ar_disks.specs.declared.address.Addr.{Addr}
-use Rattle.ar_book.specs.Tables.{UnitState, Tables, same_addr, has_unit, unit_in, blocks_of, room}
+use Rattle.ar_book.specs.Tables.{Tables, same_addr, has_unit, unit_in, blocks_of, room}
 use Rattle.ar_book.specs.Changes.{new_unit, made, grown, unmarked, dropped}
 use Rattle.ar_book.specs.Refusals.{make_refusal, grow_refusal}
 use Rattle.ar_book.specs.Book.{TablesAgree}

@@ -1,13 +1,12 @@
 -- The choices at the root of the tree are those of plain searches over the groups.
-use Rattle.std.proofs.Common.{◌≡◌, ◌≢◌, ℕ, zero, suc, ◌+◌, ◌-◌, ◌*◌, ◌<◌, ◌≤◌, ◌⊎◌, Bool, true, false, cond, ◌&&◌, not, Option, None, Some, is_some, IsSome, IfSome, IfNone, List, [], ◌∷◌, ◌++◌, length, take, drop, get_or, set, map, count_by, sum_by, refl, sym, ap, subst, ◌∙◌, inl, inr, true≢false, arith}
+use Rattle.std.proofs.Common.{◌≡◌, ℕ, zero, suc, ◌+◌, ◌<◌, ◌≤◌, Bool, true, false, cond, ◌&&◌, Option, None, Some, is_some, IsSome, IfSome, IfNone, List, [], ◌∷◌, length, take, drop, get_or, count_by, refl, sym, ap, subst, ◌∙◌, inl, inr, true≢false, arith}
 use Rattle.std.specs.Prelude.{nat_lt}
 use Rattle.std.specs.Option.{option_or}
 use Rattle.std.proofs.lemmas.Bool.{cases_lt, and_parts, and_from}
 use Rattle.std.proofs.lemmas.Bool.Decides.{Decides-ltb}
 use Rattle.std.proofs.lemmas.Option.{none-some, same_Some}
-use Rattle.std.proofs.lemmas.List.{length-take-le, get_or-take, get_or-drop, get_or_past}
-use Rattle.std.proofs.lemmas.List.Sums.{sum_by-take-drop, sum_by-set, sum_by-cons, count_by-le-length}
-use Rattle.ar_disks.specs.Geometry.{rows_of}
+use Rattle.std.proofs.lemmas.List.{length-take-le, get_or-take, get_or-drop}
+use Rattle.std.proofs.lemmas.List.Sums.{sum_by-take-drop, sum_by-cons, count_by-le-length}
 use Rattle.ar_disks.specs.declared.address.Key.{Key}
 use Rattle.ar_disks.specs.declared.geometry.Geometry.{Geometry}
 use Rattle.ar_index.specs.declared.choices.Age.{Age}
@@ -16,10 +15,10 @@ use Rattle.ar_index.specs.Choices.{nothing, join, search_all}
 use Rattle.ar_book.specs.declared.class.Class.{Class}
 use Rattle.ar_book.specs.declared.class.Class.TheVariants.{Free, Mirrored, Parity}
 use Rattle.ar_book.specs.declared.class.Slot.{Slot}
-use Rattle.ar_book.specs.Tables.{GroupState, Tables, group_in, key_in, key_at, class_of, slots_of, used, is_free, free_groups}
+use Rattle.ar_book.specs.Tables.{GroupState, Tables, group_in, class_of, slots_of, used, is_free, free_groups}
 use Rattle.ar_book.specs.Choices.{IsHole, IsHoleOf, IsLowestFree}
 use Rattle.ar_book.specs.Book.{TablesAgree}
-use Rattle.ar_book.specs.Index.{if_open, choices_by, choices_in, leaves_from, leaves_of, open_in}
+use Rattle.ar_book.specs.Index.{choices_by, choices_in, leaves_from, leaves_of, open_in}
 use Rattle.ar_book.proofs.CountLemmas.{all_used, none_used}
 use Rattle.ar_book.proofs.PlaceLemmas.{slots_within}
 use Rattle.ar_book.proofs.GroupLemmas.{no_free}

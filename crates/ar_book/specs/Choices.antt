@@ -1,5 +1,5 @@
 -- What the searches choose: by slot order, by the lowest number, or the oldest.
-use Rattle.std.specs.Prelude.{◌≡◌, ℕ, ◌<◌, ◌≤◌, ◌⊎◌, Bool, false, ◌&&◌, ◌||◌, ◌==◌, List, length, slice_index_or, Option, None, IsSome, IfSome, IsSomeAnd}
+use Rattle.std.specs.Prelude.{◌≡◌, ℕ, ◌<◌, ◌≤◌, ◌⊎◌, Bool, false, ◌&&◌, ◌||◌, ◌==◌, length, slice_index_or, None, IsSome}
 use Rattle.std.specs.List.{position_or_len}
 use Rattle.std.specs.Map.{keys_of}
 use Rattle.ar_disks.specs.Members.{member}
@@ -11,7 +11,7 @@ use Rattle.ar_book.specs.declared.class.Class.{Class}
 use Rattle.ar_book.specs.declared.class.Class.TheVariants.{Free, Mirrored}
 use Rattle.ar_book.specs.declared.class.Level.TheVariants.{Mirrored as MirroredLevel}
 use Rattle.ar_book.specs.declared.class.Slot.{Slot}
-use Rattle.ar_book.specs.Tables.{GroupState, UnitState, Tables, group_in, key_at, home, stamp_of, class_of, level_in, level, slots_of, same_addr, HasBlock}
+use Rattle.ar_book.specs.Tables.{Tables, group_in, key_at, home, stamp_of, class_of, level, slots_of, same_addr, HasBlock}
 
 -- slots are ordered by group, then by number in the group
 abbrev pub IsUpTo : Slot → Slot → Type 0
@@ -53,21 +53,6 @@ abbrev pub IsNoNewer : Tables → Key → Key → Type 0
 IsNoNewer t k j =
     (stamp_of t k < stamp_of t j)
     ⊎ ((stamp_of t k ≡ stamp_of t j) × ((place_of t k.addr < place_of t j.addr) ⊎ ((place_of t k.addr ≡ place_of t j.addr) × (k.rb ≤ j.rb))))
-
--- of the mirrored blocks of the units with places from the one to before the other, the one that no other is older than
-pub record IsOldestOf (t : Tables) (from to : ℕ) (o : Option Key) : Type 0 where
-  pub found : IfSome o (λ k. IsMirrored t k × (from ≤ place_of t k.addr) × (place_of t k.addr < to))
-  pub least : (j : Key) → IsMirrored t j → from ≤ place_of t j.addr → place_of t j.addr < to → IsSomeAnd o (λ k. IsNoNewer t k j)
-
--- block i of a unit stands in a mirrored group
-abbrev pub IsMirroredIn : List GroupState → UnitState → ℕ → Type 0
-IsMirroredIn groups u i = (i < length u.homes) × (level_in groups (slice_index_or u.homes i None) ≡ MirroredLevel)
-
--- of the mirrored ones among a unit's first blocks, the one with the least stamp, and of those the lowest
-pub record IsOldestIn (groups : List GroupState) (u : UnitState) (to : ℕ) (o : Option ℕ) : Type 0 where
-  pub found : IfSome o (λ i. IsMirroredIn groups u i × (i < to))
-  pub least : (j : ℕ) → IsMirroredIn groups u j → j < to
-      → IsSomeAnd o (λ i. (slice_index_or u.stamps i 0 < slice_index_or u.stamps j 0) ⊎ ((slice_index_or u.stamps i 0 ≡ slice_index_or u.stamps j 0) × (i ≤ j)))
 
 -- some block of a unit has no home
 pub record IsWaiting (t : Tables) : Type 0 where

@@ -12,16 +12,19 @@ pub const WHOLE: u64 = 1_000_000;
 /// What the SMALL disks of a store are.
 #[derive(Clone, Copy, Debug)]
 pub struct Shape {
-    /// Extents of each of the four disks: as many groups there are.
+    /// Extents of each disk. On four disks there are as many groups.
     pub extents: u16,
-    /// How many reads and writes each disk passes.
+    /// How many reads and writes the first four disks pass.
     pub fuses: [u64; 4],
+    /// How many sound disks there are beside these.
+    pub more: usize,
 }
 
 /// Four groups on sound disks.
 pub const FOUR_GROUPS: Shape = Shape {
     extents: 4,
     fuses: [WHOLE; 4],
+    more: 0,
 };
 
 /// A block of one byte throughout.
@@ -60,6 +63,9 @@ pub fn fused_disks(alloc: Global, shape: Shape) -> Result<Vec<FuseDisk>, AllocEr
     let mut disks = Vec::new(alloc);
     for calls in shape.fuses {
         disks.push(fused_disk(alloc, shape.extents, calls)?)?;
+    }
+    for _ in 0..shape.more {
+        disks.push(fused_disk(alloc, shape.extents, WHOLE)?)?;
     }
     Ok(disks)
 }

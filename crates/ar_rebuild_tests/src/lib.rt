@@ -13,3 +13,5 @@ mod mirrors;
 mod parity;
 #[cfg(test)]
 mod refusals;
+#[cfg(test)]
+mod unused;

@@ -1,32 +1,29 @@
 -- Changes of the tables that leave a store what it is.
-use Rattle.std.proofs.Common.{◌≡◌, ◌≢◌, ◌⊎◌, inl, inr, ℕ, ◌*◌, ◌<◌, List, length, Option, None, Some, refl, sym, ap, subst, ◌∙◌, true≢false, Bool, true, false}
+use Rattle.std.proofs.Common.{◌≡◌, ◌≢◌, inl, inr, ℕ, ◌<◌, List, length, Some, refl, sym, ap, subst, ◌∙◌, true≢false, Bool, true, false}
 use Rattle.std.proofs.lemmas.Option.{none-some}
 use Rattle.std.specs.List.{list_any}
 use Rattle.std.proofs.lemmas.Map.Made.{is_some-lookup}
-use Rattle.std.proofs.lemmas.Bool.Decides.{eqb_tells}
 use Rattle.ar_disks.specs.declared.address.Key.{Key}
 use Rattle.ar_disks.specs.declared.address.Addr.{Addr}
 use Rattle.ar_disks.specs.Members.{member}
-use Rattle.ar_disks.specs.Geometry.{rows_of, block_len_of}
-use Rattle.ar_disks.specs.Block.{zeros}
 use Rattle.ar_extents.specs.declared.health.Health.TheVariants.{Broken}
 use Rattle.ar_extents.specs.Set.{SetState, HasExtent}
 use Rattle.ar_extents.specs.Loose.{is_loose}
 use Rattle.ar_book.specs.declared.class.Class.{Class}
 use Rattle.ar_book.specs.declared.class.Class.TheVariants.{Free, Mirrored, Parity}
 use Rattle.ar_book.specs.declared.class.Slot.{Slot}
-use Rattle.ar_book.specs.Tables.{Tables, is_free, group_in, class_of, key_at, home, slots_of, has_unit, same_addr, HasBlock, HasSlot, free_groups}
+use Rattle.ar_book.specs.Tables.{Tables, is_free, group_in, class_of, key_at, has_unit, same_addr, HasBlock}
 use Rattle.ar_book.specs.Changes.{assigned, stamped, opened}
 use Rattle.ar_book.specs.Book.{TablesAgree}
-use Rattle.ar_book.proofs.Keys.{slot_tells, key_tells}
-use Rattle.ar_book.proofs.Homes.{home_key, key_home, key_slot, home_slot, key_block, free_empty, empty_no_home}
+use Rattle.ar_book.proofs.Keys.{slot_tells}
+use Rattle.ar_book.proofs.Homes.{home_key, free_empty}
 use Rattle.ar_book.proofs.GroupLemmas.{KeepsClass}
 use Rattle.ar_book.proofs.PlaceLemmas.{assigned_agrees}
-use Rattle.ar_book.proofs.AfterAssign.{assigned_group_count, assigned_members, assigned_class, assigned_class_named, assigned_class_here, assigned_key, assigned_key_other, assigned_key_left, assigned_home, assigned_home_other, assigned_order, assigned_sectors, assigned_attention, assigned_blocks, assigned_reserved}
+use Rattle.ar_book.proofs.AfterAssign.{assigned_group_count, assigned_members, assigned_class, assigned_class_named, assigned_class_here, assigned_key_other, assigned_key_left, assigned_home, assigned_home_other, assigned_order, assigned_sectors, assigned_attention, assigned_blocks, assigned_reserved}
 use Rattle.ar_book.proofs.AfterOpen.{opened_group_count, opened_members, opened_key, opened_class, opened_class_other, opened_agrees}
 use Rattle.ar_book.proofs.AfterStamp.{stamped_agrees, stamped_home, stamped_order, stamped_sectors, stamped_attention, stamped_homes, stamped_reserved}
-use Rattle.ar_store.specs.Store.{StoreState, members_of, class_in, store_of}
-use Rattle.ar_store.specs.Slots.{SlotHolds, HoldsBlock, stands, AllStand, OthersStand}
+use Rattle.ar_store.specs.Store.{StoreState, store_of}
+use Rattle.ar_store.specs.Slots.{SlotHolds, HoldsBlock, stands, OthersStand}
 use Rattle.ar_store.specs.Kept.{IsTaken, IsSpace}
 use Rattle.ar_store.specs.Placing.{SameUnits, IsVacant}
 use Rattle.ar_store.proofs.Standing.{stands_held, stands_same, holds_same, block_same}

@@ -1,8 +1,7 @@
 -- What slots hold and what stands in them, whatever the class of their group.
-use Rattle.std.proofs.Common.{◌≡◌, ◌≢◌, ℕ, ◌+◌, ◌*◌, ◌<◌, List, length, refl, sym, ap, subst, ◌∙◌, arith}
+use Rattle.std.proofs.Common.{◌≡◌, ◌≢◌, ℕ, ◌<◌, List}
 use Rattle.ar_disks.specs.declared.address.Members.{Members}
 use Rattle.ar_disks.specs.Members.{AreApart, AreDisjoint}
-use Rattle.ar_disks.specs.Geometry.{rows_of}
 use Rattle.ar_disks.specs.Disk.{DiskState}
 use Rattle.ar_extents.specs.declared.health.Health.TheVariants.{Broken}
 use Rattle.ar_extents.specs.Set.{SetState}

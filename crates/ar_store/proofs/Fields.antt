@@ -1,5 +1,5 @@
 -- What a store keeps of its fields, and what it shows of them.
-use Rattle.std.proofs.Common.{◌≡◌, ◌≢◌, inl, inr, ℕ, ◌<◌, ◌≤◌, List, IsSome, length, Option, None, Some, refl, sym, ap, subst, ◌∙◌, arith}
+use Rattle.std.proofs.Common.{◌≡◌, ◌≢◌, inl, inr, ℕ, ◌<◌, ◌≤◌, List, IsSome, length, None, Some, refl, sym, ap, subst, ◌∙◌, arith}
 use Rattle.ar_disks.specs.Geometry.{block_len_of}
 use Rattle.ar_disks.specs.declared.address.Key.{Key}
 use Rattle.ar_extents.specs.declared.health.Health.TheVariants.{Broken}
@@ -16,7 +16,7 @@ use Rattle.ar_book.proofs.AfterStamp.{stamped_home}
 use Rattle.ar_disks.specs.Block.{zeros}
 use Rattle.ar_book.proofs.Homes.{home_key}
 use Rattle.ar_store.specs.Store.{StoreState, store_of}
-use Rattle.ar_store.specs.Slots.{SlotHolds, stands, AllStand, OthersStand, SlotsHold}
+use Rattle.ar_store.specs.Slots.{SlotHolds, stands, AllStand, OthersStand}
 use Rattle.ar_extents.proofs.Losses.{stays_broken}
 use Rattle.ar_store.specs.declared.way.Way.{Way}
 use Rattle.ar_store.specs.declared.way.Way.TheVariants.{Home, Hole, Broken as NoWay}

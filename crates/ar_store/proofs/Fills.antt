@@ -1,5 +1,5 @@
 -- What a write to a slot and a change of a home come to.
-use Rattle.std.proofs.Common.{◌≡◌, ◌≢◌, ◌≤◌, inl, inr, ℕ, Bool, List, length, Option, None, Some, refl, sym, ap, subst, ◌∙◌, arith}
+use Rattle.std.proofs.Common.{◌≡◌, ◌≢◌, ◌≤◌, inl, inr, ℕ, Bool, List, length, Some, refl, sym, ap, subst, ◌∙◌, arith}
 use Rattle.ar_disks.specs.declared.address.Key.{Key}
 use Rattle.ar_disks.specs.declared.address.Place.{Place}
 use Rattle.ar_disks.specs.Geometry.{block_len_of}
@@ -14,10 +14,10 @@ use Rattle.ar_book.specs.declared.class.Slot.{Slot}
 use Rattle.ar_book.specs.Tables.{Tables, home, class_of, free_groups, HasBlock, HasSlot}
 use Rattle.ar_book.specs.Changes.{assigned, stamped}
 use Rattle.ar_book.proofs.AfterAssign.{assigned_free_groups, assigned_members, assigned_class_here}
-use Rattle.ar_book.proofs.Homes.{home_key, home_block}
+use Rattle.ar_book.proofs.Homes.{home_key}
 use Rattle.ar_book.proofs.Keys.{key_tells}
 use Rattle.ar_store.specs.Store.{StoreState, store_of}
-use Rattle.ar_store.specs.Slots.{SlotHolds, HoldsBlock, stands, AllStand, OthersStand, SlotsHold, OtherSlotsHold, BesideHold}
+use Rattle.ar_store.specs.Slots.{SlotHolds, HoldsBlock, stands, AllStand, OthersStand, OtherSlotsHold, BesideHold}
 use Rattle.ar_store.specs.Kept.{IsSpace}
 use Rattle.ar_store.specs.Calls.{IsAccessed}
 use Rattle.ar_store.specs.Placing.{IsVacant, SameUnits}

@@ -10,7 +10,7 @@ use Rattle.ar_disks.specs.declared.address.Members.{Members}
 use Rattle.ar_disks.proofs.Xor.{length-zeros}
 use Rattle.ar_extents.specs.declared.health.Health.TheVariants.{Broken}
 use Rattle.ar_extents.specs.Set.{SetState}
-use Rattle.ar_extents.specs.Follows.{Follows, Keeps}
+use Rattle.ar_extents.specs.Follows.{Keeps}
 use Rattle.ar_extents.specs.Groups.{IsGroup, IsOutside}
 use Rattle.ar_extents.specs.Loose.{is_loose}
 use Rattle.ar_extents.proofs.Follows.{has_extent_then}
@@ -18,21 +18,21 @@ use Rattle.ar_parity.specs.Group.{Holds as ParityHolds}
 use Rattle.ar_book.specs.declared.class.Class.{Class}
 use Rattle.ar_book.specs.declared.class.Class.TheVariants.{Free, Mirrored, Parity}
 use Rattle.ar_book.specs.declared.class.Slot.{Slot}
-use Rattle.ar_book.specs.Tables.{Tables, group_in, class_of, key_at, home, slots_of, HasSlot, free_groups}
+use Rattle.ar_book.specs.Tables.{Tables, group_in, class_of, home, free_groups}
 use Rattle.ar_book.specs.Book.{TablesAgree}
 use Rattle.ar_book.specs.Changes.{opened}
 use Rattle.ar_book.specs.Choices.{IsLowestFree}
 use Rattle.ar_book.proofs.Homes.{home_key, home_slot, key_slot}
 use Rattle.ar_book.proofs.AfterOpen.{opened_group_count, opened_members, opened_key, opened_class, opened_class_other, opened_agrees, opened_free_groups}
 use Rattle.ar_store.specs.declared.open.Opening.TheVariants.{Opened, Idle, Broken as NotOpened}
-use Rattle.ar_store.specs.Store.{StoreState, store_of}
+use Rattle.ar_store.specs.Store.{store_of}
 use Rattle.ar_store.specs.Slots.{ClassHolds, SlotHolds, HoldsBlock, stands, AllStand}
-use Rattle.ar_store.specs.Kept.{IsTaken, IsSpace}
+use Rattle.ar_store.specs.Kept.{IsSpace}
 use Rattle.ar_store.specs.Placing.{slot_at, SameUnits, MayOpen}
 use Rattle.ar_store.specs.Calls.{IsAccessed, HoldsZeros}
 use Rattle.ar_store.proofs.Classes.{class_disjoint}
 use Rattle.ar_store.proofs.Spaces.{groups_apart, slot_group}
-use Rattle.ar_store.proofs.Standing.{stands_held, stands_nowhere, was_sound, holds_same, block_same}
+use Rattle.ar_store.proofs.Standing.{stands_held, stands_nowhere, was_sound, holds_same}
 use Rattle.ar_store.proofs.Changes.{extents_same, named_apart, space_opened, all_opened, units_refl, units_opened, mirrored_not_free}
 
 -- All slots of a free group were written with zeros, and the group is opened for parity.

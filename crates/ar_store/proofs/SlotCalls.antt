@@ -1,12 +1,11 @@
 -- What the calls on a mirrored group and on one with parity do to the slots of a space.
-use Rattle.std.proofs.Common.{◌≡◌, ◌≢◌, ℕ, ◌*◌, ◌<◌, List, refl, sym, ap, subst, ◌∙◌, arith}
+use Rattle.std.proofs.Common.{◌≡◌, ◌≢◌, ℕ, ◌<◌, List, sym, subst, arith}
 use Rattle.ar_disks.specs.declared.address.Members.{Members}
-use Rattle.ar_disks.specs.Geometry.{rows_of}
 use Rattle.ar_extents.specs.declared.outcome.Outcome.{Outcome}
 use Rattle.ar_extents.specs.declared.outcome.Outcome.TheVariants.{Done, Broken}
 use Rattle.ar_extents.specs.Set.{SetState}
 use Rattle.ar_extents.specs.Groups.{IsGroup}
-use Rattle.ar_extents.specs.Follows.{Follows, Keeps, Anywhere, IsPlace}
+use Rattle.ar_extents.specs.Follows.{Keeps, Anywhere, IsPlace}
 use Rattle.ar_extents.proofs.Follows.{works_refl}
 use Rattle.ar_mirror.specs.Calls.{Gives, KeepsButSlot, OtherSlotsHold as OtherMirrorSlotsHold}
 use Rattle.ar_mirror.specs.Holds.{Holds as MirrorHolds}
@@ -17,7 +16,7 @@ use Rattle.ar_book.specs.declared.class.Class.TheVariants.{Free, Mirrored, Parit
 use Rattle.ar_book.specs.declared.class.Slot.{Slot}
 use Rattle.ar_book.specs.Tables.{Tables, slots_of, HasSlot}
 use Rattle.ar_store.specs.Store.{StoreState, store_of, members_of, class_in}
-use Rattle.ar_store.specs.Slots.{ClassHolds, SlotHolds, HoldsAny, CanWrite, IsWritten, NeedsIn, first_in, AsksFor, AllStand, OtherSlotsHold}
+use Rattle.ar_store.specs.Slots.{ClassHolds, SlotHolds, HoldsAny, CanWrite, IsWritten, NeedsIn, first_in, AsksFor, AllStand}
 use Rattle.ar_store.specs.Kept.{IsSpace}
 use Rattle.ar_store.specs.Calls.{IsAccessed, OnDone}
 use Rattle.ar_store.proofs.Classes.{mirror_written, parity_written}

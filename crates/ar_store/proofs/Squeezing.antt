@@ -1,5 +1,5 @@
 -- What the moves of a squeeze make of the tables.
-use Rattle.std.proofs.Common.{◌≡◌, ◌≢◌, inl, inr, ℕ, suc, ◌+◌, ◌*◌, ◌<◌, ◌≤◌, length, Option, None, Some, IsSome, refl, sym, ap, subst, ◌∙◌, true≢false, arith}
+use Rattle.std.proofs.Common.{◌≡◌, ◌≢◌, inl, inr, ℕ, ◌+◌, ◌*◌, ◌<◌, ◌≤◌, length, Option, None, Some, IsSome, refl, sym, ap, subst, ◌∙◌, arith}
 use Rattle.std.proofs.Math.Numerals.{suc-eq-add-one}
 use Rattle.std.proofs.lemmas.Option.{none-some, same_Some}
 use Rattle.std.proofs.lemmas.Bool.{cases_lt}
@@ -10,13 +10,12 @@ use Rattle.ar_disks.specs.declared.geometry.Geometry.TheVariants.{Paper, Small}
 use Rattle.ar_disks.specs.Geometry.{rows_of}
 use Rattle.ar_book.specs.declared.class.Class.TheVariants.{Free, Mirrored, Parity}
 use Rattle.ar_book.specs.declared.class.Slot.{Slot}
-use Rattle.ar_book.specs.Tables.{Tables, class_of, key_at, home, slots_of, HasBlock, HasSlot, free_groups}
+use Rattle.ar_book.specs.Tables.{Tables, class_of, key_at, home, slots_of, HasBlock, free_groups}
 use Rattle.ar_book.specs.Changes.{assigned, opened}
 use Rattle.ar_book.specs.Choices.{IsEmpty, IsFullMirrored, IsLowestFree}
 use Rattle.ar_book.specs.Book.{TablesAgree}
-use Rattle.ar_book.proofs.Homes.{key_home, key_block, key_slot, key_beyond}
-use Rattle.ar_book.proofs.PlaceLemmas.{assigned_agrees}
-use Rattle.ar_book.proofs.AfterAssign.{assigned_class_named, assigned_class_here, assigned_class_left, assigned_key_other, assigned_key_left, assigned_home_other, assigned_group_count}
+use Rattle.ar_book.proofs.Homes.{key_home, key_block, key_beyond}
+use Rattle.ar_book.proofs.AfterAssign.{assigned_class_named, assigned_class_here, assigned_class_left, assigned_key_other, assigned_key_left, assigned_home_other}
 use Rattle.ar_book.proofs.AfterOpen.{opened_group_count, opened_class, opened_class_other, opened_key, opened_empty, opened_free_groups}
 use Rattle.ar_extents.specs.declared.health.Health.TheVariants.{Broken}
 use Rattle.ar_store.specs.declared.space.Space.{Space}

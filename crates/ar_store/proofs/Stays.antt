@@ -1,7 +1,5 @@
 -- What calls of a space leave, one after another.
-use Rattle.std.proofs.Common.{◌≡◌, refl, sym, subst, ◌∙◌}
 use Rattle.ar_store.specs.declared.space.Space.{Space}
-use Rattle.ar_book.specs.Tables.{Tables}
 use Rattle.ar_store.specs.Slots.{AllStand}
 use Rattle.ar_store.specs.Spaces.{store_in, IsReady, Stays}
 use Rattle.ar_store.proofs.Changes.{units_refl, units_then}

@@ -1,6 +1,5 @@
 -- Where a put goes, and what that makes of the tables.
-use Rattle.std.proofs.Common.{◌≡◌, ◌≢◌, ◌⊎◌, inl, inr, ℕ, ◌<◌, ◌≤◌, Option, None, Some, refl, sym, ap, subst, ◌∙◌, true≢false, Bool, true, false, arith}
-use Rattle.std.proofs.lemmas.Option.{none-some}
+use Rattle.std.proofs.Common.{◌≡◌, ◌≢◌, ◌⊎◌, inl, inr, ℕ, ◌<◌, ◌≤◌, Option, None, Some, refl, sym, ap, subst, ◌∙◌, arith}
 use Rattle.ar_disks.specs.declared.address.Key.{Key}
 use Rattle.ar_book.specs.declared.class.Class.{Class}
 use Rattle.ar_book.specs.declared.class.Class.TheVariants.{Free, Mirrored, Parity}
@@ -19,7 +18,7 @@ use Rattle.ar_extents.specs.Set.{SetState}
 use Rattle.ar_store.specs.Store.{store_of}
 use Rattle.ar_store.specs.declared.way.Way.{Way}
 use Rattle.ar_store.specs.declared.way.Way.TheVariants.{Home, Hole, Broken}
-use Rattle.ar_store.specs.Placing.{slot_at, HasNoHole, IsLowestHole, LeadsHome, LeadsToHole, Leads, Puts, IsMirroredHole, HasNoMirroredHole, IsSqueezed, IsVacant, IsThere, IsWayIn, HasNoWay, MayOpen, IsReadyFor, placed_by, put_in}
+use Rattle.ar_store.specs.Placing.{slot_at, HasNoHole, IsLowestHole, LeadsHome, LeadsToHole, Leads, Puts, IsMirroredHole, HasNoMirroredHole, IsSqueezed, IsVacant, IsThere, IsWayIn, MayOpen, IsReadyFor, placed_by, put_in}
 
 -- the level, as a number
 rank : Level → ℕ

@@ -1,4 +1,4 @@
-use Rattle.std.proofs.Common.{◌≡◌, ◌+◌, ◌<◌, ◌∙◌, Some, None, length, take, get_or, sym, ap, arith}
+use Rattle.std.proofs.Common.{◌≡◌, ◌<◌, ◌∙◌, None, length, take, get_or, sym, ap, arith}
 use Rattle.std.specs.Option.{option_map}
 use Rattle.ar_index.specs.Choices.{older}
 use Rattle.ar_book.specs.Index.{age_of, oldest_named}

@@ -2,7 +2,6 @@ use Rattle.std.proofs.Common.{◌≡◌, map, length, sym, ap, ◌∙◌, arith}
 use Rattle.std.proofs.lemmas.List.{length-map}
 use Rattle.ar_disks.specs.Disk.{DiskState}
 use Rattle.ar_disks.specs.Geometry.{block_len_of}
-use Rattle.ar_disks.specs.declared.geometry.Geometry.{Geometry}
 use Rattle.ar_extents.specs.Set.{disk_in}
 use Rattle.ar_extents.specs.Changes.{started}
 use Rattle.ar_extents.proofs.Disks.{disk_in-read}

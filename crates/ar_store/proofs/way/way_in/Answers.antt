@@ -1,4 +1,4 @@
-use Rattle.std.proofs.Common.{◌≡◌, sym, ap, subst, ◌∙◌, inl, refl}
+use Rattle.std.proofs.Common.{sym, ◌∙◌, inl, refl}
 use Rattle.ar_store.proofs.Ways.{way_to_mirrored, way_to_parity, way_up, way_low, way_high}
 use Rattle.ar_store.proofs.way.way_in.Goals as goal
 

@@ -2,7 +2,7 @@ use Rattle.std.proofs.Common.{ℕ, List, Option}
 use Rattle.std.proofs.lemmas.List.{length-set}
 use Rattle.ar_book.specs.declared.class.Slot.{Slot}
 use Rattle.ar_book.specs.Tables.{GroupState}
-use Rattle.std.proofs.Common.{◌<◌, ◌≤◌, ◌+◌, ◌*◌, length, refl, ap, arith}
+use Rattle.std.proofs.Common.{◌<◌, ◌≤◌, ◌*◌, length, refl, ap, arith}
 use Rattle.std.specs.Option.{ForSome}
 use Rattle.ar_disks.specs.Geometry.{rows_of}
 use Rattle.ar_book.specs.Tables.{group_in}

@@ -1,7 +1,7 @@
 use Rattle.std.proofs.Common.{◌≡◌, ◌∙◌, ap, arith}
 use Rattle.std.proofs.lemmas.List.Sums.{count_by-le-length}
 use Rattle.ar_index.specs.Tree.{free_in}
-use Rattle.ar_book.specs.Tables.{Tables, GroupState, is_free, free_groups}
+use Rattle.ar_book.specs.Tables.{GroupState, is_free, free_groups}
 use Rattle.ar_book.specs.Index.{age_of}
 use Rattle.ar_book.proofs.GroupLemmas.{few_groups}
 use Rattle.ar_book.proofs.IndexLemmas.{free_leaves}

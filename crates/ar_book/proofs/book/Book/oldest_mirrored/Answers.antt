@@ -1,4 +1,4 @@
-use Rattle.std.proofs.Common.{◌≡◌, ◌∙◌, sym, ap, subst}
+use Rattle.std.proofs.Common.{◌∙◌, sym, ap, subst}
 use Rattle.ar_disks.specs.declared.address.Key.{Key}
 use Rattle.ar_index.specs.Choices.{search_all}
 use Rattle.ar_book.specs.Tables.{Tables}

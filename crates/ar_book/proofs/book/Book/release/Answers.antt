@@ -1,7 +1,6 @@
-use Rattle.std.proofs.Common.{◌≡◌, ◌<◌, ◌≤◌, ◌+◌, ◌*◌, length, refl, ap, arith}
+use Rattle.std.proofs.Common.{◌<◌, ◌≤◌, length, refl, ap, arith}
 use Rattle.std.specs.Option.{ForSome}
 use Rattle.ar_disks.specs.Geometry.{rows_of}
-use Rattle.ar_book.specs.Tables.{group_in}
 use Rattle.ar_book.specs.Changes.{vacated}
 use Rattle.ar_book.proofs.GroupLemmas.{vacated_size}
 use Rattle.ar_book.proofs.IndexLemmas.{index_length}

@@ -1,8 +1,8 @@
-use Rattle.std.proofs.Common.{◌≡◌, ◌<◌, ◌≤◌, ◌+◌, ◌*◌, ◌∙◌, Some, length, sym, ap, subst, arith}
+use Rattle.std.proofs.Common.{◌<◌, ◌≤◌, ◌∙◌, length, sym, ap, subst, arith}
 use Rattle.std.specs.Option.{ForSome}
 use Rattle.ar_disks.specs.Geometry.{rows_of}
 use Rattle.ar_book.specs.contracts.book.Book.{the_view}
-use Rattle.ar_book.specs.Tables.{Tables, HasBlock, group_in}
+use Rattle.ar_book.specs.Tables.{Tables, HasBlock}
 use Rattle.ar_book.proofs.GroupLemmas.{there_group}
 use Rattle.ar_book.proofs.UnitChanges.{restamped_kept, stamps_long}
 use Rattle.ar_book.proofs.IndexLemmas.{index_length}

@@ -1,4 +1,4 @@
-use Rattle.std.proofs.Common.{◌≡◌, ◌≤◌, sym, refl, ap, subst, ◌∙◌, arith}
+use Rattle.std.proofs.Common.{sym, ap, subst, ◌∙◌}
 use Rattle.ar_book.specs.Tables.{Tables, HasBlock}
 use Rattle.ar_book.specs.Changes.{assigned}
 use Rattle.ar_extents.proofs.Outcomes.{done_sound, broken_is}

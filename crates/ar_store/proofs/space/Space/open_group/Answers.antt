@@ -1,15 +1,10 @@
-use Rattle.std.proofs.Common.{◌≡◌, inl, inr, sym, refl, ap, ◌∙◌}
-use Rattle.ar_disks.specs.declared.address.Key.{Key}
+use Rattle.std.proofs.Common.{inl, inr, sym, refl, ap, ◌∙◌}
 use Rattle.ar_extents.proofs.Outcomes.{done_sound, broken_is}
 use Rattle.ar_extents.specs.Groups.{IsMember}
-use Rattle.ar_book.specs.declared.class.Class.{Class}
-use Rattle.ar_book.specs.declared.class.Class.TheVariants.{Free, Mirrored, Parity}
-use Rattle.ar_book.specs.Tables.{Tables, home, free_groups}
+use Rattle.ar_book.specs.Tables.{Tables, home}
 use Rattle.ar_book.specs.Changes.{opened}
 use Rattle.ar_store.specs.Store.{store_of}
 use Rattle.ar_store.specs.Calls.{IsAccessed}
-use Rattle.ar_store.specs.Spaces.{Stays}
-use Rattle.ar_store.proofs.Options.{some_is}
 use Rattle.ar_store.proofs.Changes.{mirrored_not_parity}
 use Rattle.ar_store.proofs.Openings.{zeroed, opened_group, opened_there, opened_free, after_opening, class_mirrored, not_many, opened_not_broken, idle_not_broken}
 use Rattle.ar_store.proofs.Fills.{accessed_refl, accessed_work}

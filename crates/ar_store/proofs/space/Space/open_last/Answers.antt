@@ -1,4 +1,4 @@
-use Rattle.std.proofs.Common.{◌≡◌, sym, ◌∙◌}
+use Rattle.std.proofs.Common.{sym, ◌∙◌}
 use Rattle.ar_extents.specs.Groups.{IsMember}
 use Rattle.ar_book.specs.declared.class.Class.TheVariants.{Parity}
 use Rattle.ar_store.specs.Calls.{IsAccessed}

@@ -1,8 +1,6 @@
-use Rattle.std.proofs.Common.{◌*◌, ◌<◌, length, ◌≡◌, ◌≢◌, sym, subst, ap, ◌∙◌, refl}
+use Rattle.std.proofs.Common.{◌*◌, ◌<◌, sym, subst, ap, ◌∙◌, refl}
 use Rattle.ar_disks.specs.Geometry.{block_len_of}
 use Rattle.ar_book.specs.Tables.{Tables}
-use Rattle.ar_book.specs.Changes.{opened}
-use Rattle.ar_book.specs.declared.class.Class.TheVariants.{Parity}
 use Rattle.ar_extents.proofs.Outcomes.{broken_is}
 use Rattle.ar_store.specs.Placing.{CanMove}
 use Rattle.ar_store.proofs.Stays.{stays_then, all_then}

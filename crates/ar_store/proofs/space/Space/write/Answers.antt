@@ -1,4 +1,4 @@
-use Rattle.std.proofs.Common.{◌≡◌, ◌≤◌, sym, refl, ap, subst, ◌∙◌, arith}
+use Rattle.std.proofs.Common.{◌≤◌, sym, ap, subst, ◌∙◌}
 use Rattle.ar_book.specs.Tables.{Tables, free_groups}
 use Rattle.ar_book.specs.Changes.{stamped}
 use Rattle.ar_store.specs.Spaces.{store_in}

@@ -1,7 +1,7 @@
-use Rattle.std.proofs.Common.{◌≡◌, sym, refl, ◌∙◌}
+use Rattle.std.proofs.Common.{sym, refl, ◌∙◌}
 use Rattle.ar_extents.specs.Groups.{IsMember}
 use Rattle.ar_mirror.specs.Calls.{IsInPair}
-use Rattle.ar_book.specs.declared.class.Class.TheVariants.{Free, Mirrored, Parity}
+use Rattle.ar_book.specs.declared.class.Class.TheVariants.{Mirrored, Parity}
 use Rattle.ar_store.specs.Calls.{IsAccessed}
 use Rattle.ar_store.specs.Spaces.{store_in}
 use Rattle.ar_store.proofs.Changes.{units_refl}

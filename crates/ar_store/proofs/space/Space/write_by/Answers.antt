@@ -1,10 +1,9 @@
-use Rattle.std.proofs.Common.{◌≡◌, ◌≤◌, sym, refl, ap, subst, ◌∙◌, arith}
+use Rattle.std.proofs.Common.{sym, refl, ap, subst, ◌∙◌}
 use Rattle.ar_book.specs.Tables.{Tables}
 use Rattle.ar_book.proofs.Homes.{home_slot}
 use Rattle.ar_extents.specs.Groups.{outcome_of}
 use Rattle.ar_extents.proofs.Outcomes.{done_sound}
 use Rattle.ar_store.specs.declared.way.Way.{Way}
-use Rattle.ar_store.specs.declared.way.Way.TheVariants.{Home}
 use Rattle.ar_store.specs.Store.{StoreState, store_of}
 use Rattle.ar_store.specs.Slots.{stands, OtherSlotsHold, OthersStand, SlotHolds}
 use Rattle.ar_store.specs.Kept.{IsSpace}

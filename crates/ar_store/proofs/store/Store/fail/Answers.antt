@@ -1,4 +1,4 @@
-use Rattle.std.proofs.Common.{◌≡◌, refl, sym, ap, subst, ◌∙◌}
+use Rattle.std.proofs.Common.{refl, subst}
 use Rattle.ar_extents.specs.Set.{SetState}
 use Rattle.ar_extents.specs.Changes.{failed}
 use Rattle.ar_store.specs.Store.{StoreState, store_of}

@@ -1,4 +1,4 @@
-use Rattle.std.proofs.Common.{◌≡◌, IsSome, refl, sym, ap, subst, ◌∙◌}
+use Rattle.std.proofs.Common.{IsSome, refl, sym, ap, subst, ◌∙◌}
 use Rattle.ar_extents.specs.Groups.{outcome_of}
 use Rattle.ar_book.specs.Tables.{home}
 use Rattle.ar_store.specs.Store.{StoreState}

@@ -1,4 +1,4 @@
-use Rattle.std.proofs.Common.{◌≡◌, inl, sym, ap, subst, ◌∙◌, refl}
+use Rattle.std.proofs.Common.{inl, sym, ap, ◌∙◌, refl}
 use Rattle.ar_store.specs.Store.{StoreState}
 use Rattle.ar_store.proofs.Standing.{was_sound}
 use Rattle.ar_store.proofs.Changes.{units_refl}

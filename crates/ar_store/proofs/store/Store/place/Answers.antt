@@ -1,4 +1,4 @@
-use Rattle.std.proofs.Common.{◌≡◌, ◌≢◌, refl, sym, ap, subst, ◌∙◌, arith}
+use Rattle.std.proofs.Common.{◌≢◌, refl, sym, ap, subst, ◌∙◌, arith}
 use Rattle.ar_disks.specs.Block.{zeros}
 use Rattle.ar_disks.specs.Geometry.{block_len_of}
 use Rattle.ar_extents.specs.declared.health.Health.TheVariants.{Broken}

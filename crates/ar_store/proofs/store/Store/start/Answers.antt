@@ -1,4 +1,4 @@
-use Rattle.std.proofs.Common.{◌≡◌, List, Option, None, Some, Result, IfErr, OnOk, map, length, refl, sym, ap, subst, ◌∙◌}
+use Rattle.std.proofs.Common.{◌≡◌, List, Option, IfErr, map, refl, sym, ap, subst, ◌∙◌}
 use Rattle.std.specs.Option.{unwrap_or}
 use Rattle.ar_disks.specs.Disk.{DiskState}
 use Rattle.ar_disks.specs.Geometry.{block_len_of}
