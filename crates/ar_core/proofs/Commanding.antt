@@ -1,5 +1,5 @@
 -- A command to one address, and the images of all.
-use Rattle.std.proofs.Common.{◌≡◌, ◌≢◌, ℕ, Bool, true, false, cond, ◌&&◌, not, IsTrue, Option, Some, None, is_some, List, [], ◌∷◌, length, take, Ok, refl, sym, ap, subst, ◌∙◌, inl, inr}
+use Rattle.std.proofs.Common.{◌≡◌, ◌≢◌, ◌≤◌, ◌*◌, ℕ, Bool, true, false, cond, ◌&&◌, not, IsTrue, Option, Some, None, is_some, List, [], ◌∷◌, length, take, Ok, refl, sym, ap, subst, ◌∙◌, inl, inr}
 use Rattle.std.specs.Prelude.{◌==◌}
 use Rattle.std.specs.Map.{lookup}
 use Rattle.std.specs.Option.{unwrap_or}
@@ -12,6 +12,7 @@ use Rattle.ar_scsi.specs.Field.{operation_code, allocation_length}
 use Rattle.ar_scsi.specs.Reading.{reading}
 use Rattle.ar_scsi.specs.Reply.{good as good_of, check}
 use Rattle.ar_scsi.specs.Data.{inquiry_data}
+use Rattle.ar_core.proofs.Short.{absent_few, check_few, given_few}
 use Rattle.ar_scsi.specs.Sense.{capacity_data_has_changed, internal_target_failure, logical_unit_not_supported}
 use Rattle.ar_scsi.specs.declared.reply.Reply.{Reply}
 use Rattle.ar_scsi.specs.declared.reply.Status.{Status}
@@ -120,8 +121,8 @@ failure_told false old cdb bytes reply new sound is =
 -- a command to the unit that is there
 pub commands_served : (old new : ArrayState) (addr : Addr) (n : ℕ) (cdb bytes : List ℕ) (reply : Reply) → IsUnit old addr n → tells old addr cdb ≡ false
     → Serves old addr (obeyed (unit_sectors old addr) (mark_at old.store.book addr) (reading cdb) bytes) (broken_obeyed n (reading cdb) (length bytes)) reply new
-    → Settles old addr (reading cdb) reply new → Commands old addr cdb bytes reply new
-commands_served old new addr n cdb bytes reply unit quiet serves settles =
+    → Settles old addr (reading cdb) reply new → length reply.payload ≤ 65535 * 512 → Commands old addr cdb bytes reply new
+commands_served old new addr n cdb bytes reply unit quiet serves settles few =
     let mark : Bool = mark_at old.store.book addr in
     let same : SameUnit old.store.book new.store.book addr = unit_follows old.store.book new.store.book addr serves.follows.store.units in
     let before : image_at old addr ≡ present_at old addr = image_present old addr unit.there in
@@ -138,6 +139,7 @@ commands_served old new addr n cdb bytes reply unit quiet serves settles =
     record {
       obeys = record {
         sound = sound;
+        few = few;
         failure = failure_told (is_broken new) (image_at old addr) cdb bytes reply (image_at new addr) sound;
         units = subst (λ (t : Tables). SameUnits t new.store.book) (sym (ap (λ b. cond b (unmarked old.store.book addr) old.store.book) quiet)) serves.follows.store.units;
         accessed = serves.follows.store.accessed;
@@ -229,6 +231,7 @@ commands_told old new addr n cdb bytes reply unit tells is cleared seen =
     record {
       obeys = record {
         sound = sound;
+        few = check_few reply capacity_data_has_changed is;
         failure = failure_told (is_broken new) (image_at old addr) cdb bytes reply (image_at new addr) sound;
         units = subst (λ (t : Tables). SameUnits (told old.store.book addr cdb) t) (sym quiet.tables) (units_refl (told old.store.book addr cdb));
         accessed = untouched;
@@ -290,9 +293,11 @@ commands_absent s addr cdb bytes reply none given =
     λ now.
     subst (λ (u : UnitState). IsServed u (answer u cdb bytes) reply u) (sym nothing)
     (record { given = given; left = λ _. refl; unchanged = λ _. refl }) in
+    let few : length reply.payload ≤ 65535 * 512 = given_few (absent_reply cdb) reply (65535 * 512) given (absent_few cdb) in
     record {
       obeys = record {
         sound = sound;
+        few = few;
         failure = failure_told (is_broken s) (image_at s addr) cdb bytes reply (image_at s addr) sound;
         units = subst (λ (t : Tables). SameUnits (told s.store.book addr cdb) t) (sym quiet.tables) (units_refl (told s.store.book addr cdb));
         accessed = accessed_refl s.store.disks;

@@ -10,5 +10,6 @@ pub mod Looking
 pub mod Moving
 pub mod Rebuilding
 pub mod Serving
+pub mod Short
 pub mod TakingIn
 pub mod TakingOut

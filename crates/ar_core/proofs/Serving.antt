@@ -11,7 +11,7 @@ use Rattle.ar_disks.specs.declared.geometry.Geometry.{Geometry}
 use Rattle.ar_disks.specs.declared.geometry.Geometry.TheVariants.{Paper, Small}
 use Rattle.ar_disks.specs.Geometry.{sectors_of, block_len_of}
 use Rattle.ar_disks.specs.Block.{sectors_at}
-use Rattle.ar_disks.proofs.Sectors.{sectors_at_is, length-sectors_at}
+use Rattle.ar_disks.proofs.Sectors.{sectors_at_is}
 use Rattle.ar_scsi.specs.declared.command.Command.{Command}
 use Rattle.ar_scsi.specs.declared.command.Command.TheVariants.{Write}
 use Rattle.ar_scsi.specs.declared.reply.Reply.{Reply}
@@ -37,7 +37,7 @@ use Rattle.ar_image.specs.declared.transfer.Transfer.TheVariants.{Done, Broken, 
 use Rattle.ar_cache.specs.declared.answers.Stored.{Stored}
 use Rattle.ar_cache.specs.declared.answers.Stored.TheVariants.{Done as Kept, Broken as Lost}
 use Rattle.ar_book.proofs.Keys.{addr_tells}
-use Rattle.ar_image.proofs.Images.{length-unit_sectors, map-range-same, map-range-add, present_same, sector_same}
+use Rattle.ar_image.proofs.Images.{length-sector_in, length-unit_sectors, map-range-same, map-range-add, present_same, sector_same}
 use Rattle.ar_image.proofs.Sparing.{kept_sound}
 
 -- what is left of a range
@@ -166,20 +166,15 @@ pub write_within : (sectors : List (List ℕ)) (mark : Bool) (n lba count : ℕ)
     → write_answer sectors mark lba count bytes ≡ leaving (Present (written sectors lba count bytes) mark) (good [])
 write_within sectors mark n lba count bytes len within right = rw (len, within, right) refl
 
-first_fits : (g : Geometry) (lba len : ℕ) → len ≡ block_len_of g → 512 * (lba % sectors_of g + 1) ≤ len
-first_fits Paper lba len whole = omega arith
-first_fits Small lba len whole = omega arith
-
 -- while the data are there, some sectors have some bytes
 pub sectors_read-some : (s : ArrayState) (addr : Addr) (lba count : ℕ) → ((k : Key) → length (seen_at s k) ≡ block_len_of (geometry_of s)) → 0 < count → sectors_read s addr lba count ≢ []
-unfolding sector_in
 sectors_read-some s addr lba zero whole some = absurd (omega arith)
 sectors_read-some s addr lba (suc count) whole some = λ none.
-    let block : List ℕ = seen_at s (key_of addr (lba / sectors_of (geometry_of s))) in
-    let len : length (sectors_at block (lba % sectors_of (geometry_of s)) 1) ≡ 512 =
-    length-sectors_at block (lba % sectors_of (geometry_of s)) 1 (first_fits (geometry_of s) lba (length block) (whole (key_of addr (lba / sectors_of (geometry_of s))))) in
-    let parts : length (sectors_at block (lba % sectors_of (geometry_of s)) 1 ++ concat (sectors_in (geometry_of s) (blocks_of (seen_at s) addr) (lba + 1) count)) ≡ 0 = ap length none in
-    omega (arith, length-append (sectors_at block (lba % sectors_of (geometry_of s)) 1) (concat (sectors_in (geometry_of s) (blocks_of (seen_at s) addr) (lba + 1) count)))
+    let first : List ℕ = sector_in (geometry_of s) (blocks_of (seen_at s) addr) lba in
+    let rest : List ℕ = concat (sectors_in (geometry_of s) (blocks_of (seen_at s) addr) (lba + 1) count) in
+    let len : length first ≡ 512 = length-sector_in (geometry_of s) (blocks_of (seen_at s) addr) lba (λ rb. whole (key_of addr rb)) in
+    let parts : length (first ++ rest) ≡ 0 = ap length none in
+    omega (arith, length-append first rest)
 
 -- a unit that was read is as it was
 unit_read : (old new : ArrayState) (addr : Addr) → Follows old new → SameSeen old new → present_at new addr ≡ present_at old addr

@@ -1,5 +1,5 @@
 -- What one event does to an array.
-use Rattle.std.specs.Prelude.{◌≡◌, ◌≢◌, ℕ, Bool, true, false, ◌&&◌, not, ◌==◌, if◌then◌else◌, IsTrue, List, [], ◌∷◌, length, Result, Ok}
+use Rattle.std.specs.Prelude.{◌≡◌, ◌≢◌, ◌≤◌, ◌*◌, ℕ, Bool, true, false, ◌&&◌, not, ◌==◌, if◌then◌else◌, IsTrue, List, [], ◌∷◌, length, Result, Ok}
 use Rattle.ar_disks.specs.declared.address.Addr.{Addr}
 use Rattle.ar_disks.specs.declared.address.Host.{Host}
 use Rattle.ar_scsi.specs.declared.command.Command.{Command}
@@ -96,6 +96,8 @@ pub record Obeys (old : ArrayState) (addr : Addr) (cdb bytes : List ℕ) (reply 
   pub broken : IsTrue (is_broken new) → IsGiven (broken_answer (shape_of (image_at old addr)) cdb (length bytes)) reply
   -- HARDWARE ERROR, INTERNAL TARGET FAILURE is answered only by an array that has lost its data
   pub failure : reply ≡ check internal_target_failure → IsTrue (is_broken new)
+  -- a reply has at most the bytes of as many sectors as the longest READ asks for
+  pub few : length reply.payload ≤ 65535 * 512
   -- whatever is answered, no unit has changed but for homes, stamps and the mark that was told, nor has the room
   pub units : SameUnits (told old.store.book addr cdb) new.store.book
   -- and no disk was lost without a fault, nor is an extent loose that wasn't

@@ -70,6 +70,7 @@ impl<D: Disk> Array<D> {
             (obeyed (unit_sectors self.old addr) (mark_at self.old.store.book addr) (reading cdb.now) bytes.now)
             (broken_obeyed sectors (reading cdb.now) (length bytes.now)) result self.new }
         ensures settles { Settles self.old addr (reading cdb.now) result self.new }
+        ensures few { length result.payload ≤ 65535 * 512 }
     {
         match decode(cdb) {
             Err(sense) => Reply::check(sense),
@@ -91,6 +92,7 @@ impl<D: Disk> Array<D> {
             (obeyed (unit_sectors self.old addr) (mark_at self.old.store.book addr) (Ok command) bytes.now)
             (broken_obeyed sectors (Ok command) (length bytes.now)) result self.new }
         ensures settles { Settles self.old addr (Ok command) result self.new }
+        ensures few { length result.payload ≤ 65535 * 512 }
     {
         match command {
             Command::TestReady => self.test_ready(addr),
@@ -105,8 +107,9 @@ impl<D: Disk> Array<D> {
 
     // TEST UNIT READY: GOOD while the data are there.
     fn test_ready(&self, addr: Addr) -> Reply
-        ensures { Serves self.now addr (leaving (present_at self.now addr) (good []))
+        ensures serves { Serves self.now addr (leaving (present_at self.now addr) (good []))
             (check internal_target_failure) result self.now }
+        ensures few { length result.payload ≤ 65535 * 512 }
     {
         if self.blocks.is_broken() {
             Reply::check(Sense::INTERNAL_TARGET_FAILURE)
@@ -123,6 +126,7 @@ impl<D: Disk> Array<D> {
             (if nat_lt sectors (lba + count) then check logical_block_address_out_of_range else check internal_target_failure)
             result self.new }
         ensures places { SamePlaces self.old self.new }
+        ensures few { length result.payload ≤ 65535 * 512 }
     {
         if is_past_end(sectors, lba, count) {
             return Reply::check(Sense::LOGICAL_BLOCK_ADDRESS_OUT_OF_RANGE);
@@ -144,6 +148,7 @@ impl<D: Disk> Array<D> {
             (leaving (present_at self.old addr) (good (sectors_read self.old addr lba count)))
             (check internal_target_failure) result self.new }
         ensures places { SamePlaces self.old self.new }
+        ensures few { length result.payload ≤ 65535 * 512 }
     {
         if count == 0 {
             return Reply::good(Bytes::new());
@@ -181,6 +186,7 @@ impl<D: Disk> Array<D> {
             else (if not (length bytes.now == count * 512) then check data_phase_error else check internal_target_failure))
             result self.new }
         ensures settles { Settles self.old addr (Ok (Command.Write lba count fua)) result self.new }
+        ensures few { length result.payload ≤ 65535 * 512 }
     {
         if is_past_end(sectors, lba, count) {
             return Reply::check(Sense::LOGICAL_BLOCK_ADDRESS_OUT_OF_RANGE);
@@ -273,7 +279,9 @@ impl<D: Disk> Array<D> {
 
 // The reply to a READ whose transfer ended so, with these bytes.
 fn reply_to_read(transfer: Transfer, bytes: Vec<u8>) -> Reply
-    requires { transfer ≡ Transfer.Done → bytes.items ≢ [] }
+    requires some { transfer ≡ Transfer.Done → bytes.items ≢ [] }
+    requires few { transfer ≡ Transfer.Done → length bytes.items ≤ 65535 * 512 }
+    ensures few { length result.payload ≤ 65535 * 512 }
     ensures done { transfer ≡ Transfer.Done → IsGiven (good bytes.items) result }
     ensures broken { transfer ≡ Transfer.Broken → result ≡ check internal_target_failure }
     ensures memory { transfer ≡ Transfer.NoMemory → result ≡ busy }
@@ -298,8 +306,9 @@ fn reply_to_write(stored: Stored) -> Reply
 
 // GOOD with these bytes, or BUSY where there is no memory to share them.
 fn good_with(bytes: Vec<u8>) -> Reply
-    requires { bytes.items ≢ [] }
-    ensures { IsGiven (good bytes.items) result }
+    requires some { bytes.items ≢ [] }
+    ensures given { IsGiven (good bytes.items) result }
+    ensures few { length result.payload ≤ length bytes.items }
 {
     match Bytes::from_vec(bytes) {
         Ok(payload) => Reply::good(payload),

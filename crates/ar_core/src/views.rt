@@ -5,7 +5,9 @@ ghost use Rattle.ar_disks.specs.declared.address.Addr.{Addr};
 ghost use Rattle.ar_book.specs.Tables.{room, reserved, free_groups};
 ghost use Rattle.ar_store.specs.Slots.{SurvivesLossOf};
 ghost use Rattle.ar_store.specs.Kept.{IsKept};
-ghost use Rattle.ar_image.specs.Image.{is_broken, geometry_of, image_at, IsPadded, IsJoined};
+ghost use Rattle.ar_image.specs.Image.{is_broken, geometry_of, image, image_at, IsPadded, IsJoined};
+ghost use Rattle.ar_image.specs.Sectors.{Address};
+ghost use Rattle.ar_unit.specs.Unit.{IsWhole};
 ghost use Rattle.ar_core.specs.Quiet.{LooksAt};
 ghost use Rattle.ar_core.specs.Views.{level_of, home_of, use_of, HasRow, Shows};
 
@@ -128,6 +130,9 @@ impl<D: Disk> Array<D> {
         // The tables agree with each other and with the disks, and the cache has blocks of units alone.
         ensures kept { IsKept self.now.store }
         ensures joined { IsJoined self.now }
+
+        // Images are whole: until the data are lost each sector of each unit has its 512 bytes.
+        ensures whole { result ≢ Health.Broken → (a : Address) → IsWhole (image self.now a) }
     {
         self.blocks.health()
     }

@@ -1,8 +1,9 @@
 -- The units that an array shows, before and after a call.
-use Rattle.std.proofs.Common.{◌≡◌, ◌≢◌, ◌⊎◌, ℕ, zero, suc, ◌+◌, ◌-◌, ◌*◌, ◌/◌, ◌%◌, ◌<◌, ◌≤◌, Bool, true, false, cond, List, ◌∷◌, ◌++◌, length, map, replicate, take, refl, sym, ap, ◌∙◌, inl, inr, arith}
+use Rattle.std.proofs.Common.{◌≡◌, ◌≢◌, ◌⊎◌, ℕ, zero, suc, ◌+◌, ◌-◌, ◌*◌, ◌/◌, ◌%◌, ◌<◌, ◌≤◌, Bool, true, false, cond, List, ◌∷◌, ◌++◌, length, get_or, map, replicate, take, refl, sym, ap, ◌∙◌, inl, inr, arith}
 use Rattle.std.specs.List.{range_with_len}
 use Rattle.std.proofs.lemmas.Bool.{cases_lt}
 use Rattle.std.proofs.lemmas.List.{take-replicate, drop-replicate}
+use Rattle.std.proofs.lemmas.List.Elements.{All-map}
 use Rattle.std.proofs.lemmas.List.FromFn.{length-map-range_with_len}
 use Rattle.ar_disks.specs.declared.address.Addr.{Addr}
 use Rattle.ar_disks.specs.declared.address.Key.{Key}
@@ -10,14 +11,14 @@ use Rattle.ar_disks.specs.declared.geometry.Geometry.{Geometry}
 use Rattle.ar_disks.specs.declared.geometry.Geometry.TheVariants.{Paper, Small}
 use Rattle.ar_disks.specs.Geometry.{sectors_of, block_len_of}
 use Rattle.ar_disks.specs.Block.{zeros, sectors_at}
-use Rattle.ar_disks.proofs.Sectors.{sectors_at_is}
+use Rattle.ar_disks.proofs.Sectors.{sectors_at_is, length-sectors_at}
 use Rattle.ar_book.specs.Tables.{Tables, has_unit}
 use Rattle.ar_book.proofs.Keys.{same_host, make_addr, addr_tells}
 use Rattle.ar_unit.specs.Sectors.{zero_sector, zero_sectors}
-use Rattle.ar_unit.specs.Unit.{UnitState, Absent, Present}
+use Rattle.ar_unit.specs.Unit.{UnitState, Absent, Present, IsWhole}
 use Rattle.ar_unit.specs.Broken.{Shape, shape_of}
-use Rattle.ar_image.specs.Sectors.{address_of, same_address, sector_in, sectors_in, blocks_of, key_of}
-use Rattle.ar_image.specs.Image.{ArrayState, is_broken, geometry_of, seen_at, length_at, mark_at, unit_sectors, image_at, at_numbers, at_address, IsPadded}
+use Rattle.ar_image.specs.Sectors.{Address, address_of, same_address, sector_in, sectors_in, blocks_of, key_of}
+use Rattle.ar_image.specs.Image.{ArrayState, is_broken, geometry_of, seen_at, length_at, mark_at, unit_sectors, image, image_at, at_numbers, at_address, IsPadded}
 use Rattle.ar_image.specs.Seen.{present_at, SameUnit}
 
 -- the address of a host is found by its numbers
@@ -157,3 +158,29 @@ pub padded_same : (old new : ArrayState) → IsPadded old → (is_broken new ≡
 padded_same old new padded was shape lengths blocks = record {
   zeros = λ now addr i past. sector_same old new addr i shape (λ k _. blocks now k) ∙ padded.zeros (was now) addr i (omega (arith, lengths addr));
 }
+
+sector_fits : (g : Geometry) (i len : ℕ) → len ≡ block_len_of g → 512 * (i % sectors_of g + 1) ≤ len
+sector_fits Paper i len whole = omega arith
+sector_fits Small i len whole = omega arith
+
+-- where blocks are whole, a sector has its bytes
+pub length-sector_in : (g : Geometry) (blocks : ℕ → List ℕ) (i : ℕ) → ((rb : ℕ) → length (blocks rb) ≡ block_len_of g) → length (sector_in g blocks i) ≡ 512
+unfolding sector_in
+length-sector_in g blocks i whole =
+    length-sectors_at (blocks (i / sectors_of g)) (i % sectors_of g) 1 (sector_fits g i (length (blocks (i / sectors_of g))) (whole (i / sectors_of g)))
+
+-- and so has each sector of each image
+pub image_whole : (s : ArrayState) → ((k : Key) → length (seen_at s k) ≡ block_len_of (geometry_of s)) → (a : Address) → IsWhole (image s a)
+unfolding at_address
+image_whole s whole a = at_number (cases_lt a.0 4)
+  where
+    at : (addr : Addr) (there : Bool) → IsWhole (cond there (present_at s addr) Absent)
+    at addr true =
+        (let numbers = range_with_len 0 (length_at s.store.book addr) in
+        All-map (λ sector. length sector ≡ 512) (sector_in (geometry_of s) (blocks_of (seen_at s) addr)) numbers
+        (λ k d within. length-sector_in (geometry_of s) (blocks_of (seen_at s) addr) (get_or numbers k d) (λ rb. whole (key_of addr rb))))
+    at addr false = tt
+
+    at_number : (test : (a.0 < 4) ⊎ (4 ≤ a.0)) → IsWhole (at_numbers (image_at s) a.0 a.1 test)
+    at_number (inl is) = (let addr : Addr = record { host = record { number = a.0; in_range = is }; lun = a.1 } in at addr (has_unit s.store.book addr))
+    at_number (inr not) = tt

@@ -32,6 +32,7 @@ fn read_part<B: Backing>(
     requires whole { length block.old ≡ block_len_of (B.geometry blocks.old) }
     requires within { first + count ≤ sectors_of (B.geometry blocks.old) }
     ensures done { result ≡ Transfer.Done → out.new.items ≡ out.old.items ++ sectors_at (B.block_at blocks.old key) first count }
+    ensures many { result ≡ Transfer.Done → length out.new.items ≡ length out.old.items + 512 * count }
     ensures broken { result ≡ Transfer.Broken → IsTrue (B.is_broken blocks.new) }
     ensures sound { result ≢ Transfer.Broken → B.is_broken blocks.new ≡ false }
     ensures blocks { result ≢ Transfer.Broken → SameBlocks (B.block_at blocks.old) (B.block_at blocks.new) }
@@ -65,6 +66,7 @@ pub fn read_sectors<B: Backing>(
     requires small { lba + count ≤ 1048576 }
     ensures done { result ≡ Transfer.Done → out.new.items ≡ out.old.items
         ++ concat (sectors_in geometry (blocks_of (B.block_at blocks.old) addr) lba count) }
+    ensures many { result ≡ Transfer.Done → length out.new.items ≡ length out.old.items + 512 * count }
     ensures broken { result ≡ Transfer.Broken → IsTrue (B.is_broken blocks.new) }
     ensures sound { result ≢ Transfer.Broken → B.is_broken blocks.new ≡ false }
     ensures blocks { result ≢ Transfer.Broken → SameBlocks (B.block_at blocks.old) (B.block_at blocks.new) }

@@ -24,6 +24,7 @@ loop-at-preserved g c =
       bytes =
           c.read_part.ensures.done c.in-Done.is
           ∙ sectors_in-more c.args.geometry block_of c.args.lba at part c.args.out.now.items c.loop-at.out.items _ c.loop-at.invariant.from within c.loop-at.invariant.bytes piece;
+      many = omega (arith, c.read_part.ensures.many c.in-Done.is, c.loop-at.invariant.many, c.loop-at.invariant.from);
       blocks = record { same = λ k. (c.read_part.ensures.blocks (done_not_broken c.in-Done.is)).same k ∙ c.loop-at.invariant.blocks.same k };
       sound = c.read_part.ensures.sound (done_not_broken c.in-Done.is);
       keeps = keeps_then _ _ _ _ g.met.B.Backing.follows_trans _ _ _ c.loop-at.invariant.keeps c.read_part.ensures.keeps;

@@ -1,4 +1,4 @@
-use Rattle.std.proofs.Common.{◌≡◌, ◌-◌, ◌≤◌, ◌++◌, false, length}
+use Rattle.std.proofs.Common.{◌≡◌, ◌+◌, ◌*◌, ◌-◌, ◌≤◌, ◌++◌, false, length}
 use Rattle.std.specs.List.{concat}
 use Rattle.ar_cache.specs.Backing.{Keeps, SameBlocks}
 use Rattle.ar_image.specs.Sectors.{sectors_in, blocks_of}
@@ -9,6 +9,7 @@ invariant-loop-at g l = record {
   from : l.lba ≤ l.at;
   until : l.at ≤ l.end;
   bytes : l.out.items ≡ l.fn.out.items ++ concat (sectors_in l.fn.geometry (blocks_of (g.B.Backing.block_at l.fn.blocks) l.addr) l.lba (l.at - l.lba));
+  many : length l.out.items ≡ length l.fn.out.items + 512 * (l.at - l.lba);
   blocks : SameBlocks (g.B.Backing.block_at l.fn.blocks) (g.B.Backing.block_at l.blocks);
   sound : g.B.Backing.is_broken l.blocks ≡ false;
   keeps : Keeps g.B.Backing.geometry g.B.Backing.knows g.B.Backing.is_broken g.B.Backing.follows l.fn.blocks l.blocks;

@@ -33,4 +33,4 @@ returns g c =
       | else-mark-via-else-mark w ↦ ap (λ (b : Bool). b && not (operation_code c.args.cdb.now == 0x12)) (marked ∙ w.if-mark.false)
     ] in
     commands_served c.args.self.now c.serve.new.self c.args.addr c.in-Some.sectors c.args.cdb.now c.args.bytes.now c.serve.result unit quiet
-    c.serve.ensures.serves c.serve.ensures.settles
+    c.serve.ensures.serves c.serve.ensures.settles c.serve.ensures.few

@@ -1,4 +1,4 @@
-use Rattle.std.proofs.Common.{ℕ, length, Ok, refl, sym, subst, ◌∙◌}
+use Rattle.std.proofs.Common.{true, ℕ, ◌*◌, length, Ok, refl, sym, subst, ◌∙◌}
 use Rattle.ar_scsi.specs.declared.command.Command.{Command}
 use Rattle.ar_scsi.specs.declared.command.Command.TheVariants.{TestReady, Inquiry, Capacity, Read}
 use Rattle.ar_scsi.specs.Data.{capacity_data}
@@ -10,6 +10,7 @@ use Rattle.ar_image.specs.Laws.{places_refl}
 use Rattle.ar_core.specs.Served.{Serves, Settles}
 use Rattle.ar_image.proofs.Images.{length-unit_sectors}
 use Rattle.ar_core.proofs.Serving.{serves_quiet, settles_read}
+use Rattle.ar_core.proofs.Short.{capacity_few, given_few, inquiry_few}
 use Rattle.ar_core.proofs.array.Array.obey.Goals as goal
 
 pub returns-in-TestReady-clause-serves : goal.returns-in-TestReady-clause-serves
@@ -18,7 +19,7 @@ returns-in-TestReady-clause-serves g c =
     subst
     (λ (command : Command). Serves c.args.self.now c.args.addr (obeyed (unit_sectors c.args.self.now c.args.addr) (mark_at c.args.self.now.store.book c.args.addr) (Ok command) c.args.bytes.now) (broken_obeyed c.args.sectors (Ok command) (length c.args.bytes.now)) c.test_ready.result c.args.self.now)
     (sym c.in-TestReady.is)
-    (c.test_ready.ensures)
+    (c.test_ready.ensures.serves)
 
 pub returns-in-TestReady-clause-settles : goal.returns-in-TestReady-clause-settles
 returns-in-TestReady-clause-settles g c =
@@ -88,3 +89,9 @@ returns-in-Write-clause-settles g c =
     (λ (command : Command). Settles c.args.self.now c.args.addr (Ok command) c.write.result c.write.new.self)
     (sym c.in-Write.is)
     (c.write.ensures.settles)
+
+pub returns-in-Inquiry-clause-few : goal.returns-in-Inquiry-clause-few
+returns-in-Inquiry-clause-few g c = given_few _ c.inquiry.result (65535 * 512) c.inquiry.ensures (inquiry_few true c.in-Inquiry.allocation_length)
+
+pub returns-in-Capacity-clause-few : goal.returns-in-Capacity-clause-few
+returns-in-Capacity-clause-few g c = given_few _ c.capacity.result (65535 * 512) c.capacity.ensures (capacity_few c.args.sectors)

@@ -31,8 +31,8 @@ read_sectors-transfer-requires-clause-known g c = λ rb within.
     subst (λ (h : Geometry). rb * sectors_of h < c.args.lba + c.args.count) c.geometry-geometry.ensures within in
     key_known c.self.inside.blocks c.args.addr c.args.sectors rb unit (omega (arith, below, c.requires.within))
 
-pub reply_to_read-requires : goal.reply_to_read-requires
-reply_to_read-requires g c = λ done none.
+pub reply_to_read-requires-clause-some : goal.reply_to_read-requires-clause-some
+reply_to_read-requires-clause-some g c = λ done none.
     let bytes : c.read_sectors-transfer.new.out.items ≡ sectors_read c.self.inside.blocks c.args.addr c.args.lba c.args.count =
     c.read_sectors-transfer.ensures.done done
     ∙ ap (λ (l : List ℕ). l ++ concat (sectors_in c.geometry-geometry.result (blocks_of (seen_at c.self.inside.blocks) c.args.addr) c.args.lba c.args.count)) c.in-Ok.ensures.items
