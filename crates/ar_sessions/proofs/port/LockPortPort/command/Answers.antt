@@ -1,0 +1,13 @@
+use Rattle.std.proofs.Common.{rules, refl}
+use Rattle.ar_sessions.proofs.Asking.{enters}
+use Rattle.ar_sessions.proofs.port.LockPortPort.command.Goals as goal
+
+pub returns-clause-command : goal.returns-clause-command
+returns-clause-command g c = record {
+  before = c.in-Some.seat;
+  after = c.ask_kept.new.seat;
+  held = search rules;
+  kept = refl;
+  moment = c.ask_kept.ensures.moment;
+  entry = enters _ _ _ _ _ _ c.ask_kept.ensures.moment;
+}

@@ -1,0 +1,16 @@
+-- What lies on a desk.
+use Rattle.std.specs.Prelude.{◌≡◌, ℕ, List, length, get_or, Option, Some, None}
+use Rattle.ar_history.specs.Seat.{SeatState}
+
+-- the places of the hosts in their order: in each a seat, or none where it is out
+abbrev pub Places : Type 0
+Places = List (Option SeatState)
+
+-- what lies in the place of a host, by its number
+abbrev pub place_of : Places → ℕ → Option SeatState
+place_of places number = get_or places number None
+
+-- there are four places, and in each lies its own host's seat, or none
+pub record AreOwn (places : Places) : Type 0 where
+  pub four : length places ≡ 4
+  pub own : (number : ℕ) (seat : SeatState) → place_of places number ≡ Some seat → seat.host.number ≡ number

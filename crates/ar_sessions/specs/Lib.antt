@@ -1,0 +1,15 @@
+pub mod Desk
+pub mod Port
+pub mod Work
+-- the words of lower crates that clauses of this crate cite
+pub use Rattle.ar_history.specs.Seat
+pub use Rattle.ar_history.specs.Kept
+pub use Rattle.ar_history.specs.Serving
+pub use Rattle.ar_history.specs.Operations
+pub use Rattle.ar_core.specs.Step
+pub use Rattle.ar_image.specs.Image
+pub use Rattle.ar_image.specs.Sectors
+pub use Rattle.ar_book.specs.Tables
+pub use Rattle.ar_frames.specs.Frame
+pub use Rattle.ar_frames.specs.Port as SessionPort
+pub use Rattle.ar_frames.specs.Session

@@ -1,0 +1,51 @@
+-- How a port that has a seat answers.
+use Rattle.std.specs.Prelude.{◌≡◌, ◌⊎◌, ℕ, Bool, true, ◌&&◌, List, [], ◌∷◌, ◌++◌, Option, Some}
+use Rattle.ar_scsi.specs.declared.reply.Reply.{Reply}
+use Rattle.ar_scsi.specs.Reading.{reading}
+use Rattle.ar_unit.specs.Broken.{needs_blocks, is_good}
+use Rattle.ar_history.specs.Kept.{KeptState, exchange_of}
+use Rattle.ar_history.specs.Seat.{SeatState}
+use Rattle.ar_history.specs.Serving.{Serves, DoesCommand}
+use Rattle.ar_frames.specs.declared.port.Login.{Login}
+use Rattle.ar_frames.specs.declared.port.Login.TheVariants.{Taken, BadHost, InUse}
+
+-- A host's command was done at one moment by the kept array: there was a state of it before and one after it, of which all holds that
+-- a host's command leaves.
+pub record AtOneMoment (before : SeatState) (lun : ℕ) (cdb payload : List ℕ) (reply : Reply) (after : SeatState) : Type 0 where
+  pub old : KeptState
+  pub new : KeptState
+  pub position : Option ℕ
+  pub serves : Serves old before lun cdb payload reply position new after
+  pub does : DoesCommand old.array before.host lun cdb payload reply new.array
+  pub host : after.host ≡ before.host
+
+-- a command that needs the unit's blocks, or asks whether they can be had, was done
+abbrev pub is_done : List ℕ → Reply → Bool
+is_done cdb reply = is_good reply.status && needs_blocks (reading cdb)
+
+-- The transcript has grown by the command and its reply, or is as it was; where the command was done, it has grown.
+pub record Enters (before : SeatState) (lun : ℕ) (cdb payload : List ℕ) (reply : Reply) (after : SeatState) : Type 0 where
+  pub one :
+      (after.transcript ≡ before.transcript ++ exchange_of lun cdb payload reply ∷ []) ⊎ (after.transcript ≡ before.transcript)
+  pub done : is_done cdb reply ≡ true → after.transcript ≡ before.transcript ++ exchange_of lun cdb payload reply ∷ []
+
+-- the port has the seat of this host
+pub record HasSeat (port : Option SeatState) (host : ℕ) : Type 0 where
+  pub seat : SeatState
+  pub is : port ≡ Some seat
+  pub own : seat.host.number ≡ host
+
+-- a login brings the host's seat, or nothing
+abbrev pub TakesSeat : Option SeatState → ℕ → Login → Option SeatState → Type 0
+TakesSeat old host Taken new = HasSeat new host
+TakesSeat old host BadHost new = new ≡ old
+TakesSeat old host InUse new = new ≡ old
+
+-- a command is done by the seat that the port has
+pub record AsksKept (old : Option SeatState) (lun : ℕ) (cdb payload : List ℕ) (reply : Reply) (new : Option SeatState) : Type 0 where
+  pub before : SeatState
+  pub after : SeatState
+  pub held : old ≡ Some before
+  pub kept : new ≡ Some after
+  pub moment : AtOneMoment before lun cdb payload reply after
+  pub entry : Enters before lun cdb payload reply after

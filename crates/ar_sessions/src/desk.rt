@@ -1,0 +1,89 @@
+// The seats of the hosts, while no session has them.
+ghost use Rattle.std.specs.Prelude.{◌≡◌, ◌<◌, [], ◌∷◌, map, set, Some, None, is_some, true, false, IfOk, IfErr, OnErr, IfSome};
+ghost use Rattle.std.specs.List.{list_all};
+ghost use Rattle.ar_history.specs.Seat.{SeatState};
+ghost use Rattle.ar_sessions.specs.Desk.{place_of};
+
+use ar_disks::Host;
+use ar_history::Seat;
+use std::marker::Model;
+use std::sync::ledger::Ledger;
+
+/// The seats of hosts 0 to 3: each lies in its own place, or is out with a session.
+#[derive(Drop)]
+pub struct Desk<L: Ledger> {
+    places: [Option<Seat<L>>; 4],
+}
+
+impl<L: Ledger> Model for Desk<L> {
+    ghost use Rattle.ar_sessions.specs.Desk.{Places, AreOwn};
+
+    ghost Value = { Places };
+
+    ghost view = { λ desk. desk.places };
+
+    ghost invariant = { λ desk. AreOwn desk.places };
+}
+
+impl<L: Ledger> Desk<L> {
+    /// A desk with all seats, which stand in order of host.
+    pub fn new(seats: [Seat<L>; 4]) -> Desk<L>
+        requires { map (λ (s : SeatState). s.host.number) seats ≡ 0 ∷ 1 ∷ 2 ∷ 3 ∷ [] }
+        ensures { result ≡ map Some seats }
+    {
+        Desk {
+            places: seats.map(Some),
+        }
+    }
+
+    /// Takes a host's seat, if it lies in its place.
+    pub fn take(&mut self, host: Host) -> Option<Seat<L>>
+        ensures seat { result ≡ place_of self.old host.number }
+        ensures own { IfSome result (λ seat. seat.host.number ≡ host.number) }
+        ensures left { self.new ≡ set self.old host.number None }
+    {
+        self.places[usize::from(host.number())].take()
+    }
+
+    /// Gives a seat back into its host's place. A seat that lies there is let go; of one kept array there is none.
+    pub fn give(&mut self, seat: Seat<L>)
+        ensures { self.new ≡ set self.old seat.host.number (Some seat) }
+    {
+        let place = usize::from(seat.host().number());
+        self.places[place] = Some(seat);
+    }
+
+    /// The four seats in order of host. Where one is out, the desk is handed back as it was.
+    pub fn seats(self) -> Result<[Seat<L>; 4], Desk<L>>
+        ensures seats { IfOk result (λ seats. self ≡ map Some seats) }
+        ensures hosts { IfOk result (λ seats. map (λ (s : SeatState). s.host.number) seats ≡ 0 ∷ 1 ∷ 2 ∷ 3 ∷ []) }
+        ensures out { OnErr result (list_all is_some self ≡ false) }
+        ensures unchanged { IfErr result (λ desk. desk ≡ self) }
+    {
+        if !self.is_whole() {
+            return Err(self);
+        }
+        let mut desk = self;
+        Ok([desk.lift(0), desk.lift(1), desk.lift(2), desk.lift(3)])
+    }
+
+    // Whether no seat is out.
+    fn is_whole(&self) -> bool
+        ensures { result ≡ list_all is_some self.now }
+    {
+        self.places.iter().all(|place| place.is_some())
+    }
+
+    // Takes a seat that lies in its place.
+    fn lift(&mut self, number: u8) -> Seat<L>
+        requires few { number < 4 }
+        requires there { is_some (place_of self.old number) ≡ true }
+        ensures seat { place_of self.old number ≡ Some result }
+        ensures left { self.new ≡ set self.old number None }
+    {
+        match self.places[usize::from(number)].take() {
+            Some(seat) => seat,
+            None => unreachable!(),
+        }
+    }
+}

@@ -1,0 +1,107 @@
+// The port of a session: a seat, and the way to the kept array.
+ghost use Rattle.std.specs.Prelude.{◌≡◌, None, is_some};
+ghost use Rattle.ar_frames.specs.Frame.{IsReply};
+ghost use Rattle.ar_sessions.specs.Port.{AtOneMoment};
+
+use crate::Desk;
+use ar_disks::{Disk, Host};
+use ar_frames::{Login, Port};
+use ar_history::{Kept, Seat};
+use ar_scsi::Reply;
+use bytes::Bytes;
+use std::marker::Model;
+use std::sync::ledger::Ledger;
+use std::sync::{Mutex, Wait};
+
+/// The port of a session to a kept array under a lock. A login takes the host's seat from the desk, which has a lock of its own; each
+/// command holds the array's lock for as long as it is done.
+#[derive(Drop)]
+pub struct LockPort<'a, R: Wait, D: Disk + Drop, L: Ledger> {
+    rt: &'a R,
+    kept: &'a Mutex<Kept<D, L>>,
+    desk: &'a Mutex<Desk<L>>,
+    seat: Option<Seat<L>>,
+}
+
+impl<'a, R: Wait, D: Disk + Drop, L: Ledger> Model for LockPort<'a, R, D, L> {
+    ghost use Rattle.std.specs.Prelude.{Option};
+    ghost use Rattle.ar_history.specs.Seat.{SeatState};
+
+    ghost Value = { Option SeatState };
+
+    ghost view = { λ port. port.seat };
+}
+
+impl<'a, R: Wait, D: Disk + Drop, L: Ledger> LockPort<'a, R, D, L> {
+    /// A port without a seat.
+    pub fn new(
+        rt: &'a R,
+        kept: &'a Mutex<Kept<D, L>>,
+        desk: &'a Mutex<Desk<L>>,
+    ) -> LockPort<'a, R, D, L>
+        ensures { result ≡ None }
+    {
+        LockPort {
+            rt,
+            kept,
+            desk,
+            seat: None,
+        }
+    }
+
+    /// Gives the seat back to the desk, where the port has one.
+    pub fn finish(&mut self)
+        ensures { self.new ≡ None }
+    {
+        if let Some(seat) = self.seat.take() {
+            self.desk.lock(self.rt).give(seat);
+        }
+    }
+}
+
+impl<'a, R: Wait, D: Disk + Drop, L: Ledger> Port for LockPort<'a, R, D, L> {
+    ghost use Rattle.std.specs.Prelude.{is_some};
+    ghost use Rattle.ar_sessions.specs.Port.{TakesSeat, AsksKept};
+
+    ghost has_login = { λ port. is_some port };
+
+    ghost logins = { λ old host answer new. TakesSeat old host answer new };
+
+    ghost commands = { λ old lun cdb payload reply new. AsksKept old lun cdb payload reply new };
+
+    fn login(&mut self, host: u8) -> Login {
+        let Some(host) = Host::new(host) else {
+            return Login::BadHost;
+        };
+        match self.desk.lock(self.rt).take(host) {
+            Some(seat) => {
+                self.seat = Some(seat);
+                Login::Taken
+            }
+            None => Login::InUse,
+        }
+    }
+
+    fn command(&mut self, lun: u8, cdb: &[u8; 16], payload: Bytes) -> Reply {
+        match &mut self.seat {
+            Some(seat) => ask_kept(self.rt, self.kept, seat, lun, cdb, payload),
+            None => unreachable!(),
+        }
+    }
+}
+
+// Has a command done under the lock.
+fn ask_kept<R: Wait, D: Disk + Drop, L: Ledger>(
+    rt: &R,
+    kept: &Mutex<Kept<D, L>>,
+    seat: &mut Seat<L>,
+    lun: u8,
+    cdb: &[u8; 16],
+    payload: Bytes,
+) -> Reply
+    ensures moment { AtOneMoment seat.old lun cdb.now payload result seat.new }
+    ensures reply { IsReply result }
+{
+    let served = kept.lock(rt).host(seat, lun, *cdb, payload);
+    served.reply
+}
