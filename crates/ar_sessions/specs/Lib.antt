@@ -1,4 +1,5 @@
 pub mod Desk
+pub mod Ends
 pub mod Port
 pub mod Work
 -- the words of lower crates that clauses of this crate cite

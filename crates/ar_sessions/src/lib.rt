@@ -4,8 +4,12 @@
 
 mod background;
 mod desk;
+mod door;
 mod port;
+mod sessions;
 
 pub use background::run_background;
 pub use desk::Desk;
+pub use door::{Door, MemDoor};
 pub use port::LockPort;
+pub use sessions::{ConnectionEnd, NoMemory, run_sessions};

@@ -1,0 +1,11 @@
+use Rattle.std.proofs.Common.{◌≡◌, ◌+◌, ◌≤◌}
+use Rattle.std.specs.VecDeque.{deque_len, deque_capacity}
+use Rattle.ar_sessions.proofs.sessions.serve_all.Given as goal
+
+abbrev pub invariant-loop : goal.invariant-loop
+invariant-loop g l =
+    record {
+      opened : deque_len l.pending ≡ l.counter;
+      to_come : l.counter + g.O.Door.to_come l.door ≡ l.left;
+      room : l.left ≤ deque_capacity l.pending;
+    }

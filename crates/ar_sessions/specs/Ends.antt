@@ -1,0 +1,28 @@
+-- How connections end.
+use Rattle.std.specs.Prelude.{◌≡◌, ◌⊎◌, None, Option, ⊤}
+use Rattle.ar_history.specs.Seat.{SeatState}
+use Rattle.ar_frames.specs.declared.end.SessionEnd.{SessionEnd}
+use Rattle.ar_frames.specs.declared.end.Why.TheVariants.{Read}
+use Rattle.ar_frames.specs.Stream.{SourceState, SinkState}
+use Rattle.ar_frames.specs.Session.{Session}
+use Rattle.ar_sessions.specs.declared.sessions.ConnectionEnd.{ConnectionEnd}
+use Rattle.ar_sessions.specs.declared.sessions.ConnectionEnd.TheVariants.{Served, NoThread}
+use Rattle.ar_sessions.specs.Port.{TakesSeat, AsksKept}
+
+-- A session ended so: over some streams, and from a port without a seat, whose answers were those of a port to the kept array.
+pub record WasServed (end : SessionEnd) : Type 0 where
+  pub source : SourceState
+  pub source' : SourceState
+  pub sink : SinkState
+  pub sink' : SinkState
+  pub port : Option SeatState
+  pub session : Session TakesSeat AsksKept source source' sink sink' None port end
+
+-- the end of a connection that could not be opened
+abbrev pub unopened : SessionEnd
+unopened = record { frames = 0; why = Read }
+
+-- a connection ended with its session, or could not be opened, or had no thread
+abbrev pub IsEnd : ConnectionEnd → Type 0
+IsEnd (Served end) = WasServed end ⊎ (end ≡ unopened)
+IsEnd NoThread = ⊤

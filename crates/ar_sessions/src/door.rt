@@ -1,0 +1,66 @@
+// Where connections come from.
+ghost use Rattle.std.specs.Prelude.{◌≡◌, ◌<◌, ◌+◌, ℕ, length};
+
+use ar_frames::{Sink, Source};
+use std::collections::VecDeque;
+use std::marker::Model;
+
+/// Opens connections, so many in all.
+pub trait Door {
+    /// What a connection is read from.
+    type Reader: Source + Send + Drop;
+
+    /// What it is written to.
+    type Writer: Sink + Send + Drop;
+
+    /// How many connections are still to come.
+    ghost to_come: { Self → ℕ };
+
+    /// How many connections are still to come.
+    fn left(&self) -> usize
+        ensures { result ≡ to_come self.now };
+
+    /// Waits for the next connection. None: it could not be opened.
+    fn accept(&mut self) -> Option<(Self::Reader, Self::Writer)>
+        requires { 0 < to_come self.old }
+        ensures { to_come self.new + 1 ≡ to_come self.old };
+}
+
+/// A door to connections that are there from the start, each a reader and a writer.
+#[derive(Drop)]
+pub struct MemDoor<R: Source + Send + Drop, W: Sink + Send + Drop> {
+    pairs: VecDeque<(R, W)>,
+}
+
+impl<R: Source + Send + Drop, W: Sink + Send + Drop> Model for MemDoor<R, W> {
+    ghost use Rattle.std.specs.Prelude.{ℕ, length};
+
+    ghost Value = { ℕ };
+
+    ghost view = { λ door. length door.pairs.items };
+}
+
+impl<R: Source + Send + Drop, W: Sink + Send + Drop> MemDoor<R, W> {
+    /// A door that opens these connections in their order.
+    pub fn new(pairs: VecDeque<(R, W)>) -> MemDoor<R, W>
+        ensures { result ≡ length pairs.items }
+    {
+        MemDoor { pairs }
+    }
+}
+
+impl<R: Source + Send + Drop, W: Sink + Send + Drop> Door for MemDoor<R, W> {
+    type Reader = R;
+
+    type Writer = W;
+
+    ghost to_come = { λ door. door };
+
+    fn left(&self) -> usize {
+        self.pairs.len()
+    }
+
+    fn accept(&mut self) -> Option<(R, W)> {
+        self.pairs.pop_front()
+    }
+}

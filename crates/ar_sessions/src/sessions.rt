@@ -1,0 +1,264 @@
+// Sessions in threads.
+ghost use Rattle.std.specs.Prelude.{◌≡◌, ◌+◌, ◌<◌, ◌≤◌, All, IfOk, OnOk, OnErr, vec_len, vec_capacity, length};
+ghost use Rattle.std.specs.VecDeque.{deque_len, deque_capacity};
+ghost use Rattle.ar_sessions.specs.Ends.{WasServed, IsEnd};
+
+use crate::{Desk, Door, LockPort};
+use ar_disks::Disk;
+use ar_frames::{Gate, SessionEnd, Sink, Source, Why, serve_gated};
+use ar_history::Kept;
+use std::alloc::Global;
+use std::collections::VecDeque;
+use std::sync::ledger::Ledger;
+use std::sync::{Mutex, Wait};
+use std::thread;
+use std::thread::{Promise, PromisedHandle, Scope, Threads};
+
+/// How a connection ended.
+#[derive(Clone, Copy, Debug, PartialEq, Eq)]
+pub enum ConnectionEnd {
+    /// With its session. One that could not be opened counts as a session whose first read faulted.
+    Served(SessionEnd),
+    /// No thread could be started for it.
+    NoThread,
+}
+
+/// Memory was refused.
+#[derive(Clone, Copy, Debug, PartialEq, Eq)]
+pub struct NoMemory;
+
+// What all sessions share.
+#[derive(Drop)]
+struct Hall<'a, R: Wait, D: Disk + Drop, L: Ledger, G: Gate> {
+    rt: &'a R,
+    alloc: Global,
+    kept: &'a Mutex<Kept<D, L>>,
+    desk: &'a Mutex<Desk<L>>,
+    gate: &'a G,
+}
+
+// A connection, and what its session shares with the others.
+#[derive(Drop)]
+struct Connection<
+    'a,
+    R: Wait,
+    D: Disk + Drop,
+    L: Ledger,
+    G: Gate,
+    S: Source + Drop,
+    W: Sink + Drop,
+> {
+    hall: &'a Hall<'a, R, D, L, G>,
+    reader: S,
+    writer: W,
+}
+
+// What a session's thread promises of its end.
+#[derive(Clone, Copy)]
+struct AsServed;
+
+impl Promise<SessionEnd> for AsServed {
+    ghost use Rattle.ar_sessions.specs.Ends.{WasServed};
+
+    ghost kept_by = { λ _ end. WasServed end };
+}
+
+// A connection whose end isn't known yet, or which had none.
+#[derive(Drop)]
+enum Pending {
+    Served(PromisedHandle<SessionEnd, AsServed>),
+    Unopened,
+    NoThread,
+}
+
+// Room for what becomes of so many connections.
+#[derive(Drop)]
+struct Roll {
+    pending: VecDeque<Pending>,
+    ends: Vec<ConnectionEnd>,
+    left: usize,
+    ghost none_pending: { deque_len pending ≡ 0 },
+    ghost none_ended: { vec_len ends ≡ 0 },
+    ghost pending_room: { left ≤ deque_capacity pending },
+    ghost ends_room: { left ≤ vec_capacity ends },
+}
+
+/// Serves each connection that the door opens in a thread of its own, and answers their ends in the order in which they came. The gate
+/// is told of each command. Where memory for the ends is refused, no connection is opened.
+pub fn run_sessions<
+    R: Threads + Wait + Sync,
+    D: Disk + Drop + Send,
+    L: Ledger + Send + Sync,
+    O: Door,
+    G: Gate + Sync,
+>(
+    rt: &R,
+    alloc: Global,
+    door: &mut O,
+    kept: &Mutex<Kept<D, L>>,
+    desk: &Mutex<Desk<L>>,
+    gate: &G,
+) -> Result<Vec<ConnectionEnd>, NoMemory>
+    ensures count { IfOk result (λ ends. vec_len ends ≡ O.to_come door.old) }
+    ensures ends { IfOk result (λ ends. All IsEnd ends.items) }
+    ensures refused { OnErr result (O.to_come door.new ≡ O.to_come door.old) }
+{
+    let left = door.left();
+    let roll = Roll::new(alloc, left)?;
+    let hall = Hall {
+        rt,
+        alloc,
+        kept,
+        desk,
+        gate,
+    };
+    let shared = &hall;
+    let ends = thread::scope(
+        thread::scope_env(),
+        rt,
+        |scope| -> Vec<ConnectionEnd>
+            requires { O.to_come door.now ≡ roll.left }
+            ensures { (vec_len result ≡ roll.left) × All IsEnd result.items }
+        { serve_all(scope, shared, door, roll) },
+    );
+    Ok(ends)
+}
+
+// Starts a thread for each connection, and waits for all of them.
+fn serve_all<
+    's,
+    E,
+    R: Threads + Wait + Sync,
+    D: Disk + Drop + Send,
+    L: Ledger + Send + Sync,
+    O: Door,
+    G: Gate + Sync,
+>(
+    scope: &'s Scope<'s, E>,
+    hall: &'s Hall<'s, R, D, L, G>,
+    door: &mut O,
+    roll: Roll,
+) -> Vec<ConnectionEnd>
+where
+    O::Reader: 's,
+    O::Writer: 's,
+    requires { O.to_come door.old ≡ roll.left }
+    ensures count { vec_len result ≡ roll.left }
+    ensures ends { All IsEnd result.items }
+{
+    let Roll {
+        mut pending,
+        ends,
+        left,
+    } = roll;
+    for _ in 0..left {
+        let next = match door.accept() {
+            Some((reader, writer)) => begin(
+                scope,
+                Connection {
+                    hall,
+                    reader,
+                    writer,
+                },
+            ),
+            None => Pending::Unopened,
+        };
+        pending.push_back_reserved(next);
+    }
+    join_all(hall.rt, pending, ends)
+}
+
+// Starts the thread of a connection.
+fn begin<
+    's,
+    E,
+    R: Wait + Sync,
+    D: Disk + Drop + Send,
+    L: Ledger + Send + Sync,
+    G: Gate + Sync,
+    S: Source + Send + Drop + 's,
+    W: Sink + Send + Drop + 's,
+>(scope: &'s Scope<'s, E>, connection: Connection<'s, R, D, L, G, S, W>) -> Pending {
+    let session = move || -> SessionEnd
+        ensures { WasServed result }
+    { connection.serve() };
+    match scope.spawn_with(AsServed, session) {
+        Ok(handle) => Pending::Served(handle),
+        Err(_) => Pending::NoThread,
+    }
+}
+
+// Waits for each thread, in order.
+fn join_all<R: Threads>(
+    rt: &R,
+    mut pending: VecDeque<Pending>,
+    mut ends: Vec<ConnectionEnd>,
+) -> Vec<ConnectionEnd>
+    requires none { vec_len ends ≡ 0 }
+    requires room { deque_len pending ≤ vec_capacity ends }
+    ensures count { vec_len result ≡ deque_len pending }
+    ensures ends { All IsEnd result.items }
+{
+    while let Some(next) = pending.pop_front() {
+        ends.push_reserved(end_of(rt, next));
+    }
+    ends
+}
+
+// Waits for the end of a connection.
+fn end_of<R: Threads>(rt: &R, pending: Pending) -> ConnectionEnd
+    ensures { IsEnd result }
+{
+    match pending {
+        Pending::Served(handle) => ConnectionEnd::Served(handle.join(rt)),
+        Pending::Unopened => ConnectionEnd::Served(SessionEnd {
+            frames: 0,
+            why: Why::Read,
+        }),
+        Pending::NoThread => ConnectionEnd::NoThread,
+    }
+}
+
+impl Roll {
+    // Room for so many connections.
+    fn new(alloc: Global, left: usize) -> Result<Roll, NoMemory>
+        ensures { IfOk result (λ roll. roll.left ≡ left) }
+    {
+        let Ok(pending) = VecDeque::with_capacity(alloc, left) else {
+            return Err(NoMemory);
+        };
+        let Ok(ends) = Vec::with_capacity(alloc, left) else {
+            return Err(NoMemory);
+        };
+        Ok(Roll {
+            pending,
+            ends,
+            left,
+        })
+    }
+}
+
+impl<R: Wait, D: Disk + Drop, L: Ledger, G: Gate, S: Source + Drop, W: Sink + Drop> Connection<
+    '_,
+    R,
+    D,
+    L,
+    G,
+    S,
+    W,
+> {
+    // Serves the connection's session. The seat lies on the desk again before the streams are let go.
+    fn serve(self) -> SessionEnd
+        ensures { WasServed result }
+    {
+        let Connection {
+            hall,
+            mut reader,
+            mut writer,
+        } = self;
+        let mut port = LockPort::new(hall.rt, hall.kept, hall.desk);
+        let end = serve_gated(hall.alloc, &mut reader, &mut writer, &mut port, hall.gate);
+        port.finish();
+        end
+    }
+}
