@@ -7,9 +7,11 @@ mod desk;
 mod door;
 mod port;
 mod sessions;
+mod tcp;
 
 pub use background::run_background;
 pub use desk::Desk;
 pub use door::{Door, MemDoor};
 pub use port::LockPort;
-pub use sessions::{ConnectionEnd, NoMemory, run_sessions};
+pub use sessions::{ConnectionEnd, NoMemory, run_beside_background, run_sessions};
+pub use tcp::{ListenFault, TcpDoor};

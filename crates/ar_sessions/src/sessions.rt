@@ -3,16 +3,18 @@ ghost use Rattle.std.specs.Prelude.{◌≡◌, ◌+◌, ◌<◌, ◌≤◌, All,
 ghost use Rattle.std.specs.VecDeque.{deque_len, deque_capacity};
 ghost use Rattle.ar_sessions.specs.Ends.{WasServed, IsEnd};
 
-use crate::{Desk, Door, LockPort};
+use crate::{Desk, Door, LockPort, run_background};
 use ar_disks::Disk;
 use ar_frames::{Gate, SessionEnd, Sink, Source, Why, serve_gated};
 use ar_history::Kept;
 use std::alloc::Global;
 use std::collections::VecDeque;
+use std::sync::atomic::{AtomicBool, Ordering};
 use std::sync::ledger::Ledger;
 use std::sync::{Mutex, Wait};
 use std::thread;
 use std::thread::{Promise, PromisedHandle, Scope, Threads};
+use std::time::Clock;
 
 /// How a connection ended.
 #[derive(Clone, Copy, Debug, PartialEq, Eq)]
@@ -122,6 +124,43 @@ pub fn run_sessions<
         { serve_all(scope, shared, door, roll) },
     );
     Ok(ends)
+}
+
+/// Serves the door's connections as `run_sessions` does, with one thread beside them that works in the background until all have ended.
+/// Where that thread can't be started, no connection is opened.
+pub fn run_beside_background<
+    R: Threads + Wait + Clock + Sync,
+    D: Disk + Drop + Send,
+    L: Ledger + Send + Sync,
+    O: Door,
+    G: Gate + Sync,
+>(
+    rt: &R,
+    alloc: Global,
+    door: &mut O,
+    kept: &Mutex<Kept<D, L>>,
+    desk: &Mutex<Desk<L>>,
+    gate: &G,
+) -> Result<Vec<ConnectionEnd>, NoMemory>
+    ensures count { IfOk result (λ ends. vec_len ends ≡ O.to_come door.old) }
+    ensures ends { IfOk result (λ ends. All IsEnd ends.items) }
+{
+    let stop = AtomicBool::new(false);
+    let flag = &stop;
+    thread::scope(
+        thread::scope_env(),
+        rt,
+        |scope| -> Result<Vec<ConnectionEnd>, NoMemory>
+            ensures { IfOk result (λ ends. (vec_len ends ≡ O.to_come door.entry.now) × All IsEnd ends.items) }
+        {
+            let Ok(_worker) = scope.spawn(move || run_background(rt, kept, flag)) else {
+                return Err(NoMemory);
+            };
+            let ends = run_sessions(rt, alloc, door, kept, desk, gate);
+            flag.store(true, Ordering::SeqCst);
+            ends
+        },
+    )
 }
 
 // Starts a thread for each connection, and waits for all of them.

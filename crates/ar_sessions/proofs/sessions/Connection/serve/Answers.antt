@@ -1,4 +1,4 @@
-use Rattle.std.proofs.Common.{None, Option, subst}
+use Rattle.std.proofs.Common.{Option, subst}
 use Rattle.ar_history.specs.Seat.{SeatState}
 use Rattle.ar_frames.specs.Session.{Session}
 use Rattle.ar_sessions.specs.Port.{TakesSeat, AsksKept}
