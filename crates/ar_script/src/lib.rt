@@ -12,6 +12,9 @@ mod text;
 mod words;
 
 pub use fault::{Fault, FaultKind};
-pub use order::Notation;
+pub use lines::Lines;
+pub use order::{Action, Data, Notation, Order, Question};
+pub use parse::{order_in, unit_and_number};
 pub use run::{Setup, run_script};
+pub use runner::start_array;
 pub use text::{write_health, write_outcome};

@@ -380,8 +380,8 @@ fn unit(arguments: &[&str]) -> Option<Addr>
     address(host, lun)
 }
 
-// A unit's address and a number.
-fn unit_and_number(arguments: &[&str]) -> Option<(Addr, u32)>
+/// Reads three words: a host, a LUN and a number.
+pub fn unit_and_number(arguments: &[&str]) -> Option<(Addr, u32)>
     ensures { Gives (HasUnitAndNumber 32 arguments.now) (λ both. NamesUnit arguments.now both.0 × (both.1 ≡ value (word arguments.now 2))) result }
 {
     let [host, lun, number] = arguments else {

@@ -39,19 +39,15 @@ impl Model for Runner {
 }
 
 impl Runner {
-    /// A new array on new disks. A cache of more than 65,536 blocks is refused, as are disks of which no array can be made.
+    /// A runner on a new array, as `start_array` makes it.
     pub fn start(alloc: Global, setup: Setup) -> Result<Runner, Fault>
         ensures refused { IfErr result (λ fault. fault ≡ Fault.Start) }
         ensures few { OnOk result (setup.cache ≤ CAPACITY_LIMIT) }
         ensures taken { OnOk result (start_fault (disks_of setup) ≡ None) }
         ensures started { IfOk result (IsStarted (disks_of setup) setup.cache) }
     {
-        if setup.cache > CAPACITY_LIMIT {
-            return Err(Fault::Start);
-        }
         let row = Block::new(alloc, setup.geometry).map_err(|_| Fault::Start)?;
-        let disks = new_disks(alloc, setup).map_err(|_| Fault::Start)?;
-        let array = Array::start(alloc, disks, setup.cache).map_err(|_| Fault::Start)?;
+        let array = start_array(alloc, setup)?;
         Ok(Runner { array, row })
     }
 
@@ -152,6 +148,21 @@ impl Runner {
         };
         written.map_err(|_| FaultKind::WriteFault)
     }
+}
+
+/// A new array on new disks. A cache of more than 65,536 blocks is refused, as are disks of which no array can be made.
+pub fn start_array(alloc: Global, setup: Setup) -> Result<Array<MemDisk>, Fault>
+    ensures refused { IfErr result (λ fault. fault ≡ Fault.Start) }
+    ensures few { OnOk result (setup.cache ≤ CAPACITY_LIMIT) }
+    ensures taken { OnOk result (start_fault (disks_of setup) ≡ None) }
+    ensures started { IfOk result (IsStarted (disks_of setup) setup.cache) }
+{
+    if setup.cache > CAPACITY_LIMIT {
+        return Err(Fault::Start);
+    }
+    let disks = new_disks(alloc, setup).map_err(|_| Fault::Start)?;
+    let array = Array::start(alloc, disks, setup.cache).map_err(|_| Fault::Start)?;
+    Ok(array)
 }
 
 // Disks that are filled with one byte.
