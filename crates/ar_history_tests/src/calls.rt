@@ -1,11 +1,13 @@
 // Calls of a kept array, and what they are answered with.
+ghost use Rattle.std.specs.Prelude.{◌≡◌};
+
 use crate::rig::{Rig, Shape, array, disk};
 use ar_core::{
     Balance, DiskRefusal, Event, EventOf, Flush, Move, NewDisk, Outcome, OutcomeOf, Rebuild,
     Refusal, UnitRefusal,
 };
 use ar_disks::{Addr, FuseDisk, Host};
-use ar_history::{OperationOf, Task};
+use ar_history::{Operation, OperationOf, Task};
 use ar_scsi::{Reply, Sense, Status, sense18};
 use bytes::Bytes;
 use std::alloc::{AllocError, Global};
@@ -147,53 +149,117 @@ fn make_call<L: Ledger>(
     shape: Shape,
     call: Call,
 ) -> Result<Answer, AllocError> {
-    Ok(match call {
-        Call::Make(host, lun, sectors) => {
-            changed(rig.operate(OperationOf::Make(unit(host, lun), sectors)))
-        }
-        Call::Grow(host, lun, sectors) => {
-            changed(rig.operate(OperationOf::Grow(unit(host, lun), sectors)))
-        }
-        Call::Remove(host, lun) => changed(rig.operate(OperationOf::Remove(unit(host, lun)))),
-        Call::AddDisk => changed(rig.operate(OperationOf::AddDisk(new_disk(alloc, shape)?))),
-        Call::Replace(number) => {
-            changed(rig.operate(OperationOf::Replace(number, new_disk(alloc, shape)?)))
-        }
-        Call::DiskOut(disk) => changed(rig.operate(OperationOf::DiskOut(disk))),
-        Call::Work(task) => answer_of(rig.background(task)),
+    if is_command(call) {
+        return replied(rig, alloc, call);
+    }
+    if is_event(call) {
+        return operated(rig, alloc, shape, call);
+    }
+    Ok(shown(rig, call))
+}
+
+fn is_command(call: Call) -> bool {
+    matches!(
+        call,
+        Call::Write(..) | Call::Read(..) | Call::Ready(..) | Call::Command(..)
+    )
+}
+
+fn shown<L: Ledger>(rig: &Rig<L>, call: Call) -> Answer {
+    match call {
         Call::FreeGroups => Answer::Count(u64::from(rig.free_groups())),
         Call::History => Answer::Count(rig.history().len() as u64),
         Call::Transcript(host) => Answer::Count(rig.transcript(host).len() as u64),
         Call::Close => closed(rig),
-        command => replied(rig, alloc, command)?,
-    })
+        _ => Answer::Other,
+    }
 }
 
-// A command: its host, its LUN, its block and its data.
-type Command = (u8, u8, [u8; 16], Bytes);
+// An operation, or work in the background.
+fn operated<L: Ledger>(
+    rig: &mut Rig<L>,
+    alloc: Global,
+    shape: Shape,
+    call: Call,
+) -> Result<Answer, AllocError> {
+    if let Call::Work(task) = call {
+        return Ok(answer_of(rig.background(task)));
+    }
+    match operation(alloc, shape, call)? {
+        Some(operation) => Ok(answer_of(rig.operate(operation))),
+        None => Ok(Answer::Other),
+    }
+}
 
-// The command that a call is, if it is one.
-fn command(alloc: Global, call: Call) -> Result<Option<Command>, AllocError> {
+// The operation that a call is, if it is one.
+fn operation(
+    alloc: Global,
+    shape: Shape,
+    call: Call,
+) -> Result<Option<Operation<FuseDisk>>, AllocError> {
     Ok(match call {
-        Call::Write(host, lun, lba, count, byte) => {
-            let data = filled(alloc, count, byte)?;
-            Some((host, lun, transfer(0x2A, lba, count), data))
-        }
-        Call::Read(host, lun, lba) => Some((host, lun, transfer(0x28, lba, 2), Bytes::new())),
-        Call::Ready(host, lun) => Some((host, lun, [0; 16], Bytes::new())),
-        Call::Command(host, lun, bytes) => Some((host, lun, block(bytes), Bytes::new())),
+        Call::Make(host, lun, sectors) => Some(OperationOf::Make(unit(host, lun), sectors)),
+        Call::Grow(host, lun, sectors) => Some(OperationOf::Grow(unit(host, lun), sectors)),
+        Call::Remove(host, lun) => Some(OperationOf::Remove(unit(host, lun))),
+        Call::AddDisk => Some(OperationOf::AddDisk(new_disk(alloc, shape)?)),
+        Call::Replace(number) => Some(OperationOf::Replace(number, new_disk(alloc, shape)?)),
+        Call::DiskOut(number) => Some(OperationOf::DiskOut(number)),
         _ => None,
     })
 }
 
+/// A command.
+#[derive(Drop)]
+struct Sent {
+    host: u8,
+    lun: u8,
+    cdb: [u8; 16],
+    payload: Bytes,
+}
+
+// The command that a call is, if it is one.
+fn command(alloc: Global, call: Call) -> Result<Option<Sent>, AllocError> {
+    Ok(match call {
+        Call::Write(host, lun, lba, count, byte) => {
+            let payload = filled(alloc, count, byte)?;
+            Some(command_of(host, lun, transfer(0x2A, lba, count), payload))
+        }
+        Call::Read(host, lun, lba) => {
+            Some(command_of(host, lun, transfer(0x28, lba, 2), Bytes::new()))
+        }
+        Call::Ready(host, lun) => Some(command_of(host, lun, [0; 16], Bytes::new())),
+        Call::Command(host, lun, bytes) => {
+            Some(command_of(host, lun, block(bytes), Bytes::new()))
+        }
+        _ => None,
+    })
+}
+
+fn command_of(host: u8, lun: u8, cdb: [u8; 16], payload: Bytes) -> Sent {
+    Sent {
+        host,
+        lun,
+        cdb,
+        payload,
+    }
+}
+
 fn replied<L: Ledger>(rig: &mut Rig<L>, alloc: Global, call: Call) -> Result<Answer, AllocError> {
     match command(alloc, call)? {
-        Some((host, lun, cdb, data)) => {
-            let served = rig.host(host, lun, cdb, data);
-            Ok(reply_answer(&served.reply))
-        }
+        Some(command) => Ok(serve(rig, command)),
         None => Ok(Answer::Other),
     }
+}
+
+fn serve<L: Ledger>(rig: &mut Rig<L>, command: Sent) -> Answer {
+    let Sent {
+        host,
+        lun,
+        cdb,
+        payload,
+    } = command;
+    let served = rig.host(host, lun, cdb, payload);
+    reply_answer(&served.reply)
 }
 
 fn reply_answer(reply: &Reply) -> Answer {
@@ -307,28 +373,41 @@ fn closed<L: Ledger>(rig: &Rig<L>) -> Answer {
 
 /// Has an array run the same calls, as far as they are events, and compares its answers.
 pub fn run<R: Abort + AllocGlobal>(rt: &R, shape: Shape, rows: &[Row]) -> Result<(), Fail> {
-    let mut array = array(rt.alloc(), shape)?;
-    let events = events(rt.alloc(), shape, rows)?;
-    match array.run(rt.alloc(), events) {
-        Ok(outcomes) => {
-            compare(rt, rows, outcomes);
-            Ok(())
+    let met = answers(rt.alloc(), shape, rows)?;
+    compare(rt, &met, &wanted(rt.alloc(), rows)?);
+    Ok(())
+}
+
+fn compare(rt: &impl Abort, met: &[Answer], wanted: &[Answer]) {
+    assert!(rt; met == wanted, "{met:?} in place of {wanted:?}");
+}
+
+// What is wanted of the calls that are events.
+fn wanted(alloc: Global, rows: &[Row]) -> Result<Vec<Answer>, AllocError> {
+    let mut wanted = Vec::new(alloc);
+    for (call, answer) in rows {
+        if is_event(*call) {
+            wanted.push(*answer)?;
         }
+    }
+    Ok(wanted)
+}
+
+fn answers(alloc: Global, shape: Shape, rows: &[Row]) -> Result<Vec<Answer>, Fail> {
+    let events = events(alloc, shape, rows)?;
+    let mut array = array(alloc, shape)?;
+    match array.run(alloc, events) {
+        Ok(outcomes) => Ok(answers_of(alloc, outcomes)?),
         Err(_) => Err(Fail::new("no memory")),
     }
 }
 
-fn compare(rt: &impl Abort, rows: &[Row], outcomes: Vec<Outcome<FuseDisk>>) {
-    let mut rows = rows.iter().filter(|(call, _)| is_event(*call));
+fn answers_of(alloc: Global, outcomes: Vec<Outcome<FuseDisk>>) -> Result<Vec<Answer>, AllocError> {
+    let mut answers = Vec::new(alloc);
     for outcome in outcomes {
-        let met = answer_of(outcome);
-        let row = rows.next();
-        assert!(rt;
-            row.is_some_and(|(_, wanted)| *wanted == met),
-            "{row:?}: {met:?}"
-        );
+        answers.push(answer_of(outcome))?;
     }
-    assert!(rt; rows.next().is_none(), "an outcome is missing");
+    Ok(answers)
 }
 
 fn is_event(call: Call) -> bool {
@@ -362,7 +441,13 @@ fn event(alloc: Global, shape: Shape, call: Call) -> Result<Option<Event<FuseDis
     })
 }
 
-fn command_event((host, lun, cdb, payload): Command) -> Event<FuseDisk> {
+fn command_event(command: Sent) -> Event<FuseDisk> {
+    let Sent {
+        host,
+        lun,
+        cdb,
+        payload,
+    } = command;
     EventOf::Cmd {
         host: unit(host, lun).host,
         lun,

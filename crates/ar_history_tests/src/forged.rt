@@ -1,4 +1,6 @@
 // Transcripts that were tampered with, beside the history of which they were a part.
+ghost use Rattle.std.specs.Prelude.{◌≡◌};
+
 use crate::calls::{Answer, Call, make_calls};
 use crate::rig::{FOUR_GROUPS, Rig, array};
 use ar_disks::Host;
