@@ -3,11 +3,13 @@
 
 mod blocks;
 mod fault;
+mod filled;
 mod lines;
 mod order;
 mod parse;
 mod run;
 mod runner;
+mod runs;
 mod text;
 mod words;
 

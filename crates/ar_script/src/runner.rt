@@ -1,17 +1,17 @@
 // What a script runs on: an array, and how it answers an order.
-ghost use Rattle.std.specs.Prelude.{◌≡◌, ◌≢◌, ◌≤◌, IfOk, IfErr, OnOk, OnErr, None, replicate};
+ghost use Rattle.std.specs.Prelude.{◌≡◌, ◌≢◌, ◌≤◌, IfOk, IfErr, OnOk, OnErr, None};
 ghost use Rattle.ar_extents.specs.Changes.{start_fault};
 ghost use Rattle.ar_image.specs.Start.{IsStarted};
 ghost use Rattle.ar_core.specs.Step.{Steps};
 ghost use Rattle.ar_script.specs.Orders.{event_in, Looks, IsLost, Leaves};
 ghost use Rattle.ar_script.specs.Setups.{disks_of, new_disk, new_disk_for};
 
-use crate::order::{Action, Data, Order, Question};
+use crate::filled::Filled;
+use crate::order::{Action, Order, Question};
 use crate::text::{write_groups, write_health, write_home, write_levels, write_outcome, write_row};
 use crate::{Fault, FaultKind, Setup};
 use ar_core::{Array, CAPACITY_LIMIT, Event, EventOf, NewDisk, Outcome};
 use ar_disks::{Block, Geometry, MemDisk};
-use bytes::Bytes;
 use std::alloc::{AllocError, Global};
 use std::io::Write;
 use std::marker::Model;
@@ -19,11 +19,13 @@ use std::marker::Model;
 /// What stands in every byte of a new disk.
 const NEW_BYTE: u8 = 0xEE;
 
-/// An array on disks in memory, and a block into which their rows are read. Contracts see it as the array.
+/// An array on disks in memory, a block into which their rows are read, and the data of the last command. Contracts see it as the
+/// array.
 #[derive(Drop)]
 pub struct Runner {
     array: Array<MemDisk>,
     row: Block,
+    filled: Filled,
 }
 
 impl Model for Runner {
@@ -46,9 +48,14 @@ impl Runner {
         ensures taken { OnOk result (start_fault (disks_of setup) ≡ None) }
         ensures started { IfOk result (IsStarted (disks_of setup) setup.cache) }
     {
+        if setup.cache > CAPACITY_LIMIT {
+            return Err(Fault::Start);
+        }
+        let filled = Filled::new();
         let row = Block::new(alloc, setup.geometry).map_err(|_| Fault::Start)?;
-        let array = start_array(alloc, setup)?;
-        Ok(Runner { array, row })
+        let disks = new_disks(alloc, setup).map_err(|_| Fault::Start)?;
+        let array = Array::start(alloc, disks, setup.cache).map_err(|_| Fault::Start)?;
+        Ok(Runner { array, row, filled })
     }
 
     /// Does or shows what a line asks for, and writes the answer.
@@ -81,8 +88,9 @@ impl Runner {
     }
 
     // The event that an action is.
-    fn event_of(&self, alloc: Global, action: Action) -> Result<Event<MemDisk>, AllocError>
-        ensures { IfOk result (λ event. event ≡ event_in self.now action) }
+    fn event_of(&mut self, alloc: Global, action: Action) -> Result<Event<MemDisk>, AllocError>
+        ensures event { IfOk result (λ event. event ≡ event_in self.old action) }
+        ensures unchanged { self.new ≡ self.old }
     {
         match action {
             Action::Make(addr, sectors) => Ok(EventOf::Make(addr, sectors)),
@@ -97,7 +105,7 @@ impl Runner {
                 host: addr.host,
                 lun: addr.lun,
                 cdb,
-                payload: payload(alloc, data)?,
+                payload: self.filled.with(alloc, data)?,
             }),
             Action::Flush => Ok(EventOf::Flush),
             Action::Demote => Ok(EventOf::Demote),
@@ -181,14 +189,4 @@ fn new_disk(alloc: Global, geometry: Geometry, extents: u16) -> Result<MemDisk, 
     ensures { IfOk result (λ disk. disk ≡ new_disk geometry extents) }
 {
     MemDisk::filled(alloc, geometry, extents, NEW_BYTE)
-}
-
-fn payload(alloc: Global, data: Data) -> Result<Bytes, AllocError>
-    ensures { IfOk result (λ bytes. bytes ≡ replicate «data».len «data».byte) }
-{
-    if data.len == 0 {
-        return Ok(Bytes::new());
-    }
-    let bytes = vec![in alloc; data.byte; data.len as usize]?;
-    Ok(Bytes::from_vec(bytes)?)
 }

@@ -1,5 +1,6 @@
 // Answers as text.
 use crate::order::Notation;
+use crate::runs::run_len;
 use ar_core::{
     Array, Balance, Class, DiskRefusal, Flush, GroupUse, Health, HomeOf, LevelOf, Move, OutcomeOf,
     Rebuild, Refusal, Shown, UnitRefusal,
@@ -211,13 +212,15 @@ fn write_bytes<W: Write>(out: &mut W, bytes: &[u8]) -> io::Result<()> {
 
 // Writes the longest runs of equal bytes, with a space between two.
 fn write_runs<W: Write>(out: &mut W, bytes: &[u8]) -> io::Result<()> {
-    let runs = bytes.chunk_by(|one, other| one == other);
-    for (place, run) in runs.enumerate() {
-        if let Some(byte) = run.first() {
-            let count = run.len();
-            write_gap(out, place)?;
-            write!(out, "{count}x{byte:02X}")?;
-        }
+    let mut rest = bytes;
+    for place in 0..bytes.len() {
+        let Some(byte) = rest.first() else {
+            break;
+        };
+        let count = run_len(rest);
+        write_gap(out, place)?;
+        write!(out, "{count}x{byte:02X}")?;
+        rest = &rest[count..];
     }
     Ok(())
 }
