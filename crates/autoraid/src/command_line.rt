@@ -1,30 +1,59 @@
 // What the words of a command line ask for.
+use crate::unit::Unit;
 use ar_disks::Geometry;
 use ar_script::Setup;
 use clap::error::ErrorKind;
-use clap::{Arg, ArgMatches, Command, Error as ParseError, value_parser};
+use clap::{Arg, ArgAction, ArgMatches, Command, Error as ParseError, value_parser};
 use std::alloc::{AllocError, Global};
 use std::convert::AsStr;
 use thiserror::Error;
 
 /// Why a command line asks for nothing that the program does.
-#[derive(Clone, Copy, Debug, PartialEq, Eq, Error)]
+#[derive(Debug, Drop, Error)]
 pub enum CommandLineFault {
     /// The words are not those of a command, its options and their values. A call for help is no command either.
     #[error("bad command line")]
     Bad,
+    /// This word names no unit.
+    #[error("bad unit {0}")]
+    BadUnit(String),
     /// Memory was refused.
     #[error("no memory")]
     NoMemory,
 }
 
+/// What a command line asks for.
+#[derive(Drop)]
+pub enum Order {
+    /// To answer a script with an array of this setup.
+    Run(Setup),
+    /// To serve hosts.
+    Serve(Service),
+}
+
+/// An array that is to be served, and to whom.
+#[derive(Drop)]
+pub struct Service {
+    pub setup: Setup,
+    /// The port to listen at.
+    pub port: u16,
+    /// How many connections are served.
+    pub sessions: u8,
+    /// The units that are made first, in order.
+    pub units: Vec<Unit>,
+}
+
 static GEOMETRIES: [&str; 2] = ["small", "paper"];
 
-/// The array that `run` is to make, from all words of the command line, the program's name first.
-pub fn setup_in<S: AsStr>(alloc: Global, words: &[S]) -> Result<Setup, CommandLineFault> {
+/// What all words of the command line ask for, the program's name first.
+pub fn order_in<S: AsStr>(alloc: Global, words: &[S]) -> Result<Order, CommandLineFault> {
     let matches = matches_of(alloc, words).map_err(|error| fault_of(&error))?;
     match matches.subcommand() {
-        Some(("run", options)) => setup_of(options).ok_or(CommandLineFault::Bad),
+        Some(("run", options)) => {
+            let setup = setup_of(options).ok_or(CommandLineFault::Bad)?;
+            Ok(Order::Run(setup))
+        }
+        Some(("serve", options)) => Ok(Order::Serve(service_of(alloc, options)?)),
         _ => Err(CommandLineFault::Bad),
     }
 }
@@ -38,15 +67,30 @@ fn fault_of(error: &ParseError) -> CommandLineFault {
 
 fn matches_of<'a, S: AsStr>(alloc: Global, words: &'a [S]) -> Result<ArgMatches<'a>, ParseError> {
     let run = run_command(alloc)?;
+    let serve = serve_command(alloc)?;
     let program = Command::new(alloc, "autoraid")
         .subcommand_required(true)
-        .subcommand(run)?;
+        .subcommand(run)?
+        .subcommand(serve)?;
     program.try_get_matches_from(words)
 }
 
 // `run` and its options, each with one value.
 fn run_command<'a>(alloc: Global) -> Result<Command<'a>, AllocError> {
-    Command::new(alloc, "run")
+    with_setup(alloc, Command::new(alloc, "run"))
+}
+
+// `serve`, its options, and the units.
+fn serve_command<'a>(alloc: Global) -> Result<Command<'a>, AllocError> {
+    with_setup(alloc, Command::new(alloc, "serve"))?
+        .arg(port(alloc))?
+        .arg(sessions(alloc))?
+        .arg(units(alloc))
+}
+
+// A command with the options that say what the array is made of.
+fn with_setup<'a>(alloc: Global, command: Command<'a>) -> Result<Command<'a>, AllocError> {
+    command
         .arg(geometry(alloc))?
         .arg(disks(alloc))?
         .arg(extents(alloc))?
@@ -81,6 +125,26 @@ fn cache<'a>(alloc: Global) -> Arg<'a> {
         .default_value("0")
 }
 
+fn port<'a>(alloc: Global) -> Arg<'a> {
+    Arg::new(alloc, "port")
+        .long("port")
+        .value_parser(value_parser!(u16).range(1..=65_535))
+        .required(true)
+}
+
+fn sessions<'a>(alloc: Global) -> Arg<'a> {
+    Arg::new(alloc, "sessions")
+        .long("sessions")
+        .value_parser(value_parser!(u8).range(1..=64))
+        .required(true)
+}
+
+fn units<'a>(alloc: Global) -> Arg<'a> {
+    Arg::new(alloc, "units")
+        .num_args(0..)
+        .action(ArgAction::Append)
+}
+
 fn setup_of(options: &ArgMatches<'_>) -> Option<Setup> {
     Some(Setup {
         geometry: geometry_of(options.get_str("geometry")?)?,
@@ -95,5 +159,40 @@ fn geometry_of(name: &str) -> Option<Geometry> {
         "small" => Some(Geometry::SMALL),
         "paper" => Some(Geometry::PAPER),
         _ => None,
+    }
+}
+
+fn service_of(alloc: Global, options: &ArgMatches<'_>) -> Result<Service, CommandLineFault> {
+    let setup = setup_of(options).ok_or(CommandLineFault::Bad)?;
+    let port = options.get_one("port").ok_or(CommandLineFault::Bad)?;
+    let sessions = options.get_one("sessions").ok_or(CommandLineFault::Bad)?;
+    let words = options.get_strs("units").unwrap_or(&[]);
+    Ok(Service {
+        setup,
+        port,
+        sessions,
+        units: units_of(alloc, words)?,
+    })
+}
+
+// The units that these words name.
+fn units_of(alloc: Global, words: &[&str]) -> Result<Vec<Unit>, CommandLineFault> {
+    let mut units = Vec::new(alloc);
+    for word in words {
+        let unit = unit_of(alloc, word)?;
+        units.push(unit).map_err(|_| CommandLineFault::NoMemory)?;
+    }
+    Ok(units)
+}
+
+fn unit_of(alloc: Global, word: &str) -> Result<Unit, CommandLineFault> {
+    let text = String::from_str(alloc, word).map_err(|_| CommandLineFault::NoMemory)?;
+    match Unit::named(word) {
+        Some((addr, sectors)) => Ok(Unit {
+            addr,
+            sectors,
+            word: text,
+        }),
+        None => Err(CommandLineFault::BadUnit(text)),
     }
 }

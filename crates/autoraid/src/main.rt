@@ -1,36 +1,46 @@
-//! The array as a program: `autoraid run` answers a script on standard input.
+//! The array as a program: `autoraid run` answers a script on standard input, `autoraid serve` serves hosts over sockets.
 #![tactic(auto)]
 
 mod command_line;
+mod serve;
+mod unit;
 
-use ar_script::{Fault, run_script};
-use command_line::{CommandLineFault, setup_in};
+use ar_script::{Fault, Setup, run_script};
+use command_line::{CommandLineFault, Order, order_in};
+use serve::{ServeFault, serve};
 use std::alloc::Global;
 use std::process::ExitCode;
 use std::{env, io};
 use thiserror::Error;
 
 /// Why the program ends with a status other than 0.
-#[derive(Clone, Copy, Debug, PartialEq, Eq, Error)]
+#[derive(Debug, Drop, Error)]
 enum Failure {
     #[error(transparent)]
     CommandLine(CommandLineFault),
     #[error(transparent)]
     Script(Fault),
+    #[error(transparent)]
+    Serve(ServeFault),
 }
 
 impl Failure {
     // 2 for a bad command line, else 1.
-    fn status(self) -> u8 {
+    fn status(&self) -> u8 {
         match self {
-            Failure::CommandLine(CommandLineFault::Bad) => 2,
+            Failure::CommandLine(CommandLineFault::Bad | CommandLineFault::BadUnit(_)) => 2,
             _ => 1,
         }
     }
 }
 
 fn main(rt: HostRuntime) -> ExitCode {
-    match run(&rt) {
+    let done = match order(&rt) {
+        Ok(Order::Run(setup)) => run(&rt, setup),
+        Ok(Order::Serve(service)) => serve(&rt, rt.alloc(), &service).map_err(Failure::Serve),
+        Err(fault) => Err(Failure::CommandLine(fault)),
+    };
+    match done {
         Ok(()) => ExitCode::SUCCESS,
         Err(failure) => {
             // Where standard error takes nothing, the status alone tells.
@@ -40,11 +50,15 @@ fn main(rt: HostRuntime) -> ExitCode {
     }
 }
 
-fn run(rt: &HostRuntime) -> Result<(), Failure> {
+// What the command line asks for.
+fn order(rt: &HostRuntime) -> Result<Order, CommandLineFault> {
     let alloc = rt.alloc();
-    let words = words_of(rt, alloc).map_err(Failure::CommandLine)?;
-    let setup = setup_in(alloc, words.as_slice()).map_err(Failure::CommandLine)?;
-    run_script(alloc, rt.stdin(), rt.stdout(), setup).map_err(Failure::Script)
+    let words = words_of(rt, alloc)?;
+    order_in(alloc, words.as_slice())
+}
+
+fn run(rt: &HostRuntime, setup: Setup) -> Result<(), Failure> {
+    run_script(rt.alloc(), rt.stdin(), rt.stdout(), setup).map_err(Failure::Script)
 }
 
 // The words that the program was started with. One that is no text is in no command line.

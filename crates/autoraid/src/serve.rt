@@ -1,0 +1,163 @@
+// Serves an array to hosts.
+ghost use Rattle.std.specs.Prelude.{◌≡◌, []};
+
+use crate::command_line::Service;
+use crate::unit::Unit;
+use ar_core::{Array, OutcomeOf, Refusal};
+use ar_disks::{Disk, MemDisk};
+use ar_frames::NoGate;
+use ar_history::{Kept, Mismatch, OperationOf, Report};
+use ar_script::start_array;
+use ar_sessions::{Desk, ListenFault, NoMemory, TcpDoor, run_beside_background};
+use std::alloc::Global;
+use std::io;
+use std::marker::Brand;
+use std::net::{Net, TcpListener, TcpStream};
+use std::sync::ledger::{Blank, Ledger};
+use std::sync::{Mutex, Wait};
+use std::thread::Threads;
+use std::time::Clock;
+use thiserror::Error;
+
+/// Why an array was not served, or not to the end.
+#[derive(Debug, Drop, Error)]
+pub enum ServeFault {
+    /// No array could be started of the setup, or memory for its disks was refused.
+    #[error("start fault")]
+    Start,
+    /// A unit can't be made.
+    #[error("unit {word} refused {refusal}")]
+    Unit { word: String, refusal: Refusal },
+    /// The port can't be listened at.
+    #[error("listen fault")]
+    Listen,
+    /// A seat was not given back.
+    #[error("seat out")]
+    SeatOut,
+    /// A transcript isn't its host's part of the history.
+    #[error("mismatch")]
+    Mismatch,
+    /// Standard output takes nothing.
+    #[error("write fault")]
+    Write,
+    /// Memory was refused.
+    #[error("no memory")]
+    NoMemory,
+}
+
+/// Makes the units, listens, serves the connections with one thread in the background beside them, and then compares the hosts'
+/// transcripts with the history.
+pub fn serve<
+    R: Threads + Wait + Clock + Net<Listener = TcpListener, Stream = TcpStream> + Print + Sync,
+>(rt: &R, alloc: Global, service: &Service) -> Result<(), ServeFault> {
+    let Ok(array) = start_array(alloc, service.setup) else {
+        return Err(ServeFault::Start);
+    };
+    serve_array::<Brand, MemDisk, R>(rt, alloc, Blank::new(4), array, service)
+}
+
+// The same with an array that has no unit yet.
+fn serve_array<
+    L: Ledger + Send + Sync,
+    D: Disk + Drop + Send,
+    R: Threads + Wait + Clock + Net<Listener = TcpListener, Stream = TcpStream> + Print + Sync,
+>(rt: &R, alloc: Global, blank: Blank, array: Array<D>, service: &Service) -> Result<(), ServeFault>
+    requires name { blank.name ≡ L.name }
+    requires parts { blank.parts ≡ L.parts }
+    requires four { blank.parts ≡ 4 }
+    requires no_unit { array.store.book.units ≡ [] }
+{
+    let (kept, seats) = Kept::<D, L>::start(alloc, blank, array);
+    let kept = Mutex::new(kept);
+    let desk = Mutex::new(Desk::new(seats));
+    match serve_hosts(rt, alloc, &kept, &desk, service) {
+        Ok(()) => audit(rt, &kept.into_inner(), desk.into_inner()),
+        Err(fault) => Err(fault),
+    }
+}
+
+// Makes the units, listens, tells so, and serves as many connections.
+fn serve_hosts<
+    L: Ledger + Send + Sync,
+    D: Disk + Drop + Send,
+    R: Threads + Wait + Clock + Net<Listener = TcpListener, Stream = TcpStream> + Print + Sync,
+>(
+    rt: &R,
+    alloc: Global,
+    kept: &Mutex<Kept<D, L>>,
+    desk: &Mutex<Desk<L>>,
+    service: &Service,
+) -> Result<(), ServeFault> {
+    make_units(alloc, &mut kept.lock(rt), &service.units)?;
+    let port = service.port;
+    let mut door = TcpDoor::listen(rt, alloc, port, usize::from(service.sessions))?;
+    println!(rt; "listening {port}").map_err(|_| ServeFault::Write)?;
+    run_beside_background(rt, alloc, &mut door, kept, desk, &NoGate)?;
+    Ok(())
+}
+
+// Makes the units in their order.
+fn make_units<L: Ledger, D: Disk + Drop>(
+    alloc: Global,
+    kept: &mut Kept<D, L>,
+    units: &[Unit],
+) -> Result<(), ServeFault> {
+    for unit in units {
+        let made = kept.operate(OperationOf::Make(unit.addr, unit.sectors));
+        if let OutcomeOf::Make(Err(refusal)) = made {
+            return Err(refused(alloc, unit, refusal));
+        }
+    }
+    Ok(())
+}
+
+// The fault of a unit that can't be made.
+fn refused(alloc: Global, unit: &Unit, refusal: Refusal) -> ServeFault {
+    match String::from_str(alloc, unit.word.as_str()) {
+        Ok(word) => ServeFault::Unit { word, refusal },
+        Err(_) => ServeFault::NoMemory,
+    }
+}
+
+// Compares each host's transcript with the history, and tells what comes of it.
+fn audit<L: Ledger, D: Disk + Drop>(
+    rt: &impl Print,
+    kept: &Kept<D, L>,
+    desk: Desk<L>,
+) -> Result<(), ServeFault> {
+    match desk.seats() {
+        Ok(seats) => tell(rt, kept.close(&seats)),
+        Err(_) => Err(ServeFault::SeatOut),
+    }
+}
+
+// Tells what comes of an audit.
+fn tell(rt: &impl Print, audited: Result<Report, Mismatch>) -> Result<(), ServeFault> {
+    match audited {
+        Ok(report) => tell_report(rt, &report).map_err(|_| ServeFault::Write),
+        Err(Mismatch { host, position }) => {
+            let host = host.number();
+            println!(rt; "closed mismatch {host} {position}").map_err(|_| ServeFault::Write)?;
+            Err(ServeFault::Mismatch)
+        }
+    }
+}
+
+fn tell_report(rt: &impl Print, report: &Report) -> io::Result<()> {
+    for (host, commands) in report.commands.iter().enumerate() {
+        println!(rt; "host {host} commands {commands}")?;
+    }
+    println!(rt; "closed ok")
+}
+
+impl From<ListenFault> for ServeFault {
+    fn from(_fault: ListenFault) -> ServeFault {
+        ServeFault::Listen
+    }
+}
+
+impl From<NoMemory> for ServeFault {
+    fn from(_fault: NoMemory) -> ServeFault {
+        ServeFault::NoMemory
+    }
+}
