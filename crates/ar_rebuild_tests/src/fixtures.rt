@@ -16,15 +16,15 @@ pub struct Shape {
     pub extents: u16,
     /// How many reads and writes the first four disks pass.
     pub fuses: [u64; 4],
-    /// How many sound disks there are beside these.
-    pub more: usize,
+    /// Whether there is a fifth one, which is sound.
+    pub fifth: bool,
 }
 
 /// Four groups on sound disks.
 pub const FOUR_GROUPS: Shape = Shape {
     extents: 4,
     fuses: [WHOLE; 4],
-    more: 0,
+    fifth: false,
 };
 
 /// A block of one byte throughout.
@@ -60,12 +60,21 @@ pub fn fused_disk(alloc: Global, extents: u16, calls: u64) -> Result<FuseDisk, A
 pub fn fused_disks(alloc: Global, shape: Shape) -> Result<Vec<FuseDisk>, AllocError>
     ensures { IfOk result (λ disks. All CanCount (map (λ disk. disk.disk) disks.items)) }
 {
+    let mut disks = first_disks(alloc, shape)?;
+    if !shape.fifth {
+        return Ok(disks);
+    }
+    disks.push(fused_disk(alloc, shape.extents, WHOLE)?)?;
+    Ok(disks)
+}
+
+// The first four.
+fn first_disks(alloc: Global, shape: Shape) -> Result<Vec<FuseDisk>, AllocError>
+    ensures { IfOk result (λ disks. All CanCount (map (λ disk. disk.disk) disks.items)) }
+{
     let mut disks = Vec::new(alloc);
     for calls in shape.fuses {
         disks.push(fused_disk(alloc, shape.extents, calls)?)?;
-    }
-    for _ in 0..shape.more {
-        disks.push(fused_disk(alloc, shape.extents, WHOLE)?)?;
     }
     Ok(disks)
 }

@@ -13,7 +13,7 @@ use std::test::Fail;
 
 const FIVE_DISKS: Shape = Shape {
     extents: 3,
-    more: 1,
+    fifth: true,
     ..FOUR_GROUPS
 };
 
