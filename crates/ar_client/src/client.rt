@@ -1,0 +1,153 @@
+// A host's side of a session: the commands of a script, over streams.
+use crate::fault::Failure;
+use ar_core::OutcomeOf;
+use ar_disks::Host;
+use ar_frames::{AskFault, Sink, Source, ask, hello};
+use ar_script::{Action, Data, FaultKind, Lines, Notation, Order, order_in, write_outcome};
+use ar_scsi::Reply;
+use std::alloc::Global;
+use std::io::{BufWriter, Read, Write};
+
+/// A session that was logged in.
+#[derive(Drop)]
+pub struct Client<S: Source + Drop, W: Sink + Drop> {
+    alloc: Global,
+    host: Host,
+    reader: S,
+    writer: W,
+    /// The next command's tag.
+    tag: u64,
+}
+
+/// A command and how its answer is printed.
+#[derive(Clone, Copy)]
+struct Asked {
+    lun: u8,
+    cdb: [u8; 16],
+    data: Data,
+    notation: Notation,
+}
+
+impl<S: Source + Drop, W: Sink + Drop> Client<S, W> {
+    /// Logs a host in.
+    pub fn log_in(
+        alloc: Global,
+        host: Host,
+        mut reader: S,
+        mut writer: W,
+    ) -> Result<Client<S, W>, Failure> {
+        match hello(&mut reader, &mut writer, host.number()) {
+            Ok(true) => Ok(Client {
+                alloc,
+                host,
+                reader,
+                writer,
+                tag: 1,
+            }),
+            Ok(false) => Err(Failure::Refused),
+            Err(_) => Err(Failure::Session),
+        }
+    }
+
+    /// Gives the commands of all lines to the server, and writes the answers. What was answered is written before more is
+    /// read, and the first fault ends it.
+    pub fn run<R: Read + Drop, O: Write + Drop>(
+        &mut self,
+        input: R,
+        output: O,
+    ) -> Result<(), Failure> {
+        let Ok(mut lines) = Lines::new(self.alloc, input) else {
+            return Err(Failure::at(1, FaultKind::NoMemory));
+        };
+        let Ok(mut out) = BufWriter::new(self.alloc, output) else {
+            return Err(Failure::at(1, FaultKind::NoMemory));
+        };
+        let done = self.run_lines(&mut lines, &mut out);
+        let flushed = out.flush();
+        let (_output, _unwritten) = out.into_parts();
+        match flushed {
+            Ok(()) => done,
+            Err(_) => Err(Failure::at(lines.number(), FaultKind::WriteFault)),
+        }
+    }
+
+    fn run_lines<R: Read + Drop, O: Write + Drop>(
+        &mut self,
+        lines: &mut Lines<R>,
+        out: &mut BufWriter<O>,
+    ) -> Result<(), Failure> {
+        for _ in 0..u32::MAX {
+            if lines.is_drained() && out.flush().is_err() {
+                return Err(Failure::at(lines.number(), FaultKind::WriteFault));
+            }
+            if !lines.advance().map_err(Failure::Line)? {
+                break;
+            }
+            self.answer_line(lines.number(), lines.line(), out)?;
+        }
+        Ok(())
+    }
+
+    // Gives the command of a line to the server, if it has one, and writes the answer.
+    fn answer_line<O: Write>(
+        &mut self,
+        number: u32,
+        line: &str,
+        out: &mut O,
+    ) -> Result<(), Failure> {
+        let fault = |kind| Failure::at(number, kind);
+        let Some(order) = order_in(self.alloc, line).map_err(fault)? else {
+            return Ok(());
+        };
+        let asked = self.asked_by(order).map_err(fault)?;
+        let reply = self
+            .ask(asked)
+            .map_err(|kind| Failure::asked(number, kind))?;
+        let outcome = OutcomeOf::<()>::Cmd(reply);
+        write_outcome(out, &outcome, asked.notation).map_err(|_| fault(FaultKind::WriteFault))
+    }
+
+    // The command that a line asks for. Each other word is unknown here, and another host's commands are out of range.
+    fn asked_by(&self, order: Order) -> Result<Asked, FaultKind> {
+        let Order::Act(
+            Action::Command {
+                addr,
+                cdb,
+                data,
+                notation,
+            },
+        ) = order
+        else {
+            return Err(FaultKind::UnknownWord);
+        };
+        if addr.host.number() != self.host.number() {
+            return Err(FaultKind::BadArgument);
+        }
+        Ok(Asked {
+            lun: addr.lun,
+            cdb,
+            data,
+            notation,
+        })
+    }
+
+    // Gives a command to the server and waits for the reply.
+    fn ask(&mut self, asked: Asked) -> Result<Reply, AskFault> {
+        let Asked { lun, cdb, data, .. } = asked;
+        let len = data.len.min(ar_frames::MOST_DATA) as usize;
+        let Ok(bytes) = vec![in self.alloc; data.byte; len] else {
+            return Err(AskFault::NoMemory);
+        };
+        let tag = self.tag;
+        self.tag = tag.wrapping_add(1);
+        ask(
+            self.alloc,
+            &mut self.reader,
+            &mut self.writer,
+            tag,
+            lun,
+            &cdb,
+            bytes.as_slice(),
+        )
+    }
+}

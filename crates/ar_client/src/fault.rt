@@ -1,0 +1,51 @@
+// Why the client ends before its input does.
+use crate::command_line::CommandLineFault;
+use ar_frames::AskFault;
+use ar_script::{Fault, FaultKind};
+use thiserror::Error;
+
+/// Why the program ends with a status other than 0.
+#[derive(Clone, Copy, Debug, PartialEq, Eq, Error)]
+pub enum Failure {
+    #[error(transparent)]
+    CommandLine(CommandLineFault),
+    /// Nothing listens at the port.
+    #[error("connect fault")]
+    Connect,
+    /// A session of this host is open.
+    #[error("login refused")]
+    Refused,
+    /// The server ended the session, or what it sent is no answer: while the login was answered.
+    #[error("session fault")]
+    Session,
+    /// The same at a line of the input, by its number from 1.
+    #[error("line {0}: session fault")]
+    SessionAt(u32),
+    /// What went wrong at a line, as for a script.
+    #[error(transparent)]
+    Line(Fault),
+}
+
+impl Failure {
+    /// 2 for a bad command line, else 1.
+    pub fn status(self) -> u8 {
+        match self {
+            Failure::CommandLine(CommandLineFault::Bad) => 2,
+            _ => 1,
+        }
+    }
+
+    /// What went wrong at a line.
+    pub fn at(line: u32, kind: FaultKind) -> Failure {
+        let line = line.max(1);
+        Failure::Line(Fault::Line { line, kind })
+    }
+
+    /// What went wrong with the answer to a line.
+    pub fn asked(line: u32, fault: AskFault) -> Failure {
+        match fault {
+            AskFault::NoMemory => Failure::at(line, FaultKind::NoMemory),
+            _ => Failure::SessionAt(line),
+        }
+    }
+}

@@ -1,0 +1,76 @@
+//! A host of a served array: `ar_client` gives the commands of a script on standard input to the server, over a socket, and
+//! prints the answers as `autoraid run` does.
+#![tactic(auto)]
+
+mod client;
+mod command_line;
+mod fault;
+
+use ar_frames::Linked;
+use client::Client;
+use command_line::{Account, CommandLineFault, account_in};
+use fault::Failure;
+use std::alloc::Global;
+use std::env;
+use std::io::{self, BufReader, Read, Write};
+use std::net::{Net, TcpListener, TcpStream};
+use std::process::ExitCode;
+
+fn main(rt: HostRuntime) -> ExitCode {
+    let done = match account(&rt) {
+        Ok(account) => run(&rt, rt.alloc(), account, rt.stdin(), rt.stdout()),
+        Err(fault) => Err(Failure::CommandLine(fault)),
+    };
+    match done {
+        Ok(()) => ExitCode::SUCCESS,
+        Err(failure) => {
+            // Where standard error takes nothing, the status alone tells.
+            let _ = eprintln!(rt; "{failure}");
+            ExitCode::from(failure.status())
+        }
+    }
+}
+
+// Whom the command line names.
+fn account(rt: &HostRuntime) -> Result<Account, CommandLineFault> {
+    let alloc = rt.alloc();
+    let words = words_of(rt, alloc)?;
+    account_in(alloc, words.as_slice())
+}
+
+// Logs in, and gives the commands of the input to the server.
+fn run<R: Net<Listener = TcpListener, Stream = TcpStream>, I: Read + Drop, O: Write + Drop>(
+    rt: &R,
+    alloc: Global,
+    account: Account,
+    input: I,
+    output: O,
+) -> Result<(), Failure> {
+    let Ok((reader, writer)) = connect(rt, alloc, account.port) else {
+        return Err(Failure::Connect);
+    };
+    let (reader, writer) = (Linked::new(reader), Linked::new(writer));
+    let mut client = Client::log_in(alloc, account.host, reader, writer)?;
+    client.run(input, output)
+}
+
+// A connection to a port of this machine. Each request is sent on at once, and replies are read through a buffer.
+fn connect<R: Net<Listener = TcpListener, Stream = TcpStream>>(
+    rt: &R,
+    alloc: Global,
+    port: u16,
+) -> io::Result<(BufReader<TcpStream>, TcpStream)> {
+    let stream = TcpStream::connect(rt, ("127.0.0.1", port))?;
+    stream.set_nodelay(true)?;
+    let writer = stream.try_clone()?;
+    Ok((BufReader::new(alloc, stream)?, writer))
+}
+
+// The words that the program was started with. One that is no text is in no command line.
+fn words_of(rt: &HostRuntime, alloc: Global) -> Result<Vec<String>, CommandLineFault> {
+    match env::args(rt) {
+        Ok(words) => words.collect(alloc).map_err(|_| CommandLineFault::NoMemory),
+        Err(error) if error.kind() == io::ErrorKind::OutOfMemory => Err(CommandLineFault::NoMemory),
+        Err(_) => Err(CommandLineFault::Bad),
+    }
+}
