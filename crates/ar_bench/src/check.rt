@@ -36,8 +36,8 @@ impl ReadBack {
     }
 }
 
-// The size of an array on which a few hundred operations are soon done. Many groups are as many as are measured.
-fn size_of_check(workload: Workload, geometry: Geometry) -> Size {
+/// The size of an array on which a few hundred operations are soon done. Many groups are as many as are measured.
+pub fn size_of_check(workload: Workload, geometry: Geometry) -> Size {
     if workload.is_of_many_groups() {
         return size_of(workload, geometry);
     }

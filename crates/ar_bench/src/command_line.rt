@@ -1,16 +1,25 @@
 // What the words of a command line ask for.
-use ar_workloads::Workload;
+use ar_workloads::{Scripted, Workload};
 use clap::error::ErrorKind;
 use clap::{Arg, ArgAction, ArgMatches, Command, Error as ParseError, value_parser};
 use std::alloc::Global;
 use std::convert::AsStr;
 use thiserror::Error;
 
+/// What a name on the command line means.
+#[derive(Clone, Copy, Debug, PartialEq, Eq)]
+pub enum Named {
+    /// A workload by events.
+    ByEvents(Workload),
+    /// One by lines.
+    ByLines(Scripted),
+}
+
 /// What is to be measured.
 #[derive(Clone, Copy, Debug, PartialEq, Eq)]
 pub struct Options {
     /// One workload, or all.
-    pub workload: Option<Workload>,
+    pub workload: Option<Named>,
     /// For how many seconds each workload runs.
     pub seconds: u32,
     pub seed: u64,
@@ -27,7 +36,7 @@ pub enum CommandLineFault {
     #[error("bad command line: ar_bench [--workload NAME] [--seconds 1..600] [--seed N] [--progress] [--check]")]
     Bad,
     /// There is no workload of this name.
-    #[error("no such workload; there are: fill overwrite overwrite-cached small-write read small-read parity-read parity-write degraded-read degraded-write demote clean many-groups-64 many-groups-1024 many-groups-3072")]
+    #[error("no such workload; there are: fill overwrite overwrite-cached small-write read small-read parity-read parity-write degraded-read degraded-write demote clean balance rebuild many-groups-64 many-groups-1024 many-groups-3072 script-overwrite script-fill script-read")]
     Workload,
     /// Memory was refused.
     #[error("no memory")]
@@ -38,10 +47,17 @@ pub enum CommandLineFault {
 pub fn options_in<S: AsStr>(alloc: Global, words: &[S]) -> Result<Options, CommandLineFault> {
     let matches = matches_of(alloc, words).map_err(|error| fault_of(&error))?;
     let workload = match matches.get_str("workload") {
-        Some(name) => Some(Workload::of_name(name).ok_or(CommandLineFault::Workload)?),
+        Some(name) => Some(asked(name).ok_or(CommandLineFault::Workload)?),
         None => None,
     };
     options_of(&matches, workload).ok_or(CommandLineFault::Bad)
+}
+
+fn asked(name: &str) -> Option<Named> {
+    match Scripted::of_name(name) {
+        Some(scripted) => Some(Named::ByLines(scripted)),
+        None => Some(Named::ByEvents(Workload::of_name(name)?)),
+    }
 }
 
 fn fault_of(error: &ParseError) -> CommandLineFault {
@@ -75,7 +91,7 @@ fn matches_of<'a, S: AsStr>(alloc: Global, words: &'a [S]) -> Result<ArgMatches<
     command.try_get_matches_from(words)
 }
 
-fn options_of(matches: &ArgMatches<'_>, workload: Option<Workload>) -> Option<Options> {
+fn options_of(matches: &ArgMatches<'_>, workload: Option<Named>) -> Option<Options> {
     Some(Options {
         workload,
         seconds: matches.get_one("seconds")?,

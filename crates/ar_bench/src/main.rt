@@ -5,13 +5,15 @@ mod check;
 mod command_line;
 mod failure;
 mod measure;
+mod scripted;
 
 use ar_disks::Geometry;
-use ar_workloads::{Workload, name_of};
-use check::{ReadBack, check};
-use command_line::{CommandLineFault, Options, options_in};
+use ar_workloads::{Scripted, Workload, name_of};
+use check::{ReadBack, check, size_of_check};
+use command_line::{CommandLineFault, Named, Options, options_in};
 use failure::Failure;
 use measure::{Budget, measure, measure_machine};
+use scripted::{check_script, measure_script};
 use std::alloc::Global;
 use std::process::ExitCode;
 use std::{env, io};
@@ -54,13 +56,24 @@ fn print_figures(rt: &HostRuntime, alloc: Global, options: Options) -> Result<()
                 print_workload(rt, alloc, options, workload, geometry)?;
             }
         }
+        for scripted in Scripted::ALL {
+            if is_script_asked(options, scripted) {
+                print_script(rt, alloc, options, scripted, geometry)?;
+            }
+        }
     }
     let machine = measure_machine(rt, alloc)?;
     println!(rt; "{machine}").map_err(|_| Failure::Write)
 }
 
 fn is_asked(options: Options, workload: Workload, geometry: Geometry) -> bool {
-    workload.runs_in(geometry) && options.workload.unwrap_or(workload) == workload
+    let named = Named::ByEvents(workload);
+    workload.runs_in(geometry) && options.workload.unwrap_or(named) == named
+}
+
+fn is_script_asked(options: Options, scripted: Scripted) -> bool {
+    let named = Named::ByLines(scripted);
+    options.workload.unwrap_or(named) == named
 }
 
 fn print_workload(
@@ -72,16 +85,37 @@ fn print_workload(
 ) -> Result<(), Failure> {
     let shape = name_of(geometry);
     let name = workload.name();
+    show_progress(rt, options, shape, name);
+    let figures = measure(rt, alloc, workload, geometry, budget_of(options))?;
+    println!(rt; "{shape} {name:<16} {figures}").map_err(|_| Failure::Write)
+}
+
+fn print_script(
+    rt: &HostRuntime,
+    alloc: Global,
+    options: Options,
+    scripted: Scripted,
+    geometry: Geometry,
+) -> Result<(), Failure> {
+    let shape = name_of(geometry);
+    let name = scripted.name();
+    show_progress(rt, options, shape, name);
+    let figures = measure_script(rt, alloc, scripted, geometry, budget_of(options))?;
+    println!(rt; "{shape} {name:<16} {figures}").map_err(|_| Failure::Write)
+}
+
+fn budget_of(options: Options) -> Budget {
+    Budget {
+        seconds: options.seconds,
+        seed: options.seed,
+    }
+}
+
+fn show_progress(rt: &HostRuntime, options: Options, shape: &str, name: &str) {
     if options.shows_progress {
         // Where standard error takes nothing, nobody waits for it.
         let _ = eprintln!(rt; "{shape} {name} ..");
     }
-    let budget = Budget {
-        seconds: options.seconds,
-        seed: options.seed,
-    };
-    let figures = measure(rt, alloc, workload, geometry, budget)?;
-    println!(rt; "{shape} {name:<16} {figures}").map_err(|_| Failure::Write)
 }
 
 fn print_digest(rt: &HostRuntime, alloc: Global, options: Options) -> Result<(), Failure> {
@@ -90,6 +124,12 @@ fn print_digest(rt: &HostRuntime, alloc: Global, options: Options) -> Result<(),
         for workload in Workload::ALL {
             if is_asked(options, workload, geometry) {
                 check(alloc, workload, geometry, options.seed, &mut read_back)?;
+            }
+        }
+        for scripted in Scripted::ALL {
+            if is_script_asked(options, scripted) {
+                let size = size_of_check(scripted.by_events(), geometry);
+                check_script(rt, alloc, scripted, size)?;
             }
         }
     }

@@ -167,12 +167,13 @@ impl Sink for Discard {
     fn take(&mut self, _bytes: &[u8]) {}
 }
 
-fn now<C: Clock>(clock: &C) -> Result<Instant, Failure> {
+/// The moment.
+pub fn now<C: Clock>(clock: &C) -> Result<Instant, Failure> {
     Instant::now(clock).map_err(|_| Failure::Clock)
 }
 
-// Nanoseconds since then.
-fn since<C: Clock>(clock: &C, begin: Instant) -> Result<u64, Failure> {
+/// Nanoseconds since then.
+pub fn since<C: Clock>(clock: &C, begin: Instant) -> Result<u64, Failure> {
     let duration = begin.elapsed(clock).map_err(|_| Failure::Clock)?;
     Ok(u64::try_from(duration.as_nanos()).unwrap_or(u64::MAX))
 }

@@ -3,6 +3,7 @@ use ar_core::{Health, OutcomeOf, Refusal, UnitRefusal};
 use ar_disks::Geometry;
 use ar_script::{Fault, FaultKind, Notation, Setup, run_script, write_health, write_outcome};
 use ar_scsi::Reply;
+use bytes::Bytes;
 use std::alloc::{AllocError, Global};
 use std::fmt::Debug;
 use std::io;
@@ -314,6 +315,26 @@ fn writes<R: Abort + AllocGlobal>(rt: &R, outcome: OutcomeOf<()>, text: &[u8]) {
         is_written && shown.as_slice() == text,
         "{outcome:?} is written as {shown:?}"
     );
+}
+
+// Asserts how a run of so many bytes is written, before a short one and one of a single byte.
+fn writes_runs<R: Abort + AllocGlobal>(rt: &R, len: usize) -> Result<(), AllocError> {
+    let bytes = padded(rt.alloc(), 0x5A, len, &[1, 2, 2])?;
+    let text = format!(in rt.alloc(); "good {len}x5A 1x01 2x02\n")?;
+    let reply = Reply::good(Bytes::from_vec(bytes)?);
+    writes(rt, OutcomeOf::Cmd(reply), text.as_bytes());
+    Ok(())
+}
+
+#[test]
+fn runs_of_each_length(rt: HostRuntime) -> Result<(), Fail> {
+    for len in 1..=200 {
+        writes_runs(&rt, len)?;
+    }
+    for len in [511, 512, 513, 1_023, 1_024, 1_025, 65_535, 65_536] {
+        writes_runs(&rt, len)?;
+    }
+    Ok(())
 }
 
 // A script meets none of these while there is memory.

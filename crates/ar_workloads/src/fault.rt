@@ -19,4 +19,7 @@ pub enum WorkloadFault {
     /// The disks are not as the workload needs them.
     #[error("{0}: a disk is out, or none is")]
     Health(&'static str),
+    /// A script ended before its last line, or its answers are of another length.
+    #[error("{0}: a line was not answered as it has to be")]
+    Line(&'static str),
 }

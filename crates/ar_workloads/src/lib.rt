@@ -7,6 +7,7 @@ mod cost;
 mod data;
 mod fault;
 mod figures;
+mod script;
 mod stage;
 mod workload;
 
@@ -15,5 +16,6 @@ pub use cost::{Moves, Round};
 pub use data::Data;
 pub use fault::WorkloadFault;
 pub use figures::{Figures, Machine, name_of};
+pub use script::{Lines, Scripted, setup_of};
 pub use stage::{Sink, Size, Stage};
 pub use workload::{Access, Plan, Stands, Workload};

@@ -79,8 +79,8 @@ impl Size {
             .saturating_mul(3 * u32::from(self.geometry.rows()))
     }
 
-    // Blocks of the unit that a workload is on.
-    fn blocks(self, stands: Stands) -> u32 {
+    /// Blocks of the unit that a workload is on.
+    pub fn blocks(self, stands: Stands) -> u32 {
         match stands {
             Stands::Nowhere | Stands::Everywhere => self.room(),
             Stands::Mirrored => self.mirrored(self.groups()),
