@@ -21,8 +21,8 @@ const ROUND: u32 = 5;
 /// For how many milliseconds the lock is left alone after a round in which nothing was done.
 const PAUSE: u64 = 1;
 
-/// Works in the background until `stop` is set: one task a turn, in the rotation Flush, Rebuild, Clean, Balance, Demote. Each turn takes
-/// the lock once. After a round in which there was nothing to do it sleeps, so that it costs the sessions little.
+/// Works in the background until `stop` is set: one task a turn, in the rotation Flush, Rebuild, Clean, Balance, Demote. Each
+/// turn takes the lock once. After a round in which there was nothing to do it sleeps, so that it costs the sessions little.
 pub fn run_background<R: Wait + Clock, D: Disk + Drop, L: Ledger>(
     rt: &R,
     kept: &Mutex<Kept<D, L>>,

@@ -13,8 +13,8 @@ use std::marker::Model;
 use std::sync::ledger::Ledger;
 use std::sync::{Mutex, Wait};
 
-/// The port of a session to a kept array under a lock. A login takes the host's seat from the desk, which has a lock of its own; each
-/// command holds the array's lock for as long as it is done.
+/// The port of a session to a kept array under a lock. A login takes the host's seat from the desk, which has a lock of its
+/// own; each command holds the array's lock for as long as it is done.
 #[derive(Drop)]
 pub struct LockPort<'a, R: Wait, D: Disk + Drop, L: Ledger> {
     rt: &'a R,

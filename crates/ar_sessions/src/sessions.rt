@@ -85,8 +85,8 @@ struct Roll {
     ghost ends_room: { left ≤ vec_capacity ends },
 }
 
-/// Serves each connection that the door opens in a thread of its own, and answers their ends in the order in which they came. The gate
-/// is told of each command. Where memory for the ends is refused, no connection is opened.
+/// Serves each connection that the door opens in a thread of its own, and answers their ends in the order in which they came.
+/// The gate is told of each command. Where memory for the ends is refused, no connection is opened.
 pub fn run_sessions<
     R: Threads + Wait + Sync,
     D: Disk + Drop + Send,
@@ -126,8 +126,8 @@ pub fn run_sessions<
     Ok(ends)
 }
 
-/// Serves the door's connections as `run_sessions` does, with one thread beside them that works in the background until all have ended.
-/// Where that thread can't be started, no connection is opened.
+/// Serves the door's connections as `run_sessions` does, with one thread beside them that works in the background until all have
+/// ended. Where that thread can't be started, no connection is opened.
 pub fn run_beside_background<
     R: Threads + Wait + Clock + Sync,
     D: Disk + Drop + Send,

@@ -72,8 +72,8 @@ impl Door for TcpDoor {
     }
 }
 
-// Waits for a connection. What is read of it goes through a buffer, so that a small frame takes one call of the system; each answer is
-// sent on at once.
+// Waits for a connection. What is read of it goes through a buffer, so that a small frame takes one call of the system; each
+// answer is sent on at once.
 fn opened(
     alloc: Global,
     listener: &TcpListener,

@@ -1,0 +1,116 @@
+// Work in the background, which shows in the number of free groups.
+ghost use Rattle.std.specs.Prelude.{◌≡◌, []};
+ghost use Rattle.ar_extents.specs.Set.{CanCount};
+
+use crate::rig::{array, closes, make};
+use ar_core::{Array, NewDisk, OutcomeOf};
+use ar_disks::{Geometry, MemDisk};
+use ar_frames::{Login, Port};
+use ar_history::{Kept, OperationOf};
+use ar_scsi::Status;
+use ar_sessions::{Desk, LockPort, run_background};
+use bytes::Bytes;
+use std::alloc::Global;
+use std::marker::Brand;
+use std::process::Abort;
+use std::sync::atomic::{AtomicBool, Ordering};
+use std::sync::ledger::{Blank, Ledger};
+use std::sync::{Mutex, Wait};
+use std::test::Fail;
+use std::thread;
+use std::thread::Threads;
+use std::time::Clock;
+
+/// How often the array is looked at before the work counts as never done.
+const LOOKS: u32 = 10_000_000;
+
+// WRITE (10) of the first two sectors, a whole block.
+const WRITE: [u8; 16] = [0x2A, 0, 0, 0, 0, 0, 0, 0, 2, 0, 0, 0, 0, 0, 0, 0];
+
+#[test]
+fn a_block_is_flushed_and_a_new_disk_is_used(rt: HostRuntime) -> Result<(), Fail> {
+    let alloc = rt.alloc();
+    let array = array(alloc, 4)?;
+    works_on::<Brand, _>(&rt, alloc, Blank::new(4), array);
+    Ok(())
+}
+
+fn works_on<L: Ledger + Send + Sync, R: Threads + Wait + Clock + Abort + Sync>(
+    rt: &R,
+    alloc: Global,
+    blank: Blank,
+    array: Array<MemDisk>,
+)
+    requires name { blank.name ≡ L.name }
+    requires parts { blank.parts ≡ L.parts }
+    requires four { blank.parts ≡ 4 }
+    requires no_unit { array.store.book.units ≡ [] }
+{
+    let (mut kept, seats) = Kept::<MemDisk, L>::start(alloc, blank, array);
+    make(rt, &mut kept, 0);
+    let kept = Mutex::new(kept);
+    let desk = Mutex::new(Desk::new(seats));
+    write(rt, alloc, &kept, &desk);
+    works(rt, alloc, &kept);
+    closes(rt, kept.into_inner(), desk.into_inner(), &[1, 0, 0, 0]);
+}
+
+// A host writes a block, which the cache takes.
+fn write<L: Ledger, R: Wait + Abort>(
+    rt: &R,
+    alloc: Global,
+    kept: &Mutex<Kept<MemDisk, L>>,
+    desk: &Mutex<Desk<L>>,
+) {
+    let bytes = vec![in alloc; 0xAA; 1024].expect(rt, "memory");
+    let payload = Bytes::from_vec(bytes).ok().expect(rt, "memory");
+    let mut port = LockPort::new(rt, kept, desk);
+    if let Login::Taken = port.login(0) {
+        let reply = port.command(0, &WRITE, payload);
+        assert!(rt; reply.status == Status::Good, "{reply:?}");
+    }
+    port.finish();
+}
+
+// The block reaches the disks, where a group is taken for it. Of a disk that is added a group is formed.
+fn works<L: Ledger + Send + Sync, R: Threads + Wait + Clock + Abort + Sync>(
+    rt: &R,
+    alloc: Global,
+    kept: &Mutex<Kept<MemDisk, L>>,
+) {
+    let stop = AtomicBool::new(false);
+    let flag = &stop;
+    thread::scope(thread::scope_env(), rt, |scope| {
+        let started = scope.spawn(move || run_background(rt, kept, flag));
+        assert!(rt; started.is_ok(), "a thread");
+        comes_to(rt, kept, 3);
+        add(rt, alloc, kept);
+        comes_to(rt, kept, 4);
+        flag.store(true, Ordering::SeqCst);
+    });
+}
+
+// So many groups are free in the end.
+fn comes_to<L: Ledger, R: Wait + Abort>(rt: &R, kept: &Mutex<Kept<MemDisk, L>>, groups: u32) {
+    for _ in 0..LOOKS {
+        if kept.lock(rt).free_groups() == groups {
+            return;
+        }
+        thread::yield_now();
+    }
+    assert!(rt; false, "{groups} groups are free in the end");
+}
+
+fn add<L: Ledger, R: Wait + Abort>(rt: &R, alloc: Global, kept: &Mutex<Kept<MemDisk, L>>) {
+    let disk = disk(rt, alloc);
+    let added = kept
+        .lock(rt)
+        .operate(OperationOf::AddDisk(NewDisk::new(disk)));
+    assert!(rt; matches!(added, OutcomeOf::AddDisk(Ok(()))), "the disk is added");
+}
+
+fn disk(rt: &impl Abort, alloc: Global) -> MemDisk
+    ensures { CanCount result }
+{
+    MemDisk::filled(alloc, Geometry::SMALL, 4, 0xEE).expect(rt, "memory")
+}

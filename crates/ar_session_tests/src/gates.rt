@@ -1,0 +1,189 @@
+// Sessions at once, behind a gate.
+ghost use Rattle.std.specs.Prelude.{◌≡◌, []};
+
+use crate::frames::{LOGINS, TUR, put, put_request};
+use crate::rig::{array, closes, make};
+use ar_core::Array;
+use ar_disks::{Host, MemDisk};
+use ar_frames::{Gate, MemSink, MemSource, NoGate, SessionEnd, Why};
+use ar_history::Kept;
+use ar_sessions::{ConnectionEnd, Desk, Door, MemDoor, run_sessions};
+use std::alloc::Global;
+use std::collections::VecDeque;
+use std::marker::Brand;
+use std::process::Abort;
+use std::sync::atomic::{AtomicBool, Ordering};
+use std::sync::ledger::{Blank, Ledger};
+use std::sync::{Mutex, Wait};
+use std::test::Fail;
+use std::thread;
+use std::thread::Threads;
+
+/// How often a flag is looked at before it counts as never set.
+const LOOKS: u32 = 10_000_000;
+
+// Holds host 0's first command until host 1's first was answered.
+#[derive(Drop)]
+struct Held {
+    answered: AtomicBool,
+    late: AtomicBool,
+}
+
+impl Gate for Held {
+    fn before(&self, host: Host, n: u64) {
+        if host.number() != 0 || n != 1 {
+            return;
+        }
+        for _ in 0..LOOKS {
+            if self.answered.load(Ordering::SeqCst) {
+                return;
+            }
+            thread::yield_now();
+        }
+        self.late.store(true, Ordering::SeqCst);
+    }
+
+    fn after(&self, host: Host, n: u64) {
+        if host.number() == 1 && n == 1 {
+            self.answered.store(true, Ordering::SeqCst);
+        }
+    }
+}
+
+// The session of a host that asks so many times whether its unit is ready.
+fn input(rt: &impl Abort, alloc: Global, host: u8, count: u8) -> Vec<u8> {
+    let mut bytes = Vec::new(alloc);
+    put(rt, &mut bytes, LOGINS[usize::from(host % 4)]);
+    for tag in 0..count {
+        put_request(rt, &mut bytes, tag, 0, TUR, &[]);
+    }
+    bytes
+}
+
+// A door to the sessions of these hosts, each with so many commands.
+fn door(rt: &impl Abort, alloc: Global, hosts: &[u8], count: u8) -> MemDoor<MemSource, MemSink> {
+    let mut pairs = VecDeque::new(alloc);
+    for host in hosts {
+        let reader = MemSource::new(input(rt, alloc, *host, count));
+        let writer = MemSink::new(vec![in alloc; 0; 256].expect(rt, "memory"));
+        assert!(rt; pairs.push_back((reader, writer)).is_ok(), "memory");
+    }
+    MemDoor::new(pairs)
+}
+
+// Serves a door on a new array where hosts 0 and 1 have units, and closes it.
+fn serve<O: Door, G: Gate + Sync, R: Threads + Wait + Abort + Sync>(
+    rt: &R,
+    alloc: Global,
+    door: &mut O,
+    gate: &G,
+    wanted: &[ConnectionEnd],
+    commands: [u64; 4],
+) -> Result<(), Fail> {
+    let array = array(alloc, 0)?;
+    serve_on::<Brand, O, G, R>(
+        rt,
+        alloc,
+        Blank::new(4),
+        array,
+        door,
+        gate,
+        wanted,
+        commands,
+    );
+    Ok(())
+}
+
+fn serve_on<L: Ledger + Send + Sync, O: Door, G: Gate + Sync, R: Threads + Wait + Abort + Sync>(
+    rt: &R,
+    alloc: Global,
+    blank: Blank,
+    array: Array<MemDisk>,
+    door: &mut O,
+    gate: &G,
+    wanted: &[ConnectionEnd],
+    commands: [u64; 4],
+)
+    requires name { blank.name ≡ L.name }
+    requires parts { blank.parts ≡ L.parts }
+    requires four { blank.parts ≡ 4 }
+    requires no_unit { array.store.book.units ≡ [] }
+{
+    let (mut kept, seats) = Kept::<MemDisk, L>::start(alloc, blank, array);
+    make(rt, &mut kept, 0);
+    make(rt, &mut kept, 1);
+    let kept = Mutex::new(kept);
+    let desk = Mutex::new(Desk::new(seats));
+    let ends = run_sessions(rt, alloc, door, &kept, &desk, gate).expect(rt, "memory");
+    assert!(rt; ends.as_slice() == wanted, "{ends:?}");
+    closes(rt, kept.into_inner(), desk.into_inner(), &commands);
+}
+
+const fn served(frames: u64, why: Why) -> ConnectionEnd {
+    ConnectionEnd::Served(SessionEnd { frames, why })
+}
+
+#[test]
+fn two_sessions_at_once(rt: HostRuntime) -> Result<(), Fail> {
+    let alloc = rt.alloc();
+    let gate = Held {
+        answered: AtomicBool::new(false),
+        late: AtomicBool::new(false),
+    };
+    let mut door = door(&rt, alloc, &[0, 1], 1);
+    let wanted = [served(1, Why::End), served(1, Why::End)];
+    serve(&rt, alloc, &mut door, &gate, &wanted, [1, 1, 0, 0])?;
+    assert!(rt;
+        !gate.late.load(Ordering::SeqCst),
+        "host 1 is answered while host 0 is held"
+    );
+    Ok(())
+}
+
+#[test]
+fn ends_stand_in_order(rt: HostRuntime) -> Result<(), Fail> {
+    let alloc = rt.alloc();
+    let mut door = door(&rt, alloc, &[2, 1, 3], 3);
+    let wanted = [
+        served(3, Why::End),
+        served(3, Why::End),
+        served(3, Why::End),
+    ];
+    serve(&rt, alloc, &mut door, &NoGate, &wanted, [0, 3, 3, 3])
+}
+
+// A door that doesn't open.
+#[derive(Drop)]
+struct Jammed {
+    left: usize,
+}
+
+impl Door for Jammed {
+    type Reader = MemSource;
+
+    type Writer = MemSink;
+
+    ghost to_come = { λ door. door.left };
+
+    fn left(&self) -> usize {
+        self.left
+    }
+
+    fn accept(&mut self) -> Option<(MemSource, MemSink)> {
+        self.left -= 1;
+        None
+    }
+}
+
+#[test]
+fn a_connection_that_does_not_open(rt: HostRuntime) -> Result<(), Fail> {
+    let wanted = [served(0, Why::Read), served(0, Why::Read)];
+    serve(
+        &rt,
+        rt.alloc(),
+        &mut Jammed { left: 2 },
+        &NoGate,
+        &wanted,
+        [0, 0, 0, 0],
+    )
+}

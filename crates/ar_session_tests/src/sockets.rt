@@ -1,0 +1,267 @@
+// Sessions over sockets of this machine, with work in the background beside them.
+ghost use Rattle.std.specs.Prelude.{◌≡◌, []};
+
+use crate::frames::{LOGINS, TUR};
+use crate::rig::{array, closes, make};
+use ar_core::Array;
+use ar_disks::MemDisk;
+use ar_frames::{Linked, NoGate, SessionEnd, Why, ask, hello};
+use ar_history::Kept;
+use ar_scsi::{Reply, Status};
+use ar_sessions::{ConnectionEnd, Desk, ListenFault, TcpDoor, run_beside_background};
+use std::alloc::Global;
+use std::io::{Read, Write};
+use std::marker::Brand;
+use std::net::{Net, Shutdown, TcpListener, TcpStream};
+use std::process::Abort;
+use std::sync::ledger::{Blank, Ledger};
+use std::sync::{Mutex, Wait};
+use std::test::Fail;
+use std::thread;
+use std::thread::{Scope, Threads};
+use std::time::Clock;
+
+/// Who connects.
+#[derive(Clone, Copy)]
+enum Guests {
+    // Two hosts at once, each with so many writes and reads.
+    Two(u8),
+    // So many, one after the other, each with one command.
+    InTurn(u8),
+    // One that sends garbage, one that leaves inside a frame, one that never reads, and then a host.
+    Rude,
+}
+
+// Serves guests on a new array, and compares how many commands each host has in the end.
+fn serves<
+    R: Threads + Wait + Clock + Abort + Net<Listener = TcpListener, Stream = TcpStream> + Sync,
+>(rt: &R, alloc: Global, guests: Guests, connections: usize, commands: &[u64]) -> Result<(), Fail> {
+    let array = array(alloc, 4)?;
+    serves_on::<Brand, R>(
+        rt,
+        alloc,
+        Blank::new(4),
+        array,
+        guests,
+        connections,
+        commands,
+    );
+    Ok(())
+}
+
+fn serves_on<
+    L: Ledger + Send + Sync,
+    R: Threads + Wait + Clock + Abort + Net<Listener = TcpListener, Stream = TcpStream> + Sync,
+>(
+    rt: &R,
+    alloc: Global,
+    blank: Blank,
+    array: Array<MemDisk>,
+    guests: Guests,
+    connections: usize,
+    commands: &[u64],
+)
+    requires name { blank.name ≡ L.name }
+    requires parts { blank.parts ≡ L.parts }
+    requires four { blank.parts ≡ 4 }
+    requires no_unit { array.store.book.units ≡ [] }
+{
+    let (mut kept, seats) = Kept::<MemDisk, L>::start(alloc, blank, array);
+    for host in 0..4 {
+        make(rt, &mut kept, host);
+    }
+    let kept = Mutex::new(kept);
+    let desk = Mutex::new(Desk::new(seats));
+    let ends = meets(rt, alloc, &kept, &desk, guests, connections);
+    compare(rt, guests, ends.as_slice());
+    closes(rt, kept.into_inner(), desk.into_inner(), commands);
+}
+
+// Opens a door for guests, and answers how their connections ended.
+fn meets<
+    L: Ledger + Send + Sync,
+    R: Threads + Wait + Clock + Abort + Net<Listener = TcpListener, Stream = TcpStream> + Sync,
+>(
+    rt: &R,
+    alloc: Global,
+    kept: &Mutex<Kept<MemDisk, L>>,
+    desk: &Mutex<Desk<L>>,
+    guests: Guests,
+    connections: usize,
+) -> Vec<ConnectionEnd> {
+    let mut door = TcpDoor::listen(rt, alloc, 0, connections).expect(rt, "a port");
+    let port = door.port().expect(rt, "its number");
+    thread::scope(thread::scope_env(), rt, |scope| {
+        welcome(scope, rt, alloc, guests, port);
+        run_beside_background(rt, alloc, &mut door, kept, desk, &NoGate).expect(rt, "memory")
+    })
+}
+
+// Starts the guests' thread.
+fn welcome<'s, E, R: Threads + Abort + Net<Listener = TcpListener, Stream = TcpStream> + Sync>(
+    scope: &'s Scope<'s, E>,
+    rt: &'s R,
+    alloc: Global,
+    guests: Guests,
+    port: u16,
+) {
+    let started = scope.spawn(move || visit(rt, alloc, guests, port));
+    assert!(rt; started.is_ok(), "a thread for the guests");
+}
+
+fn visit<R: Threads + Abort + Net<Listener = TcpListener, Stream = TcpStream> + Sync>(
+    rt: &R,
+    alloc: Global,
+    guests: Guests,
+    port: u16,
+) {
+    match guests {
+        Guests::Two(count) => {
+            thread::join(
+                rt,
+                move || talk(rt, alloc, port, 0, count),
+                move || talk(rt, alloc, port, 1, count),
+            );
+        }
+        Guests::InTurn(count) => {
+            for number in 0..count {
+                talk(rt, alloc, port, number % 4, 0);
+            }
+        }
+        Guests::Rude => {
+            send(rt, port, &[b"no login of a host", b""]);
+            send(rt, port, &[LOGINS[2], &[0, 0, 0, 25, 0]]);
+            flood(rt, port);
+            talk(rt, alloc, port, 2, 1);
+        }
+    }
+}
+
+// A session of a host: so many writes, each read back, or else one TEST UNIT READY. It leaves once the server has let it go.
+fn talk<R: Abort + Net<Listener = TcpListener, Stream = TcpStream>>(
+    rt: &R,
+    alloc: Global,
+    port: u16,
+    host: u8,
+    count: u8,
+) {
+    let stream = TcpStream::connect(rt, ("127.0.0.1", port)).expect(rt, "a connection");
+    let mut reader = Linked::new(&stream);
+    let mut writer = Linked::new(&stream);
+    assert!(rt;
+        hello(&mut reader, &mut writer, host) == Ok(true),
+        "host {host} is logged in"
+    );
+    if count == 0 {
+        let reply = ask(alloc, &mut reader, &mut writer, 0, 0, &[0; 16], &[]);
+        was_good(rt, reply.ok(), &[]);
+    }
+    for byte in 0..count {
+        let sector = [byte; 512];
+        let write = block(0x2A);
+        let reply = ask(alloc, &mut reader, &mut writer, 1, 0, &write, &sector);
+        was_good(rt, reply.ok(), &[]);
+        let reply = ask(alloc, &mut reader, &mut writer, 2, 0, &block(0x28), &[]);
+        was_good(rt, reply.ok(), &sector);
+    }
+    leave(rt, &stream);
+}
+
+// READ (10) or WRITE (10) of the first sector.
+fn block(code: u8) -> [u8; 16] {
+    [code, 0, 0, 0, 0, 0, 0, 0, 1, 0, 0, 0, 0, 0, 0, 0]
+}
+
+fn was_good(rt: &impl Abort, reply: Option<Reply>, bytes: &[u8]) {
+    let reply = reply.expect(rt, "a reply");
+    assert!(rt; reply.status == Status::Good, "{reply:?}");
+    assert!(rt;
+        reply.payload.as_slice() == bytes,
+        "the bytes that were written"
+    );
+}
+
+// Sends no more, and waits until the server has closed.
+fn leave(rt: &impl Abort, stream: &TcpStream) {
+    stream.shutdown(Shutdown::Write).expect(rt, "an end");
+    let mut rest = [0; 64];
+    let mut from = stream;
+    for _ in 0..u32::MAX {
+        match from.read(&mut rest) {
+            Ok(0) | Err(_) => return,
+            Ok(_) => {}
+        }
+    }
+}
+
+// Sends pieces, and leaves.
+fn send<R: Abort + Net<Listener = TcpListener, Stream = TcpStream>>(
+    rt: &R,
+    port: u16,
+    pieces: &[&[u8]],
+) {
+    let stream = TcpStream::connect(rt, ("127.0.0.1", port)).expect(rt, "a connection");
+    let mut to = &stream;
+    for piece in pieces {
+        to.write_all(piece).expect(rt, "a piece is sent");
+    }
+    leave(rt, &stream);
+}
+
+// Asks again and again and never reads, until the server takes no more, and is gone.
+fn flood<R: Abort + Net<Listener = TcpListener, Stream = TcpStream>>(rt: &R, port: u16) {
+    let stream = TcpStream::connect(rt, ("127.0.0.1", port)).expect(rt, "a connection");
+    stream
+        .set_nonblocking(true)
+        .expect(rt, "a socket that doesn't wait");
+    let mut to = &stream;
+    let request =
+        *b"\x00\x00\x00\x19\x00\x00\x00\x00\x00\x00\x00\x01\x00\x28\x00\x00\x00\x00\x00\x00\x00\x04\x00\x00\x00\x00\x00\x00\x00";
+    let _ = to.write(LOGINS[3]);
+    for _ in 0..1000 {
+        let _ = to.write(&request);
+    }
+}
+
+fn compare(rt: &impl Abort, guests: Guests, ends: &[ConnectionEnd]) {
+    match guests {
+        Guests::Two(count) => all_ended(rt, ends, u64::from(count) * 2),
+        Guests::InTurn(_) => all_ended(rt, ends, 1),
+        Guests::Rude => {}
+    }
+}
+
+// Each session ended after so many frames, without a fault.
+fn all_ended(rt: &impl Abort, ends: &[ConnectionEnd], frames: u64) {
+    let wanted = ConnectionEnd::Served(SessionEnd {
+        frames,
+        why: Why::End,
+    });
+    for end in ends {
+        assert!(rt; *end == wanted, "{end:?}");
+    }
+}
+
+#[test]
+fn two_hosts_at_once(rt: HostRuntime) -> Result<(), Fail> {
+    serves(&rt, rt.alloc(), Guests::Two(50), 2, &[100, 100, 0, 0])
+}
+
+#[test]
+fn a_hundred_connections(rt: HostRuntime) -> Result<(), Fail> {
+    serves(&rt, rt.alloc(), Guests::InTurn(100), 100, &[25, 25, 25, 25])
+}
+
+#[test]
+fn rude_guests(rt: HostRuntime) -> Result<(), Fail> {
+    serves(&rt, rt.alloc(), Guests::Rude, 4, &[0, 0, 2])
+}
+
+#[test]
+fn one_door_at_a_port(rt: HostRuntime) {
+    let alloc = rt.alloc();
+    let first = TcpDoor::listen(&rt, alloc, 0, 1).expect(&rt, "a port");
+    let port = first.port().expect(&rt, "its number");
+    let second = TcpDoor::listen(&rt, alloc, port, 1);
+    assert!(rt; matches!(second, Err(ListenFault)), "a port that is listened at");
+}
