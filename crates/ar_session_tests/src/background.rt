@@ -106,7 +106,10 @@ fn add<L: Ledger, R: Wait + Abort>(rt: &R, alloc: Global, kept: &Mutex<Kept<MemD
     let added = kept
         .lock(rt)
         .operate(OperationOf::AddDisk(NewDisk::new(disk)));
-    assert!(rt; matches!(added, OutcomeOf::AddDisk(Ok(()))), "the disk is added");
+    assert!(rt;
+        matches!(added, OutcomeOf::AddDisk(Ok(()))),
+        "the disk is added"
+    );
 }
 
 fn disk(rt: &impl Abort, alloc: Global) -> MemDisk

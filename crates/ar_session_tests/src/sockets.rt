@@ -263,5 +263,8 @@ fn one_door_at_a_port(rt: HostRuntime) {
     let first = TcpDoor::listen(&rt, alloc, 0, 1).expect(&rt, "a port");
     let port = first.port().expect(&rt, "its number");
     let second = TcpDoor::listen(&rt, alloc, port, 1);
-    assert!(rt; matches!(second, Err(ListenFault)), "a port that is listened at");
+    assert!(rt;
+        matches!(second, Err(ListenFault)),
+        "a port that is listened at"
+    );
 }

@@ -159,5 +159,11 @@ fn plays_cut<R: Wait + Abort>(
     log_in(rt, &mut after, 0);
     let stands = if end.frames == 0 { 0x00 } else { 0xAA };
     good(rt, &mut after, 1, READ, &[], &[stands; 1024]);
-    plays(rt, alloc, true, &[part, after], [end.frames + 1, 0, 0, 0])
+    plays(
+        rt,
+        alloc,
+        true,
+        &[part, after],
+        [end.frames.saturating_add(1), 0, 0, 0],
+    )
 }
