@@ -48,13 +48,9 @@ impl Runner {
         ensures taken { OnOk result (start_fault (disks_of setup) ≡ None) }
         ensures started { IfOk result (IsStarted (disks_of setup) setup.cache) }
     {
-        if setup.cache > CAPACITY_LIMIT {
-            return Err(Fault::Start);
-        }
         let filled = Filled::new();
         let row = Block::new(alloc, setup.geometry).map_err(|_| Fault::Start)?;
-        let disks = new_disks(alloc, setup).map_err(|_| Fault::Start)?;
-        let array = Array::start(alloc, disks, setup.cache).map_err(|_| Fault::Start)?;
+        let array = start_array(alloc, setup)?;
         Ok(Runner { array, row, filled })
     }
 
