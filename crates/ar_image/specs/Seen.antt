@@ -11,11 +11,6 @@ use Rattle.ar_unit.specs.Unit.{UnitState, Present}
 use Rattle.ar_image.specs.Sectors.{sector_in, sectors_in, blocks_of, key_of}
 use Rattle.ar_image.specs.Image.{ArrayState, geometry_of, seen_at, length_at, mark_at, unit_sectors}
 use Rattle.ar_image.specs.Following.{StoreReads}
-use Rattle.std.specs.Prelude.{◌≡◌, ◌≢◌, ℕ, ◌+◌, ◌/◌, ◌<◌, ◌≤◌, true, None, List, length}
-use Rattle.ar_book.specs.Tables.{has_unit}
-use Rattle.ar_cache.specs.Cache.{cached}
-use Rattle.ar_image.specs.Sectors.{key_of}
-use Rattle.ar_image.specs.Image.{ArrayState, geometry_of, mark_at}
 
 -- the bytes of sectors of a unit
 abbrev pub sectors_read : ArrayState → Addr → ℕ → ℕ → List ℕ

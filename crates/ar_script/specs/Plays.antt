@@ -56,8 +56,8 @@ abbrev pub AreAll : Option (List (List ℕ)) → List (List ℕ) → Type 0
 AreAll None lines = ⊤
 AreAll (Some script) lines = lines ≡ script
 
--- What is told at a line is so: memory was refused, or a stream faulted; or the line has this fault, by its bytes or by what it says;
--- or there are too many lines.
+-- What may be told at a line: that memory was refused or a stream faulted, of which nothing more is said; else only a fault that the
+-- line has, by its bytes or by what it says, or that there are too many lines.
 abbrev pub IsSo : Option (List (List ℕ)) → ℕ → FaultKind → Type 0
 IsSo None n kind = ⊤
 IsSo (Some script) n kind =
