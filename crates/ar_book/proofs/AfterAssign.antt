@@ -8,7 +8,8 @@ use Rattle.ar_disks.specs.declared.address.Addr.{Addr}
 use Rattle.ar_disks.specs.declared.address.Key.{Key}
 use Rattle.ar_book.specs.declared.class.Class.TheVariants.{Free}
 use Rattle.ar_book.specs.declared.class.Slot.{Slot}
-use Rattle.ar_book.specs.Tables.{UnitState, Tables, same_addr, group_in, key_in, unit_in, key_at, home, stamp_of, level, level_in, level_of, class_of, free_groups, reserved, room, HasBlock, HasSlot}
+use Rattle.ar_disks.specs.Addresses.{same_addr}
+use Rattle.ar_book.specs.Tables.{UnitState, Tables, group_in, key_in, unit_in, key_at, home, stamp_of, level, level_in, level_of, class_of, free_groups, reserved, room, HasBlock, HasSlot}
 use Rattle.ar_book.specs.Changes.{named, vacated, assigned}
 use Rattle.ar_book.specs.Choices.{IsEmpty}
 use Rattle.ar_book.specs.Book.{TablesAgree}

@@ -10,7 +10,8 @@ use Rattle.std.proofs.lemmas.Map.Made.{is_some-lookup}
 use Rattle.ar_disks.specs.declared.address.Addr.{Addr}
 use Rattle.ar_disks.specs.declared.address.Key.{Key}
 use Rattle.ar_book.specs.declared.class.Slot.{Slot}
-use Rattle.ar_book.specs.Tables.{Tables, no_unit, same_addr, unit_in, home, stamp_of, level, level_in, blocks_of, reserved}
+use Rattle.ar_disks.specs.Addresses.{same_addr}
+use Rattle.ar_book.specs.Tables.{Tables, no_unit, unit_in, home, stamp_of, level, level_in, blocks_of, reserved}
 use Rattle.ar_book.specs.Changes.{new_unit, longer, made, grown, unmarked}
 use Rattle.ar_book.specs.Refusals.{make_refusal, grow_refusal}
 use Rattle.ar_book.specs.Book.{TablesAgree}

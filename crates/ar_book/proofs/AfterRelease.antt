@@ -7,7 +7,8 @@ use Rattle.ar_disks.specs.Geometry.{rows_of}
 use Rattle.ar_disks.specs.declared.address.Addr.{Addr}
 use Rattle.ar_disks.specs.declared.address.Key.{Key}
 use Rattle.ar_book.specs.declared.class.Slot.{Slot}
-use Rattle.ar_book.specs.Tables.{UnitState, Tables, same_addr, group_in, key_in, unit_in, key_at, home, stamp_of, level, level_in, class_of, free_groups, reserved, room, HasBlock}
+use Rattle.ar_disks.specs.Addresses.{same_addr}
+use Rattle.ar_book.specs.Tables.{UnitState, Tables, group_in, key_in, unit_in, key_at, home, stamp_of, level, level_in, class_of, free_groups, reserved, room, HasBlock}
 use Rattle.ar_book.specs.Changes.{vacated, released}
 use Rattle.ar_book.specs.Book.{TablesAgree}
 use Rattle.ar_book.proofs.GroupLemmas.{there_group, there_slot, KeepsClass, class_kept, level_stays, vacated_size, vacated_members, vacated_class, vacated_same, vacated_other}

@@ -5,7 +5,8 @@ use Rattle.std.proofs.lemmas.Map.{keys-set_value}
 use Rattle.ar_disks.specs.Geometry.{rows_of}
 use Rattle.ar_disks.specs.declared.address.Addr.{Addr}
 use Rattle.ar_disks.specs.declared.address.Key.{Key}
-use Rattle.ar_book.specs.Tables.{UnitState, Tables, same_addr, unit_in, home, stamp_of, level, level_in, reserved, room, HasBlock}
+use Rattle.ar_disks.specs.Addresses.{same_addr}
+use Rattle.ar_book.specs.Tables.{UnitState, Tables, unit_in, home, stamp_of, level, level_in, reserved, room, HasBlock}
 use Rattle.ar_book.specs.Changes.{next_stamp, stamped}
 use Rattle.ar_book.specs.Book.{TablesAgree}
 use Rattle.ar_book.proofs.Keys.{addr_tells, make_key}

@@ -10,7 +10,8 @@ use Rattle.ar_disks.specs.declared.address.Key.{Key}
 use Rattle.ar_book.specs.declared.class.Class.{Class}
 use Rattle.ar_book.specs.declared.class.Class.TheVariants.{Free, Mirrored, Parity}
 use Rattle.ar_book.specs.declared.class.Slot.{Slot}
-use Rattle.ar_book.specs.Tables.{GroupState, UnitState, Tables, group_in, unit_in, same_addr, class_of, is_free, free_groups, used, placed, reserved, slots_of}
+use Rattle.ar_disks.specs.Addresses.{same_addr}
+use Rattle.ar_book.specs.Tables.{GroupState, UnitState, Tables, group_in, unit_in, class_of, is_free, free_groups, used, placed, reserved, slots_of}
 use Rattle.ar_book.specs.Choices.{IsHole, IsWaiting}
 use Rattle.ar_book.specs.Book.{TablesAgree}
 use Rattle.ar_book.proofs.UnitLemmas.{has_by_block, found_in}

@@ -15,7 +15,8 @@ use Rattle.ar_disks.specs.declared.address.Addr.{Addr}
 use Rattle.ar_disks.specs.declared.address.Key.{Key}
 use Rattle.ar_disks.specs.declared.geometry.Geometry.{Geometry}
 use Rattle.ar_book.specs.declared.class.Slot.{Slot}
-use Rattle.ar_book.specs.Tables.{GroupState, UnitState, Tables, no_unit, same_addr, group_in, key_in, unit_in, home_in, key_at, home, stamp_of, level_in, level, class_of, free_groups, used, placed, reserved}
+use Rattle.ar_disks.specs.Addresses.{same_addr}
+use Rattle.ar_book.specs.Tables.{GroupState, UnitState, Tables, no_unit, group_in, key_in, unit_in, home_in, key_at, home, stamp_of, level_in, level, class_of, free_groups, used, placed, reserved}
 use Rattle.ar_book.specs.Changes.{vacated, dropped}
 use Rattle.ar_book.specs.Book.{GroupsStand, IsUnit, AreHomes, TablesAgree, IsKept}
 use Rattle.ar_book.proofs.Keys.{addr_laws, addr_tells, addr_apart, same_addr_of, slot_tells}

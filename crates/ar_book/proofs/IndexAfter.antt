@@ -23,7 +23,8 @@ use Rattle.ar_index.specs.declared.choices.Choices.{Choices}
 use Rattle.ar_index.specs.Choices.{nothing}
 use Rattle.ar_book.specs.declared.class.Class.{Class}
 use Rattle.ar_book.specs.declared.class.Slot.{Slot}
-use Rattle.ar_book.specs.Tables.{GroupState, UnitState, Tables, same_addr, group_in, unit_in, key_at, home, HasBlock, HasSlot}
+use Rattle.ar_disks.specs.Addresses.{same_addr}
+use Rattle.ar_book.specs.Tables.{GroupState, UnitState, Tables, group_in, unit_in, key_at, home, HasBlock, HasSlot}
 use Rattle.ar_book.specs.Changes.{with_key, without_key, named, vacated, homed, restamped, made, grown, unmarked, opened, free_group, formed, shifted}
 use Rattle.ar_book.specs.Book.{TablesAgree}
 use Rattle.ar_book.specs.Index.{age_of, choices_in, leaves_of, free_leaf}

@@ -16,7 +16,8 @@ use Rattle.ar_index.specs.Choices.{nothing, older}
 use Rattle.ar_index.specs.Tree.{free_in}
 use Rattle.ar_book.specs.declared.class.Class.{Class}
 use Rattle.ar_book.specs.declared.class.Class.TheVariants.{Free, Mirrored, Parity}
-use Rattle.ar_book.specs.Tables.{GroupState, UnitState, Tables, no_group, group_in, unit_in, same_addr, is_free, slots_of}
+use Rattle.ar_disks.specs.Addresses.{same_addr}
+use Rattle.ar_book.specs.Tables.{GroupState, UnitState, Tables, no_group, group_in, unit_in, is_free, slots_of}
 use Rattle.ar_book.specs.Index.{age_of, oldest_named, choices_by, choices_in, leaves_from, leaves_of, IsIndexed}
 
 pub leaves_length : (g : Geometry) (age : Key → Age) (n : ℕ) (gs : List GroupState) → length (leaves_from g age n gs) ≡ length gs

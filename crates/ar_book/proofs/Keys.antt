@@ -9,7 +9,7 @@ use Rattle.ar_disks.specs.declared.address.Host.{Host}
 use Rattle.ar_disks.specs.declared.address.Addr.{Addr}
 use Rattle.ar_disks.specs.declared.address.Key.{Key}
 use Rattle.ar_book.specs.declared.class.Slot.{Slot}
-use Rattle.ar_book.specs.Tables.{same_addr}
+use Rattle.ar_disks.specs.Addresses.{same_addr}
 
 pub same_host : (h k : Host) → h.number ≡ k.number → h ≡ k
 same_host h k e = λ j. record { number = e j; in_range = prop→path_p (λ i. e i < 4) le_prop h.in_range k.in_range j }

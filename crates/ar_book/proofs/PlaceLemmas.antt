@@ -11,7 +11,8 @@ use Rattle.ar_disks.specs.declared.geometry.Geometry.{Geometry}
 use Rattle.ar_book.specs.declared.class.Class.{Class}
 use Rattle.ar_book.specs.declared.class.Class.TheVariants.{Free, Mirrored, Parity}
 use Rattle.ar_book.specs.declared.class.Slot.{Slot}
-use Rattle.ar_book.specs.Tables.{GroupState, UnitState, Tables, same_addr, group_in, key_in, unit_in, key_at, home, slots_of, class_of, HasBlock, HasSlot}
+use Rattle.ar_disks.specs.Addresses.{same_addr}
+use Rattle.ar_book.specs.Tables.{GroupState, UnitState, Tables, group_in, key_in, unit_in, key_at, home, slots_of, class_of, HasBlock, HasSlot}
 use Rattle.ar_book.specs.Changes.{with_key, named, vacated, homed, assigned, released}
 use Rattle.ar_book.specs.Book.{GroupsStand, UnitsStand, IsUnit, Agree, TablesAgree}
 use Rattle.ar_book.proofs.GroupLemmas.{there_group, there_slot, named_same, named_other, named_count, named_stand, vacated_size, vacated_same, vacated_other, vacated_count, vacated_stand}

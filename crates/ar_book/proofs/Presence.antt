@@ -6,7 +6,8 @@ use Rattle.std.specs.List.{list_any}
 use Rattle.std.proofs.lemmas.Map.{lookup-remove_entry}
 use Rattle.std.proofs.lemmas.Map.Made.{is_some-lookup}
 use Rattle.ar_disks.specs.declared.address.Addr.{Addr}
-use Rattle.ar_book.specs.Tables.{Tables, same_addr, has_unit, unit_in, blocks_of, room}
+use Rattle.ar_disks.specs.Addresses.{same_addr}
+use Rattle.ar_book.specs.Tables.{Tables, has_unit, unit_in, blocks_of, room}
 use Rattle.ar_book.specs.Changes.{new_unit, made, grown, unmarked, dropped}
 use Rattle.ar_book.specs.Refusals.{make_refusal, grow_refusal}
 use Rattle.ar_book.specs.Book.{TablesAgree}

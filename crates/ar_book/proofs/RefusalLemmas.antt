@@ -10,7 +10,8 @@ use Rattle.ar_disks.specs.declared.geometry.Geometry.{Geometry}
 use Rattle.ar_disks.specs.declared.geometry.Geometry.TheVariants.{Paper, Small}
 use Rattle.ar_book.specs.declared.refusal.Refusal.{Refusal}
 use Rattle.ar_book.specs.declared.refusal.Refusal.TheVariants.{BadLun, Exists, Size, NoRoom, Absent}
-use Rattle.ar_book.specs.Tables.{Tables, UnitState, same_addr, has_unit, unit_in, blocks_of, reserved, room}
+use Rattle.ar_disks.specs.Addresses.{same_addr}
+use Rattle.ar_book.specs.Tables.{Tables, UnitState, has_unit, unit_in, blocks_of, reserved, room}
 use Rattle.ar_book.specs.Refusals.{make_refusal, grow_refusal}
 use Rattle.ar_book.specs.Book.{TablesAgree, IsUnit}
 use Rattle.ar_book.proofs.PlaceLemmas.{unit_whole}

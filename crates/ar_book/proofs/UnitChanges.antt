@@ -11,7 +11,8 @@ use Rattle.ar_disks.specs.Geometry.{rows_of}
 use Rattle.ar_disks.specs.declared.address.Addr.{Addr}
 use Rattle.ar_disks.specs.declared.address.Key.{Key}
 use Rattle.ar_book.specs.declared.class.Slot.{Slot}
-use Rattle.ar_book.specs.Tables.{UnitState, Tables, no_unit, same_addr, unit_in, home_in, placed, blocks_of, reserved, HasBlock}
+use Rattle.ar_disks.specs.Addresses.{same_addr}
+use Rattle.ar_book.specs.Tables.{UnitState, Tables, no_unit, unit_in, home_in, placed, blocks_of, reserved, HasBlock}
 use Rattle.ar_book.specs.Changes.{new_unit, longer, made, grown, unmarked, restamped}
 use Rattle.ar_book.specs.Book.{IsUnit, IsKept}
 use Rattle.ar_book.proofs.Padding.{nothing, get_replicate, get_padded, count_none, count_padded}

@@ -13,7 +13,8 @@ use Rattle.ar_disks.specs.declared.address.Addr.{Addr}
 use Rattle.ar_disks.specs.declared.address.Key.{Key}
 use Rattle.ar_disks.specs.declared.geometry.Geometry.{Geometry}
 use Rattle.ar_book.specs.declared.class.Slot.{Slot}
-use Rattle.ar_book.specs.Tables.{UnitState, same_addr, unit_in, no_unit, home_in, placed}
+use Rattle.ar_disks.specs.Addresses.{same_addr}
+use Rattle.ar_book.specs.Tables.{UnitState, unit_in, no_unit, home_in, placed}
 use Rattle.ar_book.specs.Changes.{homed}
 use Rattle.ar_book.specs.Book.{UnitsStand, IsUnit}
 use Rattle.ar_book.proofs.Keys.{addr_laws, addr_tells, same_addr_self, addr_apart, make_key}

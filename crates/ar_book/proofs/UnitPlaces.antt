@@ -8,7 +8,8 @@ use Rattle.std.proofs.lemmas.List.Sums.{prefix_len_is}
 use Rattle.std.proofs.lemmas.Map.Keys.{apart_from_distinct}
 use Rattle.std.proofs.lemmas.Map.Entries.{place_from_lookup, length-keys_of}
 use Rattle.ar_disks.specs.declared.address.Addr.{Addr}
-use Rattle.ar_book.specs.Tables.{UnitState, same_addr, unit_in}
+use Rattle.ar_disks.specs.Addresses.{same_addr}
+use Rattle.ar_book.specs.Tables.{UnitState, unit_in}
 use Rattle.ar_book.proofs.Keys.{addr_same, same_addr_self, same_addr_flips}
 use Rattle.ar_book.proofs.UnitLemmas.{found_in}
 

@@ -8,7 +8,8 @@ use Rattle.ar_disks.specs.declared.address.Addr.{Addr}
 use Rattle.ar_disks.specs.declared.address.Key.{Key}
 use Rattle.ar_disks.specs.declared.geometry.Geometry.{Geometry}
 use Rattle.ar_book.specs.declared.class.Slot.{Slot}
-use Rattle.ar_book.specs.Tables.{GroupState, UnitState, Tables, same_addr, group_in, key_in, home_in, slots_of, used, placed, blocks_of, reserved}
+use Rattle.ar_disks.specs.Addresses.{same_addr}
+use Rattle.ar_book.specs.Tables.{GroupState, UnitState, Tables, group_in, key_in, home_in, slots_of, used, placed, blocks_of, reserved}
 
 -- the groups by themselves
 pub record GroupsStand (g : Geometry) (groups : List GroupState) : Type 0 where

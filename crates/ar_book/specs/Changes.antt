@@ -11,7 +11,8 @@ use Rattle.ar_disks.specs.declared.geometry.Geometry.{Geometry}
 use Rattle.ar_book.specs.declared.class.Class.{Class}
 use Rattle.ar_book.specs.declared.class.Class.TheVariants.{Free}
 use Rattle.ar_book.specs.declared.class.Slot.{Slot}
-use Rattle.ar_book.specs.Tables.{GroupState, UnitState, Tables, same_addr, group_in, unit_in, home, used, blocks_of}
+use Rattle.ar_disks.specs.Addresses.{same_addr}
+use Rattle.ar_book.specs.Tables.{GroupState, UnitState, Tables, group_in, unit_in, home, used, blocks_of}
 
 -- a group of which a slot names a block
 abbrev pub with_key : GroupState → ℕ → Key → GroupState

@@ -11,7 +11,8 @@ use Rattle.ar_book.specs.declared.class.Class.{Class}
 use Rattle.ar_book.specs.declared.class.Class.TheVariants.{Free, Mirrored}
 use Rattle.ar_book.specs.declared.class.Level.TheVariants.{Mirrored as MirroredLevel}
 use Rattle.ar_book.specs.declared.class.Slot.{Slot}
-use Rattle.ar_book.specs.Tables.{Tables, group_in, key_at, home, stamp_of, class_of, level, slots_of, same_addr, HasBlock}
+use Rattle.ar_disks.specs.Addresses.{same_addr}
+use Rattle.ar_book.specs.Tables.{Tables, group_in, key_at, home, stamp_of, class_of, level, slots_of, HasBlock}
 
 -- slots are ordered by group, then by number in the group
 abbrev pub IsUpTo : Slot → Slot → Type 0

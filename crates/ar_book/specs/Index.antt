@@ -11,7 +11,8 @@ use Rattle.ar_index.specs.declared.choices.Choices.{Choices}
 use Rattle.ar_index.specs.Choices.{nothing, oldest}
 use Rattle.ar_book.specs.declared.class.Class.{Class}
 use Rattle.ar_book.specs.declared.class.Class.TheVariants.{Free, Mirrored, Parity}
-use Rattle.ar_book.specs.Tables.{GroupState, UnitState, Tables, same_addr, group_in, unit_in, used, slots_of}
+use Rattle.ar_disks.specs.Addresses.{same_addr}
+use Rattle.ar_book.specs.Tables.{GroupState, UnitState, Tables, group_in, unit_in, used, slots_of}
 use Rattle.ar_book.specs.Book.{IsKept}
 
 -- how old a block is: its stamp, its unit's place in order of making, and its number in the unit

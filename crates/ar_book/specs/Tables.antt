@@ -2,6 +2,7 @@
 use Rattle.std.specs.Prelude.{ℕ, ◌+◌, ◌-◌, ◌*◌, ◌/◌, ◌<◌, Bool, true, false, ◌&&◌, ◌==◌, List, [], length, slice_index_or, sum_by, count_by, Option, None, Some, is_some}
 use Rattle.std.specs.Option.{unwrap_or}
 use Rattle.std.specs.Map.{lookup, values_of}
+use Rattle.ar_disks.specs.Addresses.{same_addr}
 use Rattle.ar_disks.specs.Geometry.{sectors_of, rows_of}
 use Rattle.ar_disks.specs.declared.address.Addr.{Addr}
 use Rattle.ar_disks.specs.declared.address.Key.{Key}
@@ -43,10 +44,6 @@ no_group =
 -- what stands at an address that no unit has: a unit without a block
 abbrev pub no_unit : UnitState
 no_unit = record { sectors = 0; homes = []; stamps = []; attention = false }
-
--- whether the two are one address
-abbrev pub same_addr : Addr → Addr → Bool
-same_addr a b = (a.host.number == b.host.number) && (a.lun == b.lun)
 
 -- the group with a number
 abbrev pub group_in : List GroupState → ℕ → GroupState

@@ -2,7 +2,8 @@
 ghost use Rattle.std.specs.Prelude.{◌≡◌, ◌<◌, length, [], slice_get, Some, None};
 ghost use Rattle.std.specs.Option.{option_map};
 ghost use Rattle.std.specs.Map.{lookup};
-ghost use Rattle.ar_book.specs.Tables.{same_addr, unit_in, key_at, home, level, stamp_of, class_of, group_in, used, room, free_groups};
+ghost use Rattle.ar_disks.specs.Addresses.{same_addr};
+ghost use Rattle.ar_book.specs.Tables.{unit_in, key_at, home, level, stamp_of, class_of, group_in, used, room, free_groups};
 ghost use Rattle.ar_book.specs.Changes.{unmarked};
 ghost use Rattle.ar_book.specs.Book.{TablesAgree};
 

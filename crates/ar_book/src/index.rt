@@ -3,7 +3,8 @@ ghost use Rattle.std.specs.Prelude.{◌≡◌, ◌+◌, ◌^◌, ◌<◌, ◌≤
 ghost use Rattle.std.specs.List.{position_or_len};
 ghost use Rattle.std.specs.Option.{option_map, ForSome, MatchOption};
 ghost use Rattle.std.specs.Map.{keys_of};
-ghost use Rattle.ar_book.specs.Tables.{group_in, same_addr};
+ghost use Rattle.ar_disks.specs.Addresses.{same_addr};
+ghost use Rattle.ar_book.specs.Tables.{group_in};
 ghost use Rattle.ar_book.specs.Index as spec;
 ghost use Rattle.ar_book.specs.Index.{oldest_named, choices_in, leaves_of};
 

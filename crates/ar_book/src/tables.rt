@@ -3,7 +3,8 @@ ghost use Rattle.std.specs.Prelude.{◌≡◌, ◌<◌, ◌≤◌, length, fold,
 ghost use Rattle.std.specs.Map.{lookup, keys_of, set_value, remove_entry};
 ghost use Rattle.std.specs.List.{IsDistinct};
 ghost use Rattle.std.specs.Option.{ForSome};
-ghost use Rattle.ar_book.specs.Tables.{level_in, group_in, key_in, home_in, unit_in, blocks_of, same_addr};
+ghost use Rattle.ar_disks.specs.Addresses.{same_addr};
+ghost use Rattle.ar_book.specs.Tables.{level_in, group_in, key_in, home_in, unit_in, blocks_of};
 ghost use Rattle.ar_book.specs.Book.{AreHomes};
 ghost use Rattle.ar_book.specs.Changes.{named, vacated, homed, restamped, new_unit, longer, with_place_at};
 

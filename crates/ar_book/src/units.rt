@@ -5,7 +5,8 @@ ghost use Rattle.std.specs.Map.{keys_of};
 ghost use Rattle.std.specs.Set.{remove_key};
 ghost use Rattle.ar_disks.specs.declared.address.Key.{Key};
 ghost use Rattle.ar_book.specs.declared.class.Slot.{Slot};
-ghost use Rattle.ar_book.specs.Tables.{key_at, home, level, stamp_of, has_unit, room, blocks_of, unit_in, same_addr};
+ghost use Rattle.ar_disks.specs.Addresses.{same_addr};
+ghost use Rattle.ar_book.specs.Tables.{key_at, home, level, stamp_of, has_unit, room, blocks_of, unit_in};
 ghost use Rattle.ar_book.specs.Changes.{made, grown, dropped};
 ghost use Rattle.ar_book.specs.Refusals.{make_refusal, grow_refusal};
 

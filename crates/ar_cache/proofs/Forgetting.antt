@@ -9,7 +9,8 @@ use Rattle.lru.specs.LruCache.{last_entry}
 use Rattle.lru.proofs.Splits.{cut_last, last_from}
 use Rattle.ar_disks.specs.declared.address.Addr.{Addr}
 use Rattle.ar_disks.specs.declared.address.Key.{Key}
-use Rattle.ar_cache.specs.Cache.{same_addr, same_key, turned, without_addr, without_last, CacheState, with_entries}
+use Rattle.ar_disks.specs.Addresses.{same_addr}
+use Rattle.ar_cache.specs.Cache.{same_key, turned, without_addr, without_last, CacheState, with_entries}
 use Rattle.ar_cache.proofs.Keys.{same_key_true}
 
 -- of the entries ys that were turned those of other addresses stand in front, and the entries xs are still to be turned

@@ -7,7 +7,8 @@ use mathlib.Core.HLevel.{is_prop→PathP}
 use Rattle.ar_disks.specs.declared.address.Host.{Host}
 use Rattle.ar_disks.specs.declared.address.Addr.{Addr}
 use Rattle.ar_disks.specs.declared.address.Key.{Key}
-use Rattle.ar_cache.specs.Cache.{same_addr, same_key}
+use Rattle.ar_disks.specs.Addresses.{same_addr}
+use Rattle.ar_cache.specs.Cache.{same_key}
 
 same_host : (a b : Host) → a.number ≡ b.number → a ≡ b
 same_host a b e = λ i. record { number = e i; in_range = is_prop→PathP (λ j. e j < 4) (λ j. le_prop) a.in_range b.in_range i }

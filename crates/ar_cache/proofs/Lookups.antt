@@ -13,7 +13,8 @@ use Rattle.ar_disks.specs.declared.address.Key.{Key}
 use Rattle.ar_cache.specs.declared.answers.Flush.{Flush}
 use Rattle.ar_cache.specs.declared.answers.Flush.TheVariants.{Flushed, Idle, Broken}
 use Rattle.ar_cache.specs.Backing.{Writes}
-use Rattle.ar_cache.specs.Cache.{same_addr, same_key, turned, without_key, without_last, with_room, last_key, CacheState, with_entries, cached, seen, SameSeen, Sees, KnowsAll, Gives}
+use Rattle.ar_disks.specs.Addresses.{same_addr}
+use Rattle.ar_cache.specs.Cache.{same_key, turned, without_key, without_last, with_room, last_key, CacheState, with_entries, cached, seen, SameSeen, Sees, KnowsAll, Gives}
 use Rattle.ar_cache.proofs.Keys.{key_equiv, same_key_true, same_key_false, same_key_refl}
 
 -- the first of different keys differs from each later one

@@ -2,16 +2,16 @@
 use Rattle.std.specs.Prelude.{◌≡◌, ◌≢◌, Bool, true, false, IsTrue, List, [], ◌∷◌, ℕ}
 use Rattle.ar_disks.specs.declared.address.Key.{Key}
 use Rattle.ar_disks.specs.declared.geometry.Geometry.{Geometry}
-use Rattle.ar_cache.specs.declared.answers.Stored.{Stored}
-use Rattle.ar_cache.specs.declared.answers.Stored.TheVariants.{Done, Broken}
+use Rattle.ar_disks.specs.declared.completion.Completion.{Completion}
+use Rattle.ar_disks.specs.declared.completion.Completion.TheVariants.{Done, Broken}
 
 -- the answer of a backing that is broken after the call, or isn't
-abbrev pub stored : Bool → Stored
+abbrev pub stored : Bool → Completion
 stored true = Broken
 stored false = Done
 
 -- Broken is answered only where the backing is broken after the call, and Done only where the call didn't break it
-abbrev pub IsHonest : Stored → Bool → Bool → Type 0
+abbrev pub IsHonest : Completion → Bool → Bool → Type 0
 IsHonest Broken was is = IsTrue is
 IsHonest Done was is = is ≡ was
 

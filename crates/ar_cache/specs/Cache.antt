@@ -3,6 +3,7 @@ use Rattle.std.specs.Prelude.{◌≡◌, ◌≢◌, ◌⊎◌, ℕ, ◌-◌, ◌
 use Rattle.std.specs.List.{IsDistinct}
 use Rattle.std.specs.Option.{option_map_or}
 use Rattle.std.specs.Map.{keys_of, lookup, remove_entry}
+use Rattle.ar_disks.specs.Addresses.{same_addr}
 use Rattle.lru.specs.LruCache.{last_entry}
 use Rattle.ar_disks.specs.declared.address.Addr.{Addr}
 use Rattle.ar_disks.specs.declared.address.Key.{Key}
@@ -11,12 +12,8 @@ use Rattle.ar_disks.specs.Geometry.{block_len_of}
 use Rattle.ar_cache.specs.Backing.{Writes}
 use Rattle.ar_cache.specs.declared.answers.Flush.{Flush}
 use Rattle.ar_cache.specs.declared.answers.Flush.TheVariants.{Flushed, Idle, Broken}
-use Rattle.ar_cache.specs.declared.answers.Stored.{Stored}
-use Rattle.ar_cache.specs.declared.answers.Stored.TheVariants as stored
-
--- the two addresses are one
-abbrev pub same_addr : Addr → Addr → Bool
-same_addr a b = (a.host.number == b.host.number) && (a.lun == b.lun)
+use Rattle.ar_disks.specs.declared.completion.Completion.{Completion}
+use Rattle.ar_disks.specs.declared.completion.Completion.TheVariants as stored
 
 -- the two keys are one
 abbrev pub same_key : Key → Key → Bool
@@ -136,7 +133,7 @@ IsPut puts Idle old new = Unit {0}
 IsPut puts Broken old new = Unit {0}
 
 -- whether a flush ended broken
-abbrev pub answer_of : Flush → Stored
+abbrev pub answer_of : Flush → Completion
 answer_of (Flushed key) = stored.Done
 answer_of Idle = stored.Done
 answer_of Broken = stored.Broken

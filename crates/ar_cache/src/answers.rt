@@ -1,14 +1,5 @@
-// How calls on a backing and on a cache end.
+// How the destaging of an entry ends.
 use ar_disks::Key;
-
-/// How a call on a backing, or on a cache over it, ended.
-#[derive(Clone, Copy, Debug, PartialEq, Eq)]
-pub enum Stored {
-    /// It was done.
-    Done,
-    /// The backing is broken.
-    Broken,
-}
 
 /// How the destaging of one entry ended.
 #[derive(Clone, Copy, Debug, PartialEq, Eq)]

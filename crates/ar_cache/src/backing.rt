@@ -5,8 +5,7 @@ ghost use Rattle.ar_disks.specs.declared.address.Key.{Key};
 ghost use Rattle.ar_disks.specs.declared.geometry.Geometry.{Geometry};
 ghost use Rattle.ar_cache.specs.Backing.{stored, Keeps, SameBlocks, Writes};
 
-use crate::answers::Stored;
-use ar_disks::{Block, Key};
+use ar_disks::{Block, Completion, Key};
 
 /// A store of blocks by key, which a cache destages to.
 ///
@@ -35,23 +34,23 @@ pub trait Backing {
     ghost puts: { Self → Key → Self → Type 0 };
 
     /// Reads the block under a key that it knows. On Broken any bytes may have come.
-    fn get(&mut self, key: Key, into: &mut Block) -> Stored
+    fn get(&mut self, key: Key, into: &mut Block) -> Completion
         requires known { IsTrue (knows self.old key) }
         requires whole { length into.old ≡ block_len_of (geometry self.old) }
         ensures answer { result ≡ stored (is_broken self.new) }
-        ensures content { result ≡ Stored.Done → into.new ≡ block_at self.old key }
+        ensures content { result ≡ Completion.Done → into.new ≡ block_at self.old key }
         ensures len { length into.new ≡ length into.old }
-        ensures blocks { result ≡ Stored.Done → SameBlocks (block_at self.old) (block_at self.new) }
+        ensures blocks { result ≡ Completion.Done → SameBlocks (block_at self.old) (block_at self.new) }
         ensures keeps { Keeps geometry knows is_broken follows self.old self.new }
         ensures reads { reads self.old self.new };
 
     /// Writes a block under a key that it knows. On Broken any blocks may stand.
-    fn put(&mut self, key: Key, from: &Block) -> Stored
+    fn put(&mut self, key: Key, from: &Block) -> Completion
         requires known { IsTrue (knows self.old key) }
         requires whole { length from.now ≡ block_len_of (geometry self.old) }
         ensures answer { result ≡ stored (is_broken self.new) }
-        ensures written { result ≡ Stored.Done → Writes (block_at self.old) (block_at self.new) key from.now }
-        ensures puts { result ≡ Stored.Done → puts self.old key self.new }
+        ensures written { result ≡ Completion.Done → Writes (block_at self.old) (block_at self.new) key from.now }
+        ensures puts { result ≡ Completion.Done → puts self.old key self.new }
         ensures keeps { Keeps geometry knows is_broken follows self.old self.new };
 
     /// A state follows itself.

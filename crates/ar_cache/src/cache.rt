@@ -6,10 +6,10 @@ ghost use Rattle.ar_disks.specs.Geometry.{block_len_of};
 ghost use Rattle.ar_disks.specs.declared.address.Key.{Key};
 ghost use Rattle.ar_cache.specs.Backing.{InTurn, IsHonest, stored, Keeps, SameBlocks, Writes};
 
-use crate::answers::{Flush, Stored};
+use crate::answers::Flush;
 use crate::backing::Backing;
 use crate::entries::{last_key, replace};
-use ar_disks::{Addr, Block, Geometry, Key};
+use ar_disks::{Addr, Block, Completion, Geometry, Key};
 use lru::LruCache;
 use std::alloc::{AllocError, Global};
 use std::marker::Model;
@@ -46,7 +46,8 @@ impl Model for Cache {
 
 impl Cache {
     ghost use Rattle.ar_cache.specs.Cache.{CacheState, IsSound, KnowsAll, SameSeen, Sees, Spares, TakesIn, Flushes, Gives, IsPut, StopsAt};
-    ghost use Rattle.ar_cache.specs.Cache.{answer_of, cached, giving_way, last_keys, pushed_out, put_through, seen, with_entries, with_room, without_addr, without_key, without_last, same_addr, turned};
+    ghost use Rattle.ar_disks.specs.Addresses.{same_addr};
+    ghost use Rattle.ar_cache.specs.Cache.{answer_of, cached, giving_way, last_keys, pushed_out, put_through, seen, with_entries, with_room, without_addr, without_key, without_last, turned};
 
     /// A cache without entries, for so many of them (at most 65,536; 0 writes through). It fails where memory is refused.
     pub fn new(alloc: Global, geometry: Geometry, capacity: u32) -> Result<Cache, AllocError>
@@ -80,16 +81,16 @@ impl Cache {
     }
 
     /// Reads the block that is seen under a key: the cached one, else the backing's. On Broken any bytes may have come.
-    pub fn get<B: Backing>(&self, key: Key, into: &mut Block, backing: &mut B) -> Stored
+    pub fn get<B: Backing>(&self, key: Key, into: &mut Block, backing: &mut B) -> Completion
         requires geometry { B.geometry backing.old ≡ self.now.geometry }
         requires known { IsTrue (B.knows backing.old key) }
         requires whole { length into.old ≡ block_len_of self.now.geometry }
-        ensures content { result ≡ Stored.Done → into.new ≡ seen self.now (B.block_at backing.old) key }
+        ensures content { result ≡ Completion.Done → into.new ≡ seen self.now (B.block_at backing.old) key }
         ensures len { length into.new ≡ length into.old }
-        ensures blocks { result ≡ Stored.Done
+        ensures blocks { result ≡ Completion.Done
             → SameBlocks (B.block_at backing.old) (B.block_at backing.new) }
         ensures hit { IsSome (cached self.now key)
-            → (result ≡ Stored.Done) × (backing.new ≡ backing.old) }
+            → (result ≡ Completion.Done) × (backing.new ≡ backing.old) }
         ensures miss { cached self.now key ≡ None → B.reads backing.old backing.new }
         ensures answer { IsHonest result (B.is_broken backing.old) (B.is_broken backing.new) }
         ensures asked { cached self.now key ≡ None → result ≡ stored (B.is_broken backing.new) }
@@ -98,7 +99,7 @@ impl Cache {
         match self.entries.peek(&key) {
             Some(block) => {
                 into.copy_from(block);
-                Stored::Done
+                Completion::Done
             }
             None => backing.get(key, into),
         }
@@ -109,23 +110,23 @@ impl Cache {
     /// A present entry takes the block over. For a new key a full cache first destages its least recently used entry.
     /// Where memory for the new entry is refused, or where the capacity is 0, the block goes straight to the backing.
     /// On Broken the cache stays as it was.
-    pub fn put<B: Backing>(&mut self, key: Key, block: &Block, backing: &mut B) -> Stored
+    pub fn put<B: Backing>(&mut self, key: Key, block: &Block, backing: &mut B) -> Completion
         requires geometry { B.geometry backing.old ≡ self.old.geometry }
         requires known { IsTrue (B.knows backing.old key) }
         requires all_known { KnowsAll (B.knows backing.old) self.old }
         requires whole { length block.now ≡ block_len_of self.old.geometry }
-        ensures sees { result ≡ Stored.Done
+        ensures sees { result ≡ Completion.Done
             → Sees self.old (B.block_at backing.old) self.new (B.block_at backing.new) key block.now }
-        ensures blocks { result ≡ Stored.Done
+        ensures blocks { result ≡ Completion.Done
             → Spares self.old (B.block_at backing.old) self.new (B.block_at backing.new) key }
         ensures present { IsSome (cached self.old key)
-            → (result ≡ Stored.Done) × (backing.new ≡ backing.old)
+            → (result ≡ Completion.Done) × (backing.new ≡ backing.old)
             × (self.new ≡ with_entries self.old ((key, block.now) ∷ without_key self.old.entries key)) }
         ensures absent { cached self.old key ≡ None
-            → result ≡ Stored.Done → TakesIn self.old self.new key block.now }
-        ensures puts { result ≡ Stored.Done
+            → result ≡ Completion.Done → TakesIn self.old self.new key block.now }
+        ensures puts { result ≡ Completion.Done
             → InTurn B.puts (pushed_out self.old key ++ put_through self.new key) backing.old backing.new }
-        ensures broken { result ≡ Stored.Broken → self.new ≡ self.old }
+        ensures broken { result ≡ Completion.Broken → self.new ≡ self.old }
         ensures fits { length self.new.entries ≤ self.new.capacity }
         ensures all_known { KnowsAll (B.knows backing.new) self.new }
         ensures answer { IsHonest result (B.is_broken backing.old) (B.is_broken backing.new) }
@@ -135,7 +136,7 @@ impl Cache {
         ensures keeps { Keeps B.geometry B.knows B.is_broken B.follows backing.old backing.new }
     {
         if replace(&mut self.entries, key, block) {
-            return Stored::Done;
+            return Completion::Done;
         }
         self.put_new(key, block, backing)
     }
@@ -150,7 +151,7 @@ impl Cache {
         ensures given { Gives result self.old.entries (B.block_at backing.old) (B.block_at backing.new) }
         ensures put { IsPut B.puts result backing.old backing.new }
         ensures quiet { result ≡ Flush.Idle → backing.new ≡ backing.old }
-        ensures seen { answer_of result ≡ Stored.Done
+        ensures seen { answer_of result ≡ Completion.Done
             → SameSeen self.old (B.block_at backing.old) self.new (B.block_at backing.new) }
         ensures all_known { KnowsAll (B.knows backing.new) self.new }
         ensures answer { IsHonest (answer_of result) (B.is_broken backing.old) (B.is_broken backing.new) }
@@ -165,22 +166,22 @@ impl Cache {
     }
 
     /// Destages the entry of a key, where there is one. On Broken it stays.
-    pub fn flush_key<B: Backing>(&mut self, key: Key, backing: &mut B) -> Stored
+    pub fn flush_key<B: Backing>(&mut self, key: Key, backing: &mut B) -> Completion
         requires geometry { B.geometry backing.old ≡ self.old.geometry }
         requires all_known { KnowsAll (B.knows backing.old) self.old }
-        ensures flushed { result ≡ Stored.Done
+        ensures flushed { result ≡ Completion.Done
             → self.new ≡ with_entries self.old (without_key self.old.entries key) }
-        ensures gone { result ≡ Stored.Done → cached self.new key ≡ None }
-        ensures others { result ≡ Stored.Done
+        ensures gone { result ≡ Completion.Done → cached self.new key ≡ None }
+        ensures others { result ≡ Completion.Done
             → (other : Key) → other ≢ key → cached self.new other ≡ cached self.old other }
-        ensures given { result ≡ Stored.Done
+        ensures given { result ≡ Completion.Done
             → IfSome (cached self.old key)
             (λ block. Writes (B.block_at backing.old) (B.block_at backing.new) key block) }
-        ensures put { result ≡ Stored.Done → IsSome (cached self.old key) → B.puts backing.old key backing.new }
-        ensures broken { result ≡ Stored.Broken → self.new ≡ self.old }
+        ensures put { result ≡ Completion.Done → IsSome (cached self.old key) → B.puts backing.old key backing.new }
+        ensures broken { result ≡ Completion.Broken → self.new ≡ self.old }
         ensures absent { cached self.old key ≡ None
-            → (result ≡ Stored.Done) × (backing.new ≡ backing.old) }
-        ensures seen { result ≡ Stored.Done
+            → (result ≡ Completion.Done) × (backing.new ≡ backing.old) }
+        ensures seen { result ≡ Completion.Done
             → SameSeen self.old (B.block_at backing.old) self.new (B.block_at backing.new) }
         ensures all_known { KnowsAll (B.knows backing.new) self.new }
         ensures answer { IsHonest result (B.is_broken backing.old) (B.is_broken backing.new) }
@@ -188,28 +189,28 @@ impl Cache {
         ensures keeps { Keeps B.geometry B.knows B.is_broken B.follows backing.old backing.new }
     {
         let Some(block) = self.entries.peek(&key) else {
-            return Stored::Done;
+            return Completion::Done;
         };
         match backing.put(key, block) {
-            Stored::Done => {
+            Completion::Done => {
                 self.take_out(key);
-                Stored::Done
+                Completion::Done
             }
-            Stored::Broken => Stored::Broken,
+            Completion::Broken => Completion::Broken,
         }
     }
 
     /// Destages every entry, the least recently used first. On Broken the one that broke it stays, and those after it.
-    pub fn flush_all<B: Backing>(&mut self, backing: &mut B) -> Stored
+    pub fn flush_all<B: Backing>(&mut self, backing: &mut B) -> Completion
         requires geometry { B.geometry backing.old ≡ self.old.geometry }
         requires all_known { KnowsAll (B.knows backing.old) self.old }
-        ensures emptied { result ≡ Stored.Done → self.new ≡ with_entries self.old [] }
-        ensures puts { result ≡ Stored.Done
+        ensures emptied { result ≡ Completion.Done → self.new ≡ with_entries self.old [] }
+        ensures puts { result ≡ Completion.Done
             → InTurn B.puts (reverse (keys_of self.old.entries)) backing.old backing.new }
         ensures quiet { self.old.entries ≡ [] → backing.new ≡ backing.old }
-        ensures broken { result ≡ Stored.Broken
+        ensures broken { result ≡ Completion.Broken
             → StopsAt B.block_at B.is_broken B.follows self.old self.new backing.old backing.new }
-        ensures seen { result ≡ Stored.Done
+        ensures seen { result ≡ Completion.Done
             → SameSeen self.old (B.block_at backing.old) self.new (B.block_at backing.new) }
         ensures all_known { KnowsAll (B.knows backing.new) self.new }
         ensures answer { IsHonest result (B.is_broken backing.old) (B.is_broken backing.new) }
@@ -218,10 +219,10 @@ impl Cache {
     {
         while self.len() > 0 {
             if let Flush::Broken = self.flush_one(backing) {
-                return Stored::Broken;
+                return Completion::Broken;
             }
         }
-        Stored::Done
+        Completion::Done
     }
 
     /// Lets the entries of an address go, without destaging them. The others stay, in their order.
@@ -252,20 +253,20 @@ impl Cache {
     }
 
     // Puts a block under a key that isn't cached.
-    fn put_new<B: Backing>(&mut self, key: Key, block: &Block, backing: &mut B) -> Stored
+    fn put_new<B: Backing>(&mut self, key: Key, block: &Block, backing: &mut B) -> Completion
         requires geometry { B.geometry backing.old ≡ self.old.geometry }
         requires known { IsTrue (B.knows backing.old key) }
         requires all_known { KnowsAll (B.knows backing.old) self.old }
         requires whole { length block.now ≡ block_len_of self.old.geometry }
         requires absent { cached self.old key ≡ None }
-        ensures sees { result ≡ Stored.Done
+        ensures sees { result ≡ Completion.Done
             → Sees self.old (B.block_at backing.old) self.new (B.block_at backing.new) key block.now }
-        ensures blocks { result ≡ Stored.Done
+        ensures blocks { result ≡ Completion.Done
             → Spares self.old (B.block_at backing.old) self.new (B.block_at backing.new) key }
-        ensures taken { result ≡ Stored.Done → TakesIn self.old self.new key block.now }
-        ensures puts { result ≡ Stored.Done
+        ensures taken { result ≡ Completion.Done → TakesIn self.old self.new key block.now }
+        ensures puts { result ≡ Completion.Done
             → InTurn B.puts (giving_way self.old ++ put_through self.new key) backing.old backing.new }
-        ensures broken { result ≡ Stored.Broken → self.new ≡ self.old }
+        ensures broken { result ≡ Completion.Broken → self.new ≡ self.old }
         ensures fits { length self.new.entries ≤ self.new.capacity }
         ensures all_known { KnowsAll (B.knows backing.new) self.new }
         ensures answer { IsHonest result (B.is_broken backing.old) (B.is_broken backing.new) }
@@ -284,20 +285,20 @@ impl Cache {
     }
 
     // The same where the cache isn't full.
-    fn put_beside<B: Backing>(&mut self, key: Key, block: &Block, backing: &mut B) -> Stored
+    fn put_beside<B: Backing>(&mut self, key: Key, block: &Block, backing: &mut B) -> Completion
         requires geometry { B.geometry backing.old ≡ self.old.geometry }
         requires known { IsTrue (B.knows backing.old key) }
         requires all_known { KnowsAll (B.knows backing.old) self.old }
         requires whole { length block.now ≡ block_len_of self.old.geometry }
         requires absent { cached self.old key ≡ None }
         requires room { length self.old.entries < self.old.capacity }
-        ensures sees { result ≡ Stored.Done
+        ensures sees { result ≡ Completion.Done
             → Sees self.old (B.block_at backing.old) self.new (B.block_at backing.new) key block.now }
-        ensures blocks { result ≡ Stored.Done
+        ensures blocks { result ≡ Completion.Done
             → Spares self.old (B.block_at backing.old) self.new (B.block_at backing.new) key }
-        ensures taken { result ≡ Stored.Done → TakesIn self.old self.new key block.now }
-        ensures puts { result ≡ Stored.Done → InTurn B.puts (put_through self.new key) backing.old backing.new }
-        ensures broken { result ≡ Stored.Broken → self.new ≡ self.old }
+        ensures taken { result ≡ Completion.Done → TakesIn self.old self.new key block.now }
+        ensures puts { result ≡ Completion.Done → InTurn B.puts (put_through self.new key) backing.old backing.new }
+        ensures broken { result ≡ Completion.Broken → self.new ≡ self.old }
         ensures fits { length self.new.entries ≤ self.new.capacity }
         ensures all_known { KnowsAll (B.knows backing.new) self.new }
         ensures answer { IsHonest result (B.is_broken backing.old) (B.is_broken backing.new) }
@@ -305,13 +306,13 @@ impl Cache {
         ensures keeps { Keeps B.geometry B.knows B.is_broken B.follows backing.old backing.new }
     {
         if self.insert(key, block) {
-            return Stored::Done;
+            return Completion::Done;
         }
         backing.put(key, block)
     }
 
     // The same where the cache is full.
-    fn put_over<B: Backing>(&mut self, key: Key, block: &Block, backing: &mut B) -> Stored
+    fn put_over<B: Backing>(&mut self, key: Key, block: &Block, backing: &mut B) -> Completion
         requires geometry { B.geometry backing.old ≡ self.old.geometry }
         requires known { IsTrue (B.knows backing.old key) }
         requires all_known { KnowsAll (B.knows backing.old) self.old }
@@ -319,14 +320,14 @@ impl Cache {
         requires absent { cached self.old key ≡ None }
         requires full { self.old.capacity ≤ length self.old.entries }
         requires some { 0 < self.old.capacity }
-        ensures sees { result ≡ Stored.Done
+        ensures sees { result ≡ Completion.Done
             → Sees self.old (B.block_at backing.old) self.new (B.block_at backing.new) key block.now }
-        ensures blocks { result ≡ Stored.Done
+        ensures blocks { result ≡ Completion.Done
             → Spares self.old (B.block_at backing.old) self.new (B.block_at backing.new) key }
-        ensures taken { result ≡ Stored.Done → TakesIn self.old self.new key block.now }
-        ensures puts { result ≡ Stored.Done
+        ensures taken { result ≡ Completion.Done → TakesIn self.old self.new key block.now }
+        ensures puts { result ≡ Completion.Done
             → InTurn B.puts (last_keys self.old.entries ++ put_through self.new key) backing.old backing.new }
-        ensures broken { result ≡ Stored.Broken → self.new ≡ self.old }
+        ensures broken { result ≡ Completion.Broken → self.new ≡ self.old }
         ensures fits { length self.new.entries ≤ self.new.capacity }
         ensures all_known { KnowsAll (B.knows backing.new) self.new }
         ensures answer { IsHonest result (B.is_broken backing.old) (B.is_broken backing.new) }
@@ -334,17 +335,17 @@ impl Cache {
         ensures keeps { Keeps B.geometry B.knows B.is_broken B.follows backing.old backing.new }
     {
         if let Flush::Broken = self.destage_last(backing) {
-            return Stored::Broken;
+            return Completion::Broken;
         }
         if self.insert(key, block) {
-            return Stored::Done;
+            return Completion::Done;
         }
         match backing.put(key, block) {
-            Stored::Done => {
+            Completion::Done => {
                 self.drop_last();
-                Stored::Done
+                Completion::Done
             }
-            Stored::Broken => Stored::Broken,
+            Completion::Broken => Completion::Broken,
         }
     }
 
@@ -362,8 +363,8 @@ impl Cache {
     {
         match self.entries.peek_lru() {
             Some((key, block)) => match backing.put(*key, block) {
-                Stored::Done => Flush::Flushed(*key),
-                Stored::Broken => Flush::Broken,
+                Completion::Done => Flush::Flushed(*key),
+                Completion::Broken => Flush::Broken,
             },
             None => Flush::Idle,
         }

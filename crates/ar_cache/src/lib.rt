@@ -6,6 +6,6 @@ mod backing;
 mod cache;
 mod entries;
 
-pub use answers::{Flush, Stored};
+pub use answers::Flush;
 pub use backing::Backing;
 pub use cache::{CAPACITY_LIMIT, Cache};

@@ -21,7 +21,8 @@ use Rattle.ar_unit.specs.Unit.{UnitState, Absent, Present, Answered, Cmd, Entry,
 use Rattle.ar_unit.specs.Broken.{Shape, shape_of, shape_after, needs_blocks, broken_answer, broken_obeyed}
 use Rattle.ar_unit.proofs.Failures.{answer_other}
 use Rattle.ar_unit.proofs.Laws.{after-shape, inquiry-needs_none}
-use Rattle.ar_book.specs.Tables.{UnitState as UnitTable, Tables, no_unit, same_addr, has_unit, unit_in}
+use Rattle.ar_disks.specs.Addresses.{same_addr}
+use Rattle.ar_book.specs.Tables.{UnitState as UnitTable, Tables, no_unit, has_unit, unit_in}
 use Rattle.ar_book.specs.Changes.{unmarked}
 use Rattle.ar_book.proofs.AfterMake.{unmarked_sectors}
 use Rattle.ar_book.proofs.Keys.{addr_tells}

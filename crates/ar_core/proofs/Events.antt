@@ -10,7 +10,8 @@ use Rattle.ar_disks.specs.declared.address.Key.{Key}
 use Rattle.ar_disks.specs.Block.{zeros}
 use Rattle.ar_disks.specs.Geometry.{sectors_of, block_len_of}
 use Rattle.ar_book.specs.Book.{TablesAgree}
-use Rattle.ar_book.specs.Tables.{UnitState as UnitTable, Tables, no_unit, same_addr, has_unit, unit_in, reserved}
+use Rattle.ar_disks.specs.Addresses.{same_addr}
+use Rattle.ar_book.specs.Tables.{UnitState as UnitTable, Tables, no_unit, has_unit, unit_in, reserved}
 use Rattle.ar_book.specs.Changes.{made, grown, dropped, unmarked}
 use Rattle.ar_book.specs.Refusals as book
 use Rattle.ar_book.proofs.Keys.{addr_tells}

@@ -34,8 +34,8 @@ use Rattle.ar_image.specs.Seen.{IsForced}
 use Rattle.ar_image.specs.Storing.{StoresBlocks}
 use Rattle.ar_image.specs.declared.transfer.Transfer.{Transfer}
 use Rattle.ar_image.specs.declared.transfer.Transfer.TheVariants.{Done, Broken, NoMemory}
-use Rattle.ar_cache.specs.declared.answers.Stored.{Stored}
-use Rattle.ar_cache.specs.declared.answers.Stored.TheVariants.{Done as Kept, Broken as Lost}
+use Rattle.ar_disks.specs.declared.completion.Completion.{Completion}
+use Rattle.ar_disks.specs.declared.completion.Completion.TheVariants.{Done as Kept, Broken as Lost}
 use Rattle.ar_book.proofs.Keys.{addr_tells}
 use Rattle.ar_image.proofs.Images.{length-sector_in, length-unit_sectors, map-range-same, map-range-add, present_same, sector_same}
 use Rattle.ar_image.proofs.Sparing.{kept_sound}
@@ -226,7 +226,7 @@ serves_read old new addr lba count NoMemory out reply follows places blocks some
     }
 
 -- how a WRITE ends
-pub serves_write : (old new : ArrayState) (addr : Addr) (lba count : ℕ) (bytes : List ℕ) (answer : Stored) (reply : Reply)
+pub serves_write : (old new : ArrayState) (addr : Addr) (lba count : ℕ) (bytes : List ℕ) (answer : Completion) (reply : Reply)
     → Follows old new → lba + count ≤ length_at old.store.book addr → answer ≡ stored (is_broken new)
     → (answer ≡ Kept → Writes old addr lba count bytes new)
     → (answer ≡ Kept → reply ≡ good []) → (answer ≡ Lost → reply ≡ check internal_target_failure)
@@ -317,7 +317,7 @@ range_written old new addr lba count bytes g shape inside outside others = recor
 }
 
 -- what was not written past the unit's end is zeros still
-pub padded_written : (old new : ArrayState) (addr : Addr) (n lba count : ℕ) (bytes : List ℕ) (answer : Stored) → IsPadded old → IsUnit old addr n → lba + count ≤ n
+pub padded_written : (old new : ArrayState) (addr : Addr) (n lba count : ℕ) (bytes : List ℕ) (answer : Completion) → IsPadded old → IsUnit old addr n → lba + count ≤ n
     → is_broken old ≡ false → Follows old new → answer ≡ stored (is_broken new) → (answer ≡ Kept → Writes old addr lba count bytes new) → IsPadded new
 padded_written old new addr n lba count bytes answer padded unit within sound follows told writes = record {
   zeros = λ now b i past.
@@ -381,7 +381,7 @@ unwritten_same old new lba count l fua f is none =
     subst (SamePlaces old) (sym same) (places_refl old)
 
 -- a WRITE that was not refused
-pub settles_write : (old new : ArrayState) (addr : Addr) (lba count : ℕ) (fua : Bool) (answer : Stored) (reply : Reply) → is_broken old ≡ false
+pub settles_write : (old new : ArrayState) (addr : Addr) (lba count : ℕ) (fua : Bool) (answer : Completion) (reply : Reply) → is_broken old ≡ false
     → (answer ≡ Kept → reply ≡ good []) → (answer ≡ Lost → reply ≡ check internal_target_failure) → (answer ≡ Kept → IsTrue fua → IsForced new addr lba count)
     → (answer ≡ Kept → StoresBlocks (keys_in (geometry_of old) addr lba count) fua old new)
     → (count ≡ 0 → new ≡ old) → Settles old addr (Ok (Write lba count fua)) reply new

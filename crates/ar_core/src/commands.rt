@@ -18,7 +18,7 @@ ghost use Rattle.ar_image.specs.Seen.{IsForced};
 ghost use Rattle.ar_image.specs.Storing.{ForcesBlock, PutsBlock, StoresBlocks};
 ghost use Rattle.ar_book.specs.Changes.{unmarked};
 
-use crate::{Array, Stored};
+use crate::{Array, Completion};
 use ar_disks::{Addr, Disk};
 use ar_image::{Transfer, read_sectors, write_sectors};
 use ar_scsi::{Command, Reply, Sense, decode, is_inquiry};
@@ -211,33 +211,40 @@ impl<D: Disk> Array<D> {
         count: u32,
         fua: bool,
         bytes: &[u8],
-    ) -> Stored
+    ) -> Completion
         requires unit { IsUnit self.old addr sectors }
         requires within { lba + count ≤ sectors }
         requires whole { length bytes.now ≡ count * 512 }
         requires sound { is_broken self.old ≡ false }
         ensures answer { result ≡ stored (is_broken self.new) }
-        ensures writes { result ≡ Stored.Done → Writes self.old addr lba count bytes.now self.new }
-        ensures forced { result ≡ Stored.Done → IsTrue fua → IsForced self.new addr lba count }
-        ensures stored { result ≡ Stored.Done → StoresBlocks (keys_in (geometry_of self.old) addr lba count) fua self.old self.new }
+        ensures writes { result ≡ Completion.Done → Writes self.old addr lba count bytes.now self.new }
+        ensures forced { result ≡ Completion.Done → IsTrue fua → IsForced self.new addr lba count }
+        ensures stored { result ≡ Completion.Done → StoresBlocks (keys_in (geometry_of self.old) addr lba count) fua self.old self.new }
         ensures nothing { count ≡ 0 → self.new ≡ self.old }
         ensures follows { Follows self.old self.new }
     {
         match self.put_range(addr, sectors, lba, count, bytes) {
-            Stored::Done if fua => self.force_range(addr, sectors, lba, count),
+            Completion::Done if fua => self.force_range(addr, sectors, lba, count),
             answer => answer,
         }
     }
 
     // Puts bytes in place of sectors that the unit has.
-    fn put_range(&mut self, addr: Addr, sectors: u32, lba: u32, count: u32, bytes: &[u8]) -> Stored
+    fn put_range(
+        &mut self,
+        addr: Addr,
+        sectors: u32,
+        lba: u32,
+        count: u32,
+        bytes: &[u8],
+    ) -> Completion
         requires unit { IsUnit self.old addr sectors }
         requires within { lba + count ≤ sectors }
         requires whole { length bytes.now ≡ count * 512 }
         requires sound { is_broken self.old ≡ false }
         ensures answer { result ≡ stored (is_broken self.new) }
-        ensures writes { result ≡ Stored.Done → Writes self.old addr lba count bytes.now self.new }
-        ensures puts { result ≡ Stored.Done → InTurn PutsBlock (keys_in (geometry_of self.old) addr lba count) self.old self.new }
+        ensures writes { result ≡ Completion.Done → Writes self.old addr lba count bytes.now self.new }
+        ensures puts { result ≡ Completion.Done → InTurn PutsBlock (keys_in (geometry_of self.old) addr lba count) self.old self.new }
         ensures nothing { count ≡ 0 → self.new ≡ self.old }
         ensures follows { Follows self.old self.new }
     {
@@ -254,21 +261,21 @@ impl<D: Disk> Array<D> {
     }
 
     // Writes the blocks of sectors that the unit has to the disks, where they are cached.
-    fn force_range(&mut self, addr: Addr, sectors: u32, lba: u32, count: u32) -> Stored
+    fn force_range(&mut self, addr: Addr, sectors: u32, lba: u32, count: u32) -> Completion
         requires unit { IsUnit self.old addr sectors }
         requires within { lba + count ≤ sectors }
         requires sound { is_broken self.old ≡ false }
         ensures answer { result ≡ stored (is_broken self.new) }
-        ensures forced { result ≡ Stored.Done → IsForced self.new addr lba count }
-        ensures forces { result ≡ Stored.Done → InTurn ForcesBlock (keys_in (geometry_of self.old) addr lba count) self.old self.new }
-        ensures spared { result ≡ Stored.Done → 0 < count → IsSpared self.old.cache self.new.cache addr
+        ensures forced { result ≡ Completion.Done → IsForced self.new addr lba count }
+        ensures forces { result ≡ Completion.Done → InTurn ForcesBlock (keys_in (geometry_of self.old) addr lba count) self.old self.new }
+        ensures spared { result ≡ Completion.Done → 0 < count → IsSpared self.old.cache self.new.cache addr
             (lba / sectors_of (geometry_of self.old)) ((lba + count - 1) / sectors_of (geometry_of self.old) + 1) }
-        ensures seen { result ≡ Stored.Done → SameSeen self.old self.new }
+        ensures seen { result ≡ Completion.Done → SameSeen self.old self.new }
         ensures nothing { count ≡ 0 → self.new ≡ self.old }
         ensures follows { Follows self.old self.new }
     {
         if count == 0 {
-            return Stored::Done;
+            return Completion::Done;
         }
         let sectors_of_a_block = self.blocks.geometry().sectors();
         let first = lba / sectors_of_a_block;
@@ -294,13 +301,13 @@ fn reply_to_read(transfer: Transfer, bytes: Vec<u8>) -> Reply
 }
 
 // The reply to a WRITE whose transfer ended so.
-fn reply_to_write(stored: Stored) -> Reply
-    ensures done { stored ≡ Stored.Done → result ≡ good [] }
-    ensures broken { stored ≡ Stored.Broken → result ≡ check internal_target_failure }
+fn reply_to_write(stored: Completion) -> Reply
+    ensures done { stored ≡ Completion.Done → result ≡ good [] }
+    ensures broken { stored ≡ Completion.Broken → result ≡ check internal_target_failure }
 {
     match stored {
-        Stored::Done => Reply::good(Bytes::new()),
-        Stored::Broken => Reply::check(Sense::INTERNAL_TARGET_FAILURE),
+        Completion::Done => Reply::good(Bytes::new()),
+        Completion::Broken => Reply::check(Sense::INTERNAL_TARGET_FAILURE),
     }
 }
 

@@ -9,7 +9,7 @@ ghost use Rattle.ar_image.specs.Following.{Follows};
 ghost use Rattle.ar_image.specs.Image.{is_broken, image_at, image_on_disks};
 ghost use Rattle.ar_image.specs.Storing.{LeavesSome};
 
-use crate::{Array, EventOf, Flush, OutcomeOf, Stored};
+use crate::{Array, Completion, EventOf, Flush, OutcomeOf};
 use ar_disks::Disk;
 
 impl<D: Disk> Array<D> {
@@ -24,15 +24,15 @@ impl<D: Disk> Array<D> {
 
     /// Writes all cached blocks to the disks, the least recently used first. Broken says that the array has lost its data, before
     /// or by this call.
-    pub fn flush_all(&mut self) -> Stored
+    pub fn flush_all(&mut self) -> Completion
         ensures answer { result ≡ stored (is_broken self.new) }
         ensures lost { IsTrue (is_broken self.old) → self.new ≡ self.old }
-        ensures images { result ≡ Stored.Done → (addr : Addr) → image_at self.new addr ≡ image_at self.old addr }
-        ensures on_disks { result ≡ Stored.Done → (addr : Addr) → image_at self.new addr ≡ image_on_disks self.new.store addr }
-        ensures emptied { result ≡ Stored.Done → self.new.cache ≡ with_entries self.old.cache [] }
-        ensures puts { result ≡ Stored.Done
+        ensures images { result ≡ Completion.Done → (addr : Addr) → image_at self.new addr ≡ image_at self.old addr }
+        ensures on_disks { result ≡ Completion.Done → (addr : Addr) → image_at self.new addr ≡ image_on_disks self.new.store addr }
+        ensures emptied { result ≡ Completion.Done → self.new.cache ≡ with_entries self.old.cache [] }
+        ensures puts { result ≡ Completion.Done
             → InTurn Puts (reverse (keys_of self.old.cache.entries)) self.old.store.book self.new.store.book }
-        ensures stopped { result ≡ Stored.Broken → is_broken self.old ≡ false → LeavesSome self.old.cache self.new.cache }
+        ensures stopped { result ≡ Completion.Broken → is_broken self.old ≡ false → LeavesSome self.old.cache self.new.cache }
         ensures follows { Follows self.old self.new }
     {
         self.blocks.flush_all()

@@ -15,7 +15,8 @@ mod views;
 
 pub use ar_balance::Balance;
 pub use ar_book::{Class, Refusal as UnitRefusal, Slot};
-pub use ar_cache::{CAPACITY_LIMIT, Flush, Stored};
+pub use ar_cache::{CAPACITY_LIMIT, Flush};
+pub use ar_disks::Completion;
 pub use ar_extents::{DiskRefusal, Health, StartFault};
 pub use ar_image::{NewDisk, Refusal};
 pub use ar_moves::Move;

@@ -10,8 +10,8 @@ ghost use Rattle.ar_extents.specs.Health.{IsRebuilding};
 use crate::calls::{Answer, read};
 use crate::fixtures::filled;
 use crate::rig::Group;
-use ar_disks::{Block, FuseDisk, Members, Place, Scratch};
-use ar_extents::{DiskSet, Health, Outcome, RowOutcome};
+use ar_disks::{Block, Completion, FuseDisk, Members, Place, Scratch};
+use ar_extents::{DiskSet, Health, RowOutcome};
 use std::alloc::{AllocError, Global};
 
 // A group of the first four disks: the last extent of disks 0 and 2, and the first of disks 1 and 3.
@@ -137,10 +137,10 @@ fn read_parity(
     Ok(outcome(met))
 }
 
-fn outcome(met: Outcome) -> Answer {
+fn outcome(met: Completion) -> Answer {
     match met {
-        Outcome::Done => Answer::Done,
-        Outcome::Broken => Answer::Broken,
+        Completion::Done => Answer::Done,
+        Completion::Broken => Answer::Broken,
     }
 }
 

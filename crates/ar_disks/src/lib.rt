@@ -4,6 +4,7 @@
 mod address;
 mod block;
 mod bytes;
+mod completion;
 mod disk;
 mod fuse;
 mod geometry;
@@ -13,6 +14,7 @@ mod scratch;
 
 pub use address::{Addr, Host, Key, Members, Place};
 pub use block::Block;
+pub use completion::Completion;
 pub use disk::Disk;
 pub use fuse::FuseDisk;
 pub use geometry::{Geometry, SECTOR_LEN};

@@ -2,13 +2,13 @@
 use Rattle.std.proofs.Common.{◌≡◌, ◌≢◌, Bool, true, false, refl, sym, ap, true≢false}
 use Rattle.ar_extents.specs.declared.health.Health.{Health}
 use Rattle.ar_extents.specs.declared.health.Health.TheVariants.{Whole, Out, Rebuilding, Broken as AllBroken}
-use Rattle.ar_extents.specs.declared.outcome.Outcome.{Outcome}
-use Rattle.ar_extents.specs.declared.outcome.Outcome.TheVariants.{Done, Broken}
+use Rattle.ar_disks.specs.declared.completion.Completion.{Completion}
+use Rattle.ar_disks.specs.declared.completion.Completion.TheVariants.{Done, Broken}
 use Rattle.ar_extents.specs.Changes.{is_broken}
 use Rattle.ar_extents.specs.Groups.{outcome_of}
 
 -- whether an answer says that the set is broken
-told : Outcome → Bool
+told : Completion → Bool
 told Done = false
 told Broken = true
 

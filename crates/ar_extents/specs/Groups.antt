@@ -6,8 +6,8 @@ use Rattle.ar_disks.specs.Disk.{DiskState}
 use Rattle.ar_disks.specs.Members.{member, AreApart}
 use Rattle.ar_extents.specs.declared.health.Health.{Health}
 use Rattle.ar_extents.specs.declared.health.Health.TheVariants.{Whole, Out, Rebuilding, Broken as AllBroken}
-use Rattle.ar_extents.specs.declared.outcome.Outcome.{Outcome}
-use Rattle.ar_extents.specs.declared.outcome.Outcome.TheVariants.{Done, Broken}
+use Rattle.ar_disks.specs.declared.completion.Completion.{Completion}
+use Rattle.ar_disks.specs.declared.completion.Completion.TheVariants.{Done, Broken}
 use Rattle.ar_extents.specs.Health.{after_fault}
 use Rattle.ar_extents.specs.Set.{SetState, HasExtent}
 
@@ -17,7 +17,7 @@ pub record IsGroup (s : SetState) (m : Members) : Type 0 where
   pub apart : AreApart m
 
 -- what a call on a group answers where it leaves this health: only a broken set keeps it from being done
-abbrev pub outcome_of : Health → Outcome
+abbrev pub outcome_of : Health → Completion
 outcome_of Whole = Done
 outcome_of (Out x) = Done
 outcome_of (Rebuilding x done) = Done

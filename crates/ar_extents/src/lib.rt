@@ -11,6 +11,6 @@ mod shape;
 
 pub use answers::{Got, Put, PutNew};
 pub use health::Health;
-pub use outcome::{Outcome, RowOutcome};
+pub use outcome::RowOutcome;
 pub use refusal::{DiskRefusal, StartFault};
 pub use set::{DiskSet, fault_of};

@@ -16,7 +16,8 @@ use Rattle.ar_scsi.specs.Reply.{busy, check}
 use Rattle.ar_scsi.specs.Sense.{internal_target_failure, capacity_data_has_changed}
 use Rattle.ar_extents.specs.Follows.{Keeps, Anywhere}
 use Rattle.ar_extents.proofs.Follows.{keeps_refl}
-use Rattle.ar_book.specs.Tables.{UnitState as UnitTable, no_unit, same_addr}
+use Rattle.ar_disks.specs.Addresses.{same_addr}
+use Rattle.ar_book.specs.Tables.{UnitState as UnitTable, no_unit}
 use Rattle.ar_book.specs.Changes.{unmarked}
 use Rattle.ar_unit.specs.Unit.{UnitState, Absent, Present, Answered, leaving, obeyed, answer}
 use Rattle.ar_unit.specs.Broken.{Shape, shape_of, is_good, needs_blocks, where_broken, broken_answer}

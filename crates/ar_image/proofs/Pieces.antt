@@ -12,7 +12,7 @@ use Rattle.ar_disks.proofs.Sectors.{sectors_at_is, sectors_at-none, sectors_at-a
 use Rattle.ar_disks.specs.declared.address.Addr.{Addr}
 use Rattle.ar_disks.specs.declared.address.Key.{Key}
 use Rattle.ar_cache.specs.Backing.{stored}
-use Rattle.ar_cache.specs.declared.answers.Stored.TheVariants.{Done as Kept}
+use Rattle.ar_disks.specs.declared.completion.Completion.TheVariants.{Done as Kept}
 use Rattle.ar_image.specs.declared.transfer.Transfer.{Transfer}
 use Rattle.ar_image.specs.declared.transfer.Transfer.TheVariants.{Done, Broken}
 use Rattle.ar_image.specs.Sectors.{sector_in, sectors_in, key_of}

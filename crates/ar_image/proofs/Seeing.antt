@@ -11,15 +11,16 @@ use Rattle.ar_disks.specs.Disk.{DiskState}
 use Rattle.ar_disks.specs.Geometry.{sectors_of, block_len_of}
 use Rattle.ar_extents.specs.declared.health.Health.{Health}
 use Rattle.ar_extents.specs.declared.health.Health.TheVariants.{Whole, Out, Rebuilding, Broken as AllBroken}
-use Rattle.ar_extents.specs.declared.outcome.Outcome.{Outcome}
-use Rattle.ar_extents.specs.declared.outcome.Outcome.TheVariants as outcomes
+use Rattle.ar_disks.specs.declared.completion.Completion.{Completion}
+use Rattle.ar_disks.specs.declared.completion.Completion.TheVariants.{Done, Broken}
 use Rattle.ar_extents.specs.Set.{SetState, disk_in}
 use Rattle.ar_extents.specs.Changes.{is_broken as is_broken_set, start_fault}
 use Rattle.ar_extents.specs.Groups.{outcome_of}
 use Rattle.ar_extents.proofs.Losses.{stays_broken}
 use Rattle.ar_extents.proofs.Outcomes.{sound_done}
 use Rattle.ar_book.specs.declared.class.Slot.{Slot}
-use Rattle.ar_book.specs.Tables.{Tables, UnitState, no_unit, has_unit, home_in, unit_in, same_addr, blocks_of}
+use Rattle.ar_disks.specs.Addresses.{same_addr}
+use Rattle.ar_book.specs.Tables.{Tables, UnitState, no_unit, has_unit, home_in, unit_in, blocks_of}
 use Rattle.ar_book.specs.Changes.{made, grown, unmarked, dropped}
 use Rattle.ar_book.specs.Refusals.{make_refusal, grow_refusal}
 use Rattle.ar_book.specs.Book.{TablesAgree}
@@ -28,8 +29,6 @@ use Rattle.ar_book.proofs.PlaceLemmas.{unit_whole}
 use Rattle.ar_book.proofs.Presence.{make_fresh, grow_there}
 use Rattle.ar_book.proofs.AfterMake.{made_unit_other, grown_unit, grown_unit_other, unmarked_homes}
 use Rattle.ar_book.proofs.DropLemmas.{dropped_unit_other}
-use Rattle.ar_cache.specs.declared.answers.Stored.{Stored}
-use Rattle.ar_cache.specs.declared.answers.Stored.TheVariants.{Done, Broken}
 use Rattle.ar_cache.specs.declared.answers.Flush.{Flush}
 use Rattle.ar_cache.specs.declared.answers.Flush.TheVariants as flushes
 use Rattle.ar_cache.specs.Backing.{stored, IsHonest, Keeps, SameBlocks, Writes}
@@ -112,16 +111,15 @@ done_told true is = cc
 done_told false is = refl
 
 -- a store's answer by the health that it leaves, as a cache hears it
-pub heard : (r : Outcome) (s : Stored) (h : Health) → r ≡ outcome_of h → (r ≡ outcomes.Done → s ≡ Done) → (r ≡ outcomes.Broken → s ≡ Broken)
-    → s ≡ stored (is_broken_set h)
-heard r s Whole is done broken = done is
-heard r s (Out x) is done broken = done is
-heard r s (Rebuilding x d) is done broken = done is
-heard r s AllBroken is done broken = broken is
+pub heard : (h : Health) → outcome_of h ≡ stored (is_broken_set h)
+heard Whole = refl
+heard (Out x) = refl
+heard (Rebuilding x d) = refl
+heard AllBroken = refl
 
 -- a read answers by the health that it leaves, also where no disk is asked
-pub read_outcome : (home : Option Slot) (r : Outcome) (old new : StoreState) → old.disks.health ≢ AllBroken
-    → (home ≡ None → (new ≡ old) × (r ≡ outcomes.Done)) → (home ≢ None → r ≡ outcome_of new.disks.health) → r ≡ outcome_of new.disks.health
+pub read_outcome : (home : Option Slot) (r : Completion) (old new : StoreState) → old.disks.health ≢ AllBroken
+    → (home ≡ None → (new ≡ old) × (r ≡ Done)) → (home ≢ None → r ≡ outcome_of new.disks.health) → r ≡ outcome_of new.disks.health
 read_outcome None r old new sound zeros outcome =
     let all = zeros refl in
     all.1 ∙ sym (sound_done old.disks.health sound) ∙ ap (λ (s : StoreState). outcome_of s.disks.health) (sym all.0)

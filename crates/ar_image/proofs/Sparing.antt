@@ -6,7 +6,7 @@ use Rattle.ar_cache.specs.Backing.{stored}
 use Rattle.ar_cache.specs.Cache.{CacheState, cached}
 use Rattle.ar_image.specs.Sectors.{key_of}
 use Rattle.ar_image.specs.Seen.{IsSpared}
-use Rattle.ar_cache.specs.declared.answers.Stored.TheVariants.{Done as Kept}
+use Rattle.ar_disks.specs.declared.completion.Completion.TheVariants.{Done as Kept}
 
 -- what an answer says of the array
 pub kept_sound : (broken : Bool) → Kept ≡ stored broken → broken ≡ false

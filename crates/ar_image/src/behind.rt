@@ -7,10 +7,10 @@ ghost use Rattle.ar_image.specs.Image.{knows_in};
 ghost use Rattle.ar_image.specs.Following.{StoreFollows, StoreReads};
 ghost use Rattle.ar_image.specs.Laws.{book_puts_after, store_refl, store_then, reads_refl, reads_then};
 
-use ar_cache::{Backing, Stored};
-use ar_disks::{Block, Disk, Key};
+use ar_cache::Backing;
+use ar_disks::{Block, Completion, Disk, Key};
 use ar_extents::Health;
-use ar_store::{Outcome, Store};
+use ar_store::Store;
 
 /// The store behind the cache. The keys that it knows are those of units' blocks.
 #[derive(Drop)]
@@ -33,15 +33,15 @@ impl<D: Disk> Backing for Behind<D> {
 
     ghost puts = { λ old key new. Puts old.store.book key new.store.book };
 
-    fn get(&mut self, key: Key, into: &mut Block) -> Stored {
+    fn get(&mut self, key: Key, into: &mut Block) -> Completion {
         if let Health::Broken = self.store.health() {
-            return Stored::Broken;
+            return Completion::Broken;
         }
-        stored(self.store.get(key, into))
+        self.store.get(key, into)
     }
 
-    fn put(&mut self, key: Key, from: &Block) -> Stored {
-        stored(self.store.put(key, from))
+    fn put(&mut self, key: Key, from: &Block) -> Completion {
+        self.store.put(key, from)
     }
 
     ghost follows_refl = { λ s. store_refl s.store };
@@ -53,15 +53,4 @@ impl<D: Disk> Backing for Behind<D> {
     ghost reads_trans = { λ a b c first later. reads_then a.store b.store c.store first later };
 
     ghost puts_after = { λ a b c key reads put. book_puts_after a.store b.store c.store key reads put };
-}
-
-// A store's answer, as a cache hears it.
-fn stored(outcome: Outcome) -> Stored
-    ensures done { outcome ≡ Outcome.Done → result ≡ Stored.Done }
-    ensures broken { outcome ≡ Outcome.Broken → result ≡ Stored.Broken }
-{
-    match outcome {
-        Outcome::Done => Stored::Done,
-        Outcome::Broken => Stored::Broken,
-    }
 }

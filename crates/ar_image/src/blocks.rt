@@ -14,10 +14,10 @@ ghost use Rattle.ar_image.specs.Laws.{follows_refl, follows_then, places_refl, p
 ghost use Rattle.ar_image.specs.Storing.{PutsBlock};
 
 use crate::behind::Behind;
-use crate::{Flush, Refusal, Stored};
+use crate::{Flush, Refusal};
 use ar_book::Book;
 use ar_cache::{Backing, CAPACITY_LIMIT, Cache};
-use ar_disks::{Addr, Block, Disk, Geometry, Key, Place};
+use ar_disks::{Addr, Block, Completion, Disk, Geometry, Key, Place};
 use ar_extents::{DiskSet, Got, Health, StartFault, fault_of};
 use ar_store::Store;
 use std::alloc::Global;
@@ -57,16 +57,16 @@ impl<D: Disk> Backing for Blocks<D> {
 
     ghost puts = { PutsBlock };
 
-    fn get(&mut self, key: Key, into: &mut Block) -> Stored {
+    fn get(&mut self, key: Key, into: &mut Block) -> Completion {
         if self.is_broken() {
-            return Stored::Broken;
+            return Completion::Broken;
         }
         self.cache.get(key, into, &mut self.behind)
     }
 
-    fn put(&mut self, key: Key, from: &Block) -> Stored {
+    fn put(&mut self, key: Key, from: &Block) -> Completion {
         if self.is_broken() {
-            return Stored::Broken;
+            return Completion::Broken;
         }
         self.cache.put(key, from, &mut self.behind)
     }

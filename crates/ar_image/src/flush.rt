@@ -12,8 +12,8 @@ ghost use Rattle.ar_image.specs.Sectors.{key_of, keys_from};
 ghost use Rattle.ar_image.specs.Seen.{SameSeen, IsSpared};
 ghost use Rattle.ar_image.specs.Storing.{ForcesBlock, LeavesSome};
 
-use crate::{Blocks, Flush, Stored};
-use ar_disks::{Addr, Disk, Key};
+use crate::{Blocks, Flush};
+use ar_disks::{Addr, Completion, Disk, Key};
 
 impl<D: Disk> Blocks<D> {
     /// Gives the least recently used cached block to the disks.
@@ -29,53 +29,53 @@ impl<D: Disk> Blocks<D> {
     }
 
     /// Gives all cached blocks to the disks, the least recently used first.
-    pub fn flush_all(&mut self) -> Stored
+    pub fn flush_all(&mut self) -> Completion
         ensures answer { result ≡ stored (is_broken self.new) }
-        ensures emptied { result ≡ Stored.Done → self.new.cache ≡ with_entries self.old.cache [] }
-        ensures puts { result ≡ Stored.Done
+        ensures emptied { result ≡ Completion.Done → self.new.cache ≡ with_entries self.old.cache [] }
+        ensures puts { result ≡ Completion.Done
             → InTurn Puts (reverse (keys_of self.old.cache.entries)) self.old.store.book self.new.store.book }
-        ensures stopped { result ≡ Stored.Broken → is_broken self.old ≡ false → LeavesSome self.old.cache self.new.cache }
+        ensures stopped { result ≡ Completion.Broken → is_broken self.old ≡ false → LeavesSome self.old.cache self.new.cache }
         ensures lost { IsTrue (is_broken self.old) → self.new ≡ self.old }
-        ensures seen { result ≡ Stored.Done → SameSeen self.old self.new }
+        ensures seen { result ≡ Completion.Done → SameSeen self.old self.new }
         ensures follows { Follows self.old self.new }
     {
         if self.is_broken() {
-            return Stored::Broken;
+            return Completion::Broken;
         }
         self.cache.flush_all(&mut self.behind)
     }
 
     // Gives one block to the disks, where it is cached.
-    fn flush_key(&mut self, key: Key) -> Stored
+    fn flush_key(&mut self, key: Key) -> Completion
         requires sound { is_broken self.old ≡ false }
         ensures answer { result ≡ stored (is_broken self.new) }
-        ensures gone { result ≡ Stored.Done → cached self.new.cache key ≡ None }
-        ensures others { result ≡ Stored.Done → (k : Key) → k ≢ key → cached self.new.cache k ≡ cached self.old.cache k }
-        ensures forces { result ≡ Stored.Done → ForcesBlock self.old key self.new }
-        ensures seen { result ≡ Stored.Done → SameSeen self.old self.new }
+        ensures gone { result ≡ Completion.Done → cached self.new.cache key ≡ None }
+        ensures others { result ≡ Completion.Done → (k : Key) → k ≢ key → cached self.new.cache k ≡ cached self.old.cache k }
+        ensures forces { result ≡ Completion.Done → ForcesBlock self.old key self.new }
+        ensures seen { result ≡ Completion.Done → SameSeen self.old self.new }
         ensures follows { Follows self.old self.new }
     {
         self.cache.flush_key(key, &mut self.behind)
     }
 
     /// Gives the blocks `first` to `last` of a unit to the disks, those that are cached, in ascending order, and no other.
-    pub fn force(&mut self, addr: Addr, first: u32, last: u32) -> Stored
+    pub fn force(&mut self, addr: Addr, first: u32, last: u32) -> Completion
         requires sound { is_broken self.old ≡ false }
         requires few { last ≤ 1048576 }
         ensures answer { result ≡ stored (is_broken self.new) }
-        ensures forced { result ≡ Stored.Done → (rb : ℕ) → first ≤ rb → rb ≤ last → cached self.new.cache (key_of addr rb) ≡ None }
-        ensures spared { result ≡ Stored.Done → IsSpared self.old.cache self.new.cache addr first (last + 1) }
-        ensures in_turn { result ≡ Stored.Done → InTurn ForcesBlock (keys_from addr first (last + 1 - first)) self.old self.new }
-        ensures seen { result ≡ Stored.Done → SameSeen self.old self.new }
+        ensures forced { result ≡ Completion.Done → (rb : ℕ) → first ≤ rb → rb ≤ last → cached self.new.cache (key_of addr rb) ≡ None }
+        ensures spared { result ≡ Completion.Done → IsSpared self.old.cache self.new.cache addr first (last + 1) }
+        ensures in_turn { result ≡ Completion.Done → InTurn ForcesBlock (keys_from addr first (last + 1 - first)) self.old self.new }
+        ensures seen { result ≡ Completion.Done → SameSeen self.old self.new }
         ensures follows { Follows self.old self.new }
     {
         let mut rb = first;
         while rb <= last {
             match self.flush_key(Key { addr, rb }) {
-                Stored::Done => rb += 1,
-                Stored::Broken => return Stored::Broken,
+                Completion::Done => rb += 1,
+                Completion::Broken => return Completion::Broken,
             }
         }
-        Stored::Done
+        Completion::Done
     }
 }

@@ -15,7 +15,7 @@ mod refusal;
 mod transfer;
 
 pub use ar_book::{Refusal as UnitRefusal, Slot};
-pub use ar_cache::{Backing, CAPACITY_LIMIT, Flush, Stored};
+pub use ar_cache::{Backing, CAPACITY_LIMIT, Flush};
 pub use ar_extents::{DiskRefusal, Health, StartFault};
 pub use blocks::Blocks;
 pub use new_disk::NewDisk;

@@ -7,9 +7,8 @@ ghost use Rattle.ar_disks.specs.Block.{sectors_at};
 ghost use Rattle.ar_cache.specs.Backing.{stored, InTurn, Keeps, SameBlocks};
 ghost use Rattle.ar_image.specs.Sectors.{sector_in, sectors_in, key_of, keys_in, blocks_of};
 
-use crate::Stored;
 use ar_cache::Backing;
-use ar_disks::{Addr, Block, Geometry, Key, SECTOR_LEN};
+use ar_disks::{Addr, Block, Completion, Geometry, Key, SECTOR_LEN};
 
 /// How a READ ended.
 #[derive(Clone, Copy, Debug, PartialEq, Eq)]
@@ -41,8 +40,8 @@ fn read_part<B: Backing>(
     ensures len { length block.new ≡ length block.old }
 {
     match blocks.get(key, block) {
-        Stored::Broken => Transfer::Broken,
-        Stored::Done => match out.extend_from_slice(block.sectors(first, count)) {
+        Completion::Broken => Transfer::Broken,
+        Completion::Done => match out.extend_from_slice(block.sectors(first, count)) {
             Ok(()) => Transfer::Done,
             Err(_) => Transfer::NoMemory,
         },
@@ -101,18 +100,18 @@ fn write_part<B: Backing>(
     count: usize,
     bytes: &[u8],
     block: &mut Block,
-) -> Stored
+) -> Completion
     requires shape { geometry ≡ B.geometry blocks.old }
     requires known { IsTrue (B.knows blocks.old key) }
     requires whole { length block.old ≡ block_len_of geometry }
     requires sectors { length bytes.now ≡ 512 * count }
     requires within { first + count ≤ sectors_of geometry }
-    ensures inside { result ≡ Stored.Done → (i : ℕ) → first ≤ i → i < first + count
+    ensures inside { result ≡ Completion.Done → (i : ℕ) → first ≤ i → i < first + count
         → sectors_at (B.block_at blocks.new key) i 1 ≡ sectors_at bytes.now (i - first) 1 }
-    ensures outside { result ≡ Stored.Done → (i : ℕ) → (i < first) ⊎ (first + count ≤ i) → i < sectors_of geometry
+    ensures outside { result ≡ Completion.Done → (i : ℕ) → (i < first) ⊎ (first + count ≤ i) → i < sectors_of geometry
         → sectors_at (B.block_at blocks.new key) i 1 ≡ sectors_at (B.block_at blocks.old key) i 1 }
-    ensures others { result ≡ Stored.Done → (k : Key) → k ≢ key → B.block_at blocks.new k ≡ B.block_at blocks.old k }
-    ensures puts { result ≡ Stored.Done → B.puts blocks.old key blocks.new }
+    ensures others { result ≡ Completion.Done → (k : Key) → k ≢ key → B.block_at blocks.new k ≡ B.block_at blocks.old k }
+    ensures puts { result ≡ Completion.Done → B.puts blocks.old key blocks.new }
     ensures answer { result ≡ stored (B.is_broken blocks.new) }
     ensures keeps { Keeps B.geometry B.knows B.is_broken B.follows blocks.old blocks.new }
     ensures len { length block.new ≡ length block.old }
@@ -121,8 +120,8 @@ fn write_part<B: Backing>(
         block.copy_from_slice(bytes);
     } else {
         match blocks.get(key, block) {
-            Stored::Broken => return Stored::Broken,
-            Stored::Done => block.set_sectors(first, bytes),
+            Completion::Broken => return Completion::Broken,
+            Completion::Done => block.set_sectors(first, bytes),
         }
     }
     blocks.put(key, block)
@@ -137,19 +136,19 @@ pub fn write_sectors<B: Backing>(
     count: u32,
     bytes: &[u8],
     block: &mut Block,
-) -> Stored
+) -> Completion
     requires sound { B.is_broken blocks.old ≡ false }
     requires shape { geometry ≡ B.geometry blocks.old }
     requires whole { length block.old ≡ block_len_of geometry }
     requires known { (rb : ℕ) → rb * sectors_of geometry < lba + count → IsTrue (B.knows blocks.old (key_of addr rb)) }
     requires small { lba + count ≤ 1048576 }
     requires sectors { length bytes.now ≡ 512 * count }
-    ensures inside { result ≡ Stored.Done → (i : ℕ) → lba ≤ i → i < lba + count
+    ensures inside { result ≡ Completion.Done → (i : ℕ) → lba ≤ i → i < lba + count
         → sector_in geometry (blocks_of (B.block_at blocks.new) addr) i ≡ sectors_at bytes.now (i - lba) 1 }
-    ensures outside { result ≡ Stored.Done → (i : ℕ) → (i < lba) ⊎ (lba + count ≤ i)
+    ensures outside { result ≡ Completion.Done → (i : ℕ) → (i < lba) ⊎ (lba + count ≤ i)
         → sector_in geometry (blocks_of (B.block_at blocks.new) addr) i ≡ sector_in geometry (blocks_of (B.block_at blocks.old) addr) i }
-    ensures others { result ≡ Stored.Done → (k : Key) → k.addr ≢ addr → B.block_at blocks.new k ≡ B.block_at blocks.old k }
-    ensures puts { result ≡ Stored.Done → InTurn B.puts (keys_in geometry addr lba count) blocks.old blocks.new }
+    ensures others { result ≡ Completion.Done → (k : Key) → k.addr ≢ addr → B.block_at blocks.new k ≡ B.block_at blocks.old k }
+    ensures puts { result ≡ Completion.Done → InTurn B.puts (keys_in geometry addr lba count) blocks.old blocks.new }
     ensures nothing { count ≡ 0 → blocks.new ≡ blocks.old }
     ensures answer { result ≡ stored (B.is_broken blocks.new) }
     ensures keeps { Keeps B.geometry B.knows B.is_broken B.follows blocks.old blocks.new }
@@ -176,9 +175,9 @@ pub fn write_sectors<B: Backing>(
             piece,
             block,
         ) {
-            Stored::Done => at += part,
-            Stored::Broken => return Stored::Broken,
+            Completion::Done => at += part,
+            Completion::Broken => return Completion::Broken,
         }
     }
-    Stored::Done
+    Completion::Done
 }

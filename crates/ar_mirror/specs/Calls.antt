@@ -5,8 +5,8 @@ use Rattle.ar_disks.specs.declared.address.Place.{Place}
 use Rattle.ar_disks.specs.declared.address.Members.{Members}
 use Rattle.ar_disks.specs.Members.{AreDisjoint}
 use Rattle.ar_extents.specs.declared.health.Health.TheVariants.{Broken as AllBroken}
-use Rattle.ar_extents.specs.declared.outcome.Outcome.{Outcome}
-use Rattle.ar_extents.specs.declared.outcome.Outcome.TheVariants.{Done, Broken}
+use Rattle.ar_disks.specs.declared.completion.Completion.{Completion}
+use Rattle.ar_disks.specs.declared.completion.Completion.TheVariants.{Done, Broken}
 use Rattle.ar_extents.specs.declared.outcome.RowOutcome.{RowOutcome}
 use Rattle.ar_extents.specs.declared.outcome.RowOutcome.TheVariants.{Done as RowDone, GivenUp, Broken as RowBroken}
 use Rattle.ar_extents.specs.Set.{SetState, content, IsSound, IsLost}
@@ -22,7 +22,7 @@ pub record IsGiven (old new : SetState) (m : Members) (slot : ℕ) (bytes : List
   pub second : IsLost new (one_of old.geometry m slot) → bytes ≡ content old (other_of old.geometry m slot) (row_of old.geometry slot)
 
 -- what the answer of a read says
-abbrev pub Gives : SetState → SetState → Members → ℕ → List ℕ → Outcome → Type 0
+abbrev pub Gives : SetState → SetState → Members → ℕ → List ℕ → Completion → Type 0
 Gives old new m slot bytes Done = IsGiven old new m slot bytes
 Gives old new m slot bytes Broken = Unit {0}
 

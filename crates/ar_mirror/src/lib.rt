@@ -6,7 +6,7 @@ mod pair;
 mod rebuild;
 mod slot;
 
-pub use ar_extents::{Outcome, RowOutcome};
+pub use ar_extents::RowOutcome;
 pub use laws::mirrored_slots_survive_a_loss;
 pub use rebuild::rebuild_row;
 pub use slot::{get, put};

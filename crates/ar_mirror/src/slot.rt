@@ -9,12 +9,17 @@ ghost use Rattle.ar_mirror.specs.Holds.{Holds};
 ghost use Rattle.ar_mirror.specs.Calls.{Gives, IsInPair, KeepsButSlot, OtherSlotsHold, OtherGroupsHold};
 
 use crate::pair::pair_of;
-use ar_disks::{Block, Disk, Members};
-use ar_extents::{DiskSet, Got, Outcome, Put};
+use ar_disks::{Block, Completion, Disk, Members};
+use ar_extents::{DiskSet, Got, Put};
 
 /// Reads a slot, below twice the rows of an extent, into `into`, a block of the set's length. It reads the first member of
 /// the slot's pair that isn't missing and, where that one faults, the other. After `Broken` any bytes may stand in `into`.
-pub fn get<D: Disk>(set: &mut DiskSet<D>, members: &Members, slot: u16, into: &mut Block) -> Outcome
+pub fn get<D: Disk>(
+    set: &mut DiskSet<D>,
+    members: &Members,
+    slot: u16,
+    into: &mut Block,
+) -> Completion
     requires group { IsGroup set.old members.now }
     requires slot { slot < slots_of set.old.geometry }
     requires whole { length into.old ≡ block_len_of set.old.geometry }
@@ -29,19 +34,19 @@ pub fn get<D: Disk>(set: &mut DiskSet<D>, members: &Members, slot: u16, into: &m
 {
     let pair = pair_of(set.geometry(), members, slot);
     match set.get(pair.one, pair.row, into) {
-        Got::Read => Outcome::Done,
+        Got::Read => Completion::Done,
         Got::Missing => match set.get(pair.other, pair.row, into) {
-            Got::Read => Outcome::Done,
+            Got::Read => Completion::Done,
             // Two members of different disks are never both missing.
-            Got::Missing | Got::Broken => Outcome::Broken,
+            Got::Missing | Got::Broken => Completion::Broken,
         },
-        Got::Broken => Outcome::Broken,
+        Got::Broken => Completion::Broken,
     }
 }
 
 /// Writes a slot, below twice the rows of an extent, from a block of the set's length. It writes every member of the slot's
 /// pair that isn't missing. After `Broken` any bytes may stand in the slot's rows.
-pub fn put<D: Disk>(set: &mut DiskSet<D>, members: &Members, slot: u16, from: &Block) -> Outcome
+pub fn put<D: Disk>(set: &mut DiskSet<D>, members: &Members, slot: u16, from: &Block) -> Completion
     requires group { IsGroup set.old members.now }
     requires slot { slot < slots_of set.old.geometry }
     requires whole { length from.now ≡ block_len_of set.old.geometry }
@@ -55,11 +60,11 @@ pub fn put<D: Disk>(set: &mut DiskSet<D>, members: &Members, slot: u16, from: &B
 {
     let pair = pair_of(set.geometry(), members, slot);
     match set.put(pair.one, pair.row, from) {
-        Put::Broken => Outcome::Broken,
+        Put::Broken => Completion::Broken,
         // Where this one is missing, the other isn't.
         Put::Written | Put::Missing => match set.put(pair.other, pair.row, from) {
-            Put::Broken => Outcome::Broken,
-            Put::Written | Put::Missing => Outcome::Done,
+            Put::Broken => Completion::Broken,
+            Put::Written | Put::Missing => Completion::Done,
         },
     }
 }

@@ -7,9 +7,9 @@ ghost use Rattle.ar_store.specs.Placing.{IsVacant};
 ghost use Rattle.ar_moves.specs.Moves.{IfMoved, IsMovedTo, LeavesBlocks};
 
 use ar_book::Slot;
-use ar_disks::{Disk, Key};
+use ar_disks::{Completion, Disk, Key};
 use ar_extents::Health;
-use ar_store::{Outcome, Store};
+use ar_store::Store;
 
 /// What a step in the background did.
 #[derive(Clone, Copy, Debug, PartialEq, Eq)]
@@ -34,7 +34,7 @@ pub(crate) fn move_to<D: Disk>(store: &mut Store<D>, key: Key, to: Slot) -> Move
     ensures leaves { LeavesBlocks store.old store.new }
 {
     match store.move_rb(key, to) {
-        Outcome::Done => Move::Moved { key, to },
-        Outcome::Broken => Move::Broken,
+        Completion::Done => Move::Moved { key, to },
+        Completion::Broken => Move::Broken,
     }
 }

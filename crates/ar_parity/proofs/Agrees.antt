@@ -9,12 +9,12 @@ use Rattle.ar_extents.specs.declared.health.Health.TheVariants.{Broken as AllBro
 use Rattle.ar_extents.specs.Set.{SetState, content, IsLost}
 use Rattle.ar_extents.specs.Follows.{Follows, Keeps, Anywhere}
 use Rattle.ar_extents.proofs.Losses.{lost_not_sound, broken_lost}
-use Rattle.ar_extents.specs.declared.outcome.Outcome.{Outcome}
-use Rattle.ar_extents.specs.declared.outcome.Outcome.TheVariants.{Done, Broken}
+use Rattle.ar_disks.specs.declared.completion.Completion.{Completion}
+use Rattle.ar_disks.specs.declared.completion.Completion.TheVariants.{Done, Broken}
 use Rattle.ar_parity.specs.Row.{Blocks, block, AddUp}
 use Rattle.ar_parity.specs.Others.{low_other, high_other}
 use Rattle.ar_parity.specs.Group.{Stands, RowAgrees, KeepsButRow}
-use Rattle.ar_parity.specs.Call.{OnDone}
+use Rattle.ar_disks.specs.Endings.{OnDone}
 use Rattle.ar_parity.proofs.Sums.{sum_of_others, back_from_sum}
 
 -- of a member that is lost anything may be said
@@ -78,7 +78,7 @@ three_sum s t m row lost third x y lt st keeps first second blocks agrees =
     ∙ back_from_sum (block_len_of s.geometry) (block blocks lost) (block blocks third) (up.lengths lost) (up.lengths third)
 
 -- and so where the last read answers that it is done
-pub two_sum_done : (o : Outcome) (s t : SetState) (m : Members) (row lost beside low high : ℕ) (x y : List ℕ) → lost < 4 → beside < 4 → beside ≢ lost
+pub two_sum_done : (o : Completion) (s t : SetState) (m : Members) (row lost beside low high : ℕ) (x y : List ℕ) → lost < 4 → beside < 4 → beside ≢ lost
     → low ≡ low_other lost beside → high ≡ high_other lost beside → low < 4 → high < 4 → Follows s t → Keeps Anywhere s t
     → ((b : List ℕ) → Stands s m row low b → x ≡ b) → OnDone o ((b : List ℕ) → Stands t m row high b → y ≡ xor x b)
     → OnDone o ((blocks : Blocks) → RowAgrees s m row blocks → y ≡ xor (block blocks beside) (block blocks lost))
@@ -86,7 +86,7 @@ two_sum_done Done s t m row lost beside low high x y ll lb ne is_low is_high ll_
     two_sum s t m row lost beside low high x y ll lb ne is_low is_high ll_low ll_high st keeps first second
 two_sum_done Broken s t m row lost beside low high x y ll lb ne is_low is_high ll_low ll_high st keeps first second = tt
 
-pub three_sum_done : (o : Outcome) (s t : SetState) (m : Members) (row lost third : ℕ) (x y : List ℕ) → third < 4 → Follows s t → Keeps Anywhere s t
+pub three_sum_done : (o : Completion) (s t : SetState) (m : Members) (row lost third : ℕ) (x y : List ℕ) → third < 4 → Follows s t → Keeps Anywhere s t
     → ((blocks : Blocks) → RowAgrees s m row blocks → x ≡ xor (block blocks third) (block blocks lost))
     → OnDone o ((b : List ℕ) → Stands t m row third b → y ≡ xor x b)
     → OnDone o ((blocks : Blocks) → RowAgrees s m row blocks → y ≡ block blocks lost)

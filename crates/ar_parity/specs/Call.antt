@@ -5,22 +5,17 @@ use Rattle.ar_disks.specs.Members.{member}
 use Rattle.ar_extents.specs.declared.health.Health.TheVariants.{Broken as AllBroken}
 use Rattle.ar_extents.specs.Set.{SetState, content}
 use Rattle.ar_extents.specs.Access.{IsGivenUp}
-use Rattle.ar_extents.specs.declared.outcome.Outcome.{Outcome}
-use Rattle.ar_extents.specs.declared.outcome.Outcome.TheVariants.{Done, Broken}
+use Rattle.ar_disks.specs.declared.completion.Completion.{Completion}
+use Rattle.ar_disks.specs.declared.completion.Completion.TheVariants.{Done, Broken}
 use Rattle.ar_extents.specs.declared.outcome.RowOutcome.{RowOutcome}
 use Rattle.ar_extents.specs.declared.outcome.RowOutcome.TheVariants.{Done as RowDone, GivenUp, Broken as RowBroken}
 use Rattle.ar_parity.specs.Row.{Blocks, block, changed, parity_position}
 use Rattle.ar_parity.specs.Group.{RowAgrees}
 
 -- a call answers `Broken` exactly where the set is broken after it
-abbrev pub Tells : SetState → Outcome → Type 0
+abbrev pub Tells : SetState → Completion → Type 0
 Tells s Done = s.health ≢ AllBroken
 Tells s Broken = s.health ≡ AllBroken
-
--- what is said of a call that is done
-abbrev pub OnDone : Outcome → Type 0 → Type 0
-OnDone Done P = P
-OnDone Broken P = Unit {0}
 
 -- Whatever four blocks the row agreed on, it agrees on them with a new block at a position, and with the parity that goes with it.
 pub record Changes (old new : SetState) (m : Members) (row position : ℕ) (bytes : List ℕ) : Type 0 where

@@ -8,12 +8,13 @@ ghost use Rattle.ar_extents.specs.Follows.{Keeps, Anywhere, WorksOn};
 ghost use Rattle.ar_extents.specs.Groups.{IsGroup, IsMember};
 ghost use Rattle.ar_parity.specs.Row.{Blocks, block};
 ghost use Rattle.ar_parity.specs.Group.{RowAgrees};
-ghost use Rattle.ar_parity.specs.Call.{Tells, OnDone};
+ghost use Rattle.ar_disks.specs.Endings.{OnDone};
+ghost use Rattle.ar_parity.specs.Call.{Tells};
 
 use crate::slots::{another, highest_beside, lowest_beside};
 use crate::steps::{add_beside, read_beside};
-use ar_disks::{Block, Disk, Members};
-use ar_extents::{DiskSet, Outcome};
+use ar_disks::{Block, Completion, Disk, Members};
+use ar_extents::DiskSet;
 
 // Adds the two blocks of a row that are neither the lost one nor the one beside it.
 pub fn sum_of_two<D: Disk>(
@@ -24,7 +25,7 @@ pub fn sum_of_two<D: Disk>(
     row: u16,
     into: &mut Block,
     spare: &mut Block,
-) -> Outcome
+) -> Completion
     requires group { IsGroup set.old members.now }
     requires lost_below { lost < 4 }
     requires below { beside < 4 }
@@ -45,8 +46,8 @@ pub fn sum_of_two<D: Disk>(
     let low = lowest_beside(lost, beside);
     let high = highest_beside(lost, beside);
     match read_beside(set, members, lost, low, row, into) {
-        Outcome::Done => add_beside(set, members, lost, high, row, into, spare),
-        Outcome::Broken => Outcome::Broken,
+        Completion::Done => add_beside(set, members, lost, high, row, into, spare),
+        Completion::Broken => Completion::Broken,
     }
 }
 
@@ -58,7 +59,7 @@ pub fn sum_of_three<D: Disk>(
     row: u16,
     into: &mut Block,
     spare: &mut Block,
-) -> Outcome
+) -> Completion
     requires group { IsGroup set.old members.now }
     requires below { lost < 4 }
     requires lost { IsLost set.old (member members.now lost) }
@@ -75,7 +76,7 @@ pub fn sum_of_three<D: Disk>(
 {
     let third = another(lost);
     match sum_of_two(set, members, lost, third, row, into, spare) {
-        Outcome::Done => add_beside(set, members, lost, third, row, into, spare),
-        Outcome::Broken => Outcome::Broken,
+        Completion::Done => add_beside(set, members, lost, third, row, into, spare),
+        Completion::Broken => Completion::Broken,
     }
 }

@@ -8,19 +8,24 @@ ghost use Rattle.ar_extents.specs.Set.{IsSound};
 ghost use Rattle.ar_extents.specs.Groups.{IsGroup, IsMember, IsOutside, outcome_of};
 ghost use Rattle.ar_parity.specs.Row.{row_of, data_position, parity_position, zero_blocks};
 ghost use Rattle.ar_parity.specs.Group.{RowAgrees, Holds, KeepsButRow};
-ghost use Rattle.ar_parity.specs.Call.{OnDone, Changes};
+ghost use Rattle.ar_disks.specs.Endings.{OnDone};
+ghost use Rattle.ar_parity.specs.Call.{Changes};
 
 use crate::degraded::sum_of_three;
 use crate::slots::{data_at, row_of_slot};
 use crate::update::change;
 use crate::zero::zero_row;
-use ar_disks::{Block, Disk, Members, Scratch};
-use ar_extents::{DiskSet, Got, Outcome};
+use ar_disks::{Block, Completion, Disk, Members, Scratch};
+use ar_extents::{DiskSet, Got};
 
 /// Writes zeros to every row of the members that aren't missing, whatever stood there: every slot holds zeros then.
 ///
 /// `Broken` says that the set is broken; any bytes may stand in the members then.
-pub fn open_zero<D: Disk>(set: &mut DiskSet<D>, members: &Members, scratch: &mut Scratch) -> Outcome
+pub fn open_zero<D: Disk>(
+    set: &mut DiskSet<D>,
+    members: &Members,
+    scratch: &mut Scratch,
+) -> Completion
     requires group { IsGroup set.old members.now }
     requires scratch { scratch.old.geometry ≡ set.old.geometry }
     ensures outcome { result ≡ outcome_of set.new.health }
@@ -36,11 +41,11 @@ pub fn open_zero<D: Disk>(set: &mut DiskSet<D>, members: &Members, scratch: &mut
     zero.zero();
     for row in 0..set.geometry().rows() {
         match zero_row(set, members, row, zero) {
-            Outcome::Done => {}
-            Outcome::Broken => return Outcome::Broken,
+            Completion::Done => {}
+            Completion::Broken => return Completion::Broken,
         }
     }
-    Outcome::Done
+    Completion::Done
 }
 
 /// Reads the block of a slot into `into`: from its member, or where that is missing as the sum of the row's three others.
@@ -52,7 +57,7 @@ pub fn get<D: Disk>(
     slot: u16,
     into: &mut Block,
     scratch: &mut Scratch,
-) -> Outcome
+) -> Completion
     requires group { IsGroup set.old members.now }
     requires slot { slot < 3 * rows_of set.old.geometry }
     requires whole { length into.old ≡ block_len_of set.old.geometry }
@@ -70,9 +75,9 @@ pub fn get<D: Disk>(
     let row = row_of_slot(slot);
     let position = data_at(slot);
     match set.get(members.at(position), row, into) {
-        Got::Read => Outcome::Done,
+        Got::Read => Completion::Done,
         Got::Missing => sum_of_three(set, members, position, row, into, &mut scratch.first),
-        Got::Broken => Outcome::Broken,
+        Got::Broken => Completion::Broken,
     }
 }
 
@@ -86,7 +91,7 @@ pub fn put<D: Disk>(
     slot: u16,
     from: &Block,
     scratch: &mut Scratch,
-) -> Outcome
+) -> Completion
     requires group { IsGroup set.old members.now }
     requires slot { slot < 3 * rows_of set.old.geometry }
     requires whole { length from.now ≡ block_len_of set.old.geometry }

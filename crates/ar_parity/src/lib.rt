@@ -10,7 +10,7 @@ mod steps;
 mod update;
 mod zero;
 
-pub use ar_extents::{Outcome, RowOutcome};
+pub use ar_extents::RowOutcome;
 pub use group::{get, open_zero, put};
 pub use laws::redundancy;
 pub use rebuild::rebuild_row;

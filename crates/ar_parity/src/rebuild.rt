@@ -11,8 +11,8 @@ ghost use Rattle.ar_parity.specs.Group.{RowAgrees};
 ghost use Rattle.ar_parity.specs.Call.{Rebuilds};
 
 use crate::degraded::sum_of_three;
-use ar_disks::{Disk, Members, Scratch};
-use ar_extents::{DiskSet, Outcome, PutNew, RowOutcome};
+use ar_disks::{Completion, Disk, Members, Scratch};
+use ar_extents::{DiskSet, PutNew, RowOutcome};
 
 /// Writes the sum of a row's three other blocks to the member at a position, which is the lowest extent that isn't done of
 /// the disk that is rebuilt.
@@ -48,8 +48,8 @@ pub fn rebuild_row<D: Disk>(
         &mut scratch.first,
         &mut scratch.second,
     ) {
-        Outcome::Done => {}
-        Outcome::Broken => return RowOutcome::Broken,
+        Completion::Done => {}
+        Completion::Broken => return RowOutcome::Broken,
     }
     match set.put_new(row, &scratch.first) {
         PutNew::Written => RowOutcome::Done,

@@ -7,10 +7,11 @@ ghost use Rattle.ar_extents.specs.Set.{IsLost};
 ghost use Rattle.ar_extents.specs.Follows.{Keeps, KeepsBut, Anywhere, IsPlace, WorksOn};
 ghost use Rattle.ar_extents.specs.Groups.{IsGroup};
 ghost use Rattle.ar_parity.specs.Group.{Stands};
-ghost use Rattle.ar_parity.specs.Call.{Tells, OnDone};
+ghost use Rattle.ar_disks.specs.Endings.{OnDone};
+ghost use Rattle.ar_parity.specs.Call.{Tells};
 
-use ar_disks::{Block, Disk, Members};
-use ar_extents::{DiskSet, Got, Outcome, Put};
+use ar_disks::{Block, Completion, Disk, Members};
+use ar_extents::{DiskSet, Got, Put};
 
 // Writes a row of a member, unless it is missing.
 pub fn write<D: Disk>(
@@ -19,7 +20,7 @@ pub fn write<D: Disk>(
     position: u8,
     row: u16,
     from: &Block,
-) -> Outcome
+) -> Completion
     requires group { IsGroup set.old members.now }
     requires position { position < 4 }
     requires row { row < rows_of set.old.geometry }
@@ -30,8 +31,8 @@ pub fn write<D: Disk>(
     ensures works { WorksOn (IsPlace (member members.now position)) set.old set.new }
 {
     match set.put(members.at(position), row, from) {
-        Put::Written | Put::Missing => Outcome::Done,
-        Put::Broken => Outcome::Broken,
+        Put::Written | Put::Missing => Completion::Done,
+        Put::Broken => Completion::Broken,
     }
 }
 
@@ -43,7 +44,7 @@ pub fn read_beside<D: Disk>(
     position: u8,
     row: u16,
     into: &mut Block,
-) -> Outcome
+) -> Completion
     requires group { IsGroup set.old members.now }
     requires lost_below { lost < 4 }
     requires below { position < 4 }
@@ -59,8 +60,8 @@ pub fn read_beside<D: Disk>(
     ensures len { length into.new ≡ length into.old }
 {
     match set.get(members.at(position), row, into) {
-        Got::Read => Outcome::Done,
-        Got::Missing | Got::Broken => Outcome::Broken,
+        Got::Read => Completion::Done,
+        Got::Missing | Got::Broken => Completion::Broken,
     }
 }
 
@@ -73,7 +74,7 @@ pub fn add_beside<D: Disk>(
     row: u16,
     into: &mut Block,
     spare: &mut Block,
-) -> Outcome
+) -> Completion
     requires group { IsGroup set.old members.now }
     requires lost_below { lost < 4 }
     requires below { position < 4 }
@@ -91,10 +92,10 @@ pub fn add_beside<D: Disk>(
     ensures spare_len { length spare.new ≡ length spare.old }
 {
     match read_beside(set, members, lost, position, row, spare) {
-        Outcome::Done => {
+        Completion::Done => {
             spare.xor_into(into);
-            Outcome::Done
+            Completion::Done
         }
-        Outcome::Broken => Outcome::Broken,
+        Completion::Broken => Completion::Broken,
     }
 }

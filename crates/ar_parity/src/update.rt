@@ -12,8 +12,8 @@ ghost use Rattle.ar_parity.specs.Call.{Tells, Changes};
 use crate::degraded::sum_of_two;
 use crate::slots::parity_at;
 use crate::steps::write;
-use ar_disks::{Block, Disk, Members, Scratch};
-use ar_extents::{DiskSet, Got, Outcome};
+use ar_disks::{Block, Completion, Disk, Members, Scratch};
+use ar_extents::{DiskSet, Got};
 
 // Writes a block and the parity of its row, each unless its member is missing.
 fn write_both<D: Disk>(
@@ -24,7 +24,7 @@ fn write_both<D: Disk>(
     row: u16,
     from: &Block,
     sum: &Block,
-) -> Outcome
+) -> Completion
     requires group { IsGroup set.old members.now }
     requires below { position < 4 }
     requires parity_below { parity < 4 }
@@ -41,8 +41,8 @@ fn write_both<D: Disk>(
     ensures works { WorksOn (IsEither (member members.now position) (member members.now parity)) set.old set.new }
 {
     match write(set, members, position, row, from) {
-        Outcome::Done => write(set, members, parity, row, sum),
-        Outcome::Broken => Outcome::Broken,
+        Completion::Done => write(set, members, parity, row, sum),
+        Completion::Broken => Completion::Broken,
     }
 }
 
@@ -56,7 +56,7 @@ fn update<D: Disk>(
     from: &Block,
     before: &Block,
     sum: &mut Block,
-) -> Outcome
+) -> Completion
     requires group { IsGroup set.old members.now }
     requires below { position < 4 }
     requires apart { position ≢ parity_position row }
@@ -79,7 +79,7 @@ fn update<D: Disk>(
             write_both(set, members, position, parity, row, from, sum)
         }
         Got::Missing => write(set, members, position, row, from),
-        Got::Broken => Outcome::Broken,
+        Got::Broken => Completion::Broken,
     }
 }
 
@@ -92,7 +92,7 @@ fn put_lost<D: Disk>(
     from: &Block,
     sum: &mut Block,
     spare: &mut Block,
-) -> Outcome
+) -> Completion
     requires group { IsGroup set.old members.now }
     requires below { position < 4 }
     requires apart { position ≢ parity_position row }
@@ -111,11 +111,11 @@ fn put_lost<D: Disk>(
 {
     let parity = parity_at(row);
     match sum_of_two(set, members, position, parity, row, sum, spare) {
-        Outcome::Done => {
+        Completion::Done => {
             from.xor_into(sum);
             write(set, members, parity, row, sum)
         }
-        Outcome::Broken => Outcome::Broken,
+        Completion::Broken => Completion::Broken,
     }
 }
 
@@ -127,7 +127,7 @@ pub fn change<D: Disk>(
     row: u16,
     from: &Block,
     scratch: &mut Scratch,
-) -> Outcome
+) -> Completion
     requires group { IsGroup set.old members.now }
     requires below { position < 4 }
     requires apart { position ≢ parity_position row }
@@ -147,6 +147,6 @@ pub fn change<D: Disk>(
     match set.get(members.at(position), row, &mut scratch.first) {
         Got::Read => update(set, members, position, row, from, &scratch.first, sum),
         Got::Missing => put_lost(set, members, position, row, from, sum, &mut scratch.first),
-        Got::Broken => Outcome::Broken,
+        Got::Broken => Completion::Broken,
     }
 }

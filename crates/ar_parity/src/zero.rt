@@ -9,11 +9,16 @@ ghost use Rattle.ar_parity.specs.Group.{RowAgrees, KeepsButRow};
 ghost use Rattle.ar_parity.specs.Call.{Tells};
 
 use crate::steps::write;
-use ar_disks::{Block, Disk, Members};
-use ar_extents::{DiskSet, Outcome};
+use ar_disks::{Block, Completion, Disk, Members};
+use ar_extents::DiskSet;
 
 // Writes zeros to a row of each member, unless it is missing.
-pub fn zero_row<D: Disk>(set: &mut DiskSet<D>, members: &Members, row: u16, zero: &Block) -> Outcome
+pub fn zero_row<D: Disk>(
+    set: &mut DiskSet<D>,
+    members: &Members,
+    row: u16,
+    zero: &Block,
+) -> Completion
     requires group { IsGroup set.old members.now }
     requires row { row < rows_of set.old.geometry }
     requires zero { zero.now ≡ zeros (block_len_of set.old.geometry) }
@@ -24,9 +29,9 @@ pub fn zero_row<D: Disk>(set: &mut DiskSet<D>, members: &Members, row: u16, zero
 {
     for position in 0..4 {
         match write(set, members, position, row, zero) {
-            Outcome::Done => {}
-            Outcome::Broken => return Outcome::Broken,
+            Completion::Done => {}
+            Completion::Broken => return Completion::Broken,
         }
     }
-    Outcome::Done
+    Completion::Done
 }

@@ -7,10 +7,10 @@ ghost use Rattle.ar_book.specs.Tables.{HasBlock};
 
 use crate::fixtures::{Shape, byte_of, filled, fused_disk, fused_disks};
 use ar_book::Class;
-use ar_disks::{Addr, Disk, FuseDisk, Host, Key, Place};
+use ar_disks::{Addr, Completion, Disk, FuseDisk, Host, Key, Place};
 use ar_extents::{DiskRefusal, Got, Health};
 use ar_rebuild::{Rebuild, rebuild_one};
-use ar_store::{Outcome, Store};
+use ar_store::Store;
 use std::alloc::{AllocError, Global};
 use std::process::Abort;
 use std::test::Fail;
@@ -150,16 +150,16 @@ fn put(
         return Ok(Answer::Unfit);
     }
     Ok(match store.put(key, &from) {
-        Outcome::Done => Answer::Done,
-        Outcome::Broken => Answer::Broken,
+        Completion::Done => Answer::Done,
+        Completion::Broken => Answer::Broken,
     })
 }
 
 fn get(store: &mut Store<FuseDisk>, alloc: Global, rb: u32) -> Result<Answer, AllocError> {
     let mut into = filled(alloc, store.disks().geometry(), 0xDD)?;
     Ok(match store.get(key(rb), &mut into) {
-        Outcome::Done => byte_of(into.bytes()).map_or(Answer::Mixed, Answer::Byte),
-        Outcome::Broken => Answer::Broken,
+        Completion::Done => byte_of(into.bytes()).map_or(Answer::Mixed, Answer::Byte),
+        Completion::Broken => Answer::Broken,
     })
 }
 

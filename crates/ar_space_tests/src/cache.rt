@@ -1,8 +1,8 @@
 // The cache over a shelf, as runs of calls with what each is answered.
 use crate::names::{Unit, addr, key, unit};
 use crate::shelf::Shelf;
-use ar_cache::{CAPACITY_LIMIT, Cache, Flush, Stored};
-use ar_disks::{Addr, Block, Geometry, Key};
+use ar_cache::{CAPACITY_LIMIT, Cache, Flush};
+use ar_disks::{Addr, Block, Completion, Geometry, Key};
 use std::alloc::{AllocError, Global};
 use std::marker::Model;
 use std::process::Abort;
@@ -104,10 +104,10 @@ fn name(key: Key) -> Name {
     (host, lun, key.rb)
 }
 
-fn stored(answer: Stored) -> Answer {
+fn stored(answer: Completion) -> Answer {
     match answer {
-        Stored::Done => Answer::Done,
-        Stored::Broken => Answer::Broken,
+        Completion::Done => Answer::Done,
+        Completion::Broken => Answer::Broken,
     }
 }
 
@@ -160,8 +160,8 @@ impl Rig {
     fn read(&mut self, key: Key) -> Answer {
         self.block.copy_from_slice(&[0xEE; 1_024]);
         match self.cache.get(key, &mut self.block, &mut self.shelf) {
-            Stored::Done => content(&self.block),
-            Stored::Broken => Answer::Broken,
+            Completion::Done => content(&self.block),
+            Completion::Broken => Answer::Broken,
         }
     }
 

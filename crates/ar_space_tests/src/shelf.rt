@@ -5,8 +5,8 @@ ghost use Rattle.std.specs.Bool.{OnTrue};
 ghost use Rattle.std.specs.Map.{lookup, set_value};
 ghost use Rattle.ar_cache.specs.Cache.{same_key};
 
-use ar_cache::{Backing, Stored};
-use ar_disks::{Block, Geometry, Key};
+use ar_cache::Backing;
+use ar_disks::{Block, Completion, Geometry, Key};
 use indexmap::IndexMap;
 use std::alloc::{AllocError, Global};
 
@@ -80,22 +80,22 @@ impl Backing for Shelf {
 
     ghost puts = { λ _ _ _. ⊤ };
 
-    fn get(&mut self, key: Key, into: &mut Block) -> Stored {
+    fn get(&mut self, key: Key, into: &mut Block) -> Completion {
         self.gets = self.gets.wrapping_add(1);
         if !self.breaks() && copy(&self.blocks, key, into) {
-            return Stored::Done;
+            return Completion::Done;
         }
         self.broken = true;
-        Stored::Broken
+        Completion::Broken
     }
 
-    fn put(&mut self, key: Key, from: &Block) -> Stored {
+    fn put(&mut self, key: Key, from: &Block) -> Completion {
         self.puts = self.puts.wrapping_add(1);
         if !self.breaks() && replace(&mut self.blocks, key, from) {
-            return Stored::Done;
+            return Completion::Done;
         }
         self.broken = true;
-        Stored::Broken
+        Completion::Broken
     }
 
     ghost follows_refl = { λ _. tt };

@@ -12,7 +12,8 @@ use Rattle.ar_extents.specs.Loose.{is_loose}
 use Rattle.ar_book.specs.declared.class.Class.{Class}
 use Rattle.ar_book.specs.declared.class.Class.TheVariants.{Free, Mirrored, Parity}
 use Rattle.ar_book.specs.declared.class.Slot.{Slot}
-use Rattle.ar_book.specs.Tables.{Tables, is_free, group_in, class_of, key_at, has_unit, same_addr, HasBlock}
+use Rattle.ar_disks.specs.Addresses.{same_addr}
+use Rattle.ar_book.specs.Tables.{Tables, is_free, group_in, class_of, key_at, has_unit, HasBlock}
 use Rattle.ar_book.specs.Changes.{assigned, stamped, opened}
 use Rattle.ar_book.specs.Book.{TablesAgree}
 use Rattle.ar_book.proofs.Keys.{slot_tells}

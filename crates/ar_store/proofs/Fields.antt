@@ -3,8 +3,8 @@ use Rattle.std.proofs.Common.{◌≡◌, ◌≢◌, inl, inr, ℕ, ◌<◌, ◌�
 use Rattle.ar_disks.specs.Geometry.{block_len_of}
 use Rattle.ar_disks.specs.declared.address.Key.{Key}
 use Rattle.ar_extents.specs.declared.health.Health.TheVariants.{Broken}
-use Rattle.ar_extents.specs.declared.outcome.Outcome.{Outcome}
-use Rattle.ar_extents.specs.declared.outcome.Outcome.TheVariants.{Done}
+use Rattle.ar_disks.specs.declared.completion.Completion.{Completion}
+use Rattle.ar_disks.specs.declared.completion.Completion.TheVariants.{Done}
 use Rattle.ar_extents.specs.Set.{SetState}
 use Rattle.ar_extents.specs.Follows.{Follows, Keeps, Anywhere}
 use Rattle.ar_book.specs.declared.class.Slot.{Slot}
@@ -21,7 +21,8 @@ use Rattle.ar_extents.proofs.Losses.{stays_broken}
 use Rattle.ar_store.specs.declared.way.Way.{Way}
 use Rattle.ar_store.specs.declared.way.Way.TheVariants.{Home, Hole, Broken as NoWay}
 use Rattle.ar_store.specs.Placing.{IsReadyFor, placed_by}
-use Rattle.ar_store.specs.Calls.{IsAccessed, OnDone}
+use Rattle.ar_disks.specs.Endings.{OnDone}
+use Rattle.ar_store.specs.Calls.{IsAccessed}
 use Rattle.ar_store.specs.Kept.{IsSpace, FieldsAgree}
 use Rattle.ar_store.specs.declared.space.Space.{Space}
 use Rattle.ar_store.specs.Spaces.{store_in, IsReady, Stays}
@@ -68,8 +69,8 @@ given_stands s a b t k slot bytes view space is ab sound read =
     (read held.block held.holds ∙ sym (stands_held (store_of a t) k slot held.block space (was_sound a b ab sound) is held.holds))
 
 -- what is said of a call that is done
-pub given_done : (o : Outcome) (P : Type 0) → o ≡ Done → OnDone o P → P
-given_done o P is given = subst (λ (x : Outcome). OnDone x P) is given
+pub given_done : (o : Completion) (P : Type 0) → o ≡ Done → OnDone o P → P
+given_done o P is given = subst (λ (x : Completion). OnDone x P) is given
 
 -- first every block stood as it did, then every one but one
 pub put_others : (a b d : StoreState) (k : Key) → Follows b.disks d.disks → AllStand a b → OthersStand b d k → OthersStand a d k

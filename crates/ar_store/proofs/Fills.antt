@@ -4,7 +4,7 @@ use Rattle.ar_disks.specs.declared.address.Key.{Key}
 use Rattle.ar_disks.specs.declared.address.Place.{Place}
 use Rattle.ar_disks.specs.Geometry.{block_len_of}
 use Rattle.ar_extents.specs.declared.health.Health.TheVariants.{Broken}
-use Rattle.ar_extents.specs.declared.outcome.Outcome.TheVariants.{Done, Broken as NotDone}
+use Rattle.ar_disks.specs.declared.completion.Completion.TheVariants.{Done, Broken as NotDone}
 use Rattle.ar_extents.specs.Set.{SetState, IsLost}
 use Rattle.ar_extents.specs.Follows.{Follows, Keeps, Anywhere, IsPlace, WorksOn}
 use Rattle.ar_extents.specs.Access.{Accesses}

@@ -1,8 +1,8 @@
 -- What the calls on a mirrored group and on one with parity do to the slots of a space.
 use Rattle.std.proofs.Common.{◌≡◌, ◌≢◌, ℕ, ◌<◌, List, sym, subst, arith}
 use Rattle.ar_disks.specs.declared.address.Members.{Members}
-use Rattle.ar_extents.specs.declared.outcome.Outcome.{Outcome}
-use Rattle.ar_extents.specs.declared.outcome.Outcome.TheVariants.{Done, Broken}
+use Rattle.ar_disks.specs.declared.completion.Completion.{Completion}
+use Rattle.ar_disks.specs.declared.completion.Completion.TheVariants.{Done, Broken}
 use Rattle.ar_extents.specs.Set.{SetState}
 use Rattle.ar_extents.specs.Groups.{IsGroup}
 use Rattle.ar_extents.specs.Follows.{Keeps, Anywhere, IsPlace}
@@ -18,7 +18,8 @@ use Rattle.ar_book.specs.Tables.{Tables, slots_of, HasSlot}
 use Rattle.ar_store.specs.Store.{StoreState, store_of, members_of, class_in}
 use Rattle.ar_store.specs.Slots.{ClassHolds, SlotHolds, HoldsAny, CanWrite, IsWritten, NeedsIn, first_in, AsksFor, AllStand}
 use Rattle.ar_store.specs.Kept.{IsSpace}
-use Rattle.ar_store.specs.Calls.{IsAccessed, OnDone}
+use Rattle.ar_disks.specs.Endings.{OnDone}
+use Rattle.ar_store.specs.Calls.{IsAccessed}
 use Rattle.ar_store.proofs.Classes.{mirror_written, parity_written}
 use Rattle.ar_store.proofs.Spaces.{slot_group, slot_inside, slot_ready, space_read, slots_read}
 use Rattle.ar_store.proofs.Standing.{all_stand}
@@ -36,7 +37,7 @@ module _ (s : StoreState) (slot : Slot) (m : Members) (space : IsSpace s) (has :
   never_free is = (let none : slot.slot < 0 = asked_slot Free is in omega arith)
 
   -- what was read is the block that the slot held
-  pub given_in : (c : Class) (bytes : List ℕ) (o : Outcome) → c ≡ class_in s slot.group
+  pub given_in : (c : Class) (bytes : List ℕ) (o : Completion) → c ≡ class_in s slot.group
       → OnDone o ((block : List ℕ) → ClassHolds c s.disks m slot.slot block → bytes ≡ block)
       → OnDone o ((block : List ℕ) → SlotHolds s slot block → bytes ≡ block)
   given_in c bytes o is_c given =
@@ -74,7 +75,7 @@ module _ (s : StoreState) (slot : Slot) (m : Members) (space : IsSpace s) (has :
       written_in Parity b block is_c (parity_written s.disks b m slot.slot block ready here others keeps)
 
 -- what a read of a mirrored slot gives
-pub mirror_given : (a b : SetState) (m : Members) (i : ℕ) (bytes : List ℕ) (o : Outcome) → Gives a b m i bytes o
+pub mirror_given : (a b : SetState) (m : Members) (i : ℕ) (bytes : List ℕ) (o : Completion) → Gives a b m i bytes o
     → OnDone o ((block : List ℕ) → MirrorHolds a m i block → bytes ≡ block)
 mirror_given a b m i bytes Done gives = gives.held
 mirror_given a b m i bytes Broken gives = tt

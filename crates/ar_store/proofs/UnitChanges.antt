@@ -12,7 +12,8 @@ use Rattle.ar_disks.specs.Block.{zeros}
 use Rattle.ar_extents.specs.Set.{SetState}
 use Rattle.ar_book.specs.declared.class.Class.TheVariants.{Free, Parity}
 use Rattle.ar_book.specs.declared.class.Slot.{Slot}
-use Rattle.ar_book.specs.Tables.{UnitState, Tables, is_free, no_unit, same_addr, has_unit, group_in, class_of, key_at, home, free_groups}
+use Rattle.ar_disks.specs.Addresses.{same_addr}
+use Rattle.ar_book.specs.Tables.{UnitState, Tables, is_free, no_unit, has_unit, group_in, class_of, key_at, home, free_groups}
 use Rattle.ar_book.specs.Changes.{made, grown, dropped, unmarked}
 use Rattle.ar_book.specs.Refusals.{make_refusal, grow_refusal}
 use Rattle.ar_book.specs.Book.{TablesAgree}

@@ -14,8 +14,6 @@ use Rattle.ar_store.specs.declared.open.Opening.TheVariants.{Opened, Idle, Broke
 use Rattle.ar_store.specs.Store.{StoreState}
 use Rattle.ar_store.specs.Slots.{SlotHolds}
 use Rattle.ar_store.specs.Placing.{slot_at}
-use Rattle.ar_extents.specs.declared.outcome.Outcome.{Outcome}
-use Rattle.ar_extents.specs.declared.outcome.Outcome.TheVariants.{Done, Broken}
 
 -- Rows were read and written: no disk was lost without a cause, and what is loose stays so. An extent that isn't used, of a disk that
 -- is out or isn't rebuilt so far, keeps what stands in its rows: the rebuild alone writes them.
@@ -23,11 +21,6 @@ pub record IsAccessed (old new : SetState) : Type 0 where
   pub follows : Follows old new
   pub loose : new.loose ≡ old.loose
   pub lost : Keeps (IsLost old) old new
-
--- what is said of a call that is done
-abbrev pub OnDone : Outcome → Type 0 → Type 0
-OnDone Done P = P
-OnDone Broken P = Unit {0}
 
 -- a group was opened: the lowest free one of at least two
 pub record IsOpened (old new : Tables) (class : Class) (group : ℕ) : Type 0 where

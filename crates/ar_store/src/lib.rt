@@ -13,7 +13,6 @@ mod store;
 mod units;
 mod way;
 
-pub use ar_extents::Outcome;
 pub use form::{FourDisks, four_fullest};
 pub use open::Opening;
 pub use space::Space;

@@ -3,8 +3,7 @@
 use crate::space::Space;
 use crate::way::Way;
 use ar_book::Slot;
-use ar_disks::{Block, Disk, Key};
-use ar_extents::Outcome;
+use ar_disks::{Block, Completion, Disk, Key};
 use ar_index::Steps;
 
 impl<D: Disk> Space<D> {
@@ -18,14 +17,14 @@ impl<D: Disk> Space<D> {
     ghost use Rattle.ar_store.specs.Spaces.{store_in, IsReady, Stays};
 
     /// Moves a block to a slot that names none, by way of `block`. The new slot is written before the old one is left.
-    pub(crate) fn move_block(&mut self, key: Key, to: Slot, block: &mut Block) -> Outcome
+    pub(crate) fn move_block(&mut self, key: Key, to: Slot, block: &mut Block) -> Completion
         requires ready { IsReady self.old }
         requires placed { IsSome (home self.old.book key) }
         requires hole { IsVacant self.old.book to }
         requires whole { length block.old ≡ block_len_of self.old.disks.geometry }
         ensures outcome { result ≡ outcome_of self.new.disks.health }
-        ensures moved { result ≡ Outcome.Done → self.new.book ≡ assigned self.old.book key to }
-        ensures unmoved { result ≡ Outcome.Broken → self.new.book ≡ self.old.book }
+        ensures moved { result ≡ Completion.Done → self.new.book ≡ assigned self.old.book key to }
+        ensures unmoved { result ≡ Completion.Broken → self.new.book ≡ self.old.book }
         ensures free { free_groups self.old.book ≤ free_groups self.new.book }
         ensures stand { AllStand (store_in self.old) (store_in self.new) }
         ensures beside { BesideHold (store_in self.old) (store_in self.new) to }
@@ -36,76 +35,76 @@ impl<D: Disk> Space<D> {
             unreachable!()
         };
         match self.read_at(from, block) {
-            Outcome::Done => self.fill(key, to, block),
-            Outcome::Broken => Outcome::Broken,
+            Completion::Done => self.fill(key, to, block),
+            Completion::Broken => Completion::Broken,
         }
     }
 
     // Writes a block to a slot that names none, which is its home from then on.
-    fn fill(&mut self, key: Key, to: Slot, from: &Block) -> Outcome
+    fn fill(&mut self, key: Key, to: Slot, from: &Block) -> Completion
         requires ready { IsReady self.old }
         requires block { HasBlock self.old.book key }
         requires hole { IsVacant self.old.book to }
         requires whole { length from.now ≡ block_len_of self.old.disks.geometry }
         ensures outcome { result ≡ outcome_of self.new.disks.health }
-        ensures filled { result ≡ Outcome.Done → self.new.book ≡ assigned self.old.book key to }
-        ensures unfilled { result ≡ Outcome.Broken → self.new.book ≡ self.old.book }
+        ensures filled { result ≡ Completion.Done → self.new.book ≡ assigned self.old.book key to }
+        ensures unfilled { result ≡ Completion.Broken → self.new.book ≡ self.old.book }
         ensures free { free_groups self.old.book ≤ free_groups self.new.book }
-        ensures here { result ≡ Outcome.Done → stands (store_in self.new) key ≡ from.now }
+        ensures here { result ≡ Completion.Done → stands (store_in self.new) key ≡ from.now }
         ensures others { OthersStand (store_in self.old) (store_in self.new) key }
         ensures beside { BesideHold (store_in self.old) (store_in self.new) to }
         ensures stays { Stays self.old self.new }
     {
         match self.write_at(to, from) {
-            Outcome::Done => {
+            Completion::Done => {
                 self.book.assign(key, to, &mut Steps::new());
-                Outcome::Done
+                Completion::Done
             }
-            Outcome::Broken => Outcome::Broken,
+            Completion::Broken => Completion::Broken,
         }
     }
 
     /// Writes a block of a unit to the slot that was found for it, and gives it the next stamp.
-    pub(crate) fn write(&mut self, key: Key, way: Way, from: &Block) -> Outcome
+    pub(crate) fn write(&mut self, key: Key, way: Way, from: &Block) -> Completion
         requires ready { IsReady self.old }
         requires block { HasBlock self.old.book key }
         requires way { IsReadyFor (store_in self.old) key way }
         requires whole { length from.now ≡ block_len_of self.old.disks.geometry }
         ensures outcome { result ≡ outcome_of self.new.disks.health }
-        ensures tables { result ≡ Outcome.Done → self.new.book ≡ stamped (placed_by self.old.book key way) key }
-        ensures unwritten { result ≡ Outcome.Broken → self.new.book ≡ self.old.book }
+        ensures tables { result ≡ Completion.Done → self.new.book ≡ stamped (placed_by self.old.book key way) key }
+        ensures unwritten { result ≡ Completion.Broken → self.new.book ≡ self.old.book }
         ensures free { free_groups self.old.book ≤ free_groups self.new.book }
-        ensures here { result ≡ Outcome.Done → stands (store_in self.new) key ≡ from.now }
+        ensures here { result ≡ Completion.Done → stands (store_in self.new) key ≡ from.now }
         ensures others { OthersStand (store_in self.old) (store_in self.new) key }
         ensures stays { Stays self.old self.new }
     {
         match self.write_by(key, way, from) {
-            Outcome::Done => {
+            Completion::Done => {
                 self.book.stamp(key, &mut Steps::new());
-                Outcome::Done
+                Completion::Done
             }
-            Outcome::Broken => Outcome::Broken,
+            Completion::Broken => Completion::Broken,
         }
     }
 
     // Writes a block of a unit to the slot that was found for it, which is its home from then on.
-    fn write_by(&mut self, key: Key, way: Way, from: &Block) -> Outcome
+    fn write_by(&mut self, key: Key, way: Way, from: &Block) -> Completion
         requires ready { IsReady self.old }
         requires block { HasBlock self.old.book key }
         requires way { IsReadyFor (store_in self.old) key way }
         requires whole { length from.now ≡ block_len_of self.old.disks.geometry }
         ensures outcome { result ≡ outcome_of self.new.disks.health }
-        ensures tables { result ≡ Outcome.Done → self.new.book ≡ placed_by self.old.book key way }
-        ensures unwritten { result ≡ Outcome.Broken → self.new.book ≡ self.old.book }
+        ensures tables { result ≡ Completion.Done → self.new.book ≡ placed_by self.old.book key way }
+        ensures unwritten { result ≡ Completion.Broken → self.new.book ≡ self.old.book }
         ensures free { free_groups self.old.book ≤ free_groups self.new.book }
-        ensures here { result ≡ Outcome.Done → stands (store_in self.new) key ≡ from.now }
+        ensures here { result ≡ Completion.Done → stands (store_in self.new) key ≡ from.now }
         ensures others { OthersStand (store_in self.old) (store_in self.new) key }
         ensures stays { Stays self.old self.new }
     {
         match way {
             Way::Home(slot) => self.write_at(slot, from),
             Way::Hole(slot) => self.fill(key, slot, from),
-            Way::Broken => Outcome::Broken,
+            Way::Broken => Completion::Broken,
         }
     }
 }

@@ -2,8 +2,7 @@
 
 use crate::space::Space;
 use ar_book::Class;
-use ar_disks::Disk;
-use ar_extents::Outcome;
+use ar_disks::{Completion, Disk};
 use ar_index::Steps;
 
 /// Whether a group was opened.
@@ -52,8 +51,8 @@ impl<D: Disk> Space<D> {
             Class::Parity => {
                 let members = self.book.members(group);
                 match ar_parity::open_zero(&mut self.disks, &members, &mut self.scratch) {
-                    Outcome::Done => Opening::Opened(group),
-                    Outcome::Broken => Opening::Broken,
+                    Completion::Done => Opening::Opened(group),
+                    Completion::Broken => Opening::Broken,
                 }
             }
         }

@@ -2,8 +2,7 @@
 
 use crate::space::Space;
 use ar_book::{Class, Slot};
-use ar_disks::{Block, Disk};
-use ar_extents::Outcome;
+use ar_disks::{Block, Completion, Disk};
 
 impl<D: Disk> Space<D> {
     ghost use Rattle.std.specs.Prelude.{◌≡◌, ℕ, List, length};
@@ -12,11 +11,11 @@ impl<D: Disk> Space<D> {
     ghost use Rattle.ar_extents.specs.Follows.{Keeps, Anywhere};
     ghost use Rattle.ar_book.specs.Tables.{HasSlot};
     ghost use Rattle.ar_store.specs.Slots.{SlotHolds, OtherSlotsHold, AllStand, AsksForSlot};
-    ghost use Rattle.ar_store.specs.Calls.{OnDone};
+    ghost use Rattle.ar_disks.specs.Endings.{OnDone};
     ghost use Rattle.ar_store.specs.Spaces.{store_in, IsReady, Stays};
 
     /// Reads a slot. No row of any disk changes.
-    pub(crate) fn read_at(&mut self, slot: Slot, into: &mut Block) -> Outcome
+    pub(crate) fn read_at(&mut self, slot: Slot, into: &mut Block) -> Completion
         requires ready { IsReady self.old }
         requires slot { HasSlot self.old.book slot }
         requires whole { length into.old ≡ block_len_of self.old.disks.geometry }
@@ -44,7 +43,7 @@ impl<D: Disk> Space<D> {
     }
 
     /// Writes a slot.
-    pub(crate) fn write_at(&mut self, slot: Slot, from: &Block) -> Outcome
+    pub(crate) fn write_at(&mut self, slot: Slot, from: &Block) -> Completion
         requires ready { IsReady self.old }
         requires slot { HasSlot self.old.book slot }
         requires whole { length from.now ≡ block_len_of self.old.disks.geometry }

@@ -2,8 +2,8 @@
 
 use crate::space::Space;
 use ar_book::Slot;
-use ar_disks::{Block, Disk};
-use ar_extents::{Health, Outcome};
+use ar_disks::{Block, Completion, Disk};
+use ar_extents::Health;
 
 impl<D: Disk> Space<D> {
     ghost use Rattle.std.specs.Prelude.{◌≡◌, ◌≢◌, ◌<◌, length, None, IfSome, IfNone};
@@ -41,24 +41,24 @@ impl<D: Disk> Space<D> {
             return None;
         }
         match self.move_all(from, to, block) {
-            Outcome::Done => Some(Slot {
+            Completion::Done => Some(Slot {
                 group: to,
                 slot: 2 * self.disks.geometry().rows(),
             }),
-            Outcome::Broken => None,
+            Completion::Broken => None,
         }
     }
 
     // Moves all blocks of a full mirrored group, in slot order, to the slots with the same numbers of a group with parity.
-    fn move_all(&mut self, from: u32, to: u32, block: &mut Block) -> Outcome
+    fn move_all(&mut self, from: u32, to: u32, block: &mut Block) -> Completion
         requires ready { IsReady self.old }
         requires can { CanMove self.old.book from to }
         requires sound { self.old.disks.health ≢ Broken }
         requires whole { length block.old ≡ block_len_of self.old.disks.geometry }
         ensures outcome { result ≡ outcome_of self.new.disks.health }
-        ensures moved { result ≡ Outcome.Done → self.new.book ≡ moved_first self.old.book from to (slots_of self.old.book.geometry Mirrored) }
-        ensures emptied { result ≡ Outcome.Done → class_of self.new.book from ≡ Free }
-        ensures hole { result ≡ Outcome.Done → IsVacant self.new.book (slot_at to (slots_of self.old.book.geometry Mirrored)) }
+        ensures moved { result ≡ Completion.Done → self.new.book ≡ moved_first self.old.book from to (slots_of self.old.book.geometry Mirrored) }
+        ensures emptied { result ≡ Completion.Done → class_of self.new.book from ≡ Free }
+        ensures hole { result ≡ Completion.Done → IsVacant self.new.book (slot_at to (slots_of self.old.book.geometry Mirrored)) }
         ensures unplaced { (k : Key) → home self.old.book k ≡ None → home self.new.book k ≡ None }
         ensures stand { AllStand (store_in self.old) (store_in self.new) }
         ensures stays { Stays self.old self.new }
@@ -69,10 +69,10 @@ impl<D: Disk> Space<D> {
                 unreachable!()
             };
             match self.move_block(key, Slot { group: to, slot }, block) {
-                Outcome::Done => {}
-                Outcome::Broken => return Outcome::Broken,
+                Completion::Done => {}
+                Completion::Broken => return Completion::Broken,
             }
         }
-        Outcome::Done
+        Completion::Done
     }
 }

@@ -1,9 +1,9 @@
 // The store, and its reads and writes by key.
 
+use crate::Opening;
 use crate::space::Space;
-use crate::{Opening, Outcome};
 use ar_book::{Book, Class, Slot};
-use ar_disks::{Block, Disk, Key};
+use ar_disks::{Block, Completion, Disk, Key};
 use ar_extents::{DiskSet, Health};
 use std::marker::Model;
 
@@ -74,10 +74,10 @@ impl<D: Disk> Store<D> {
     /// Reads the block of a key into `into`, a block of the store's length. A block without a home is read as zeros, and no disk is
     /// accessed then; else none that the read doesn't need, as `AsksFor` says. No row of any disk changes. After `Broken` any bytes may stand in `into`; of a store that was broken before
     /// nothing has changed.
-    pub fn get(&mut self, key: Key, into: &mut Block) -> Outcome
+    pub fn get(&mut self, key: Key, into: &mut Block) -> Completion
         requires whole { length into.old ≡ block_len_of self.old.disks.geometry }
-        ensures given { result ≡ Outcome.Done → self.new.disks.health ≢ Health.Broken → into.new ≡ stands self.old key }
-        ensures zeros { home self.old.book key ≡ None → (self.new ≡ self.old) × (result ≡ Outcome.Done) × (into.new ≡ zeros (block_len_of self.old.disks.geometry)) }
+        ensures given { result ≡ Completion.Done → self.new.disks.health ≢ Health.Broken → into.new ≡ stands self.old key }
+        ensures zeros { home self.old.book key ≡ None → (self.new ≡ self.old) × (result ≡ Completion.Done) × (into.new ≡ zeros (block_len_of self.old.disks.geometry)) }
         ensures outcome { home self.old.book key ≢ None → result ≡ outcome_of self.new.disks.health }
         ensures stands { AllStand self.old self.new }
         ensures asks { (slot : Slot) → home self.old.book key ≡ Some slot → AsksForSlot self.old self.new slot }
@@ -89,10 +89,10 @@ impl<D: Disk> Store<D> {
     {
         let Some(slot) = self.space.book.home(key) else {
             into.zero();
-            return Outcome::Done;
+            return Completion::Done;
         };
         match self.space.disks.health() {
-            Health::Broken => Outcome::Broken,
+            Health::Broken => Completion::Broken,
             _ => self.space.read_at(slot, into),
         }
     }
@@ -100,20 +100,20 @@ impl<D: Disk> Store<D> {
     /// Writes a block of a unit, from a block of the store's length, and gives it the next stamp. It is never refused for room:
     /// where it goes, `Puts` says. `Broken` says that the disks are: the block has its old home then, and of a store that was broken
     /// before nothing has changed.
-    pub fn put(&mut self, key: Key, from: &Block) -> Outcome
+    pub fn put(&mut self, key: Key, from: &Block) -> Completion
         requires block { HasBlock self.old.book key }
         requires whole { length from.now ≡ block_len_of self.old.disks.geometry }
         ensures outcome { result ≡ outcome_of self.new.disks.health }
-        ensures put { result ≡ Outcome.Done → stands self.new key ≡ from.now }
+        ensures put { result ≡ Completion.Done → stands self.new key ≡ from.now }
         ensures others { OthersStand self.old self.new key }
-        ensures tables { result ≡ Outcome.Done → Puts self.old.book key self.new.book }
-        ensures unmoved { result ≡ Outcome.Broken → home self.new.book key ≡ home self.old.book key }
+        ensures tables { result ≡ Completion.Done → Puts self.old.book key self.new.book }
+        ensures unmoved { result ≡ Completion.Broken → home self.new.book key ≡ home self.old.book key }
         ensures units { SameUnits self.old.book self.new.book }
         ensures accessed { IsAccessed self.old.disks self.new.disks }
         ensures broken { self.old.disks.health ≡ Health.Broken → self.new ≡ self.old }
     {
         if let Health::Broken = self.space.disks.health() {
-            return Outcome::Broken;
+            return Completion::Broken;
         }
         let way = self.space.find_way(key, &mut self.block);
         self.space.write(key, way, from)
@@ -121,20 +121,20 @@ impl<D: Disk> Store<D> {
 
     /// Gives a unit's block that has no home one, by writing zeros: it goes where `put` would put it, and reads as before. After
     /// `Broken` it has none.
-    pub fn place(&mut self, key: Key) -> Outcome
+    pub fn place(&mut self, key: Key) -> Completion
         requires block { HasBlock self.old.book key }
         requires unplaced { home self.old.book key ≡ None }
         ensures outcome { result ≡ outcome_of self.new.disks.health }
-        ensures placed { result ≡ Outcome.Done → IsSome (home self.new.book key) }
-        ensures tables { result ≡ Outcome.Done → Puts self.old.book key self.new.book }
+        ensures placed { result ≡ Completion.Done → IsSome (home self.new.book key) }
+        ensures tables { result ≡ Completion.Done → Puts self.old.book key self.new.book }
         ensures stands { AllStand self.old self.new }
-        ensures unmoved { result ≡ Outcome.Broken → home self.new.book key ≡ home self.old.book key }
+        ensures unmoved { result ≡ Completion.Broken → home self.new.book key ≡ home self.old.book key }
         ensures units { SameUnits self.old.book self.new.book }
         ensures accessed { IsAccessed self.old.disks self.new.disks }
         ensures broken { self.old.disks.health ≡ Health.Broken → self.new ≡ self.old }
     {
         if let Health::Broken = self.space.disks.health() {
-            return Outcome::Broken;
+            return Completion::Broken;
         }
         let way = self.space.find_way(key, &mut self.block);
         self.block.zero();
@@ -143,12 +143,12 @@ impl<D: Disk> Store<D> {
 
     /// Moves a block from its home to a slot that names none. The new slot is written before the old one is left; the stamp stays,
     /// and so does what the other slots of the new one's group hold. After `Broken` the block has its old home; of a store that was broken before nothing has changed.
-    pub fn move_rb(&mut self, key: Key, slot: Slot) -> Outcome
+    pub fn move_rb(&mut self, key: Key, slot: Slot) -> Completion
         requires placed { IsSome (home self.old.book key) }
         requires hole { IsVacant self.old.book slot }
         ensures outcome { result ≡ outcome_of self.new.disks.health }
-        ensures moved { result ≡ Outcome.Done → Moved self.old.book key slot self.new.book }
-        ensures unmoved { result ≡ Outcome.Broken → self.new.book ≡ self.old.book }
+        ensures moved { result ≡ Completion.Done → Moved self.old.book key slot self.new.book }
+        ensures unmoved { result ≡ Completion.Broken → self.new.book ≡ self.old.book }
         ensures stands { AllStand self.old self.new }
         ensures beside { BesideHold self.old self.new slot }
         ensures units { SameUnits self.old.book self.new.book }
@@ -156,7 +156,7 @@ impl<D: Disk> Store<D> {
         ensures broken { self.old.disks.health ≡ Health.Broken → self.new ≡ self.old }
     {
         if let Health::Broken = self.space.disks.health() {
-            return Outcome::Broken;
+            return Completion::Broken;
         }
         self.space.move_block(key, slot, &mut self.block)
     }

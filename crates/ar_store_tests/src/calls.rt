@@ -7,10 +7,10 @@ ghost use Rattle.ar_book.specs.Tables.{home, HasBlock};
 
 use crate::fixtures::{byte_of, filled};
 use ar_book::{Class, Level, Slot};
-use ar_disks::{Addr, Block, FuseDisk, Host, Key, Place};
+use ar_disks::{Addr, Block, Completion, FuseDisk, Host, Key, Place};
 use ar_extents::{DiskRefusal, Got, Health};
 use ar_index::Steps;
-use ar_store::{Opening, Outcome, Store};
+use ar_store::{Opening, Store};
 use std::alloc::{AllocError, Global};
 use std::process::Abort;
 
@@ -146,10 +146,10 @@ fn mark(store: &mut Store<FuseDisk>) -> Answer {
     Answer::Is(marked)
 }
 
-fn answer_of(outcome: Outcome) -> Answer {
+fn answer_of(outcome: Completion) -> Answer {
     match outcome {
-        Outcome::Done => Answer::Done,
-        Outcome::Broken => Answer::Broken,
+        Completion::Done => Answer::Done,
+        Completion::Broken => Answer::Broken,
     }
 }
 
@@ -176,8 +176,8 @@ fn read_into(block: &Block) -> Answer {
 fn get(store: &mut Store<FuseDisk>, alloc: Global, rb: u32) -> Result<Answer, AllocError> {
     let mut into = filled(alloc, store.disks().geometry(), 0xDD)?;
     Ok(match store.get(key(rb), &mut into) {
-        Outcome::Done => read_into(&into),
-        Outcome::Broken => Answer::Broken,
+        Completion::Done => read_into(&into),
+        Completion::Broken => Answer::Broken,
     })
 }
 
@@ -199,8 +199,8 @@ fn move_to_hole(store: &mut Store<FuseDisk>, rb: u32, class: Class) -> Answer {
         return Answer::Unfit;
     };
     match store.move_rb(key, slot) {
-        Outcome::Done => Answer::At(slot),
-        Outcome::Broken => Answer::Broken,
+        Completion::Done => Answer::At(slot),
+        Completion::Broken => Answer::Broken,
     }
 }
 

@@ -1,8 +1,8 @@
 // Cached blocks that go to the disks once a disk is lost.
 use crate::arrays::sound_array;
 use crate::calls::{Answer, Call, Row, is_filled, play, unit};
-use ar_core::{Array, Health, HomeOf, Shown, Slot, Stored};
-use ar_disks::{Block, FuseDisk};
+use ar_core::{Array, Health, HomeOf, Shown, Slot};
+use ar_disks::{Block, Completion, FuseDisk};
 use std::alloc::{AllocError, Global};
 use std::process::Abort;
 use std::test::Fail;
@@ -67,7 +67,7 @@ fn stands(rt: &impl Abort, array: &Array<FuseDisk>, rb: u32, wanted: HomeOf) {
 }
 
 // Flushes all blocks, and asserts the answer.
-fn flush_all(rt: &impl Abort, array: &mut Array<FuseDisk>, wanted: Stored) {
+fn flush_all(rt: &impl Abort, array: &mut Array<FuseDisk>, wanted: Completion) {
     let stored = array.flush_all();
     assert!(rt; stored == wanted, "{stored:?}");
 }
@@ -114,7 +114,7 @@ fn flush_others<R: Abort + AllocGlobal>(
     rt: &R,
     array: &mut Array<FuseDisk>,
 ) -> Result<(), AllocError> {
-    flush_all(rt, array, Stored::Done);
+    flush_all(rt, array, Completion::Done);
     show(
         rt,
         array,
@@ -172,7 +172,7 @@ const FILLED: [Row; 13] = [
 // Block 8, the parity of its row, and blocks 3 and 9 beside it.
 fn fill<R: Abort + AllocGlobal>(rt: &R, array: &mut Array<FuseDisk>) -> Result<(), AllocError> {
     play(rt, &"a full array", array, &FILLED)?;
-    flush_all(rt, array, Stored::Done);
+    flush_all(rt, array, Completion::Done);
     show(
         rt,
         array,
@@ -204,7 +204,7 @@ fn flush_into_parity<R: Abort + AllocGlobal>(
     rt: &R,
     array: &mut Array<FuseDisk>,
 ) -> Result<(), AllocError> {
-    flush_all(rt, array, Stored::Done);
+    flush_all(rt, array, Completion::Done);
     show(
         rt,
         array,
@@ -247,7 +247,7 @@ fn flush_past_two_lost_disks<R: Abort + AllocGlobal>(
     ];
     let ending = play(rt, &"two disks are out", array, &lost)?;
     assert!(rt; ending.health == Health::Broken, "two disks are out");
-    flush_all(rt, array, Stored::Broken);
+    flush_all(rt, array, Completion::Broken);
     stands(rt, array, 0, HomeOf::Unplaced);
     show(
         rt,

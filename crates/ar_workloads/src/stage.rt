@@ -9,9 +9,9 @@ use crate::fault::WorkloadFault;
 use crate::workload::{Access, Plan, Stands, Workload};
 use ar_core::{
     Array, Balance, CAPACITY_LIMIT, EventOf, Flush, Health, LevelOf, Move, NewDisk, OutcomeOf,
-    Rebuild, Stored,
+    Rebuild,
 };
-use ar_disks::{Addr, Geometry, Host, MemDisk};
+use ar_disks::{Addr, Completion, Geometry, Host, MemDisk};
 use ar_scsi::{Reply, Status};
 use bytes::Bytes;
 use rand::RngExt;
@@ -486,8 +486,8 @@ impl Stage {
     // Gives what is cached to the disks.
     fn flush(&mut self) -> Result<(), WorkloadFault> {
         match self.array.flush_all() {
-            Stored::Done => Ok(()),
-            Stored::Broken => Err(self.refused()),
+            Completion::Done => Ok(()),
+            Completion::Broken => Err(self.refused()),
         }
     }
 

@@ -1,7 +1,7 @@
 use Rattle.std.proofs.Common.{◌∙◌, sym}
 use Rattle.std.specs.Map.{keys_of}
 use Rattle.std.proofs.lemmas.Map.Entries.{length-keys_of}
-use Rattle.ar_book.specs.Tables.{same_addr}
+use Rattle.ar_disks.specs.Addresses.{same_addr}
 use Rattle.ar_book.proofs.IndexAfter.{no_place}
 use Rattle.ar_book.proofs.index.order_of.Goals as goal
 

@@ -5,7 +5,8 @@ use Rattle.std.proofs.Common.{◌≡◌, ◌≤◌, Some, length, sym, ap, ◌�
 use Rattle.std.specs.Map.{lookup, keys_of}
 use Rattle.std.specs.Set.{remove_key}
 use Rattle.ar_book.specs.contracts.book.Book.{the_view}
-use Rattle.ar_book.specs.Tables.{Tables, UnitState, same_addr, unit_in, key_at, home, level, stamp_of}
+use Rattle.ar_disks.specs.Addresses.{same_addr}
+use Rattle.ar_book.specs.Tables.{Tables, UnitState, unit_in, key_at, home, level, stamp_of}
 use Rattle.ar_book.proofs.RefusalLemmas.{reserved_fits}
 use Rattle.ar_book.proofs.DropLemmas.{unit_homes, found_is, found_there, homes_fit, dropped_kept, dropped_key_other, dropped_home_other, dropped_level_other, dropped_stamp_other, dropped_order}
 use Rattle.ar_book.proofs.book.Book.drop_unit.Goals as goal

@@ -1,7 +1,8 @@
 use Rattle.std.proofs.Common.{ap, ◌∙◌}
 use Rattle.std.specs.Option.{option_map}
 use Rattle.std.specs.Map.{lookup}
-use Rattle.ar_book.specs.Tables.{Tables, UnitState, same_addr}
+use Rattle.ar_disks.specs.Addresses.{same_addr}
+use Rattle.ar_book.specs.Tables.{Tables, UnitState}
 use Rattle.ar_image.proofs.Seeing.{unit_found}
 use Rattle.ar_image.proofs.blocks.Blocks.sectors.Goals as goal
 
