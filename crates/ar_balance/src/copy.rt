@@ -50,7 +50,7 @@ fn copy_row<D: Disk>(
     ensures len { length block.new ≡ length block.old }
 {
     match set.get(from, row, block) {
-        Got::Read => match set.put(to, row, block) {
+        Got::Read => match set.put(to, row, block.bytes()) {
             Put::Written => true,
             Put::Missing | Put::Broken => false,
         },

@@ -45,7 +45,7 @@ pub trait Backing {
         ensures reads { reads self.old self.new };
 
     /// Writes a block under a key that it knows. On Broken any blocks may stand.
-    fn put(&mut self, key: Key, from: &Block) -> Completion
+    fn put(&mut self, key: Key, from: &[u8]) -> Completion
         requires known { IsTrue (knows self.old key) }
         requires whole { length from.now ≡ block_len_of (geometry self.old) }
         ensures answer { result ≡ stored (is_broken self.new) }

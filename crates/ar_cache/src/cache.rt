@@ -110,7 +110,7 @@ impl Cache {
     /// A present entry takes the block over. For a new key a full cache first destages its least recently used entry.
     /// Where memory for the new entry is refused, or where the capacity is 0, the block goes straight to the backing.
     /// On Broken the cache stays as it was.
-    pub fn put<B: Backing>(&mut self, key: Key, block: &Block, backing: &mut B) -> Completion
+    pub fn put<B: Backing>(&mut self, key: Key, block: &[u8], backing: &mut B) -> Completion
         requires geometry { B.geometry backing.old ≡ self.old.geometry }
         requires known { IsTrue (B.knows backing.old key) }
         requires all_known { KnowsAll (B.knows backing.old) self.old }
@@ -191,7 +191,7 @@ impl Cache {
         let Some(block) = self.entries.peek(&key) else {
             return Completion::Done;
         };
-        match backing.put(key, block) {
+        match backing.put(key, block.bytes()) {
             Completion::Done => {
                 self.take_out(key);
                 Completion::Done
@@ -253,7 +253,7 @@ impl Cache {
     }
 
     // Puts a block under a key that isn't cached.
-    fn put_new<B: Backing>(&mut self, key: Key, block: &Block, backing: &mut B) -> Completion
+    fn put_new<B: Backing>(&mut self, key: Key, block: &[u8], backing: &mut B) -> Completion
         requires geometry { B.geometry backing.old ≡ self.old.geometry }
         requires known { IsTrue (B.knows backing.old key) }
         requires all_known { KnowsAll (B.knows backing.old) self.old }
@@ -285,7 +285,7 @@ impl Cache {
     }
 
     // The same where the cache isn't full.
-    fn put_beside<B: Backing>(&mut self, key: Key, block: &Block, backing: &mut B) -> Completion
+    fn put_beside<B: Backing>(&mut self, key: Key, block: &[u8], backing: &mut B) -> Completion
         requires geometry { B.geometry backing.old ≡ self.old.geometry }
         requires known { IsTrue (B.knows backing.old key) }
         requires all_known { KnowsAll (B.knows backing.old) self.old }
@@ -312,7 +312,7 @@ impl Cache {
     }
 
     // The same where the cache is full.
-    fn put_over<B: Backing>(&mut self, key: Key, block: &Block, backing: &mut B) -> Completion
+    fn put_over<B: Backing>(&mut self, key: Key, block: &[u8], backing: &mut B) -> Completion
         requires geometry { B.geometry backing.old ≡ self.old.geometry }
         requires known { IsTrue (B.knows backing.old key) }
         requires all_known { KnowsAll (B.knows backing.old) self.old }
@@ -362,7 +362,7 @@ impl Cache {
         ensures keeps { Keeps B.geometry B.knows B.is_broken B.follows backing.old backing.new }
     {
         match self.entries.peek_lru() {
-            Some((key, block)) => match backing.put(*key, block) {
+            Some((key, block)) => match backing.put(*key, block.bytes()) {
                 Completion::Done => Flush::Flushed(*key),
                 Completion::Broken => Flush::Broken,
             },
@@ -371,7 +371,7 @@ impl Cache {
     }
 
     // Puts an entry in front, in the place of the last where the cache is full, and says whether there was memory for it.
-    fn insert(&mut self, key: Key, block: &Block) -> bool
+    fn insert(&mut self, key: Key, block: &[u8]) -> bool
         requires absent { cached self.old key ≡ None }
         requires whole { length block.now ≡ block_len_of self.old.geometry }
         requires some { 0 < self.old.capacity }
@@ -382,7 +382,7 @@ impl Cache {
         let Some(mut copy) = self.blank() else {
             return false;
         };
-        copy.copy_from(block);
+        copy.copy_from_slice(block);
         match self.entries.push(key, copy) {
             Ok(Some((_, evicted))) => {
                 self.spare = Some(evicted);

@@ -10,7 +10,7 @@ use ar_disks::{Block, Key};
 use lru::LruCache;
 
 // Copies a block into the entry of a key, which becomes the most recently used, and says whether there was one.
-pub(crate) fn replace(entries: &mut LruCache<Key, Block>, key: Key, block: &Block) -> bool
+pub(crate) fn replace(entries: &mut LruCache<Key, Block>, key: Key, block: &[u8]) -> bool
     requires { All (λ e. length e.1 ≡ length block.now) entries.old.entries }
     ensures found { IsTrue result ↔ IsSome (lookup (same_key key) entries.old.entries) }
     ensures put { OnTrue result (entries.new ≡ lru_cache ((key, block.now) ∷ without_key entries.old.entries key) entries.old.cap) }
@@ -18,7 +18,7 @@ pub(crate) fn replace(entries: &mut LruCache<Key, Block>, key: Key, block: &Bloc
 {
     match entries.get_mut(&key) {
         Some(present) => {
-            present.copy_from(block);
+            present.copy_from_slice(block);
             true
         }
         None => false,

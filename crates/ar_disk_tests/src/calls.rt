@@ -165,7 +165,7 @@ fn put(
     if !has_row(set, place, row) {
         return Ok(Answer::Unfit);
     }
-    Ok(match set.put(place, row, &from) {
+    Ok(match set.put(place, row, from.bytes()) {
         Put::Written => Answer::Written,
         Put::Missing => Answer::Missing,
         Put::Broken => Answer::Broken,
@@ -185,7 +185,7 @@ fn put_new(
     let Health::Rebuilding(_, _) = set.health() else {
         return Ok(Answer::Unfit);
     };
-    Ok(match set.put_new(row, &from) {
+    Ok(match set.put_new(row, from.bytes()) {
         PutNew::Written => Answer::Written,
         PutNew::GivenUp => Answer::GivenUp,
     })

@@ -169,7 +169,7 @@ fn get<D: Disk>(disk: &mut D, into: &mut Block, ext: u16, row: u16) -> Answer
 }
 
 // Writes a row.
-fn put<D: Disk>(disk: &mut D, from: &Block, ext: u16, row: u16) -> Answer
+fn put<D: Disk>(disk: &mut D, from: &[u8], ext: u16, row: u16) -> Answer
     requires { length from.now ≡ block_len_of (D.state disk.old).geometry }
 {
     if ext >= disk.extents() || row >= disk.geometry().rows() {
@@ -204,7 +204,7 @@ fn make_call<D: Disk>(disk: &mut D, alloc: Global, call: Call) -> Result<Answer,
         }
         Call::Put(place, row, byte) => {
             let from = filled(alloc, disk.geometry(), byte)?;
-            put(disk, &from, place.extent, row)
+            put(disk, from.bytes(), place.extent, row)
         }
         _ => Answer::Unfit,
     })

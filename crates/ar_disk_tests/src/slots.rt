@@ -58,13 +58,13 @@ pub fn write_slot(
 ) -> Result<Answer, AllocError> {
     let from = filled(alloc, set.geometry(), byte)?;
     match group {
-        Group::Mirrored => Ok(write_mirrored(set, slot, &from)),
-        Group::Parity => write_parity(set, alloc, slot, &from),
+        Group::Mirrored => Ok(write_mirrored(set, slot, from.bytes())),
+        Group::Parity => write_parity(set, alloc, slot, from.bytes()),
         Group::Absent => Ok(Answer::Unfit),
     }
 }
 
-fn write_mirrored(set: &mut DiskSet<FuseDisk>, slot: u16, from: &Block) -> Answer
+fn write_mirrored(set: &mut DiskSet<FuseDisk>, slot: u16, from: &[u8]) -> Answer
     requires { length from.now ≡ block_len_of set.old.geometry }
 {
     let members = members_of(set);
@@ -78,7 +78,7 @@ fn write_parity(
     set: &mut DiskSet<FuseDisk>,
     alloc: Global,
     slot: u16,
-    from: &Block,
+    from: &[u8],
 ) -> Result<Answer, AllocError>
     requires { length from.now ≡ block_len_of set.old.geometry }
 {

@@ -71,7 +71,16 @@ impl Block {
         ensures sum { target.new ≡ xor target.old self.now }
         ensures len { length target.new ≡ length target.old }
     {
-        add_into(&self.bytes, &mut target.bytes);
+        target.add(&self.bytes);
+    }
+
+    /// Adds as many bytes as the block has: each of its bytes becomes the exclusive or of the two.
+    pub fn add(&mut self, bytes: &[u8])
+        requires { length bytes.now ≡ length self.old }
+        ensures sum { self.new ≡ xor self.old bytes.now }
+        ensures len { length self.new ≡ length self.old }
+    {
+        add_into(bytes, &mut self.bytes);
     }
 
     /// One sector: 512 bytes.

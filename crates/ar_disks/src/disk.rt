@@ -31,7 +31,7 @@ pub trait Disk {
 
     /// Writes a block at an extent and a row, and touches no other place. False says that the disk faulted in this
     /// call or was gone before, and then any bytes may stand at the place.
-    fn write(&mut self, ext: u16, row: u16, from: &Block) -> bool
+    fn write(&mut self, ext: u16, row: u16, from: &[u8]) -> bool
         requires place { HasPlace (state self.old) ext row }
         requires whole { length from.now ≡ block_len_of (state self.old).geometry }
         ensures written { Writes (state self.old) (state self.new) ext row result from.now };

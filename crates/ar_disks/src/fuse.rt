@@ -90,7 +90,7 @@ impl Disk for FuseDisk {
         self.passes() && self.disk.read(ext, row, into)
     }
 
-    fn write(&mut self, ext: u16, row: u16, from: &Block) -> bool
+    fn write(&mut self, ext: u16, row: u16, from: &[u8]) -> bool
         requires place { HasPlace self.old.disk ext row }
         requires whole { length from.now ≡ block_len_of self.old.disk.geometry }
         ensures written { Writes self.old.disk self.new.disk ext row result from.now }

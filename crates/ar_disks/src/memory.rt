@@ -82,7 +82,7 @@ impl Disk for MemDisk {
         true
     }
 
-    fn write(&mut self, ext: u16, row: u16, from: &Block) -> bool
+    fn write(&mut self, ext: u16, row: u16, from: &[u8]) -> bool
         requires place { HasPlace self.old ext row }
         requires whole { length from.now ≡ block_len_of self.old.geometry }
         ensures written { Writes self.old self.new ext row result from.now }
@@ -90,7 +90,7 @@ impl Disk for MemDisk {
         ensures sound { IsTrue result }
     {
         let to = offset(self.geometry, ext, row);
-        overwrite(&mut self.bytes, to, from.bytes());
+        overwrite(&mut self.bytes, to, from);
         true
     }
 

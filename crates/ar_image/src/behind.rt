@@ -40,7 +40,7 @@ impl<D: Disk> Backing for Behind<D> {
         self.store.get(key, into)
     }
 
-    fn put(&mut self, key: Key, from: &Block) -> Completion {
+    fn put(&mut self, key: Key, from: &[u8]) -> Completion {
         self.store.put(key, from)
     }
 

@@ -64,7 +64,7 @@ impl<D: Disk> Backing for Blocks<D> {
         self.cache.get(key, into, &mut self.behind)
     }
 
-    fn put(&mut self, key: Key, from: &Block) -> Completion {
+    fn put(&mut self, key: Key, from: &[u8]) -> Completion {
         if self.is_broken() {
             return Completion::Broken;
         }

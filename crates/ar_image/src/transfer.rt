@@ -124,7 +124,7 @@ fn write_part<B: Backing>(
             Completion::Done => block.set_sectors(first, bytes),
         }
     }
-    blocks.put(key, block)
+    blocks.put(key, block.bytes())
 }
 
 /// Puts the bytes of `count` sectors in place of those of a unit from number `lba` on, block by block in ascending order.

@@ -57,7 +57,7 @@ fn copy_row<D: Disk>(set: &mut DiskSet<D>, from: Place, row: u16, block: &mut Bl
     ensures len { length block.new ≡ length block.old }
 {
     match set.get(from, row, block) {
-        Got::Read => match set.put_new(row, block) {
+        Got::Read => match set.put_new(row, block.bytes()) {
             PutNew::Written => RowOutcome::Done,
             PutNew::GivenUp => RowOutcome::GivenUp,
         },

@@ -46,7 +46,7 @@ pub fn get<D: Disk>(
 
 /// Writes a slot, below twice the rows of an extent, from a block of the set's length. It writes every member of the slot's
 /// pair that isn't missing. After `Broken` any bytes may stand in the slot's rows.
-pub fn put<D: Disk>(set: &mut DiskSet<D>, members: &Members, slot: u16, from: &Block) -> Completion
+pub fn put<D: Disk>(set: &mut DiskSet<D>, members: &Members, slot: u16, from: &[u8]) -> Completion
     requires group { IsGroup set.old members.now }
     requires slot { slot < slots_of set.old.geometry }
     requires whole { length from.now ≡ block_len_of set.old.geometry }

@@ -143,7 +143,7 @@ fn put(
     if !is_block(store, key) {
         return Ok(Answer::Unfit);
     }
-    Ok(match store.put(key, &from) {
+    Ok(match store.put(key, from.bytes()) {
         Completion::Done => Answer::Done,
         Completion::Broken => Answer::Broken,
     })

@@ -40,7 +40,7 @@ pub fn open_zero<D: Disk>(
     let zero = &mut scratch.first;
     zero.zero();
     for row in 0..set.geometry().rows() {
-        match zero_row(set, members, row, zero) {
+        match zero_row(set, members, row, zero.bytes()) {
             Completion::Done => {}
             Completion::Broken => return Completion::Broken,
         }
@@ -89,7 +89,7 @@ pub fn put<D: Disk>(
     set: &mut DiskSet<D>,
     members: &Members,
     slot: u16,
-    from: &Block,
+    from: &[u8],
     scratch: &mut Scratch,
 ) -> Completion
     requires group { IsGroup set.old members.now }

@@ -51,7 +51,7 @@ pub fn rebuild_row<D: Disk>(
         Completion::Done => {}
         Completion::Broken => return RowOutcome::Broken,
     }
-    match set.put_new(row, &scratch.first) {
+    match set.put_new(row, scratch.first.bytes()) {
         PutNew::Written => RowOutcome::Done,
         PutNew::GivenUp => RowOutcome::GivenUp,
     }

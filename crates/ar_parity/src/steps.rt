@@ -19,7 +19,7 @@ pub fn write<D: Disk>(
     members: &Members,
     position: u8,
     row: u16,
-    from: &Block,
+    from: &[u8],
 ) -> Completion
     requires group { IsGroup set.old members.now }
     requires position { position < 4 }

@@ -22,8 +22,8 @@ fn write_both<D: Disk>(
     position: u8,
     parity: u8,
     row: u16,
-    from: &Block,
-    sum: &Block,
+    from: &[u8],
+    sum: &[u8],
 ) -> Completion
     requires group { IsGroup set.old members.now }
     requires below { position < 4 }
@@ -53,7 +53,7 @@ fn update<D: Disk>(
     members: &Members,
     position: u8,
     row: u16,
-    from: &Block,
+    from: &[u8],
     before: &Block,
     sum: &mut Block,
 ) -> Completion
@@ -75,8 +75,8 @@ fn update<D: Disk>(
     match set.get(members.at(parity), row, sum) {
         Got::Read => {
             before.xor_into(sum);
-            from.xor_into(sum);
-            write_both(set, members, position, parity, row, from, sum)
+            sum.add(from);
+            write_both(set, members, position, parity, row, from, sum.bytes())
         }
         Got::Missing => write(set, members, position, row, from),
         Got::Broken => Completion::Broken,
@@ -89,7 +89,7 @@ fn put_lost<D: Disk>(
     members: &Members,
     position: u8,
     row: u16,
-    from: &Block,
+    from: &[u8],
     sum: &mut Block,
     spare: &mut Block,
 ) -> Completion
@@ -112,8 +112,8 @@ fn put_lost<D: Disk>(
     let parity = parity_at(row);
     match sum_of_two(set, members, position, parity, row, sum, spare) {
         Completion::Done => {
-            from.xor_into(sum);
-            write(set, members, parity, row, sum)
+            sum.add(from);
+            write(set, members, parity, row, sum.bytes())
         }
         Completion::Broken => Completion::Broken,
     }
@@ -125,7 +125,7 @@ pub fn change<D: Disk>(
     members: &Members,
     position: u8,
     row: u16,
-    from: &Block,
+    from: &[u8],
     scratch: &mut Scratch,
 ) -> Completion
     requires group { IsGroup set.old members.now }

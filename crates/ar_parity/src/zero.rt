@@ -17,7 +17,7 @@ pub fn zero_row<D: Disk>(
     set: &mut DiskSet<D>,
     members: &Members,
     row: u16,
-    zero: &Block,
+    zero: &[u8],
 ) -> Completion
     requires group { IsGroup set.old members.now }
     requires row { row < rows_of set.old.geometry }

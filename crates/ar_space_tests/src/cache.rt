@@ -146,7 +146,7 @@ impl Rig {
 
     fn put(&mut self, key: Key, byte: u8) -> Answer {
         self.block.copy_from_slice(&[byte; 1_024]);
-        stored(self.cache.put(key, &self.block, &mut self.shelf))
+        stored(self.cache.put(key, self.block.bytes(), &mut self.shelf))
     }
 
     fn put_all(&mut self, rt: &impl Abort, blocks: u32, byte: u8) -> Answer {

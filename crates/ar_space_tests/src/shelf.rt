@@ -89,7 +89,7 @@ impl Backing for Shelf {
         Completion::Broken
     }
 
-    fn put(&mut self, key: Key, from: &Block) -> Completion {
+    fn put(&mut self, key: Key, from: &[u8]) -> Completion {
         self.puts = self.puts.wrapping_add(1);
         if !self.breaks() && replace(&mut self.blocks, key, from) {
             return Completion::Done;
@@ -125,16 +125,16 @@ fn copy(blocks: &IndexMap<Key, Block>, key: Key, into: &mut Block) -> bool
 }
 
 // Writes over the block under a key, where there is one of this length.
-fn replace(blocks: &mut IndexMap<Key, Block>, key: Key, from: &Block) -> bool
+fn replace(blocks: &mut IndexMap<Key, Block>, key: Key, from: &[u8]) -> bool
     ensures there { OnTrue result (IsSome (lookup (same_key key) blocks.old.entries)) }
     ensures written { OnTrue result (blocks.new.entries ≡ set_value (same_key key) blocks.old.entries from.now) }
 {
     let Some(block) = blocks.get_mut(&key) else {
         return false;
     };
-    if block.bytes().len() != from.bytes().len() {
+    if block.bytes().len() != from.len() {
         return false;
     }
-    block.copy_from(from);
+    block.copy_from_slice(from);
     true
 }

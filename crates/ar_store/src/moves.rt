@@ -35,13 +35,13 @@ impl<D: Disk> Space<D> {
             unreachable!()
         };
         match self.read_at(from, block) {
-            Completion::Done => self.fill(key, to, block),
+            Completion::Done => self.fill(key, to, block.bytes()),
             Completion::Broken => Completion::Broken,
         }
     }
 
     // Writes a block to a slot that names none, which is its home from then on.
-    fn fill(&mut self, key: Key, to: Slot, from: &Block) -> Completion
+    fn fill(&mut self, key: Key, to: Slot, from: &[u8]) -> Completion
         requires ready { IsReady self.old }
         requires block { HasBlock self.old.book key }
         requires hole { IsVacant self.old.book to }
@@ -65,7 +65,7 @@ impl<D: Disk> Space<D> {
     }
 
     /// Writes a block of a unit to the slot that was found for it, and gives it the next stamp.
-    pub(crate) fn write(&mut self, key: Key, way: Way, from: &Block) -> Completion
+    pub(crate) fn write(&mut self, key: Key, way: Way, from: &[u8]) -> Completion
         requires ready { IsReady self.old }
         requires block { HasBlock self.old.book key }
         requires way { IsReadyFor (store_in self.old) key way }
@@ -88,7 +88,7 @@ impl<D: Disk> Space<D> {
     }
 
     // Writes a block of a unit to the slot that was found for it, which is its home from then on.
-    fn write_by(&mut self, key: Key, way: Way, from: &Block) -> Completion
+    fn write_by(&mut self, key: Key, way: Way, from: &[u8]) -> Completion
         requires ready { IsReady self.old }
         requires block { HasBlock self.old.book key }
         requires way { IsReadyFor (store_in self.old) key way }

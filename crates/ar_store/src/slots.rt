@@ -43,7 +43,7 @@ impl<D: Disk> Space<D> {
     }
 
     /// Writes a slot.
-    pub(crate) fn write_at(&mut self, slot: Slot, from: &Block) -> Completion
+    pub(crate) fn write_at(&mut self, slot: Slot, from: &[u8]) -> Completion
         requires ready { IsReady self.old }
         requires slot { HasSlot self.old.book slot }
         requires whole { length from.now ≡ block_len_of self.old.disks.geometry }

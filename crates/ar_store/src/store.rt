@@ -100,7 +100,7 @@ impl<D: Disk> Store<D> {
     /// Writes a block of a unit, from a block of the store's length, and gives it the next stamp. It is never refused for room:
     /// where it goes, `Puts` says. `Broken` says that the disks are: the block has its old home then, and of a store that was broken
     /// before nothing has changed.
-    pub fn put(&mut self, key: Key, from: &Block) -> Completion
+    pub fn put(&mut self, key: Key, from: &[u8]) -> Completion
         requires block { HasBlock self.old.book key }
         requires whole { length from.now ≡ block_len_of self.old.disks.geometry }
         ensures outcome { result ≡ outcome_of self.new.disks.health }
@@ -138,7 +138,7 @@ impl<D: Disk> Store<D> {
         }
         let way = self.space.find_way(key, &mut self.block);
         self.block.zero();
-        self.space.write(key, way, &self.block)
+        self.space.write(key, way, self.block.bytes())
     }
 
     /// Moves a block from its home to a slot that names none. The new slot is written before the old one is left; the stamp stays,

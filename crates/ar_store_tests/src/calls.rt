@@ -162,7 +162,7 @@ fn put(
     let from = filled(alloc, store.disks().geometry(), byte)?;
     let key = key(rb);
     Ok(if is_block(store, key) {
-        answer_of(store.put(key, &from))
+        answer_of(store.put(key, from.bytes()))
     } else {
         Answer::Unfit
     })

@@ -27,16 +27,16 @@ fn has_moves(rt: &impl Abort, round: Round, wanted: [Moves; 4]) {
 fn a_fill_with_its_squeezes(rt: HostRuntime) {
     let direct = Moves {
         times: 12,
-        taken: 1_024,
         writes: 2,
+        sent: 2,
         ..Moves::NONE
     };
     let late = Moves {
         times: 6,
-        taken: 1_024,
         reads: 2,
         sums: 2,
         writes: 2,
+        sent: 1,
         ..Moves::NONE
     };
     let zeroed = Moves {
@@ -141,10 +141,10 @@ fn cleaning_empties_every_second_group(rt: HostRuntime) {
 fn a_write_among_many_groups(rt: HostRuntime) {
     let updated = Moves {
         times: 18_426,
-        taken: 1_024,
         reads: 2,
         sums: 2,
         writes: 2,
+        sent: 1,
         ..Moves::NONE
     };
     has_moves(
@@ -177,13 +177,13 @@ fn reads_beside_a_lost_disk(rt: HostRuntime) {
     );
 }
 
-// A write through a cache is one copy into a block and one into the cache, until the flush writes both mirrored copies.
+// A write through a cache is one copy into the cache, until the flush writes both mirrored copies.
 #[test]
 fn a_cache_that_is_flushed_at_the_end(rt: HostRuntime) {
     let cached = Moves {
         times: 32,
-        taken: 1_024,
         writes: 1,
+        sent: 1,
         ..Moves::NONE
     };
     let flushed = Moves {
@@ -256,6 +256,23 @@ fn writes_are_copies_of_what_is_taken(rt: HostRuntime) -> Result<(), AllocError>
     )?;
     holds(&rt, "what was taken", bare.disks(), 0x11, 0b0000_1111);
     holds(&rt, "what was there", bare.disks(), 0xEE, 0b1111_0000);
+    Ok(())
+}
+
+// Of two writes of one operation the first is of what comes with the command, and the second of the block.
+#[test]
+fn what_is_sent_is_not_copied_into_a_block(rt: HostRuntime) -> Result<(), AllocError> {
+    let bare = bare_after(
+        rt.alloc(),
+        Moves {
+            times: 1,
+            writes: 2,
+            sent: 1,
+            ..Moves::NONE
+        },
+    )?;
+    holds(&rt, "what was sent", bare.disks(), 0x11, 0b0000_0001);
+    holds(&rt, "the block", bare.disks(), 0x22, 0b0000_0010);
     Ok(())
 }
 

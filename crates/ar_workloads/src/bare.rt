@@ -85,8 +85,13 @@ impl Bare {
             self.add();
         }
         for number in 0..moves.writes {
-            let number = moves.kept.wrapping_add(number) as usize;
-            self.write(turn.wrapping_add(span.wrapping_mul(number)));
+            let behind = moves.kept.wrapping_add(number) as usize;
+            let at = turn.wrapping_add(span.wrapping_mul(behind));
+            if number < moves.sent {
+                self.send(turn, at);
+            } else {
+                self.write(at);
+            }
         }
         self.give(moves.given);
     }
@@ -115,6 +120,14 @@ impl Bare {
     fn write(&mut self, at: usize) {
         let to = place(self.geometry, self.count, at);
         self.disks[to..to + self.geometry.block_len()].copy_from_slice(&self.block);
+    }
+
+    // The data that come are copied to a place.
+    fn send(&mut self, turn: usize, at: usize) {
+        let len = self.geometry.block_len();
+        let from = place(self.geometry, DATA_BLOCKS, turn);
+        let to = place(self.geometry, self.count, at);
+        self.disks[to..to + len].copy_from_slice(&self.source[from..from + len]);
     }
 
     fn give(&mut self, len: usize) {

@@ -7,7 +7,7 @@ use ar_disks::{Geometry, SECTOR_LEN};
 pub struct Moves {
     /// How many operations.
     pub times: u32,
-    /// Bytes that come with a command and are copied into a block.
+    /// Bytes that come with a command and are copied into a block, whose other sectors stay.
     pub taken: usize,
     /// Blocks that are copied from disks.
     pub reads: u32,
@@ -17,6 +17,8 @@ pub struct Moves {
     pub sums: u32,
     /// Blocks that are copied to disks, or to the cache.
     pub writes: u32,
+    /// Of these, how many are copied from the data that come with a command, the first ones: the others from a block.
+    pub sent: u32,
     /// Bytes that are copied from a block into the answer.
     pub given: usize,
 }
@@ -30,6 +32,7 @@ impl Moves {
         kept: 0,
         sums: 0,
         writes: 0,
+        sent: 0,
         given: 0,
     };
 }
@@ -81,8 +84,11 @@ impl Round {
             Workload::Overwrite | Workload::ParityWrite => alone(self.written(times, 2)),
             Workload::OverwriteCached => self.cached(),
             Workload::SmallWrite => alone(Moves {
+                times,
+                taken: self.payload(),
                 reads: 1,
-                ..self.written(times, 2)
+                writes: 2,
+                ..Moves::NONE
             }),
             Workload::Read | Workload::SmallRead | Workload::ParityRead => {
                 alone(self.read(times, 1))
@@ -105,12 +111,12 @@ impl Round {
         }
     }
 
-    // So many writes, each of the data and then of so many copies.
+    // So many writes, each of so many copies of the data.
     fn written(self, times: u32, writes: u32) -> Moves {
         Moves {
             times,
-            taken: self.payload(),
             writes,
+            sent: writes,
             ..Moves::NONE
         }
     }
@@ -125,12 +131,15 @@ impl Round {
         }
     }
 
-    // So many writes at the parity level: block and parity are read, changed and written.
+    // So many writes at the parity level: block and parity are read, the parity is changed, and the data and the parity are written.
     fn updated(self, times: u32) -> Moves {
         Moves {
+            times,
             reads: 2,
             sums: 2,
-            ..self.written(times, 2)
+            writes: 2,
+            sent: 1,
+            ..Moves::NONE
         }
     }
 

@@ -35,7 +35,7 @@ impl<D: Disk> DiskSet<D> {
 
     /// Writes a row of an extent, from a block of the set's length; after another answer than `Written` any bytes may
     /// stand in that row. A missing extent isn't accessed.
-    pub fn put(&mut self, place: Place, row: u16, from: &Block) -> Put
+    pub fn put(&mut self, place: Place, row: u16, from: &[u8]) -> Put
         requires place { HasExtent self.old place }
         requires row { row < rows_of self.old.geometry }
         requires whole { length from.now ≡ block_len_of self.old.geometry }
@@ -55,7 +55,7 @@ impl<D: Disk> DiskSet<D> {
 
     /// Writes a row of the lowest extent that isn't done of the disk that is rebuilt, from a block of the set's length.
     /// `GivenUp` says that this disk faulted: it is out then.
-    pub fn put_new(&mut self, row: u16, from: &Block) -> PutNew
+    pub fn put_new(&mut self, row: u16, from: &[u8]) -> PutNew
         requires rebuilding { IsRebuilding self.old.health }
         requires row { row < rows_of self.old.geometry }
         requires whole { length from.now ≡ block_len_of self.old.geometry }
@@ -90,7 +90,7 @@ fn read_disk<D: Disk>(disks: &mut Vec<D>, place: Place, row: u16, into: &mut Blo
 }
 
 // Writes a row of one of the disks.
-fn write_disk<D: Disk>(disks: &mut Vec<D>, place: Place, row: u16, from: &Block) -> bool
+fn write_disk<D: Disk>(disks: &mut Vec<D>, place: Place, row: u16, from: &[u8]) -> bool
     requires exists { place.disk < vec_len disks.old }
     requires place { HasPlace (disk_in (map D.state disks.old.items) place.disk) place.extent row }
     requires whole { length from.now ≡ block_len_of (disk_in (map D.state disks.old.items) place.disk).geometry }

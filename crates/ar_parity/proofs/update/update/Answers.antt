@@ -11,9 +11,9 @@ use Rattle.ar_parity.proofs.update.update.Goals as goal
 pub returns-in-Read-clause-agrees : goal.returns-in-Read-clause-agrees
 returns-in-Read-clause-agrees g c =
     both_changed c.args.set.now c.get.new.self c.write_both.new.set c.args.members.now c.args.row c.args.position c.parity_at-parity.result
-    (parity_position c.args.row) c.at.result c.args.from.now c.args.before.now c.get.new.into c.xor_into.new.target c.xor_into-in-Read.new.target
+    (parity_position c.args.row) c.at.result c.args.from.now c.args.before.now c.get.new.into c.xor_into.new.target c.bytes.result.now
     c.at.ensures c.parity_at-parity.ensures.position c.requires.below c.parity_at-parity.ensures.below c.requires.apart c.requires.whole
-    c.get.ensures.access.follows c.get.ensures.keeps c.in-Read.ensures.answer c.xor_into.ensures.sum c.xor_into-in-Read.ensures.sum
+    c.get.ensures.access.follows c.get.ensures.keeps c.in-Read.ensures.answer c.xor_into.ensures.sum (c.bytes.ensures ∙ c.add.ensures.sum)
     c.write_both.ensures.works.follows c.write_both.ensures.block c.write_both.ensures.parity c.write_both.ensures.others
 
 pub returns-in-Missing-clause-agrees : goal.returns-in-Missing-clause-agrees

@@ -1,4 +1,4 @@
-use Rattle.std.proofs.Common.{◌≡◌, IsSome, Some, None, refl, sym, ap, ◌∙◌, subst}
+use Rattle.std.proofs.Common.{◌≡◌, IsSome, Some, None, length, refl, sym, ap, ◌∙◌, subst}
 use Rattle.ar_disks.specs.Geometry.{block_len_of}
 use Rattle.lru.specs.LruCache.{last_entry}
 use Rattle.ar_cache.specs.Cache.{IsSound, cached}
@@ -18,7 +18,7 @@ put-requires-clause-whole g c =
     let sound : IsSound c.args.self.now = subst IsSound c.self.view_is c.self.invariant.0 in
     let last = subst (λ s. last_entry s.entries ≡ Some (c.in-Some.key.now, c.in-Some.block.now)) c.self.view_is (sym c.in-Some.ensures) in
     let hit : cached c.args.self.now c.in-Some.key.now ≡ Some c.in-Some.block.now = lookup_last c.args.self.now.entries (c.in-Some.key.now, c.in-Some.block.now) sound.distinct last in
-    cached_whole c.args.self.now c.in-Some.key.now c.in-Some.block.now sound hit ∙ ap block_len_of (sym c.requires.geometry)
+    ap length c.bytes.ensures ∙ cached_whole c.args.self.now c.in-Some.key.now c.in-Some.block.now sound hit ∙ ap block_len_of (sym c.requires.geometry)
 
 pub returns-in-None-clause-given : goal.returns-in-None-clause-given
 returns-in-None-clause-given g c = none_last c.args.self.now.entries (subst (λ s. last_entry s.entries ≡ None) c.self.view_is (sym c.in-None.ensures))

@@ -1,6 +1,7 @@
-use Rattle.std.proofs.Common.{◌≡◌, IsSome, Some, None, refl, sym, ap, ◌∙◌, subst}
+use Rattle.std.proofs.Common.{◌≡◌, ℕ, List, IsSome, Some, None, length, refl, sym, ap, ◌∙◌, subst}
 use Rattle.std.proofs.lemmas.Bool.{false≢true}
 use Rattle.ar_disks.specs.Geometry.{block_len_of}
+use Rattle.ar_cache.specs.Backing.{Writes}
 use Rattle.ar_cache.specs.Cache.{IsSound, SameSeen, KnowsAll, cached, with_entries}
 use Rattle.ar_cache.proofs.Keys.{same_key_refl}
 use Rattle.ar_cache.proofs.Lookups.{others_without_key, lookup-without_key, seen_moved, known_without_key, known_kept, without_absent}
@@ -32,7 +33,7 @@ pub put-requires-clause-whole : goal.put-requires-clause-whole
 put-requires-clause-whole g c =
     let sound : IsSound c.args.self.now = subst IsSound c.self.view_is c.self.invariant.0 in
     let hit = subst (λ s. cached s c.args.key ≡ Some c.in-Some.block.now) c.self.view_is (sym c.in-Some.ensures) in
-    cached_whole c.args.self.now c.args.key c.in-Some.block.now sound hit ∙ ap block_len_of (sym c.requires.geometry)
+    ap length c.bytes.ensures ∙ cached_whole c.args.self.now c.args.key c.in-Some.block.now sound hit ∙ ap block_len_of (sym c.requires.geometry)
 
 pub returns-in-Done-clause-gone : goal.returns-in-Done-clause-gone
 returns-in-Done-clause-gone g c done =
@@ -56,8 +57,10 @@ returns-in-Done-clause-seen g c done =
     let hit = subst (λ s. cached s c.args.key ≡ Some c.in-Some.block.now) c.self.view_is (sym c.in-Some.ensures) in
     let f = g.B.Backing.block_at c.args.backing.now in
     let h = g.B.Backing.block_at c.put.new.self in
+    let P : List ℕ → Type 0 = λ bytes. Writes f h c.args.key bytes in
+    let written = subst P c.bytes.ensures (c.in-Done.ensures.written refl) in
     subst (λ s. SameSeen c.args.self.now f s h) (sym c.take_out.ensures)
-    (seen_moved c.args.self.now f h c.args.key c.in-Some.block.now sound.distinct hit (c.in-Done.ensures.written refl))
+    (seen_moved c.args.self.now f h c.args.key c.in-Some.block.now sound.distinct hit written)
 
 pub returns-in-Done-clause-all_known : goal.returns-in-Done-clause-all_known
 returns-in-Done-clause-all_known g c =

@@ -1,4 +1,4 @@
-use Rattle.std.proofs.Common.{◌≤◌, sym, ap, subst, ◌∙◌}
+use Rattle.std.proofs.Common.{◌≤◌, length, sym, ap, subst, ◌∙◌}
 use Rattle.ar_disks.specs.Geometry.{block_len_of}
 use Rattle.ar_book.specs.Tables.{Tables, home, free_groups, HasBlock}
 use Rattle.ar_book.specs.Changes.{assigned}
@@ -30,7 +30,7 @@ fill-requires g c =
       block = subst (λ (x : Tables). HasBlock x c.args.key) (sym read.book)
           (home_block t c.args.key c.in-Some.from (sym c.home.ensures ∙ c.in-Some.is));
       hole = subst (λ (x : Tables). IsVacant x c.args.to) (sym read.book) c.requires.hole;
-      whole = read.len ∙ c.requires.whole ∙ ap block_len_of (sym read.stays.accessed.follows.geometry);
+      whole = ap length c.bytes.ensures ∙ read.len ∙ c.requires.whole ∙ ap block_len_of (sym read.stays.accessed.follows.geometry);
     }
 
 pub returns-in-Done : goal.returns-in-Done
@@ -47,7 +47,7 @@ returns-in-Done g c =
       free = subst (λ (x : Tables). free_groups x ≤ free_groups new.book) read.book fill.free;
       stand = moved_stand (store_in s) (store_in mid) (store_in new) c.args.key c.in-Some.from c.read_at.new.into c.requires.ready.space
           (sym c.home.ensures ∙ c.in-Some.is) read.stays.accessed.follows fill.stays.accessed.follows read.stand c.in-Done.ensures.given
-          (λ sound. fill.here (fill.outcome ∙ sound_done new.disks.health sound)) fill.others;
+          (λ sound. fill.here (fill.outcome ∙ sound_done new.disks.health sound) ∙ c.bytes.ensures) fill.others;
       beside = beside_then s.disks mid.disks s.book mid.book (store_in new) c.args.to read.book read.stays.accessed.follows read.keeps fill.beside;
       stays = stays_then s mid new read.stays fill.stays;
       len = read.len;

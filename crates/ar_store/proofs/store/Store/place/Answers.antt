@@ -1,4 +1,4 @@
-use Rattle.std.proofs.Common.{◌≢◌, refl, sym, ap, subst, ◌∙◌, arith}
+use Rattle.std.proofs.Common.{◌≢◌, length, refl, sym, ap, subst, ◌∙◌, arith}
 use Rattle.ar_disks.specs.Block.{zeros}
 use Rattle.ar_disks.specs.Geometry.{block_len_of}
 use Rattle.ar_extents.specs.declared.health.Health.TheVariants.{Broken}
@@ -39,7 +39,7 @@ write-requires g c =
       block = block_then a.book c.find_way-way.new.self.book c.args.key way.stays.units
           (subst (λ (s : StoreState). HasBlock s.book c.args.key) (sym c.self.view_is) c.requires.block);
       way = way.way;
-      whole = c.zero.ensures.len ∙ way.len ∙ c.self.invariant.block_len ∙ ap block_len_of (sym way.stays.accessed.follows.geometry);
+      whole = ap length c.bytes.ensures ∙ c.zero.ensures.len ∙ way.len ∙ c.self.invariant.block_len ∙ ap block_len_of (sym way.stays.accessed.follows.geometry);
     }
 
 pub invariant_of-self : goal.invariant_of-self
@@ -77,7 +77,7 @@ returns g c =
       stands = subst (λ (s : StoreState). AllStand s (store_in d)) view
           (placed_stand (store_in a) (store_in d) c.args.key c.zero.new.self none zero
           (put_others (store_in a) (store_in b) (store_in d) c.args.key wrote.stays.accessed.follows way.stand wrote.others)
-          (λ sound. wrote.here (wrote.outcome ∙ sound_done d.disks.health sound)));
+          (λ sound. wrote.here (wrote.outcome ∙ sound_done d.disks.health sound) ∙ c.bytes.ensures));
       unmoved = λ broke.
           ap (λ (x : Tables). home x c.args.key) (wrote.unwritten broke) ∙ way.home ∙ ap (λ (s : StoreState). home s.book c.args.key) view;
       units = subst (λ (s : StoreState). SameUnits s.book d.book) view both.units;
