@@ -1,0 +1,59 @@
+-- What a picture shows of an extent, by the data of the array.
+use Rattle.std.specs.Prelude.{ℕ, ◌*◌, ◌/◌, Bool, false, ◌==◌, ◌&&◌, ◌||◌, nat_le, if◌then◌else◌, List, Option, None, Some, position, find}
+use Rattle.ar_disks.specs.declared.address.Place.{Place}
+use Rattle.ar_disks.specs.declared.address.Members.{Members}
+use Rattle.ar_picture.specs.declared.picture.Class.{Class}
+use Rattle.ar_picture.specs.declared.picture.Class.TheVariants as classes
+use Rattle.ar_picture.specs.declared.picture.Health.{Health}
+use Rattle.ar_picture.specs.declared.picture.Health.TheVariants.{Whole, Out, Rebuilding, Broken}
+use Rattle.ar_picture.specs.declared.picture.Group.{Group}
+use Rattle.ar_picture.specs.declared.picture.Picture.{Picture}
+use Rattle.ar_picture.specs.declared.cell.Cell.{Cell}
+use Rattle.ar_picture.specs.declared.cell.Content.{Content}
+use Rattle.ar_picture.specs.declared.cell.Content.TheVariants.{Loose, Free, Mirrored, Parity}
+
+-- the two are one extent
+abbrev pub same_place : Place → Place → Bool
+same_place p q = (p.disk == q.disk) && (p.extent == q.extent)
+
+-- an extent is one of the four
+abbrev pub stands_on : Members → Place → Bool
+stands_on m p = same_place m.first p || same_place m.second p || same_place m.third p || same_place m.fourth p
+
+-- how many ninths of the slots hold a block, rounded down
+abbrev pub fullness_of : ℕ → ℕ → ℕ
+fullness_of blocks slots = if nat_le slots blocks then 9 else blocks * 9 / slots
+
+-- the extent's disk is out, or isn't rebuilt so far
+abbrev pub is_missing : Health → Place → Bool
+is_missing Whole p = false
+is_missing (Out disk) p = p.disk == disk
+is_missing (Rebuilding disk done) p = (p.disk == disk) && nat_le done p.extent
+is_missing Broken p = false
+
+-- the lowest group that has an extent
+abbrev pub group_at : List Group → Place → Option ℕ
+group_at groups p = position (λ g. stands_on g.members p) groups
+
+-- what extents of a group of this class are used for, where it is so full
+abbrev pub content_in : Class → ℕ → Content
+content_in classes.Free full = Free
+content_in classes.Mirrored full = Mirrored full
+content_in classes.Parity full = Parity full
+
+-- what a group's extents are used for
+abbrev pub content_of : Group → Content
+content_of g = content_in g.class (fullness_of g.blocks g.slots)
+
+-- the same of an extent in a group, or in none
+abbrev pub content_within : Option Group → Content
+content_within None = Loose
+content_within (Some g) = content_of g
+
+-- what an extent is used for
+abbrev pub content_at : List Group → Place → Content
+content_at groups p = content_within (find (λ g. stands_on g.members p) groups)
+
+-- what the picture shows of an extent
+abbrev pub cell_of : Picture → Place → Cell
+cell_of picture p = record { content = content_at picture.groups.items p; is_missing = is_missing picture.health p }

@@ -1,0 +1,70 @@
+// What a picture shows of an extent.
+ghost use Rattle.std.specs.Prelude.{◌≡◌, find};
+ghost use Rattle.std.specs.Option.{option_copied};
+ghost use Rattle.ar_picture.specs.Cells.{stands_on, content_of, content_at, cell_of};
+
+use crate::{Class, Group, Picture};
+use ar_disks::Place;
+
+/// What an extent is used for.
+#[derive(Clone, Copy, Debug, PartialEq, Eq)]
+pub enum Content {
+    /// For nothing: it is in no group.
+    Loose,
+    /// For nothing: its group is free.
+    Free,
+    /// For a mirrored group that is so full, 0 to 9.
+    Mirrored(u8),
+    /// For a group with parity that is so full, 0 to 9.
+    Parity(u8),
+}
+
+/// What a picture shows of an extent.
+#[derive(Clone, Copy, Debug, PartialEq, Eq)]
+pub struct Cell {
+    pub content: Content,
+    /// Whether the extent can't be used: its disk is out, or isn't rebuilt so far.
+    pub is_missing: bool,
+}
+
+impl Group {
+    /// What the group's extents are used for.
+    pub fn content(&self) -> Content
+        ensures { result ≡ content_of self.now }
+    {
+        match self.class {
+            Class::Free => Content::Free,
+            Class::Mirrored => Content::Mirrored(self.fullness()),
+            Class::Parity => Content::Parity(self.fullness()),
+        }
+    }
+}
+
+impl Picture {
+    /// What the picture shows of an extent.
+    pub fn cell_at(&self, place: Place) -> Cell
+        ensures { result ≡ cell_of self.now place }
+    {
+        Cell {
+            content: self.content_at(place),
+            is_missing: self.health.is_missing(place),
+        }
+    }
+
+    // What an extent is used for.
+    fn content_at(&self, place: Place) -> Content
+        ensures { result ≡ content_at self.now.groups.items place }
+    {
+        match self.group_of(place) {
+            Some(group) => group.content(),
+            None => Content::Loose,
+        }
+    }
+
+    // The lowest group that has an extent.
+    fn group_of(&self, place: Place) -> Option<&Group>
+        ensures { option_copied result ≡ find (λ g. stands_on g.members place) self.now.groups.items }
+    {
+        self.groups.iter().find(|group| group.stands_on(place))
+    }
+}

@@ -1,0 +1,111 @@
+// Where things stand in the SVG, in its units, which are pixels where it is shown at its own size.
+ghost use Rattle.std.specs.Prelude.{◌<◌, ◌^◌};
+
+use crate::{Picture, UNITS_MAX};
+
+/// Where the column of the first disk begins.
+const LEFT: u32 = 64;
+
+/// Where the first extent begins.
+pub const TOP: u32 = 100;
+
+/// From one disk's column to the next.
+const COLUMN: u32 = 92;
+
+/// How wide an extent is drawn.
+pub const WIDTH: u32 = 80;
+
+/// From one line of the legend to the next.
+const LINE: u32 = 22;
+
+/// How wide the legend is.
+const LEGEND: u32 = 264;
+
+/// How tall extents are drawn: the more there are, the less.
+#[derive(Clone, Copy, Debug, PartialEq, Eq)]
+pub struct Scale {
+    /// From one extent to the next.
+    pub pitch: u8,
+    /// How tall an extent is.
+    pub height: u8,
+    /// Where its bar begins, and how tall that is.
+    pub bar: (u8, u8),
+    /// Which extents have their number beside them: the multiples of this.
+    pub numbered: u16,
+    ghost apart: { 0 < numbered },
+}
+
+impl Scale {
+    /// The scale for disks of so many extents.
+    pub fn of(extents: u16) -> Scale {
+        let (pitch, height, bar, numbered) = match extents {
+            0..=16 => (36, 32, (17, 11), 1),
+            17..=64 => (14, 12, (3, 6), 8),
+            65..=256 => (6, 5, (1, 3), 32),
+            _ => (3, 3, (0, 3), 128),
+        };
+        Scale {
+            pitch,
+            height,
+            bar,
+            numbered,
+        }
+    }
+
+    /// Whether there is room for words in an extent.
+    pub fn has_words(self) -> bool {
+        self.height > 24
+    }
+
+    /// Where an extent begins, from above.
+    pub fn top_of(self, extent: u16) -> u32
+        ensures { result < 2 ^ 25 }
+    {
+        TOP + u32::from(self.pitch) * u32::from(extent)
+    }
+
+    /// Where its bar begins.
+    pub fn bar_of(self, extent: u16) -> u32 {
+        self.top_of(extent) + u32::from(self.bar.0)
+    }
+
+    /// Where its number stands, whose foot is a little below its middle.
+    pub fn number_of(self, extent: u16) -> u32 {
+        self.top_of(extent) + u32::from(self.height / 2) + 4
+    }
+
+    /// Whether an extent has its number beside it.
+    pub fn is_numbered(self, extent: u16) -> bool {
+        extent % self.numbered == 0
+    }
+}
+
+/// Where a disk's column begins, from the left.
+pub fn left_of(disk: u8) -> u32
+    ensures { result < 2 ^ 16 }
+{
+    LEFT + COLUMN * u32::from(disk)
+}
+
+/// Where a line of the legend begins, from above.
+pub fn line_top(line: u8) -> u32
+    ensures { result < 2 ^ 16 }
+{
+    TOP - 36 + LINE * u32::from(line)
+}
+
+/// Where the legend begins, from the left.
+pub fn legend_left(picture: &Picture) -> u32
+    ensures { result < 2 ^ 17 }
+{
+    left_of(picture.disks) + 20
+}
+
+/// How wide and how tall the whole picture is.
+pub fn size_of(picture: &Picture) -> (u32, u32) {
+    let width = legend_left(picture) + LEGEND;
+    let map = Scale::of(picture.extents).top_of(picture.extents);
+    let units = picture.units.len().min(UNITS_MAX) as u32;
+    let legend = TOP + LINE * (8 + units);
+    (width, map.max(legend) + 24)
+}

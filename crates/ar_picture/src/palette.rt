@@ -1,0 +1,21 @@
+// Colours of units.
+use crate::{UNITS_MAX, Unit};
+
+/// The colour of each unit, by its place: 8 H + L of unit L of host H. The hues of the hosts are told apart by those, too, who see
+/// red and green alike; a host's units are light and dark in turn.
+pub static COLOURS: [&str; UNITS_MAX] = [
+    // Host 0: blue.
+    "#0072B2", "#99C7E0", "#003350", "#4C9CC9", "#00507D", "#C7E0EE", "#001927", "#73B1D5",
+    // Host 1: vermilion.
+    "#D55E00", "#EEBF99", "#602A00", "#E28E4C", "#954200", "#F6DCC7", "#2F1500", "#E8A673",
+    // Host 2: bluish green.
+    "#009E73", "#99D8C7", "#004734", "#4CBB9D", "#006F50", "#C7EAE0", "#002319", "#73CAB2",
+    // Host 3: reddish purple.
+    "#CC79A7", "#EBC9DC", "#5C364B", "#DBA1C1", "#8F5575", "#F4E2EC", "#2D1B25", "#E3B5CF",
+];
+
+/// A unit's colour.
+pub fn colour_of(unit: Unit) -> &'static str {
+    let place = 8 * usize::from(unit.host) + usize::from(unit.lun);
+    COLOURS.get(place).copied().unwrap_or("#000000")
+}

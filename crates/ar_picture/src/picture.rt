@@ -1,0 +1,134 @@
+// A disk array as plain data.
+ghost use Rattle.std.specs.Prelude.{◌≡◌, ◌≤◌};
+ghost use Rattle.ar_picture.specs.Cells.{stands_on, fullness_of, is_missing, group_at};
+
+use ar_disks::{Members, Place};
+
+/// How many units there are at most: 8 of each of 4 hosts.
+pub const UNITS_MAX: usize = 32;
+
+/// What a group of four extents is used for.
+#[derive(Clone, Copy, Debug, PartialEq, Eq)]
+pub enum Class {
+    /// For nothing: it holds no block.
+    Free,
+    /// For two copies of each block.
+    Mirrored,
+    /// For blocks with parity.
+    Parity,
+}
+
+/// A group of four extents.
+#[derive(Clone, Copy, Debug, PartialEq, Eq)]
+pub struct Group {
+    pub class: Class,
+    pub members: Members,
+    /// How many blocks it holds.
+    pub blocks: u16,
+    /// How many it has slots for.
+    pub slots: u16,
+}
+
+impl Group {
+    // Whether an extent is one of the group's.
+    pub(crate) fn stands_on(&self, place: Place) -> bool
+        ensures { result ≡ stands_on self.now.members place }
+    {
+        let members = &self.members;
+        members.first == place
+            || members.second == place
+            || members.third == place
+            || members.fourth == place
+    }
+
+    /// How full the group is: how many ninths of its slots hold a block, rounded down. So 9 is full, and 0 is less than a ninth.
+    pub fn fullness(&self) -> u8
+        ensures same { result ≡ fullness_of self.now.blocks self.now.slots }
+        ensures few { result ≤ 9 }
+    {
+        let (blocks, slots) = (u32::from(self.blocks), u32::from(self.slots));
+        if blocks >= slots {
+            9
+        } else {
+            (blocks * 9 / slots) as u8
+        }
+    }
+}
+
+/// Which disk is down, if any.
+#[derive(Clone, Copy, Debug, PartialEq, Eq)]
+pub enum Health {
+    /// Every disk is sound.
+    Whole,
+    /// This disk is out.
+    Out(u8),
+    /// This disk was replaced, and so many of its extents are rebuilt, the lowest first.
+    Rebuilding(u8, u16),
+    /// Two disks were down at one moment, and the data are lost.
+    Broken,
+}
+
+impl Health {
+    /// Whether an extent is missing: its disk is out, or isn't rebuilt so far. On a broken array none is.
+    pub fn is_missing(self, place: Place) -> bool
+        ensures { result ≡ is_missing self place }
+    {
+        match self {
+            Health::Whole | Health::Broken => false,
+            Health::Out(disk) => place.disk == disk,
+            Health::Rebuilding(disk, done) => place.disk == disk && place.extent >= done,
+        }
+    }
+
+    /// Whether a disk is out or being rebuilt.
+    pub fn is_down(self, number: u8) -> bool {
+        match self {
+            Health::Whole | Health::Broken => false,
+            Health::Out(disk) | Health::Rebuilding(disk, _) => number == disk,
+        }
+    }
+}
+
+/// A unit: a list of blocks that a host has.
+#[derive(Clone, Copy, Debug, PartialEq, Eq)]
+pub struct Unit {
+    /// The host's number, 0 to 3.
+    pub host: u8,
+    /// The number that the host gives it, 0 to 7.
+    pub lun: u8,
+    /// How many blocks it has.
+    pub blocks: u32,
+    /// How many of them stand on the disks.
+    pub placed: u32,
+}
+
+/// How many blocks of each unit a group holds. Unit L of host H has place 8 H + L.
+#[derive(Clone, Copy, Debug, PartialEq, Eq)]
+pub struct Held {
+    pub blocks: [u16; UNITS_MAX],
+}
+
+/// A disk array, as its pictures show it. Disks, extents and groups count from 0.
+#[derive(Drop)]
+pub struct Picture {
+    /// How many disks there are.
+    pub disks: u8,
+    /// How many extents each disk has.
+    pub extents: u16,
+    pub health: Health,
+    /// The groups, in their order. An extent that none of them has is loose.
+    pub groups: Vec<Group>,
+    /// The units, as the pictures list them.
+    pub units: Vec<Unit>,
+    /// Whose blocks the groups hold, in the order of the groups.
+    pub held: Vec<Held>,
+}
+
+impl Picture {
+    /// The number of the group that has an extent, the lowest if there are several; None for a loose one.
+    pub fn group_at(&self, place: Place) -> Option<usize>
+        ensures { result ≡ group_at self.now.groups.items place }
+    {
+        self.groups.iter().position(|group| group.stands_on(place))
+    }
+}

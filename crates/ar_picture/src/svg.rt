@@ -1,0 +1,211 @@
+// The SVG.
+use crate::layout::{Scale, TOP, WIDTH, left_of, size_of};
+use crate::legend::write_legend;
+use crate::palette::COLOURS;
+use crate::{Cell, Content, Group, Health, Held, Picture};
+use ar_disks::Place;
+use std::io;
+use std::io::Write;
+
+/// How extents look, by what they are used for.
+const STYLE: &str = "\
+<style>
+text { font-family: 'DejaVu Sans', Verdana, sans-serif; font-size: 12px; fill: #222222 }
+.title { font-size: 17px; font-weight: bold }
+.disk { font-weight: bold; text-anchor: middle }
+.down { fill: #B03A00; font-weight: bold; text-anchor: middle }
+.number { fill: #666666; font-size: 11px; text-anchor: end }
+.head { font-weight: bold }
+.small { font-size: 10px }
+.mirrored { fill: #D3EAF9; stroke: #3D8FC4 }
+.parity { fill: #FBF1C0; stroke: #BFA11C }
+.free { fill: #FFFFFF; stroke: #9A9A9A }
+.loose { fill: #EFEFEF; stroke: #9A9A9A; stroke-dasharray: 3 3 }
+.missing { fill: url(#missing); stroke: #B03A00; stroke-width: 1.5 }
+</style>
+<defs><pattern id='missing' width='7' height='7' patternUnits='userSpaceOnUse' patternTransform='rotate(45)'>\
+<rect width='2.5' height='7' fill='#B03A00'/></pattern></defs>";
+
+/// Writes the picture as an SVG: a column for each disk, in it its extents, coloured by the class of their group, each with a bar as
+/// long as the group is full, in the colours of the units whose blocks it holds; and a legend. Extents that can't be used are hatched.
+pub fn write_svg<W: Write>(out: &mut W, picture: &Picture) -> io::Result<()> {
+    let scale = Scale::of(picture.extents);
+    write_frame(out, picture)?;
+    write_numbers(out, picture, scale)?;
+    for disk in 0..picture.disks {
+        write_disk(out, picture, scale, disk)?;
+    }
+    write_legend(out, picture)?;
+    writeln!(out, "</svg>")
+}
+
+// Writes what stands before the disks.
+fn write_frame<W: Write>(out: &mut W, picture: &Picture) -> io::Result<()> {
+    let (width, height) = size_of(picture);
+    let (disks, extents) = (picture.disks, picture.extents);
+    write!(
+        out,
+        "<svg xmlns='http://www.w3.org/2000/svg' width='{width}' height='{height}'"
+    )?;
+    writeln!(out, " viewBox='0 0 {width} {height}'>")?;
+    writeln!(
+        out,
+        "<title>A disk array of {disks} disks of {extents} extents</title>"
+    )?;
+    writeln!(out, "{STYLE}")?;
+    writeln!(
+        out,
+        "<rect width='{width}' height='{height}' fill='#FFFFFF'/>"
+    )?;
+    writeln!(
+        out,
+        "<text class='title' x='24' y='34'>{disks} disks of {extents} extents</text>"
+    )?;
+    write!(out, "<text x='24' y='56'>")?;
+    match picture.health {
+        Health::Whole => write!(out, "All disks are sound.")?,
+        Health::Out(disk) => write!(out, "Disk {disk} is out.")?,
+        Health::Rebuilding(disk, done) => write!(
+            out,
+            "Disk {disk} is new: {done} of its {extents} extents are rebuilt."
+        )?,
+        Health::Broken => write!(
+            out,
+            "Two disks were lost at one moment, and the data with them."
+        )?,
+    }
+    writeln!(out, "</text>")
+}
+
+// Writes the numbers of extents beside their lines.
+fn write_numbers<W: Write>(out: &mut W, picture: &Picture, scale: Scale) -> io::Result<()> {
+    for extent in 0..picture.extents {
+        if scale.is_numbered(extent) {
+            let middle = scale.number_of(extent);
+            writeln!(
+                out,
+                "<text class='number' x='54' y='{middle}'>{extent}</text>"
+            )?;
+        }
+    }
+    Ok(())
+}
+
+// Writes a disk's column.
+fn write_disk<W: Write>(out: &mut W, picture: &Picture, scale: Scale, disk: u8) -> io::Result<()> {
+    let middle = left_of(disk) + WIDTH / 2;
+    let (name, state) = (TOP - 26, TOP - 10);
+    writeln!(
+        out,
+        "<text class='disk' x='{middle}' y='{name}'>disk {disk}</text>"
+    )?;
+    match picture.health {
+        Health::Out(down) if down == disk => {
+            writeln!(
+                out,
+                "<text class='down' x='{middle}' y='{state}'>out</text>"
+            )?;
+        }
+        Health::Rebuilding(down, done) if down == disk => {
+            writeln!(
+                out,
+                "<text class='down' x='{middle}' y='{state}'>{done} rebuilt</text>"
+            )?;
+        }
+        _ => {}
+    }
+    for extent in 0..picture.extents {
+        write_extent(out, picture, scale, Place { disk, extent })?;
+    }
+    Ok(())
+}
+
+// Writes an extent: its cell, the bar of its group, and a hatch where it can't be used.
+fn write_extent<W: Write>(
+    out: &mut W,
+    picture: &Picture,
+    scale: Scale,
+    place: Place,
+) -> io::Result<()> {
+    let cell = picture.cell_at(place);
+    write_cell(out, scale, place, class_of(cell))?;
+    if let Some(number) = picture.group_at(place) {
+        write_group(out, picture, scale, place, number)?;
+    }
+    if cell.is_missing {
+        write_cell(out, scale, place, "missing")?;
+    }
+    Ok(())
+}
+
+// The name of the style of a cell.
+fn class_of(cell: Cell) -> &'static str {
+    match cell.content {
+        Content::Loose => "loose",
+        Content::Free => "free",
+        Content::Mirrored(_) => "mirrored",
+        Content::Parity(_) => "parity",
+    }
+}
+
+fn write_cell<W: Write>(out: &mut W, scale: Scale, place: Place, class: &str) -> io::Result<()> {
+    let (x, y, height) = (
+        left_of(place.disk),
+        scale.top_of(place.extent),
+        scale.height,
+    );
+    writeln!(
+        out,
+        "<rect class='{class}' x='{x}' y='{y}' width='{WIDTH}' height='{height}'/>"
+    )
+}
+
+// Writes whose blocks the group of an extent holds, and, where there is room, its number and how many.
+fn write_group<W: Write>(
+    out: &mut W,
+    picture: &Picture,
+    scale: Scale,
+    place: Place,
+    number: usize,
+) -> io::Result<()> {
+    let (x, y) = (left_of(place.disk) + 5, scale.top_of(place.extent));
+    if let (Some(group), Some(held)) = (picture.groups.get(number), picture.held.get(number)) {
+        write_bar(out, scale, place, group, held)?;
+        if scale.has_words() {
+            let (blocks, slots, base) = (group.blocks, group.slots, y + 12);
+            writeln!(
+                out,
+                "<text class='small' x='{x}' y='{base}'>{number}: {blocks} of {slots}</text>"
+            )?;
+        }
+    }
+    Ok(())
+}
+
+// Writes the blocks of a group as a bar, in which each slot is as long as any other.
+fn write_bar<W: Write>(
+    out: &mut W,
+    scale: Scale,
+    place: Place,
+    group: &Group,
+    held: &Held,
+) -> io::Result<()> {
+    let (x, y) = (left_of(place.disk) + 4, scale.bar_of(place.extent));
+    let (width, height, slots) = (WIDTH - 8, scale.bar.1, group.slots);
+    write!(
+        out,
+        "<svg x='{x}' y='{y}' width='{width}' height='{height}'"
+    )?;
+    write!(out, " viewBox='0 0 {slots} 1' preserveAspectRatio='none'>")?;
+    let mut from = 0u16;
+    for (blocks, colour) in held.blocks.iter().zip(COLOURS.iter()) {
+        if *blocks > 0 {
+            write!(
+                out,
+                "<rect x='{from}' width='{blocks}' height='1' fill='{colour}'/>"
+            )?;
+        }
+        from = from.saturating_add(*blocks);
+    }
+    writeln!(out, "</svg>")
+}

@@ -1,0 +1,104 @@
+// The text map.
+use crate::{Cell, Content, Fold, Health, Picture, Unit};
+use ar_disks::Place;
+use std::io;
+use std::io::Write;
+
+/// Writes the text map: how many disks and extents there are, the numbers of the disks with the one that is down marked below, a line
+/// for each of the picture's folds, two lines that say what the marks mean, one of the disks' health, and a line for each unit.
+/// Of 12 disks no line is longer than 70 characters.
+pub fn write_map<W: Write>(out: &mut W, picture: &Picture, folds: &[Fold]) -> io::Result<()> {
+    write_heads(out, picture)?;
+    for fold in folds {
+        write_fold(out, picture, *fold)?;
+    }
+    writeln!(
+        out,
+        "M mirrored, P with parity; 0 to 9: how full, in ninths of its slots"
+    )?;
+    writeln!(out, "-- in a free group, .. in no group, ! can't be used")?;
+    write_health(out, picture)?;
+    for unit in &picture.units {
+        write_unit(out, *unit)?;
+    }
+    Ok(())
+}
+
+// Writes what the lines above the extents say.
+fn write_heads<W: Write>(out: &mut W, picture: &Picture) -> io::Result<()> {
+    let (disks, extents) = (picture.disks, picture.extents);
+    writeln!(out, "{disks} disks (columns) of {extents} extents (lines)")?;
+    write!(out, "{:10}", "")?;
+    for disk in 0..disks {
+        write!(out, "{disk:>5}")?;
+    }
+    writeln!(out)?;
+    match picture.health {
+        Health::Whole | Health::Broken => Ok(()),
+        Health::Out(disk) => write_below(out, disk, "out"),
+        Health::Rebuilding(disk, _) => write_below(out, disk, "new"),
+    }
+}
+
+// Writes a word below the number of a disk.
+fn write_below<W: Write>(out: &mut W, disk: u8, word: &str) -> io::Result<()> {
+    write!(out, "{:10}", "")?;
+    for _ in 0..disk {
+        write!(out, "{:5}", "")?;
+    }
+    writeln!(out, "{word:>5}")
+}
+
+// Writes the line of extents that look alike: their numbers, and what each disk's is used for.
+fn write_fold<W: Write>(out: &mut W, picture: &Picture, fold: Fold) -> io::Result<()> {
+    let (first, last) = (fold.first, fold.end.saturating_sub(1));
+    if first < last {
+        write!(out, "{first:>4}..{last:<4}")?;
+    } else {
+        write!(out, "{first:>4}{:6}", "")?;
+    }
+    for disk in 0..picture.disks {
+        let place = Place {
+            disk,
+            extent: first,
+        };
+        write_cell(out, picture.cell_at(place))?;
+    }
+    writeln!(out)
+}
+
+fn write_cell<W: Write>(out: &mut W, cell: Cell) -> io::Result<()> {
+    let mark = if cell.is_missing { '!' } else { ' ' };
+    match cell.content {
+        Content::Loose => write!(out, "  {mark}.."),
+        Content::Free => write!(out, "  {mark}--"),
+        Content::Mirrored(full) => write!(out, "  {mark}M{full}"),
+        Content::Parity(full) => write!(out, "  {mark}P{full}"),
+    }
+}
+
+fn write_health<W: Write>(out: &mut W, picture: &Picture) -> io::Result<()> {
+    let extents = picture.extents;
+    match picture.health {
+        Health::Whole => writeln!(out, "all disks are sound"),
+        Health::Out(disk) => writeln!(out, "disk {disk} is out"),
+        Health::Rebuilding(disk, done) => writeln!(
+            out,
+            "disk {disk} is new: {done} of its {extents} extents are rebuilt"
+        ),
+        Health::Broken => writeln!(out, "the data are lost"),
+    }
+}
+
+fn write_unit<W: Write>(out: &mut W, unit: Unit) -> io::Result<()> {
+    let Unit {
+        host,
+        lun,
+        blocks,
+        placed,
+    } = unit;
+    writeln!(
+        out,
+        "unit {host} {lun}: {blocks} blocks, {placed} on the disks"
+    )
+}
