@@ -30,7 +30,6 @@ impl<D: Disk> Model for Store<D> {
 
 impl<D: Disk> Store<D> {
     ghost use Rattle.std.specs.Prelude.{◌≡◌, ◌≢◌, ◌↔◌, ℕ, length, None, Some, IsSome};
-    ghost use Rattle.ar_disks.specs.Block.{zeros};
     ghost use Rattle.ar_disks.specs.Geometry.{block_len_of};
     ghost use Rattle.ar_disks.specs.declared.address.Key.{Key};
     ghost use Rattle.ar_extents.specs.Groups.{outcome_of};
@@ -72,28 +71,30 @@ impl<D: Disk> Store<D> {
     }
 
     /// Reads the block of a key into `into`, a block of the store's length. A block without a home is read as zeros, and no disk is
-    /// accessed then; else none that the read doesn't need, as `AsksFor` says. No row of any disk changes. After `Broken` any bytes may stand in `into`; of a store that was broken before
-    /// nothing has changed.
+    /// accessed then; else none that the read doesn't need, as `AsksFor` says. No row of any disk changes. `Broken` says that the
+    /// disks are, home or none, and any bytes may stand in `into` then; of a store that was broken before nothing has changed.
     pub fn get(&mut self, key: Key, into: &mut Block) -> Completion
         requires whole { length into.old ≡ block_len_of self.old.disks.geometry }
-        ensures given { result ≡ Completion.Done → self.new.disks.health ≢ Health.Broken → into.new ≡ stands self.old key }
-        ensures zeros { home self.old.book key ≡ None → (self.new ≡ self.old) × (result ≡ Completion.Done) × (into.new ≡ zeros (block_len_of self.old.disks.geometry)) }
-        ensures outcome { home self.old.book key ≢ None → result ≡ outcome_of self.new.disks.health }
-        ensures stands { AllStand self.old self.new }
+        ensures outcome { result ≡ outcome_of self.new.disks.health }
+        ensures given { result ≡ Completion.Done → into.new ≡ stands self.old key }
+        ensures unplaced { home self.old.book key ≡ None → self.new ≡ self.old }
         ensures asks { (slot : Slot) → home self.old.book key ≡ Some slot → AsksForSlot self.old self.new slot }
+        ensures stands { AllStand self.old self.new }
         ensures keeps { Keeps Anywhere self.old.disks self.new.disks }
         ensures book { self.new.book ≡ self.old.book }
         ensures accessed { IsAccessed self.old.disks self.new.disks }
         ensures broken { self.old.disks.health ≡ Health.Broken → self.new ≡ self.old }
         ensures len { length into.new ≡ length into.old }
     {
-        let Some(slot) = self.space.book.home(key) else {
-            into.zero();
-            return Completion::Done;
-        };
         match self.space.disks.health() {
             Health::Broken => Completion::Broken,
-            _ => self.space.read_at(slot, into),
+            _ => match self.space.book.home(key) {
+                Some(slot) => self.space.read_at(slot, into),
+                None => {
+                    into.zero();
+                    Completion::Done
+                }
+            },
         }
     }
 

@@ -2,7 +2,9 @@ use Rattle.std.proofs.Common.{◌≡◌, None, refl, sym, ap, subst, ◌∙◌}
 use Rattle.std.proofs.lemmas.Option.{none-some, same_Some}
 use Rattle.ar_disks.specs.Block.{zeros}
 use Rattle.ar_disks.specs.Geometry.{block_len_of}
+use Rattle.ar_extents.specs.declared.health.Health.TheVariants.{Broken}
 use Rattle.ar_extents.specs.Groups.{outcome_of}
+use Rattle.ar_extents.proofs.Outcomes.{done_sound, sound_done}
 use Rattle.ar_extents.specs.Follows.{Keeps, Anywhere}
 use Rattle.ar_book.specs.Tables.{home}
 use Rattle.ar_book.proofs.Homes.{home_slot}
@@ -34,64 +36,63 @@ invariant_of-self g c =
     fields_stay a b c.self.inside.block c.self.inside.block c.self.invariant read.stays
     (free_then a b c.self.invariant.kept.free read.stays (same_free a.book b.book read.book)) refl
 
-pub returns-in_default-health : goal.returns-in_default-health
-returns-in_default-health g c =
+pub returns-in-Some : goal.returns-in-Some
+returns-in-Some g c =
     let a = c.self.inside.space in
     let b = c.read_at.new.self in
     let view = c.self.view_is in
     let read = c.read_at.ensures in
     let is = sym c.home.ensures ∙ c.in-Some.is in
     record {
-      given = λ done sound.
+      outcome = read.outcome;
+      given = λ done.
           given_stands c.args.self.now a.disks b.disks a.book c.args.key c.in-Some.slot c.read_at.new.into view c.self.invariant.kept.space is
-          read.stays.accessed.follows sound (given_done c.read_at.result _ done read.given);
-      zeros = λ none. absurd (none-some c.in-Some.slot (sym none ∙ ap (λ (s : StoreState). home s.book c.args.key) (sym view) ∙ is));
-      outcome = λ _. read.outcome;
-      stands = subst (λ (s : StoreState). AllStand s (store_in b)) view read.stand;
+          read.stays.accessed.follows (done_sound b.disks.health (sym done ∙ read.outcome)) (given_done c.read_at.result _ done read.given);
+      unplaced = λ none. absurd (none-some c.in-Some.slot (sym none ∙ ap (λ (s : StoreState). home s.book c.args.key) (sym view) ∙ is));
       asks = λ slot placed.
           (let P : Slot → Type 0 = λ x. AsksForSlot c.args.self.now (store_in b) x in
           let here = sym is ∙ ap (λ (s : StoreState). home s.book c.args.key) view ∙ placed in
           subst P (same_Some c.in-Some.slot slot here) (subst (λ (s : StoreState). AsksForSlot s (store_in b) c.in-Some.slot) view read.asks));
+      stands = subst (λ (s : StoreState). AllStand s (store_in b)) view read.stand;
       keeps = subst (λ (s : StoreState). Keeps Anywhere s.disks b.disks) view read.keeps;
       book = read.book ∙ ap (λ (s : StoreState). s.book) view;
       accessed = subst (λ (s : StoreState). IsAccessed s.disks b.disks) view read.stays.accessed;
-      broken = λ is. absurd (c.in_default-health.not-Broken (c.health.ensures.same ∙ ap (λ (s : StoreState). s.disks.health) view ∙ is));
+      broken = λ is. absurd (c.in_default.not-Broken (c.health.ensures.same ∙ ap (λ (s : StoreState). s.disks.health) view ∙ is));
       len = read.len;
     }
 
-pub returns-in-Broken : goal.returns-in-Broken
-returns-in-Broken g c =
+pub returns-in-None : goal.returns-in-None
+returns-in-None g c =
     let s = c.args.self.now in
     let view = c.self.view_is in
-    let broken = ap (λ (x : StoreState). x.disks.health) (sym view) ∙ sym c.health.ensures.same ∙ c.in-Broken.is in
-    let is = ap (λ (x : StoreState). home x.book c.args.key) (sym view) ∙ sym c.home.ensures ∙ c.in-Some.is in
+    let none : home s.book c.args.key ≡ None = ap (λ (x : StoreState). home x.book c.args.key) (sym view) ∙ sym c.home.ensures ∙ c.in-None.is in
+    let sound = λ (broken : s.disks.health ≡ Broken). c.in_default.not-Broken (c.health.ensures.same ∙ ap (λ (x : StoreState). x.disks.health) view ∙ broken) in
     record {
-      given = λ done. absurd (done_not_broken (sym done));
-      zeros = λ none. absurd (none-some c.in-Some.slot (sym none ∙ is));
-      outcome = λ _. sym (ap outcome_of broken);
-      stands = record { blocks = λ _ k. refl };
-      asks = λ slot _. asked_none (class_in s slot.group) s.disks (members_of s slot.group) slot.slot;
-      keeps = record { rows = λ _ _ _. refl };
-      book = refl;
-      accessed = accessed_refl s.disks;
-      broken = λ _. refl;
-      len = refl;
-    }
-
-pub returns-in_default : goal.returns-in_default
-returns-in_default g c =
-    let s = c.args.self.now in
-    let none : home s.book c.args.key ≡ None = ap (λ (x : StoreState). home x.book c.args.key) (sym c.self.view_is) ∙ sym c.home.ensures ∙ c.in_default.is in
-    let zero = c.zero.ensures.zero ∙ ap zeros c.requires.whole in
-    record {
-      given = λ _ _. zero ∙ sym (stands_nowhere s c.args.key none);
-      zeros = λ _. (refl, refl, zero);
-      outcome = λ placed. absurd (placed none);
-      stands = record { blocks = λ _ k. refl };
+      outcome = sym (sound_done s.disks.health sound);
+      given = λ _. c.zero.ensures.zero ∙ ap zeros c.requires.whole ∙ sym (stands_nowhere s c.args.key none);
+      unplaced = λ _. refl;
       asks = λ slot placed. absurd (none-some slot (sym none ∙ placed));
+      stands = record { blocks = λ _ k. refl };
       keeps = record { rows = λ _ _ _. refl };
       book = refl;
       accessed = accessed_refl s.disks;
       broken = λ _. refl;
       len = c.zero.ensures.len;
+    }
+
+pub returns-in-Broken : goal.returns-in-Broken
+returns-in-Broken g c =
+    let s = c.args.self.now in
+    let broken = ap (λ (x : StoreState). x.disks.health) (sym c.self.view_is) ∙ sym c.health.ensures.same ∙ c.in-Broken.is in
+    record {
+      outcome = sym (ap outcome_of broken);
+      given = λ done. absurd (done_not_broken (sym done));
+      unplaced = λ _. refl;
+      asks = λ slot _. asked_none (class_in s slot.group) s.disks (members_of s slot.group) slot.slot;
+      stands = record { blocks = λ _ k. refl };
+      keeps = record { rows = λ _ _ _. refl };
+      book = refl;
+      accessed = accessed_refl s.disks;
+      broken = λ _. refl;
+      len = refl;
     }
