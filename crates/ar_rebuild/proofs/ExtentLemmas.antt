@@ -10,10 +10,13 @@ use Rattle.ar_extents.specs.declared.outcome.RowOutcome.{RowOutcome}
 use Rattle.ar_extents.specs.declared.outcome.RowOutcome.TheVariants.{Done, GivenUp, Broken}
 use Rattle.ar_extents.specs.Health.{IsRebuilding, rebuilt_disk, next_extent}
 use Rattle.ar_extents.specs.Set.{SetState}
+use Rattle.ar_extents.specs.Follows.{Spares, HasNoneOf, IsEither}
 use Rattle.ar_extents.specs.Access.{next_place}
 use Rattle.ar_extents.specs.Changes.{with_done}
 use Rattle.ar_extents.specs.Groups.{IsGroup, IsOutside}
 use Rattle.ar_extents.proofs.GroupLemmas.{group_then, member_not_outside}
+use Rattle.ar_mirror.specs.Slots.{partner_of}
+use Rattle.ar_mirror.proofs.SlotLemmas.{members_differ}
 use Rattle.ar_mirror.proofs.Frames.{done_holds as mirror_done, pair_is_member}
 use Rattle.ar_parity.proofs.Frames.{done_holds as parity_done}
 use Rattle.ar_book.specs.declared.class.Class.{Class}
@@ -21,12 +24,12 @@ use Rattle.ar_book.specs.declared.class.Class.TheVariants.{Free, Mirrored, Parit
 use Rattle.ar_book.specs.Tables.{Tables, group_in, class_of, slots_of}
 use Rattle.ar_book.specs.Choices.{stands_on, IsUnused}
 use Rattle.ar_book.proofs.GroupChanges.{not_member}
-use Rattle.ar_store.specs.Store.{store_of}
+use Rattle.ar_store.specs.Store.{StoreState, store_of}
 use Rattle.ar_store.specs.Slots.{ClassHolds}
 use Rattle.ar_store.specs.Kept.{IsSpace}
 use Rattle.ar_store.proofs.Spaces.{slot_group, slot_inside, groups_apart}
 use Rattle.ar_store.proofs.Alike.{class_alike}
-use Rattle.ar_rebuild.specs.Rows.{WritesNext, HasNothingNext, GroupIsWhole, WritesRows, CanBeDone, WritesExtent}
+use Rattle.ar_rebuild.specs.Rows.{WritesNext, HasNothingNext, GroupIsWhole, WritesRows, CanBeDone, NeedsNext, AsksNext, WritesExtent}
 use Rattle.ar_rebuild.proofs.RowLemmas.{next_same, writes_refl, writes_alike}
 
 -- the extent at the mark is the next one
@@ -122,6 +125,54 @@ rows_done Done c a b t place m g position space is inside c_is m_is below at wri
     (subst (λ (x : Members). GroupIsWhole c a b x) m_is rows))
 rows_done GivenUp c a b t place m g position space is inside c_is m_is below at writes rows = rows
 rows_done Broken c a b t place m g position space is inside c_is m_is below at writes rows = rows
+
+-- no disk is accessed where nothing is written
+pub asks_none : (s : StoreState) → AsksNext s s.disks
+asks_none s = record { spares = λ g i inside below at. record { disks = λ d none. refl } }
+
+-- and none where an extent counts as done
+pub asks_done : (s : StoreState) (b : SetState) → AsksNext s b → AsksNext s (with_done b)
+asks_done s b asks = record { spares = λ g i inside below at. record { disks = (asks.spares g i inside below at).disks } }
+
+-- the pair of the extent that is rebuilt next is that of its position
+pub pair_asked : (a b : SetState) (place : Place) (m : Members) (position : ℕ) → a.health ≡ Rebuilding place.disk place.extent → member m position ≡ place
+    → Spares (HasNoneOf (IsEither (member m (partner_of position)) (next_place a))) a b → Spares (HasNoneOf (NeedsNext Mirrored m position)) a b
+pair_asked a b place m position is at touches =
+    let P : Place → Type 0 = λ p. Spares (HasNoneOf (IsEither (member m (partner_of position)) p)) a b in
+    subst P (sym (at ∙ next_is a place is)) touches
+
+-- What was accessed for a member of one group is what the next extent needs: no other group has it, nor another position.
+pub asks_member : (c : Class) (a b : SetState) (t : Tables) (place : Place) (m : Members) (g position : ℕ) → IsSpace (store_of a t)
+    → a.health ≡ Rebuilding place.disk place.extent → g < length t.groups → c ≡ class_of t g → m ≡ (group_in t.groups g).members → position < 4 → member m position ≡ place
+    → Spares (HasNoneOf (NeedsNext c m position)) a b → AsksNext (store_of a t) b
+asks_member c a b t place m g position space is inside c_is m_is below at touches = record {
+  spares = λ h i there lt same.
+      elim (eqb_tells h g) [
+        | inl one ↦ (let P : ℕ → Type 0 = λ n. Needs n i in subst P (sym one.1) (here i lt (let Q : ℕ → Type 0 = λ n. Next n i in subst Q one.1 same)))
+        | inr other ↦
+            absurd
+            (let place = own ∙ sym same in
+            groups_apart (store_of a t) g h space inside there (λ e. other.1 (sym e)) position i below lt (ap (λ (p : Place). p.disk) place)
+            (ap (λ (p : Place). p.extent) place))
+      ];
+}
+  where
+    Next : ℕ → ℕ → Type 0
+    Next h i = member (group_in t.groups h).members i ≡ next_place a
+
+    Needs : ℕ → ℕ → Type 0
+    Needs h i = Spares (HasNoneOf (NeedsNext (class_of t h) (group_in t.groups h).members i)) a b
+
+    own : Next g position
+    own = subst (λ (x : Members). member x position ≡ next_place a) m_is (at ∙ next_is a place is)
+
+    here : (i : ℕ) → i < 4 → Next g i → Needs g i
+    here i lt same =
+        let position_is : i ≡ position = members_differ (group_in t.groups g).members i position (slot_group (store_of a t) g space inside).apart lt below (same ∙ sym own) in
+        let P : ℕ → Type 0 = λ n. Needs g n in
+        subst P (sym position_is)
+        (subst (λ (x : Class). Spares (HasNoneOf (NeedsNext x (group_in t.groups g).members position)) a b) c_is
+        (subst (λ (x : Members). Spares (HasNoneOf (NeedsNext c x position)) a b) m_is touches))
 
 -- An extent whose group is in use isn't nothing to write.
 pub used_next : (c : Class) (a : SetState) (t : Tables) (place : Place) (m : Members) (g position : ℕ) → a.health ≡ Rebuilding place.disk place.extent

@@ -10,9 +10,9 @@ use Rattle.ar_extents.specs.declared.health.Health.{Health}
 use Rattle.ar_extents.specs.declared.health.Health.TheVariants.{Out}
 use Rattle.ar_extents.specs.Health.{IsRebuilding, rebuilt_disk, next_extent}
 use Rattle.ar_extents.specs.Set.{SetState, content, faults_of, IsSound}
-use Rattle.ar_extents.specs.Follows.{Follows, KeepsBut}
+use Rattle.ar_extents.specs.Follows.{Follows, KeepsBut, Spares, HasNoneOf, IsEither}
 use Rattle.ar_extents.specs.Access.{next_place, IsGivenUp}
-use Rattle.ar_extents.specs.Groups.{IsGroup}
+use Rattle.ar_extents.specs.Groups.{IsGroup, IsMember}
 use Rattle.ar_extents.proofs.Follows.{follows_refl, follows_then, keeps_refl}
 use Rattle.ar_extents.proofs.GroupLemmas.{group_then}
 use Rattle.ar_extents.proofs.Losses.{missing_lost, next_missing, lost_not_sound}
@@ -33,6 +33,10 @@ use Rattle.ar_rebuild.specs.Rows.{IsBesideNext, WritesNext, GroupIsWhole}
 -- the same extent is next where health is the same
 pub next_same : (a b : SetState) → b.health ≡ a.health → next_place b ≡ next_place a
 next_same a b same = ap (λ (h : Health). let there : Place = record { disk = rebuilt_disk h; extent = next_extent h } in there) same
+
+-- disks that none of two runs accesses are as they were after both
+pub spares_then : (these : ℕ → Type 0) (a b c : SetState) → Spares these a b → Spares these b c → Spares these a c
+spares_then these a b c ab bc = record { disks = λ d is. bc.disks d is ∙ ab.disks d is }
 
 -- no row yet
 pub writes_refl : (s : SetState) → WritesNext s s
@@ -70,24 +74,34 @@ stopped_then a b c ab health given_up =
     let before = ab.faults (rebuilt_disk a.health) in
     record { faulted = omega arith; out = given_up.out ∙ ap Out disk }
 
+-- one row more of a mirrored member
+pub pair_then : (a b c : SetState) (from : Place) → b.health ≡ a.health → Spares (HasNoneOf (IsEither from (next_place a))) a b
+    → Spares (HasNoneOf (IsEither from (next_place b))) b c → Spares (HasNoneOf (IsEither from (next_place a))) a c
+pair_then a b c from health ab bc =
+    let P : Place → Type 0 = λ p. Spares (HasNoneOf (IsEither from p)) b c in
+    spares_then (HasNoneOf (IsEither from (next_place a))) a b c ab (subst P (next_same a b health) bc)
+
 -- So many rows of a mirrored member are its partner's.
 pub record AreCopied (a b : SetState) (m : Members) (position rows : ℕ) : Type 0 where
   pub writes : WritesNext a b
   pub health : b.health ≡ a.health
+  pub touches : Spares (HasNoneOf (IsEither (member m (partner_of position)) (next_place a))) a b
   pub copied : (r : ℕ) → r < rows → IsCopied a b (member m (partner_of position)) r
 
 pub none_copied : (s : SetState) (m : Members) (position : ℕ) → AreCopied s s m position 0
-none_copied s m position = record { writes = writes_refl s; health = refl; copied = λ r lt. absurd (omega arith) }
+none_copied s m position = record { writes = writes_refl s; health = refl; touches = record { disks = λ d none. refl }; copied = λ r lt. absurd (omega arith) }
 
 pub copied_then : (a b c : SetState) (m : Members) (position row : ℕ) → IsRebuilding a.health → AreCopied a b m position row
-    → IsCopied b c (member m (partner_of position)) row → Follows b c → KeepsBut (next_place b) row b c → c.loose ≡ b.loose → AreCopied a c m position (row + 1)
-copied_then a b c m position row is before copied follows keeps loose =
+    → IsCopied b c (member m (partner_of position)) row → Follows b c → KeepsBut (next_place b) row b c
+    → Spares (HasNoneOf (IsEither (member m (partner_of position)) (next_place b))) b c → c.loose ≡ b.loose → AreCopied a c m position (row + 1)
+copied_then a b c m position row is before copied follows keeps touches loose =
     let next = next_same a b before.health in
     let sound = before.writes.follows.usable (member m (partner_of position)) copied.was_sound in
     let alike = writes_alike a b is before.writes in
     record {
       writes = writes_then a b c row before.writes before.health follows keeps loose;
       health = copied.health ∙ before.health;
+      touches = pair_then a b c (member m (partner_of position)) before.health before.touches touches;
       copied = λ r lt.
           elim (eqb_tells r row) [
             | inl same ↦
@@ -143,21 +157,23 @@ copied_whole a b m position group below is next all = record {
 pub record AreSummed (a b : SetState) (m : Members) (position rows : ℕ) : Type 0 where
   pub writes : WritesNext a b
   pub health : b.health ≡ a.health
+  pub touches : Spares (HasNoneOf (IsMember m)) a b
   pub agrees : (r : ℕ) (blocks : Blocks) → RowAgrees a m r blocks → RowAgrees b m r blocks
   pub summed : (r : ℕ) → r < rows → IsRebuilt a b m position r
 
 pub none_summed : (s : SetState) (m : Members) (position : ℕ) → AreSummed s s m position 0
-none_summed s m position = record { writes = writes_refl s; health = refl; agrees = λ r blocks has. has; summed = λ r lt. absurd (omega arith) }
+none_summed s m position = record { writes = writes_refl s; health = refl; touches = record { disks = λ d none. refl }; agrees = λ r blocks has. has; summed = λ r lt. absurd (omega arith) }
 
 pub summed_then : (a b c : SetState) (m : Members) (position row : ℕ) → member m position ≡ next_place a → AreSummed a b m position row
     → IsRebuilt b c m position row → ((r : ℕ) (blocks : Blocks) → RowAgrees b m r blocks → RowAgrees c m r blocks) → Follows b c
-    → KeepsBut (member m position) row b c → c.loose ≡ b.loose → AreSummed a c m position (row + 1)
-summed_then a b c m position row next before rebuilt agrees follows keeps loose =
+    → KeepsBut (member m position) row b c → Spares (HasNoneOf (IsMember m)) b c → c.loose ≡ b.loose → AreSummed a c m position (row + 1)
+summed_then a b c m position row next before rebuilt agrees follows keeps touches loose =
     let there = next ∙ sym (next_same a b before.health) in
     let P : Place → Type 0 = λ p. KeepsBut p row b c in
     record {
       writes = writes_then a b c row before.writes before.health follows (subst P there keeps) loose;
       health = rebuilt.health ∙ before.health;
+      touches = spares_then (HasNoneOf (IsMember m)) a b c before.touches touches;
       agrees = λ r blocks has. agrees r blocks (before.agrees r blocks has);
       summed = λ r lt.
           elim (eqb_tells r row) [

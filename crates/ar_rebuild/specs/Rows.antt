@@ -2,17 +2,19 @@
 use Rattle.std.specs.Prelude.{◌≡◌, ◌≢◌, ℕ, ◌<◌, List, length}
 use Rattle.ar_disks.specs.declared.address.Place.{Place}
 use Rattle.ar_disks.specs.declared.address.Members.{Members}
+use Rattle.ar_disks.specs.Members.{member}
 use Rattle.ar_extents.specs.declared.health.Health.TheVariants.{Broken as AllBroken}
 use Rattle.ar_extents.specs.declared.outcome.RowOutcome.{RowOutcome}
 use Rattle.ar_extents.specs.declared.outcome.RowOutcome.TheVariants.{Done, GivenUp, Broken}
 use Rattle.ar_extents.specs.Health.{IsRebuilding}
 use Rattle.ar_extents.specs.Set.{SetState}
-use Rattle.ar_extents.specs.Follows.{Follows, Keeps}
+use Rattle.ar_extents.specs.Follows.{Follows, Keeps, Spares, HasNoneOf, IsEither}
 use Rattle.ar_extents.specs.Access.{next_place, IsGivenUp}
 use Rattle.ar_extents.specs.Changes.{with_done}
-use Rattle.ar_extents.specs.Groups.{IsOutside}
+use Rattle.ar_extents.specs.Groups.{IsMember, IsOutside}
+use Rattle.ar_mirror.specs.Slots.{partner_of}
 use Rattle.ar_book.specs.declared.class.Class.{Class}
-use Rattle.ar_book.specs.declared.class.Class.TheVariants.{Free}
+use Rattle.ar_book.specs.declared.class.Class.TheVariants.{Free, Mirrored, Parity}
 use Rattle.ar_book.specs.Tables.{slots_of}
 use Rattle.ar_store.specs.Store.{StoreState, store_of, members_of, class_in}
 use Rattle.ar_store.specs.Slots.{ClassHolds, SlotsHold}
@@ -49,6 +51,18 @@ pub record CanBeDone (old new : StoreState) : Type 0 where
 pub record HasNothingNext (s : StoreState) : Type 0 where
   pub rebuilding : IsRebuilding s.disks.health
   pub unused : (g : ℕ) → g < length s.book.groups → class_in s g ≢ Free → IsOutside (members_of s g) (next_place s.disks)
+
+-- the extents that the writing of a group's member needs: with a mirror its pair, with parity the whole group
+abbrev pub NeedsNext : Class → Members → ℕ → Place → Type 0
+NeedsNext Free m i place = ⊥
+NeedsNext Mirrored m i place = IsEither (member m (partner_of i)) (member m i) place
+NeedsNext Parity m i place = IsMember m place
+
+-- No disk was accessed that the rebuild of the next extent doesn't need, whichever group has it at whichever position.
+pub record AsksNext (old : StoreState) (new : SetState) : Type 0 where
+  pub spares :
+      (g i : ℕ) → g < length old.book.groups → i < 4 → member (members_of old g) i ≡ next_place old.disks
+      → Spares (HasNoneOf (NeedsNext (class_in old g) (members_of old g) i)) old.disks new
 
 -- what the writing of an extent answers, whatever it is used for
 abbrev pub WritesExtent : StoreState → StoreState → RowOutcome → Type 0

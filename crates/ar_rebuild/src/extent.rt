@@ -4,7 +4,7 @@ ghost use Rattle.ar_extents.specs.Follows.{Keeps};
 ghost use Rattle.ar_extents.specs.Changes.{with_done};
 ghost use Rattle.ar_store.specs.Slots.{AllStand, SlotsHold};
 ghost use Rattle.ar_store.specs.Spaces.{store_in, IsReady};
-ghost use Rattle.ar_rebuild.specs.Rows.{IsBesideNext, HasNothingNext, WritesNext, WritesExtent};
+ghost use Rattle.ar_rebuild.specs.Rows.{IsBesideNext, HasNothingNext, WritesNext, WritesExtent, AsksNext};
 ghost use Rattle.ar_rebuild.specs.Rebuild.{Answers, Counts, Advances};
 
 use crate::Rebuild;
@@ -27,6 +27,7 @@ pub(crate) fn rebuild_extent<D: Disk>(space: &mut Space<D>, place: Place) -> Reb
     ensures stand { AllStand (store_in space.old) (store_in space.new) }
     ensures slots { SlotsHold (store_in space.old) (store_in space.new) }
     ensures keeps { Keeps (IsBesideNext space.old.disks) space.old.disks space.new.disks }
+    ensures asks { AsksNext (store_in space.old) space.new.disks }
     ensures nothing { HasNothingNext (store_in space.old) → space.new.disks ≡ with_done space.old.disks }
     ensures advances { Advances space.old.disks space.new.disks }
 {
@@ -43,6 +44,7 @@ fn write_extent<D: Disk>(space: &mut Space<D>, place: Place) -> RowOutcome
     requires rebuilding { space.old.disks.health ≡ Health.Rebuilding place.disk place.extent }
     ensures answer { WritesExtent (store_in space.old) (store_in space.new) result }
     ensures writes { WritesNext space.old.disks space.new.disks }
+    ensures asks { AsksNext (store_in space.old) space.new.disks }
     ensures nothing { HasNothingNext (store_in space.old) → (space.new.disks ≡ space.old.disks) × (result ≡ RowOutcome.Done) }
     ensures book { space.new.book ≡ space.old.book }
     ensures scratch { space.new.scratch.geometry ≡ space.old.scratch.geometry }

@@ -3,7 +3,9 @@ ghost use Rattle.std.specs.Prelude.{◌≡◌, ◌<◌, IsTrue};
 ghost use Rattle.ar_disks.specs.Members.{member};
 ghost use Rattle.ar_extents.specs.Health.{IsRebuilding};
 ghost use Rattle.ar_extents.specs.Access.{next_place};
-ghost use Rattle.ar_extents.specs.Groups.{IsGroup};
+ghost use Rattle.ar_extents.specs.Follows.{Spares, HasNoneOf, IsEither};
+ghost use Rattle.ar_extents.specs.Groups.{IsGroup, IsMember};
+ghost use Rattle.ar_mirror.specs.Slots.{partner_of};
 ghost use Rattle.ar_book.specs.declared.class.Class.TheVariants.{Mirrored, Parity};
 ghost use Rattle.ar_book.specs.Choices.{stands_on};
 ghost use Rattle.ar_rebuild.specs.Rows.{WritesNext, WritesRows};
@@ -42,6 +44,7 @@ pub(crate) fn copy_rows<D: Disk>(
     requires scratch { scratch.old.geometry ≡ set.old.geometry }
     ensures answer { WritesRows Mirrored set.old set.new members.now result }
     ensures writes { WritesNext set.old set.new }
+    ensures touches { Spares (HasNoneOf (IsEither (member members.now (partner_of position)) (next_place set.old))) set.old set.new }
     ensures scratch { scratch.new.geometry ≡ scratch.old.geometry }
 {
     for row in 0..set.geometry().rows() {
@@ -68,6 +71,7 @@ pub(crate) fn sum_rows<D: Disk>(
     requires scratch { scratch.old.geometry ≡ set.old.geometry }
     ensures answer { WritesRows Parity set.old set.new members.now result }
     ensures writes { WritesNext set.old set.new }
+    ensures touches { Spares (HasNoneOf (IsMember members.now)) set.old set.new }
     ensures scratch { scratch.new.geometry ≡ scratch.old.geometry }
 {
     for row in 0..set.geometry().rows() {

@@ -3,7 +3,7 @@ ghost use Rattle.std.specs.Prelude.{◌≡◌, ◌↔◌};
 ghost use Rattle.ar_extents.specs.Follows.{Keeps};
 ghost use Rattle.ar_extents.specs.Changes.{with_done};
 ghost use Rattle.ar_store.specs.Slots.{AllStand, SlotsHold};
-ghost use Rattle.ar_rebuild.specs.Rows.{IsBesideNext, HasNothingNext};
+ghost use Rattle.ar_rebuild.specs.Rows.{IsBesideNext, HasNothingNext, AsksNext};
 ghost use Rattle.ar_rebuild.specs.Rebuild.{IsQuiet, Answers, Advances};
 
 use crate::extent::rebuild_extent;
@@ -42,9 +42,10 @@ pub fn rebuild_one<D: Disk>(store: &mut Store<D>) -> Rebuild
     ensures stands { AllStand store.old store.new }
     ensures slots { SlotsHold store.old store.new }
 
-    // No row is written but those of the extent that is rebuilt, none at all where no used group has it, and no disk is lost without
-    // a cause.
+    // No row is written but those of the extent that is rebuilt, none at all where no used group has it. No disk is accessed but
+    // those of that extent and of the members from which it is written, and none is lost without a cause.
     ensures keeps { Keeps (IsBesideNext store.old.disks) store.old.disks store.new.disks }
+    ensures asks { AsksNext store.old store.new.disks }
     ensures nothing { HasNothingNext store.old → store.new.disks ≡ with_done store.old.disks }
     ensures advances { Advances store.old.disks store.new.disks }
 {

@@ -2,9 +2,10 @@ use Rattle.std.proofs.Common.{◌∙◌, refl, sym, ap, subst}
 use Rattle.ar_extents.specs.Set.{SetState}
 use Rattle.ar_extents.specs.Changes.{with_done}
 use Rattle.ar_extents.specs.Follows.{Keeps}
-use Rattle.ar_rebuild.specs.Rows.{IsBesideNext}
+use Rattle.ar_store.specs.Spaces.{store_in}
+use Rattle.ar_rebuild.specs.Rows.{IsBesideNext, AsksNext}
 use Rattle.ar_rebuild.specs.Rebuild.{Advances}
-use Rattle.ar_rebuild.proofs.ExtentLemmas.{rebuilding_is}
+use Rattle.ar_rebuild.proofs.ExtentLemmas.{rebuilding_is, asks_done}
 use Rattle.ar_rebuild.proofs.Advancing.{calm, advances_given_up, advances_lost, advances_done, done_not_broken, keeps_done, out_not_broken}
 use Rattle.ar_rebuild.proofs.StepLemmas.{unharmed_stopped, unharmed_done, counted, gave_up, gave_up_alone, lost_not_idle, given_up_not_done, broken_not_done}
 use Rattle.ar_rebuild.proofs.extent.rebuild_extent.Goals as goal
@@ -33,6 +34,7 @@ returns-in-Done g c =
       stand = left.stand;
       slots = left.slots;
       keeps = subst (λ (x : SetState). Keeps (IsBesideNext s.disks) s.disks x) (sym is) (keeps_done s.disks b.disks call.writes);
+      asks = subst (λ (x : SetState). AsksNext (store_in s) x) (sym is) (asks_done (store_in s) b.disks call.asks);
       nothing = λ none. is ∙ ap with_done (call.nothing none).0;
       advances = subst (λ (x : SetState). Advances s.disks x) (sym is)
           (advances_done s.disks b.disks c.args.place c.requires.rebuilding (rebuilding_is s.disks c.args.place c.requires.rebuilding) call.writes health);
@@ -55,6 +57,7 @@ returns-in-GivenUp g c =
       stand = left.stand;
       slots = left.slots;
       keeps = call.writes.keeps;
+      asks = call.asks;
       nothing = λ none. absurd (given_up_not_done (sym c.in-GivenUp.is ∙ (call.nothing none).1));
       advances = advances_given_up s.disks b.disks c.args.place c.requires.rebuilding rebuilding call.writes given_up;
     }
@@ -75,6 +78,7 @@ returns-in-Broken g c =
       stand = left.stand;
       slots = left.slots;
       keeps = call.writes.keeps;
+      asks = call.asks;
       nothing = λ none. absurd (broken_not_done (sym c.in-Broken.is ∙ (call.nothing none).1));
       advances = advances_lost s.disks b.disks c.args.place c.requires.rebuilding call.writes broken;
     }

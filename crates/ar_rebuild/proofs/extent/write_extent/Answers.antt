@@ -1,6 +1,7 @@
 use Rattle.std.proofs.Common.{sym}
+use Rattle.ar_store.specs.Store.{store_of}
 use Rattle.ar_book.specs.declared.class.Class.TheVariants.{Mirrored, Parity}
-use Rattle.ar_rebuild.proofs.ExtentLemmas.{loose_done, free_done, rows_done, used_next, mirrored_used, parity_used}
+use Rattle.ar_rebuild.proofs.ExtentLemmas.{loose_done, free_done, rows_done, asks_none, asks_member, pair_asked, used_next, mirrored_used, parity_used}
 use Rattle.ar_rebuild.proofs.extent.write_extent.Goals as goal
 
 pub returns-in_default-clause-answer : goal.returns-in_default-clause-answer
@@ -39,3 +40,25 @@ returns-in-Parity-clause-nothing g c = λ none.
     let s = c.args.space.now in
     absurd (used_next Parity s.disks s.book c.args.place c.members-members.result c.in-Some.group c.position_of-position.result c.requires.rebuilding
     c.in-Some.ensures.there c.in-Parity.ensures parity_used c.members-members.ensures c.position_of-position.ensures.below c.position_of-position.ensures.is none)
+
+pub returns-in_default-clause-asks : goal.returns-in_default-clause-asks
+returns-in_default-clause-asks g c = let s = c.args.space.now in asks_none (store_of s.disks s.book)
+
+pub returns-in-Free-clause-asks : goal.returns-in-Free-clause-asks
+returns-in-Free-clause-asks g c = let s = c.args.space.now in asks_none (store_of s.disks s.book)
+
+pub returns-in-Mirrored-clause-asks : goal.returns-in-Mirrored-clause-asks
+returns-in-Mirrored-clause-asks g c =
+    let s = c.args.space.now in
+    asks_member Mirrored s.disks c.copy_rows.new.set s.book c.args.place c.members-members.result c.in-Some.group c.position_of-position.result
+    c.requires.ready.space c.requires.rebuilding c.in-Some.ensures.there c.in-Mirrored.ensures c.members-members.ensures
+    c.position_of-position.ensures.below c.position_of-position.ensures.is
+    (pair_asked s.disks c.copy_rows.new.set c.args.place c.members-members.result c.position_of-position.result c.requires.rebuilding
+    c.position_of-position.ensures.is c.copy_rows.ensures.touches)
+
+pub returns-in-Parity-clause-asks : goal.returns-in-Parity-clause-asks
+returns-in-Parity-clause-asks g c =
+    let s = c.args.space.now in
+    asks_member Parity s.disks c.sum_rows.new.set s.book c.args.place c.members-members.result c.in-Some.group c.position_of-position.result
+    c.requires.ready.space c.requires.rebuilding c.in-Some.ensures.there c.in-Parity.ensures c.members-members.ensures
+    c.position_of-position.ensures.below c.position_of-position.ensures.is c.sum_rows.ensures.touches

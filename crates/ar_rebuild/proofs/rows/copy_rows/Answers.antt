@@ -3,7 +3,7 @@ use Rattle.ar_disks.specs.Geometry.{rows_of}
 use Rattle.ar_extents.specs.declared.health.Health.{Health}
 use Rattle.ar_extents.specs.Health.{IsRebuilding}
 use Rattle.ar_extents.proofs.GroupLemmas.{group_then}
-use Rattle.ar_rebuild.proofs.RowLemmas.{AreCopied, next_same, none_copied, copied_then, copied_whole, writes_then, stopped_then}
+use Rattle.ar_rebuild.proofs.RowLemmas.{AreCopied, next_same, none_copied, copied_then, copied_whole, pair_then, writes_then, stopped_then}
 use Rattle.ar_rebuild.proofs.rows.copy_rows.Goals as goal
 
 pub rebuild_row-requires : goal.rebuild_row-requires
@@ -30,7 +30,7 @@ loop-row-preserved g c =
     let call = c.rebuild_row.ensures in
     record {
       copied = copied_then c.args.set.now c.loop-row.set c.rebuild_row.new.set c.args.members.now c.args.position c.loop-row.row c.requires.rebuilding
-          c.loop-row.invariant.copied c.in-Done.ensures.answer call.follows call.keeps call.loose;
+          c.loop-row.invariant.copied c.in-Done.ensures.answer call.follows call.keeps call.touches call.loose;
       scratch = call.scratch ∙ c.loop-row.invariant.scratch;
     }
 
@@ -45,6 +45,7 @@ returns g c =
       answer = copied_whole a b c.args.members.now c.args.position c.requires.group c.requires.position c.requires.rebuilding c.requires.next
           (subst (λ n. AreCopied a b c.args.members.now c.args.position n) rows copied);
       writes = copied.writes;
+      touches = copied.touches;
       scratch = c.loop-row.invariant.scratch;
     }
 
@@ -55,6 +56,7 @@ returns-in-GivenUp g c =
     record {
       answer = stopped_then c.args.set.now c.loop-row.set c.rebuild_row.new.set before.writes.follows before.health c.in-GivenUp.ensures.answer;
       writes = writes_then c.args.set.now c.loop-row.set c.rebuild_row.new.set c.loop-row.row before.writes before.health call.follows call.keeps call.loose;
+      touches = pair_then c.args.set.now c.loop-row.set c.rebuild_row.new.set _ before.health before.touches call.touches;
       scratch = call.scratch ∙ c.loop-row.invariant.scratch;
     }
 
@@ -65,5 +67,6 @@ returns-in-Broken g c =
     record {
       answer = c.in-Broken.ensures.answer;
       writes = writes_then c.args.set.now c.loop-row.set c.rebuild_row.new.set c.loop-row.row before.writes before.health call.follows call.keeps call.loose;
+      touches = pair_then c.args.set.now c.loop-row.set c.rebuild_row.new.set _ before.health before.touches call.touches;
       scratch = call.scratch ∙ c.loop-row.invariant.scratch;
     }

@@ -5,7 +5,7 @@ use Rattle.ar_extents.specs.Health.{IsRebuilding}
 use Rattle.ar_extents.specs.Follows.{KeepsBut}
 use Rattle.ar_extents.proofs.GroupLemmas.{group_then}
 use Rattle.ar_disks.specs.declared.address.Place.{Place}
-use Rattle.ar_rebuild.proofs.RowLemmas.{AreSummed, next_same, none_summed, summed_then, summed_whole, writes_then, stopped_then}
+use Rattle.ar_rebuild.proofs.RowLemmas.{AreSummed, next_same, none_summed, spares_then, summed_then, summed_whole, writes_then, stopped_then}
 use Rattle.ar_rebuild.proofs.rows.sum_rows.Goals as goal
 
 pub rebuild_row-requires : goal.rebuild_row-requires
@@ -32,7 +32,7 @@ loop-row-preserved g c =
     let call = c.rebuild_row.ensures in
     record {
       summed = summed_then c.args.set.now c.loop-row.set c.rebuild_row.new.set c.args.members.now c.args.position c.loop-row.row c.requires.next
-          c.loop-row.invariant.summed c.in-Done.ensures.answer call.agrees call.follows call.keeps call.loose;
+          c.loop-row.invariant.summed c.in-Done.ensures.answer call.agrees call.follows call.keeps call.touches call.loose;
       scratch = call.scratch ∙ c.loop-row.invariant.scratch;
     }
 
@@ -47,6 +47,7 @@ returns g c =
       answer = summed_whole a b c.args.members.now c.args.position c.requires.group c.requires.position c.requires.rebuilding c.requires.next
           (subst (λ n. AreSummed a b c.args.members.now c.args.position n) rows summed);
       writes = summed.writes;
+      touches = summed.touches;
       scratch = c.loop-row.invariant.scratch;
     }
 
@@ -61,6 +62,7 @@ returns-in-GivenUp g c =
       answer = stopped_then a b c.rebuild_row.new.set before.writes.follows before.health c.in-GivenUp.ensures.answer;
       writes = writes_then a b c.rebuild_row.new.set c.loop-row.row before.writes before.health call.follows
           (subst P (c.requires.next ∙ sym (next_same a b before.health)) call.keeps) call.loose;
+      touches = spares_then _ a b c.rebuild_row.new.set before.touches call.touches;
       scratch = call.scratch ∙ c.loop-row.invariant.scratch;
     }
 
@@ -75,5 +77,6 @@ returns-in-Broken g c =
       answer = c.in-Broken.ensures.answer;
       writes = writes_then a b c.rebuild_row.new.set c.loop-row.row before.writes before.health call.follows
           (subst P (c.requires.next ∙ sym (next_same a b before.health)) call.keeps) call.loose;
+      touches = spares_then _ a b c.rebuild_row.new.set before.touches call.touches;
       scratch = call.scratch ∙ c.loop-row.invariant.scratch;
     }
