@@ -17,7 +17,6 @@ use Rattle.ar_extents.specs.Set.{SetState, disk_in}
 use Rattle.ar_extents.specs.Changes.{is_broken as is_broken_set, start_fault}
 use Rattle.ar_extents.specs.Groups.{outcome_of}
 use Rattle.ar_extents.proofs.Losses.{stays_broken}
-use Rattle.ar_extents.proofs.Outcomes.{sound_done}
 use Rattle.ar_book.specs.declared.class.Slot.{Slot}
 use Rattle.ar_disks.specs.Addresses.{same_addr}
 use Rattle.ar_book.specs.Tables.{Tables, UnitState, no_unit, has_unit, home_in, unit_in, blocks_of}
@@ -116,14 +115,6 @@ heard Whole = refl
 heard (Out x) = refl
 heard (Rebuilding x d) = refl
 heard AllBroken = refl
-
--- a read answers by the health that it leaves, also where no disk is asked
-pub read_outcome : (home : Option Slot) (r : Completion) (old new : StoreState) → old.disks.health ≢ AllBroken
-    → (home ≡ None → (new ≡ old) × (r ≡ Done)) → (home ≢ None → r ≡ outcome_of new.disks.health) → r ≡ outcome_of new.disks.health
-read_outcome None r old new sound zeros outcome =
-    let all = zeros refl in
-    all.1 ∙ sym (sound_done old.disks.health sound) ∙ ap (λ (s : StoreState). outcome_of s.disks.health) (sym all.0)
-read_outcome (Some slot) r old new sound zeros outcome = outcome (λ e. cc)
 
 -- what calls of the store leave of it is what a cache asks for
 pub keeps_store : {S : Type 0} (store : S → StoreState) (old new : S) → StoreFollows (store old) (store new)

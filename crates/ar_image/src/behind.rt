@@ -9,7 +9,6 @@ ghost use Rattle.ar_image.specs.Laws.{book_puts_after, store_refl, store_then, r
 
 use ar_cache::Backing;
 use ar_disks::{Block, Completion, Disk, Key};
-use ar_extents::Health;
 use ar_store::Store;
 
 /// The store behind the cache. The keys that it knows are those of units' blocks.
@@ -34,9 +33,6 @@ impl<D: Disk> Backing for Behind<D> {
     ghost puts = { λ old key new. Puts old.store.book key new.store.book };
 
     fn get(&mut self, key: Key, into: &mut Block) -> Completion {
-        if let Health::Broken = self.store.health() {
-            return Completion::Broken;
-        }
         self.store.get(key, into)
     }
 

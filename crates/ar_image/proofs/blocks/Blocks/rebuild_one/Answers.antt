@@ -24,6 +24,7 @@ returns-clause-rebuilds g c =
       stands = call.stands;
       slots = call.slots;
       rows = call.keeps;
+      asks = call.asks;
       nothing = call.nothing;
       advances = call.advances;
       cache = refl;
