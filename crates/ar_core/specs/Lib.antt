@@ -1,6 +1,7 @@
 pub mod Causes
 pub mod Events
 pub mod Laws
+pub mod Map
 pub mod Quiet
 pub mod Run
 pub mod Served
