@@ -1,5 +1,5 @@
 -- What is seen under keys, and what calls of the store and of the cache leave of it.
-use Rattle.std.proofs.Common.{◌≡◌, ◌≢◌, ◌↔◌, ℕ, ◌/◌, ◌<◌, ◌≤◌, Bool, true, false, nat_lt, IsTrue, is_some, List, [], ◌∷◌, length, Option, None, Some, option_map, MatchOption, map, get_or, Result, Ok, Err, OnOk, OnErr, refl, sym, ap, subst, ◌∙◌, inl, inr, true≢false, length-append, arith}
+use Rattle.std.proofs.Common.{◌≡◌, ◌↔◌, ℕ, ◌/◌, ◌<◌, ◌≤◌, Bool, true, false, nat_lt, IsTrue, is_some, List, [], ◌∷◌, length, Option, None, Some, option_map, MatchOption, map, get_or, Result, Ok, Err, OnOk, OnErr, refl, sym, ap, subst, ◌∙◌, inl, inr, true≢false, length-append, arith}
 use Rattle.std.specs.Option.{unwrap_or}
 use Rattle.std.specs.Map.{lookup}
 use Rattle.std.specs.Result.{is_ok}
@@ -11,8 +11,7 @@ use Rattle.ar_disks.specs.Disk.{DiskState}
 use Rattle.ar_disks.specs.Geometry.{sectors_of, block_len_of}
 use Rattle.ar_extents.specs.declared.health.Health.{Health}
 use Rattle.ar_extents.specs.declared.health.Health.TheVariants.{Whole, Out, Rebuilding, Broken as AllBroken}
-use Rattle.ar_disks.specs.declared.completion.Completion.{Completion}
-use Rattle.ar_disks.specs.declared.completion.Completion.TheVariants.{Done, Broken}
+use Rattle.ar_disks.specs.declared.completion.Completion.TheVariants.{Done}
 use Rattle.ar_extents.specs.Set.{SetState, disk_in}
 use Rattle.ar_extents.specs.Changes.{is_broken as is_broken_set, start_fault}
 use Rattle.ar_extents.specs.Groups.{outcome_of}
