@@ -1,5 +1,5 @@
 -- What calls leave of a backing, one after another.
-use Rattle.std.proofs.Common.{◌≡◌, Bool, refl, ◌∙◌}
+use Rattle.std.proofs.Common.{Bool, refl, ◌∙◌}
 use Rattle.ar_disks.specs.declared.address.Key.{Key}
 use Rattle.ar_disks.specs.declared.geometry.Geometry.{Geometry}
 use Rattle.ar_cache.specs.Backing.{Keeps}

@@ -1,5 +1,5 @@
 -- Keys that were put into a backing, one after another.
-use Rattle.std.proofs.Common.{◌≡◌, ◌≢◌, ℕ, ◌-◌, ◌<◌, ◌≤◌, List, [], ◌∷◌, ◌++◌, Some, suc, map, length, take, drop, reverse, get_or, refl, sym, ap, ◌∙◌, subst, arith}
+use Rattle.std.proofs.Common.{◌≡◌, ◌≢◌, ℕ, ◌-◌, ◌<◌, ◌≤◌, List, [], ◌∷◌, ◌++◌, Some, suc, length, take, drop, reverse, get_or, refl, sym, ap, ◌∙◌, subst, arith}
 use Rattle.std.specs.List.{slice_get}
 use Rattle.std.specs.Map.{keys_of}
 use Rattle.std.proofs.Math.Seq.{drop-cons}

@@ -27,8 +27,8 @@ pub trait Backing {
     /// What the backing says of any call, from the state before it to the one after.
     ghost follows: { Self → Self → Type 0 };
 
-    /// What it says beside that of calls of `get`, however many.
-    ghost reads: { Self → Self → Type 0 };
+    /// What it says beside that of a call of `get`, by the key, whatever the answer.
+    ghost gets: { Self → Key → Self → Type 0 };
 
     /// What it says beside that of a call of `put` that is done, by the key.
     ghost puts: { Self → Key → Self → Type 0 };
@@ -42,7 +42,7 @@ pub trait Backing {
         ensures len { length into.new ≡ length into.old }
         ensures blocks { result ≡ Completion.Done → SameBlocks (block_at self.old) (block_at self.new) }
         ensures keeps { Keeps geometry knows is_broken follows self.old self.new }
-        ensures reads { reads self.old self.new };
+        ensures gets { gets self.old key self.new };
 
     /// Writes a block under a key that it knows. On Broken any blocks may stand.
     fn put(&mut self, key: Key, from: &[u8]) -> Completion
@@ -58,13 +58,4 @@ pub trait Backing {
 
     /// What follows a state that follows another follows that one too.
     ghost follows_trans: { (a b c : Self) → follows a b → follows b c → follows a c };
-
-    /// No read reads.
-    ghost reads_refl: { (s : Self) → reads s s };
-
-    /// Reads after reads read.
-    ghost reads_trans: { (a b c : Self) → reads a b → reads b c → reads a c };
-
-    /// What a put makes of a backing after reads, it makes of it as it was before them.
-    ghost puts_after: { (a b c : Self) → (key : Key) → reads a b → puts b key c → puts a key c };
 }

@@ -91,7 +91,7 @@ impl Cache {
             → SameBlocks (B.block_at backing.old) (B.block_at backing.new) }
         ensures hit { IsSome (cached self.now key)
             → (result ≡ Completion.Done) × (backing.new ≡ backing.old) }
-        ensures miss { cached self.now key ≡ None → B.reads backing.old backing.new }
+        ensures miss { cached self.now key ≡ None → B.gets backing.old key backing.new }
         ensures answer { IsHonest result (B.is_broken backing.old) (B.is_broken backing.new) }
         ensures asked { cached self.now key ≡ None → result ≡ stored (B.is_broken backing.new) }
         ensures keeps { Keeps B.geometry B.knows B.is_broken B.follows backing.old backing.new }

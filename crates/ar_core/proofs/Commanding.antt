@@ -1,12 +1,11 @@
 -- A command to one address, and the images of all.
-use Rattle.std.proofs.Common.{◌≡◌, ◌≢◌, ◌≤◌, ◌*◌, ℕ, Bool, true, false, cond, ◌&&◌, not, IsTrue, Option, Some, None, is_some, List, [], ◌∷◌, length, take, Ok, refl, sym, ap, subst, ◌∙◌, inl, inr}
+use Rattle.std.proofs.Common.{◌≡◌, ◌≢◌, ◌≤◌, ◌*◌, ℕ, Bool, true, false, cond, ◌&&◌, not, IsTrue, Option, Some, None, is_some, List, [], ◌∷◌, length, take, refl, sym, ap, subst, ◌∙◌, inl, inr}
 use Rattle.std.specs.Prelude.{◌==◌}
 use Rattle.std.specs.Map.{lookup}
 use Rattle.std.specs.Option.{unwrap_or}
 use Rattle.std.proofs.lemmas.Bool.{eqb-true}
 use Rattle.ar_disks.specs.declared.address.Addr.{Addr}
 use Rattle.ar_disks.specs.declared.address.Host.{Host}
-use Rattle.ar_scsi.specs.declared.command.Command.TheVariants.{Write}
 use Rattle.ar_scsi.specs.declared.sense.Sense.{Sense}
 use Rattle.ar_scsi.specs.Field.{operation_code, allocation_length}
 use Rattle.ar_scsi.specs.Reading.{reading}
@@ -28,7 +27,6 @@ use Rattle.ar_book.proofs.AfterMake.{unmarked_sectors}
 use Rattle.ar_book.proofs.Keys.{addr_tells}
 use Rattle.ar_book.proofs.Presence.{unmarked_there}
 use Rattle.ar_book.proofs.UnitLemmas.{unit_same, unit_other}
-use Rattle.ar_extents.specs.Follows.{Keeps, Anywhere}
 use Rattle.ar_store.specs.Calls.{IsAccessed}
 use Rattle.ar_store.specs.Placing.{SameUnits}
 use Rattle.ar_store.proofs.Changes.{units_refl}
@@ -40,7 +38,9 @@ use Rattle.ar_image.specs.Image.{ArrayState, is_broken, geometry_of, with_book, 
 use Rattle.ar_image.specs.Laws.{reads_refl}
 use Rattle.ar_image.specs.Seen.{IsUnit, SamePlaces, SameSeen, present_at}
 use Rattle.ar_core.specs.Served.{Serves, Settles, Commands}
-use Rattle.ar_core.specs.Step.{Steps, MovesNothing, addr_in, told, is_busy, entry_at}
+use Rattle.ar_core.specs.Step.{Steps, MovesNothing, addr_in, told, once_told, is_busy, entry_at}
+use Rattle.ar_image.specs.Storing.{ReadsBlock, ReadsFirst}
+use Rattle.ar_core.proofs.Serving.{first_none}
 use Rattle.ar_core.proofs.Causes.{cause_follows}
 use Rattle.ar_core.proofs.Events.{unit_follows}
 use Rattle.ar_image.specs.Seen.{SameUnit}
@@ -119,6 +119,15 @@ failure_told true old cdb bytes reply new sound is = refl
 failure_told false old cdb bytes reply new sound is =
     absurd (answer_other old cdb bytes (sym ((sound refl).given.answered (check_not_busy reply internal_target_failure is)) ∙ is))
 
+-- no mark was told
+told_same : (s : ArrayState) (addr : Addr) (cdb : List ℕ) → tells s addr cdb ≡ false → once_told s addr cdb ≡ s
+told_same s addr cdb quiet = ap (λ b. with_book s (cond b (unmarked s.store.book addr) s.store.book)) quiet
+
+-- where nothing has changed but the mark, nothing has moved
+moves_told : (old : ArrayState) (addr : Addr) (cdb : List ℕ) (new : ArrayState) → new ≡ once_told old addr cdb → MovesNothing old addr cdb new
+moves_told old addr cdb new only =
+    subst (MovesNothing old addr cdb) (sym only) (record { tables = refl; cache = refl; rows = (reads_refl old.store).rows })
+
 -- a command to the unit that is there
 pub commands_served : (old new : ArrayState) (addr : Addr) (n : ℕ) (cdb bytes : List ℕ) (reply : Reply) → IsUnit old addr n → tells old addr cdb ≡ false
     → Serves old addr (obeyed (unit_sectors old addr) (mark_at old.store.book addr) (reading cdb) bytes) (broken_obeyed n (reading cdb) (length bytes)) reply new
@@ -130,6 +139,7 @@ commands_served old new addr n cdb bytes reply unit quiet serves settles few =
     let later : image_at new addr ≡ present_at new addr = image_present new addr (same.there ∙ unit.there) in
     let shape = shape_present old addr unit.there in
     let still : shape_of (image_at new addr) ≡ shape_of (image_at old addr) = shape_same old new addr same in
+    let untold : once_told old addr cdb ≡ old = told_same old addr cdb quiet in
     let kept : SamePlaces old new → MovesNothing old addr cdb new =
     λ places. record { tables = places.reads.tables ∙ sym (ap (λ b. cond b (unmarked old.store.book addr) old.store.book) quiet); cache = places.cache; rows = places.reads.rows } in
     let sound : is_broken new ≡ false → IsServed (image_at old addr) (answer (image_at old addr) cdb bytes) reply (image_at new addr) =
@@ -148,11 +158,13 @@ commands_served old new addr n cdb bytes reply unit quiet serves settles few =
             subst (λ (s : Shape). IsGiven (broken_answer s cdb (length bytes)) reply) (sym shape)
             (subst (λ (r : Reply). IsGiven r reply) (sym (broken_quiet (length_at old.store.book addr) mark cdb (length bytes) quiet))
             (subst (λ k. IsGiven (broken_obeyed k (reading cdb) (length bytes)) reply) (sym unit.sectors_same) (serves.broken lost)));
+        still = λ none. settles.still none ∙ sym untold;
+        refused = λ status other. settles.refused status other ∙ sym untold;
+        lost = λ gone. settles.lost gone ∙ sym untold;
         reads = λ other. kept (settles.reads other);
-        refused = λ status other. kept (settles.refused status other);
-        lost = λ gone. kept (settles.lost gone);
         busy = λ status. kept (settles.busy status);
-        nothing = λ lba fua is. kept (settles.nothing lba fua is);
+        begun = λ lba count is. subst (λ (s : ArrayState). ReadsFirst ReadsBlock (geometry_of old) addr lba count s new) (sym untold) (settles.begun lba count is);
+        got = settles.got;
         forced = settles.forced;
         stored = settles.stored;
       };
@@ -212,7 +224,8 @@ commands_told old new addr n cdb bytes reply unit tells is cleared seen =
     let later : image_at new addr ≡ Present (unit_sectors old addr) false =
     image_present new addr there ∙ ap (λ m. Present (unit_sectors new addr) m) gone ∙ ap (λ (l : List (List ℕ)). Present l false) (sectors_after old new addr len shape seen) in
     let before : image_at old addr ≡ present_at old addr = image_present old addr unit.there in
-    let quiet : MovesNothing old addr cdb new = record { tables = tables ∙ sym (ap (λ b. cond b (unmarked old.store.book addr) old.store.book) tells); cache = cache; rows = subst (λ (s : ArrayState). Keeps Anywhere old.store.disks s.store.disks) (sym cleared) (reads_refl old.store).rows } in
+    let only : new ≡ once_told old addr cdb = cleared ∙ sym (ap (λ b. with_book old (cond b (unmarked old.store.book addr) old.store.book)) tells) in
+    let quiet : MovesNothing old addr cdb new = moves_told old addr cdb new only in
     let other_unit : (b : Addr) → b ≢ addr → SameUnit old.store.book new.store.book b =
     λ b other. subst (λ (t : Tables). SameUnit old.store.book t b) (sym tables) (record {
       there = unmarked_there old.store.book addr b;
@@ -239,11 +252,13 @@ commands_told old new addr n cdb bytes reply unit tells is cleared seen =
         broken = λ lost.
             subst (λ (s : Shape). IsGiven (broken_answer s cdb (length bytes)) reply) (sym (shape_present old addr unit.there))
             (subst (λ (r : Reply). IsGiven r reply) (sym (broken_told (length_at old.store.book addr) mark cdb (length bytes) tells)) (given_is reply capacity_data_has_changed is));
+        still = λ _. only;
+        refused = λ _ _. only;
+        lost = λ _. only;
         reads = λ _. quiet;
-        refused = λ _ _. quiet;
-        lost = λ _. quiet;
         busy = λ _. quiet;
-        nothing = λ _ _ _. quiet;
+        begun = λ lba count _. subst (ReadsFirst ReadsBlock (geometry_of old) addr lba count (once_told old addr cdb)) (sym only) (first_none (once_told old addr cdb) addr lba count);
+        got = λ lba count _ good. (let status = sym (ap (λ (r : Reply). r.status) is) ∙ good in absurd (cc));
         forced = λ lba count _ good. (let status = sym (ap (λ (r : Reply). r.status) is) ∙ good in absurd (cc));
         stored = λ lba count fua _ good. (let status = sym (ap (λ (r : Reply). r.status) is) ∙ good in absurd (cc));
       };
@@ -262,15 +277,15 @@ absent_mark t a none = by (lookup (same_addr a) t.units) none
     by None e = refl
     by (Some u) e = absurd (cc)
 
--- no WRITE is GOOD there
-absent_write : (cdb : List ℕ) (lba count : ℕ) (fua : Bool) (reply : Reply) → IsGiven (absent_reply cdb) reply → reading cdb ≡ Ok (Write lba count fua) → reply.status ≡ Good → ⊥
-absent_write cdb lba count fua reply given is good = by (operation_code cdb == 0x12) refl
+-- no command that needs blocks is GOOD there
+absent_needs : (cdb : List ℕ) (reply : Reply) → IsGiven (absent_reply cdb) reply → needs_blocks (reading cdb) ≡ true → reply.status ≡ Good → ⊥
+absent_needs cdb reply given some good = by (operation_code cdb == 0x12) refl
   where
     served : reply ≡ absent_reply cdb
     served = given.answered (λ busy. let status = sym good ∙ busy in cc)
 
     by : (b : Bool) → (operation_code cdb == 0x12) ≡ b → ⊥
-    by true code = (let none = inquiry-needs_none cdb (eqb-true (operation_code cdb) 0x12 code) in let some = ap needs_blocks is in cc)
+    by true code = (let none = inquiry-needs_none cdb (eqb-true (operation_code cdb) 0x12 code) in cc)
     by false code =
         (let told = ap (λ b. (cond b (good_of (take (allocation_length cdb) (inquiry_data false))) (check logical_unit_not_supported)).status) code in
         let status = sym good ∙ ap (λ (r : Reply). r.status) served ∙ told in cc)
@@ -289,7 +304,8 @@ pub commands_absent : (s : ArrayState) (addr : Addr) (cdb bytes : List ℕ) (rep
 unfolding answer broken_answer
 commands_absent s addr cdb bytes reply none given =
     let nothing : image_at s addr ≡ Absent = image_absent s addr none in
-    let quiet : MovesNothing s addr cdb s = record { tables = sym (ap (λ m. cond (m && not (operation_code cdb == 0x12)) (unmarked s.store.book addr) s.store.book) (absent_mark s.store.book addr none)); cache = refl; rows = (reads_refl s.store).rows } in
+    let only : s ≡ once_told s addr cdb = sym (told_same s addr cdb (ap (λ m. m && not (operation_code cdb == 0x12)) (absent_mark s.store.book addr none))) in
+    let quiet : MovesNothing s addr cdb s = moves_told s addr cdb s only in
     let sound : is_broken s ≡ false → IsServed (image_at s addr) (answer (image_at s addr) cdb bytes) reply (image_at s addr) =
     λ now.
     subst (λ (u : UnitState). IsServed u (answer u cdb bytes) reply u) (sym nothing)
@@ -303,13 +319,15 @@ commands_absent s addr cdb bytes reply none given =
         units = subst (λ (t : Tables). SameUnits (told s.store.book addr cdb) t) (sym quiet.tables) (units_refl (told s.store.book addr cdb));
         accessed = accessed_refl s.store.disks;
         broken = λ lost. subst (λ (u : UnitState). IsGiven (broken_answer (shape_of u) cdb (length bytes)) reply) (sym nothing) given;
+        still = λ _. only;
+        refused = λ _ _. only;
+        lost = λ _. only;
         reads = λ _. quiet;
-        refused = λ _ _. quiet;
-        lost = λ _. quiet;
         busy = λ _. quiet;
-        nothing = λ _ _ _. quiet;
-        forced = λ lba count is good. absurd (absent_write cdb lba count true reply given is good);
-        stored = λ lba count fua is good. absurd (absent_write cdb lba count fua reply given is good);
+        begun = λ lba count _. subst (λ (t : ArrayState). ReadsFirst ReadsBlock (geometry_of s) addr lba count t s) only (first_none s addr lba count);
+        got = λ lba count is good. absurd (absent_needs cdb reply given (ap needs_blocks is) good);
+        forced = λ lba count is good. absurd (absent_needs cdb reply given (ap needs_blocks is) good);
+        stored = λ lba count fua is good. absurd (absent_needs cdb reply given (ap needs_blocks is) good);
       };
       others = λ now b other. refl;
       shape =

@@ -1,6 +1,6 @@
 -- Two runs in which a unit met the same, and a WRITE that fits.
 use Rattle.std.proofs.Common.{◌≡◌, ◌≢◌, ℕ, ◌≤◌, true, false, [], List, length, take, Result, Ok, refl, sym, ap, subst, ◌∙◌, arith}
-use Rattle.std.specs.Prelude.{◌==◌, ◌+◌, ◌*◌, nat_lt, Bool}
+use Rattle.std.specs.Prelude.{◌==◌, ◌+◌, ◌*◌, Bool}
 use Rattle.std.proofs.lemmas.Bool.Decides.{nat_tests}
 use Rattle.ar_disks.specs.declared.address.Host.{Host}
 use Rattle.ar_scsi.specs.declared.command.Command.{Command}

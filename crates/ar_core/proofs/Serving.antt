@@ -13,25 +13,24 @@ use Rattle.ar_disks.specs.Geometry.{sectors_of, block_len_of}
 use Rattle.ar_disks.specs.Block.{sectors_at}
 use Rattle.ar_disks.proofs.Sectors.{sectors_at_is}
 use Rattle.ar_scsi.specs.declared.command.Command.{Command}
-use Rattle.ar_scsi.specs.declared.command.Command.TheVariants.{Write}
+use Rattle.ar_scsi.specs.declared.command.Command.TheVariants.{Read, Write}
 use Rattle.ar_scsi.specs.declared.reply.Reply.{Reply}
-use Rattle.ar_scsi.specs.declared.reply.Status.TheVariants.{Good, Busy}
+use Rattle.ar_scsi.specs.declared.reply.Status.TheVariants.{Good, CheckCondition, Busy}
 use Rattle.ar_scsi.specs.declared.sense.Sense.{Sense}
 use Rattle.ar_scsi.specs.Reply.{good, check, busy}
 use Rattle.ar_scsi.specs.Sense.{internal_target_failure, logical_block_address_out_of_range, data_phase_error}
 use Rattle.ar_unit.specs.Sectors.{cut, written, joined}
 use Rattle.ar_unit.specs.Unit.{Present, Answered, leaving, read_reply, write_answer, IsGiven}
 use Rattle.ar_book.specs.Tables.{unit_in, blocks_of as blocks_for}
-use Rattle.ar_cache.specs.Backing.{stored}
+use Rattle.ar_cache.specs.Backing.{InTurn, stored}
 use Rattle.ar_image.specs.Sectors.{sector_in, sectors_in, blocks_of, key_of, keys_in}
 use Rattle.ar_image.specs.Image.{ArrayState, is_broken, geometry_of, seen_at, knows_in, length_at, mark_at, unit_sectors, IsPadded}
 use Rattle.ar_image.specs.Following.{Follows}
-use Rattle.ar_image.specs.Laws.{follows_refl, places_refl}
+use Rattle.ar_image.specs.Laws.{follows_refl, places_refl, places_in_turn}
 use Rattle.ar_image.specs.Seen.{IsUnit, SamePlaces, SameSeen, Writes, present_at, sectors_read}
 use Rattle.ar_core.specs.Served.{Serves, Settles}
-use Rattle.ar_core.specs.Step.{is_write}
 use Rattle.ar_image.specs.Seen.{IsForced}
-use Rattle.ar_image.specs.Storing.{StoresBlocks}
+use Rattle.ar_image.specs.Storing.{ReadsBlock, ReadsFirst, StoresBlocks}
 use Rattle.ar_image.specs.declared.transfer.Transfer.{Transfer}
 use Rattle.ar_image.specs.declared.transfer.Transfer.TheVariants.{Done, Broken, NoMemory}
 use Rattle.ar_disks.specs.declared.completion.Completion.{Completion}
@@ -187,18 +186,18 @@ lost_broken false is = absurd (cc)
 
 -- how a READ ends
 pub serves_read : (old new : ArrayState) (addr : Addr) (lba count : ℕ) (transfer : Transfer) (out : List ℕ) (reply : Reply)
-    → Follows old new → SamePlaces old new → (transfer ≢ Broken → SameSeen old new) → sectors_read old addr lba count ≢ []
+    → Follows old new → (transfer ≢ Broken → SameSeen old new) → sectors_read old addr lba count ≢ []
     → (transfer ≢ Broken → is_broken new ≡ false) → (transfer ≡ Broken → IsTrue (is_broken new))
     → (transfer ≡ Done → out ≡ sectors_read old addr lba count)
     → (transfer ≡ Done → IsGiven (good out) reply) → (transfer ≡ Broken → reply ≡ check internal_target_failure) → (transfer ≡ NoMemory → reply ≡ busy)
     → Serves old addr (leaving (present_at old addr) (good (sectors_read old addr lba count))) (check internal_target_failure) reply new
-serves_read old new addr lba count Broken out reply follows places blocks some sound broken bytes done lost refused = record {
+serves_read old new addr lba count Broken out reply follows blocks some sound broken bytes done lost refused = record {
   follows = follows;
   sound = λ now. (let gone = broken refl in absurd (cc));
   others = λ now. (let gone = broken refl in absurd (cc));
   broken = λ now. subst (λ (r : Reply). IsGiven (check internal_target_failure) r) (sym (lost refl)) (given_check internal_target_failure);
 }
-serves_read old new addr lba count Done out reply follows places blocks some sound broken bytes done lost refused =
+serves_read old new addr lba count Done out reply follows blocks some sound broken bytes done lost refused =
     let seen : SameSeen old new = blocks (λ e. cc) in
     let same = unit_read old new addr follows seen in
     record {
@@ -211,7 +210,7 @@ serves_read old new addr lba count Done out reply follows places blocks some sou
       others = λ now k _. seen.same k;
       broken = λ now. (let still = sound (λ e. cc) in absurd (cc));
     }
-serves_read old new addr lba count NoMemory out reply follows places blocks some sound broken bytes done lost refused =
+serves_read old new addr lba count NoMemory out reply follows blocks some sound broken bytes done lost refused =
     let seen : SameSeen old new = blocks (λ e. cc) in
     let same = unit_read old new addr follows seen in
     record {
@@ -266,28 +265,82 @@ same_true a b same = grind (arith, nat_tests)
 pub not_below : (a b : ℕ) → nat_lt a b ≡ false → b ≤ a
 not_below a b test = grind (arith, nat_tests)
 
--- a command that left everything where it was
-pub settles_quiet : (old new : ArrayState) (addr : Addr) (command : Result Command Sense) (reply : Reply) → SamePlaces old new
-    → ((lba count : ℕ) (fua : Bool) → command ≡ Ok (Write lba count fua) → reply.status ≡ Good → ⊥) → Settles old addr command reply new
-settles_quiet old new addr command reply same none = record {
-  reads = λ _. same;
-  refused = λ _ _. same;
-  lost = λ _. same;
-  busy = λ _. same;
-  nothing = λ _ _ _. same;
-  forced = λ lba count is good. absurd (none lba count true is good);
-  stored = λ lba count fua is good. absurd (none lba count fua is good);
+no_more : (n : ℕ) → nat_lt 0 n ≡ false → n ≡ 0
+no_more n test = grind (arith, nat_tests)
+
+-- the blocks of no sector were read
+pub first_none : (s : ArrayState) (addr : Addr) (lba count : ℕ) → ReadsFirst ReadsBlock (geometry_of s) addr lba count s s
+first_none s addr lba count = record { many = 0; within = omega arith; in_turn = refl }
+
+-- a command that has changed nothing
+pub settles_same : (s : ArrayState) (addr : Addr) (command : Result Command Sense) (reply : Reply)
+    → ((lba count : ℕ) (fua : Bool) → command ≡ Ok (Write lba count fua) → reply.status ≡ Good → ⊥)
+    → ((lba count : ℕ) → command ≡ Ok (Read lba count) → reply.status ≡ Good → ⊥) → Settles s addr command reply s
+settles_same s addr command reply no_write no_read = record {
+  still = λ _. refl;
+  refused = λ _ _. refl;
+  lost = λ _. refl;
+  reads = λ _. places_refl s;
+  busy = λ _. places_refl s;
+  begun = λ lba count _. first_none s addr lba count;
+  got = λ lba count is good. absurd (no_read lba count is good);
+  forced = λ lba count is good. absurd (no_write lba count true is good);
+  stored = λ lba count fua is good. absurd (no_write lba count fua is good);
 }
 
--- no WRITE was asked for
-pub settles_read : (old new : ArrayState) (addr : Addr) (command : Result Command Sense) (reply : Reply) → is_write command ≡ false → SamePlaces old new → Settles old addr command reply new
-settles_read old new addr command reply other same =
-    settles_quiet old new addr command reply same (λ lba count fua is good. (let test = sym (ap is_write is) ∙ other in cc))
-
--- a WRITE was refused
+-- a command was refused, or met a broken array
 pub settles_check : (s : ArrayState) (addr : Addr) (command : Result Command Sense) (sense : Sense) (reply : Reply) → reply ≡ check sense → Settles s addr command reply s
 settles_check s addr command sense reply is =
-    settles_quiet s s addr command reply (places_refl s) (λ lba count fua _ good. (let status = sym (ap (λ (r : Reply). r.status) is) ∙ good in cc))
+    settles_same s addr command reply (λ lba count fua _ good. not_good good) (λ lba count _ good. not_good good)
+  where
+    not_good : reply.status ≡ Good → ⊥
+    not_good good = let status = sym (ap (λ (r : Reply). r.status) is) ∙ good in cc
+
+-- the blocks of no sector are none
+read_none : (old new : ArrayState) (addr : Addr) (lba count : ℕ) → count ≡ 0 → ReadsFirst ReadsBlock (geometry_of old) addr lba count old new → new ≡ old
+read_none old new addr lba count none first =
+    let many : first.many ≡ 0 = omega (arith, first.within, none) in
+    subst (λ n. InTurn ReadsBlock (keys_in (geometry_of old) addr lba n) old new) many first.in_turn
+
+abbrev read_of : ℕ → ℕ → Result Command Sense
+read_of lba count = Ok (Read lba count)
+
+first_same : (addr : Addr) (lba count l n : ℕ) (old new : ArrayState) → read_of lba count ≡ read_of l n
+    → ReadsFirst ReadsBlock (geometry_of old) addr lba count old new → ReadsFirst ReadsBlock (geometry_of old) addr l n old new
+first_same addr lba count l n old new is first =
+    let at : lba ≡ l = cc in
+    let many : count ≡ n = cc in
+    subst (λ k. ReadsFirst ReadsBlock (geometry_of old) addr l k old new) many
+    (subst (λ k. ReadsFirst ReadsBlock (geometry_of old) addr k count old new) at first)
+
+got_same : (addr : Addr) (lba count l n : ℕ) (old new : ArrayState) → read_of lba count ≡ read_of l n
+    → InTurn ReadsBlock (keys_in (geometry_of old) addr lba count) old new → InTurn ReadsBlock (keys_in (geometry_of old) addr l n) old new
+got_same addr lba count l n old new is got =
+    let at : lba ≡ l = cc in
+    let many : count ≡ n = cc in
+    subst (λ k. InTurn ReadsBlock (keys_in (geometry_of old) addr l k) old new) many
+    (subst (λ k. InTurn ReadsBlock (keys_in (geometry_of old) addr k count) old new) at got)
+
+-- a READ that was not refused
+pub settles_read : (old new : ArrayState) (addr : Addr) (lba count : ℕ) (reply : Reply) → is_broken old ≡ false
+    → ReadsFirst ReadsBlock (geometry_of old) addr lba count old new
+    → (reply.status ≡ Good → InTurn ReadsBlock (keys_in (geometry_of old) addr lba count) old new)
+    → (reply.status ≡ CheckCondition → reply ≡ check internal_target_failure)
+    → Settles old addr (Ok (Read lba count)) reply new
+settles_read old new addr lba count reply sound first got failed = record {
+  still = λ none. read_none old new addr lba count (no_more count none) first;
+  refused = λ status other. absurd (other (failed status));
+  lost = λ gone. absurd (cc);
+  reads = λ _. places;
+  busy = λ _. places;
+  begun = λ l n is. first_same addr lba count l n old new is first;
+  got = λ l n is good. got_same addr lba count l n old new is (got good);
+  forced = λ l n is good. absurd (cc);
+  stored = λ l n fua is good. absurd (cc);
+}
+  where
+    places : SamePlaces old new
+    places = places_in_turn (keys_in (geometry_of old) addr lba first.many) old new first.in_turn
 
 -- a block that has some of the unit's sectors is the unit's
 block_counted : (g : Geometry) (rb n : ℕ) → rb * sectors_of g < n → rb < blocks_for g n
@@ -365,41 +418,38 @@ forced_same addr lba count l n new fua is forced =
     subst (λ k. IsForced new addr l k) many (subst (λ k. IsForced new addr k count) first (forced set))
 
 stored_same : (addr : Addr) (lba count l n : ℕ) (old new : ArrayState) (fua f : Bool) → write_of lba count fua ≡ write_of l n f
-    → StoresBlocks (keys_in (geometry_of old) addr lba count) fua old new → StoresBlocks (keys_in (geometry_of old) addr l n) f old new
+    → StoresBlocks addr lba count fua old new → StoresBlocks addr l n f old new
 stored_same addr lba count l n old new fua f is stored =
     let first : lba ≡ l = cc in
     let many : count ≡ n = cc in
     let same : fua ≡ f = cc in
-    subst (λ b. StoresBlocks (keys_in (geometry_of old) addr l n) b old new) same
-    (subst (λ k. StoresBlocks (keys_in (geometry_of old) addr l k) fua old new) many (subst (λ k. StoresBlocks (keys_in (geometry_of old) addr k count) fua old new) first stored))
-
--- a WRITE of no sectors leaves everything where it was
-unwritten_same : (old new : ArrayState) (lba count l : ℕ) (fua f : Bool) → write_of lba count fua ≡ write_of l 0 f → (count ≡ 0 → new ≡ old) → SamePlaces old new
-unwritten_same old new lba count l fua f is none =
-    let zero : count ≡ 0 = cc in
-    let same : new ≡ old = none zero in
-    subst (SamePlaces old) (sym same) (places_refl old)
+    subst (λ b. StoresBlocks addr l n b old new) same
+    (subst (λ k. StoresBlocks addr l k fua old new) many (subst (λ k. StoresBlocks addr k count fua old new) first stored))
 
 -- a WRITE that was not refused
 pub settles_write : (old new : ArrayState) (addr : Addr) (lba count : ℕ) (fua : Bool) (answer : Completion) (reply : Reply) → is_broken old ≡ false
     → (answer ≡ Kept → reply ≡ good []) → (answer ≡ Lost → reply ≡ check internal_target_failure) → (answer ≡ Kept → IsTrue fua → IsForced new addr lba count)
-    → (answer ≡ Kept → StoresBlocks (keys_in (geometry_of old) addr lba count) fua old new)
+    → (answer ≡ Kept → StoresBlocks addr lba count fua old new)
     → (count ≡ 0 → new ≡ old) → Settles old addr (Ok (Write lba count fua)) reply new
 settles_write old new addr lba count fua Kept reply sound done lost forced stored none = record {
+  still = λ nothing. none (no_more count nothing);
   reads = λ other. absurd (cc);
+  begun = λ l n is. absurd (cc);
+  got = λ l n is good. absurd (cc);
   refused = λ status _. (let told = sym (ap (λ (r : Reply). r.status) (done refl)) ∙ status in absurd (cc));
   lost = λ gone. absurd (cc);
   busy = λ status. (let told = sym (ap (λ (r : Reply). r.status) (done refl)) ∙ status in absurd (cc));
-  nothing = λ l f is. unwritten_same old new lba count l fua f is none;
   forced = λ l n is good. forced_same addr lba count l n new fua is (forced refl);
   stored = λ l n f is good. stored_same addr lba count l n old new fua f is (stored refl);
 }
 settles_write old new addr lba count fua Lost reply sound done lost forced stored none = record {
+  still = λ nothing. none (no_more count nothing);
   reads = λ other. absurd (cc);
+  begun = λ l n is. absurd (cc);
+  got = λ l n is good. absurd (cc);
   refused = λ _ other. absurd (other (lost refl));
   lost = λ gone. absurd (cc);
   busy = λ status. (let told = sym (ap (λ (r : Reply). r.status) (lost refl)) ∙ status in absurd (cc));
-  nothing = λ l f is. unwritten_same old new lba count l fua f is none;
   forced = λ l n is good. (let told = sym (ap (λ (r : Reply). r.status) (lost refl)) ∙ good in absurd (cc));
   stored = λ l n f is good. (let told = sym (ap (λ (r : Reply). r.status) (lost refl)) ∙ good in absurd (cc));
 }

@@ -3,7 +3,7 @@ use Rattle.std.specs.Prelude.{◌≡◌, ◌≢◌, ℕ, true, false, IsTrue, Bo
 use Rattle.ar_disks.specs.declared.address.Addr.{Addr}
 use Rattle.ar_disks.specs.declared.address.Key.{Key}
 use Rattle.ar_scsi.specs.declared.command.Command.{Command}
-use Rattle.ar_scsi.specs.declared.command.Command.TheVariants.{Write}
+use Rattle.ar_scsi.specs.declared.command.Command.TheVariants.{Read, Write}
 use Rattle.ar_scsi.specs.declared.reply.Reply.{Reply}
 use Rattle.ar_scsi.specs.declared.reply.Status.TheVariants.{Good, CheckCondition, Busy}
 use Rattle.ar_scsi.specs.declared.sense.Sense.{Sense}
@@ -14,9 +14,10 @@ use Rattle.ar_unit.specs.Broken.{shape_of}
 use Rattle.ar_image.specs.Image.{ArrayState, geometry_of, is_broken, seen_at, image_at}
 use Rattle.ar_image.specs.Following.{Follows}
 use Rattle.ar_store.specs.Calls.{IsAccessed}
-use Rattle.ar_core.specs.Step.{Obeys, is_write, is_busy}
+use Rattle.ar_core.specs.Step.{Obeys, is_write, is_busy, moves_sectors}
 use Rattle.ar_image.specs.Sectors.{keys_in}
-use Rattle.ar_image.specs.Storing.{StoresBlocks}
+use Rattle.ar_cache.specs.Backing.{InTurn}
+use Rattle.ar_image.specs.Storing.{ReadsBlock, ReadsFirst, StoresBlocks}
 use Rattle.ar_image.specs.Seen.{IsForced, SamePlaces, present_at}
 
 -- The unit was served as the table says, by its sectors before the command, and is left with the table's, and no other unit's
@@ -27,17 +28,21 @@ pub record Serves (old : ArrayState) (addr : Addr) (table : Answered) (otherwise
   pub others : is_broken new ≡ false → (k : Key) → k.addr ≢ addr → seen_at new k ≡ seen_at old k
   pub broken : IsTrue (is_broken new) → IsGiven otherwise reply
 
--- Where the unit's blocks are kept afterwards: as before, but after a WRITE that was done, which has put each of its blocks once; and
--- none of these is in the cache where it came with FORCE UNIT ACCESS.
+-- Which disks were asked: none by a command that has no sector to read or to write, that is refused, or that finds the array broken;
+-- by a READ, those of its blocks. And where the unit's blocks are kept afterwards: as before, but after a WRITE that was done, which has
+-- put each of its blocks once; and none of these is in the cache where it came with FORCE UNIT ACCESS.
 pub record Settles (old : ArrayState) (addr : Addr) (command : Result Command Sense) (reply : Reply) (new : ArrayState) : Type 0 where
+  pub still : moves_sectors command ≡ false → new ≡ old
+  pub refused : reply.status ≡ CheckCondition → reply ≢ check internal_target_failure → new ≡ old
+  pub lost : IsTrue (is_broken old) → new ≡ old
   pub reads : is_write command ≡ false → SamePlaces old new
-  pub refused : reply.status ≡ CheckCondition → reply ≢ check internal_target_failure → SamePlaces old new
-  pub lost : IsTrue (is_broken old) → SamePlaces old new
   pub busy : reply.status ≡ Busy → SamePlaces old new
-  pub nothing : (lba : ℕ) (fua : Bool) → command ≡ Ok (Write lba 0 fua) → SamePlaces old new
+  pub begun : (lba count : ℕ) → command ≡ Ok (Read lba count) → ReadsFirst ReadsBlock (geometry_of old) addr lba count old new
+  pub got : (lba count : ℕ) → command ≡ Ok (Read lba count) → reply.status ≡ Good
+      → InTurn ReadsBlock (keys_in (geometry_of old) addr lba count) old new
   pub forced : (lba count : ℕ) → command ≡ Ok (Write lba count true) → reply.status ≡ Good → IsForced new addr lba count
   pub stored : (lba count : ℕ) (fua : Bool) → command ≡ Ok (Write lba count fua) → reply.status ≡ Good
-      → StoresBlocks (keys_in (geometry_of old) addr lba count) fua old new
+      → StoresBlocks addr lba count fua old new
 
 -- What a command does to the array: its unit obeys, and each unit, its own too, is what the command makes of it.
 pub record Commands (old : ArrayState) (addr : Addr) (cdb bytes : List ℕ) (reply : Reply) (new : ArrayState) : Type 0 where

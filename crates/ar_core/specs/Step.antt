@@ -1,9 +1,9 @@
 -- What one event does to an array.
-use Rattle.std.specs.Prelude.{◌≡◌, ◌≢◌, ◌≤◌, ◌*◌, ℕ, Bool, true, false, ◌&&◌, not, ◌==◌, if◌then◌else◌, IsTrue, List, [], ◌∷◌, length, Result, Ok}
+use Rattle.std.specs.Prelude.{◌≡◌, ◌≢◌, ◌≤◌, ◌*◌, ℕ, nat_lt, Bool, true, false, ◌&&◌, not, ◌==◌, if◌then◌else◌, IsTrue, List, [], ◌∷◌, length, Result, Ok}
 use Rattle.ar_disks.specs.declared.address.Addr.{Addr}
 use Rattle.ar_disks.specs.declared.address.Host.{Host}
 use Rattle.ar_scsi.specs.declared.command.Command.{Command}
-use Rattle.ar_scsi.specs.declared.command.Command.TheVariants.{Write}
+use Rattle.ar_scsi.specs.declared.command.Command.TheVariants.{Read, Write}
 use Rattle.ar_scsi.specs.declared.reply.Reply.{Reply}
 use Rattle.ar_scsi.specs.declared.reply.Status.{Status}
 use Rattle.ar_scsi.specs.declared.reply.Status.TheVariants.{Good, CheckCondition, Busy}
@@ -23,12 +23,13 @@ use Rattle.ar_core.specs.declared.event.EventOf.TheVariants.{Make as MakeEvent, 
 use Rattle.ar_core.specs.Events.{Outcome}
 use Rattle.ar_core.specs.declared.event.OutcomeOf.TheVariants.{Make as MakeOutcome, Grow as GrowOutcome, Remove as RemoveOutcome, Cmd as CmdOutcome, Flush as FlushOutcome, Demote as DemoteOutcome, Clean as CleanOutcome, Balance as BalanceOutcome, AddDisk as AddDiskOutcome, DiskOut as DiskOutOutcome, Replace as ReplaceOutcome, Rebuild as RebuildOutcome}
 use Rattle.ar_image.specs.Sectors.{Address, address_of, keys_in, same_address}
-use Rattle.ar_image.specs.Image.{ArrayState, geometry_of, is_broken, mark_at, image_at, image}
+use Rattle.ar_image.specs.Image.{ArrayState, geometry_of, is_broken, mark_at, image_at, image, with_book}
 use Rattle.ar_core.specs.Causes.{HasCause}
 use Rattle.ar_core.specs.Quiet.{IsQuiet}
 use Rattle.ar_store.specs.Calls.{IsAccessed}
 use Rattle.ar_image.specs.Seen.{IsForced}
-use Rattle.ar_image.specs.Storing.{StoresBlocks}
+use Rattle.ar_cache.specs.Backing.{InTurn}
+use Rattle.ar_image.specs.Storing.{ReadsBlock, ReadsFirst, StoresBlocks}
 use Rattle.ar_image.specs.Changes.{Makes, Grows, Removes}
 use Rattle.ar_image.specs.Flush.{FlushesOne}
 use Rattle.ar_image.specs.Moves.{DemotesOne, CleansOne}
@@ -79,9 +80,19 @@ abbrev pub is_write : Result Command Sense → Bool
 is_write (Ok (Write lba count fua)) = true
 is_write other = false
 
+-- the command is a READ or a WRITE of at least one sector
+abbrev pub moves_sectors : Result Command Sense → Bool
+moves_sectors (Ok (Read lba count)) = nat_lt 0 count
+moves_sectors (Ok (Write lba count fua)) = nat_lt 0 count
+moves_sectors other = false
+
 -- the tables once a command has told a unit's mark, if it has one; INQUIRY tells none
 abbrev pub told : Tables → Addr → List ℕ → Tables
 told t addr cdb = if mark_at t addr && not (operation_code cdb == 0x12) then unmarked t addr else t
+
+-- the array once a command has told a unit's mark: nothing else has changed, and no disk was asked
+abbrev pub once_told : ArrayState → Addr → List ℕ → ArrayState
+once_told s addr cdb = with_book s (told s.store.book addr cdb)
 
 -- no home, no cache entry and no row of any disk has changed; a mark that was told is cleared
 pub record MovesNothing (old : ArrayState) (addr : Addr) (cdb : List ℕ) (new : ArrayState) : Type 0 where
@@ -102,18 +113,26 @@ pub record Obeys (old : ArrayState) (addr : Addr) (cdb bytes : List ℕ) (reply 
   pub units : SameUnits (told old.store.book addr cdb) new.store.book
   -- and no disk was lost without a fault, nor is an extent loose that wasn't
   pub accessed : IsAccessed old.store.disks new.store.disks
-  -- no other command than a WRITE places or caches a block, nor does a WRITE that is refused, or finds the array broken
+  -- nothing but the mark changes, and no disk is asked, by a command that has no sector to read or to write, that is refused, or
+  -- that finds the array broken
+  pub still : moves_sectors (reading cdb) ≡ false → new ≡ once_told old addr cdb
+  pub refused : reply.status ≡ CheckCondition → reply ≢ check internal_target_failure → new ≡ once_told old addr cdb
+  pub lost : IsTrue (is_broken old) → new ≡ once_told old addr cdb
+  -- no other command than a WRITE places or caches a block, nor does one that is answered BUSY
   pub reads : is_write (reading cdb) ≡ false → MovesNothing old addr cdb new
-  pub refused : reply.status ≡ CheckCondition → reply ≢ check internal_target_failure → MovesNothing old addr cdb new
-  pub lost : IsTrue (is_broken old) → MovesNothing old addr cdb new
-  -- nor does a command that is answered BUSY, or a WRITE of no sectors
   pub busy : reply.status ≡ Busy → MovesNothing old addr cdb new
-  pub nothing : (lba : ℕ) (fua : Bool) → reading cdb ≡ Ok (Write lba 0 fua) → MovesNothing old addr cdb new
+  -- a READ, whatever it is answered, has read the blocks of its sectors once each, in ascending order, up to one of them, and no
+  -- other; all of them where it is GOOD
+  pub begun : (lba count : ℕ) → reading cdb ≡ Ok (Read lba count)
+      → ReadsFirst ReadsBlock (geometry_of old) addr lba count (once_told old addr cdb) new
+  pub got : (lba count : ℕ) → reading cdb ≡ Ok (Read lba count) → reply.status ≡ Good
+      → InTurn ReadsBlock (keys_in (geometry_of old) addr lba count) old new
   -- a WRITE with FORCE UNIT ACCESS leaves none of its blocks in the cache (SBC-2, WRITE (10) command)
   pub forced : (lba count : ℕ) → reading cdb ≡ Ok (Write lba count true) → reply.status ≡ Good → IsForced new addr lba count
-  -- a WRITE that was done has put each of its blocks once, in ascending order, and no other, and then forced each where it was asked
+  -- a WRITE that was done has put each of its blocks once, in ascending order, and no other, and then forced each where it was asked;
+  -- it has read before none but those of which it has only a part
   pub stored : (lba count : ℕ) (fua : Bool) → reading cdb ≡ Ok (Write lba count fua) → reply.status ≡ Good
-      → StoresBlocks (keys_in (geometry_of old) addr lba count) fua old new
+      → StoresBlocks addr lba count fua old new
 
 -- the event was answered by an outcome of its kind
 abbrev pub Answers : ArrayState → Event → Outcome → ArrayState → Type 0

@@ -2,6 +2,7 @@
 ghost use Rattle.std.specs.Prelude.{◌≡◌, ◌≢◌, ◌+◌, ◌-◌, ◌*◌, ◌/◌, ◌≤◌, ◌<◌, ◌==◌, not, false, true, IsTrue, Ok, nat_lt, if◌then◌else◌, length, []};
 ghost use Rattle.ar_disks.specs.declared.address.Key.{Key};
 ghost use Rattle.ar_disks.specs.Geometry.{block_len_of, sectors_of};
+ghost use Rattle.ar_scsi.specs.declared.reply.Status.TheVariants.{Good, CheckCondition};
 ghost use Rattle.ar_scsi.specs.Reading.{reading};
 ghost use Rattle.ar_scsi.specs.Reply.{good, check, busy};
 ghost use Rattle.ar_scsi.specs.Sense.{internal_target_failure, logical_block_address_out_of_range, data_phase_error, capacity_data_has_changed};
@@ -10,12 +11,12 @@ ghost use Rattle.ar_unit.specs.Broken.{broken_obeyed};
 ghost use Rattle.ar_cache.specs.Backing.{InTurn, stored};
 ghost use Rattle.ar_cache.specs.Cache.{cached};
 ghost use Rattle.ar_image.specs.Image.{is_broken, geometry_of, seen_at, unit_sectors, mark_at, with_book};
-ghost use Rattle.ar_image.specs.Seen.{IsUnit, SamePlaces, SameSeen, IsSpared, Writes, present_at, sectors_read};
+ghost use Rattle.ar_image.specs.Seen.{IsUnit, SameSeen, IsSpared, Writes, present_at, sectors_read};
 ghost use Rattle.ar_core.specs.Served.{Serves, Settles, Commands};
 ghost use Rattle.ar_image.specs.Following.{Follows};
 ghost use Rattle.ar_image.specs.Sectors.{keys_in};
 ghost use Rattle.ar_image.specs.Seen.{IsForced};
-ghost use Rattle.ar_image.specs.Storing.{ForcesBlock, PutsBlock, StoresBlocks};
+ghost use Rattle.ar_image.specs.Storing.{ForcesBlock, PutsBlocks, ReadsBlock, ReadsFirst, StoresBlocks};
 ghost use Rattle.ar_book.specs.Changes.{unmarked};
 
 use crate::{Array, Completion};
@@ -125,7 +126,7 @@ impl<D: Disk> Array<D> {
             (leaving (present_at self.old addr) (read_reply (unit_sectors self.old addr) lba count))
             (if nat_lt sectors (lba + count) then check logical_block_address_out_of_range else check internal_target_failure)
             result self.new }
-        ensures places { SamePlaces self.old self.new }
+        ensures settles { Settles self.old addr (Ok (Command.Read lba count)) result self.new }
         ensures few { length result.payload ≤ 65535 * 512 }
     {
         if is_past_end(sectors, lba, count) {
@@ -147,7 +148,9 @@ impl<D: Disk> Array<D> {
         ensures serves { Serves self.old addr
             (leaving (present_at self.old addr) (good (sectors_read self.old addr lba count)))
             (check internal_target_failure) result self.new }
-        ensures places { SamePlaces self.old self.new }
+        ensures begun { ReadsFirst ReadsBlock (geometry_of self.old) addr lba count self.old self.new }
+        ensures got { result.status ≡ Good → InTurn ReadsBlock (keys_in (geometry_of self.old) addr lba count) self.old self.new }
+        ensures failed { result.status ≡ CheckCondition → result ≡ check internal_target_failure }
         ensures few { length result.payload ≤ 65535 * 512 }
     {
         if count == 0 {
@@ -219,7 +222,7 @@ impl<D: Disk> Array<D> {
         ensures answer { result ≡ stored (is_broken self.new) }
         ensures writes { result ≡ Completion.Done → Writes self.old addr lba count bytes.now self.new }
         ensures forced { result ≡ Completion.Done → IsTrue fua → IsForced self.new addr lba count }
-        ensures stored { result ≡ Completion.Done → StoresBlocks (keys_in (geometry_of self.old) addr lba count) fua self.old self.new }
+        ensures stored { result ≡ Completion.Done → StoresBlocks addr lba count fua self.old self.new }
         ensures nothing { count ≡ 0 → self.new ≡ self.old }
         ensures follows { Follows self.old self.new }
     {
@@ -244,7 +247,7 @@ impl<D: Disk> Array<D> {
         requires sound { is_broken self.old ≡ false }
         ensures answer { result ≡ stored (is_broken self.new) }
         ensures writes { result ≡ Completion.Done → Writes self.old addr lba count bytes.now self.new }
-        ensures puts { result ≡ Completion.Done → InTurn PutsBlock (keys_in (geometry_of self.old) addr lba count) self.old self.new }
+        ensures puts { result ≡ Completion.Done → PutsBlocks addr lba count self.old self.new }
         ensures nothing { count ≡ 0 → self.new ≡ self.old }
         ensures follows { Follows self.old self.new }
     {
@@ -292,6 +295,8 @@ fn reply_to_read(transfer: Transfer, bytes: Vec<u8>) -> Reply
     ensures done { transfer ≡ Transfer.Done → IsGiven (good bytes.items) result }
     ensures broken { transfer ≡ Transfer.Broken → result ≡ check internal_target_failure }
     ensures memory { transfer ≡ Transfer.NoMemory → result ≡ busy }
+    ensures whole { result.status ≡ Good → transfer ≡ Transfer.Done }
+    ensures failed { result.status ≡ CheckCondition → result ≡ check internal_target_failure }
 {
     match transfer {
         Transfer::Done => good_with(bytes),
@@ -315,6 +320,7 @@ fn reply_to_write(stored: Completion) -> Reply
 fn good_with(bytes: Vec<u8>) -> Reply
     requires some { bytes.items ≢ [] }
     ensures given { IsGiven (good bytes.items) result }
+    ensures passed { result.status ≢ CheckCondition }
     ensures few { length result.payload ≤ length bytes.items }
 {
     match Bytes::from_vec(bytes) {

@@ -1,7 +1,6 @@
 -- Balancing of the store, as balancing behind the cache.
 use Rattle.std.proofs.Common.{◌≡◌, false, refl, ap, arith}
 use Rattle.std.specs.Prelude.{length}
-use Rattle.ar_disks.specs.declared.address.Addr.{Addr}
 use Rattle.ar_extents.specs.Changes.{is_broken as is_broken_set}
 use Rattle.ar_book.specs.Tables.{unit_in}
 use Rattle.ar_store.specs.Store.{StoreState}

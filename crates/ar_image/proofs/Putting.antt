@@ -1,24 +1,22 @@
 -- Blocks that are put, and forced to the disks.
-use Rattle.std.proofs.Common.{◌≡◌, ◌⊎◌, false, ℕ, ◌==◌, ◌+◌, ◌-◌, ◌/◌, ◌%◌, ◌<◌, ◌≤◌, List, [], ◌∷◌, ◌++◌, None, IsSome, min, refl, sym, ap, subst, ◌∙◌, inl, inr, arith}
-use Rattle.std.specs.List.{range_with_len}
-use Rattle.std.proofs.lemmas.Bool.{cases_lt, ne_eqb}
+use Rattle.std.proofs.Common.{◌≡◌, ◌⊎◌, false, ℕ, ◌==◌, ◌&&◌, nat_le, ◌+◌, ◌*◌, ◌-◌, ◌/◌, ◌%◌, ◌<◌, ◌≤◌, List, [], ◌∷◌, ◌++◌, None, IsSome, min, refl, sym, ap, subst, ◌∙◌, inl, inr, arith}
+use Rattle.std.proofs.lemmas.Bool.{cases_eq, cases_lt, ne_eqb}
+use Rattle.std.proofs.lemmas.Bool.Decides.{nat_tests}
 use Rattle.std.proofs.lemmas.List.FromFn.{map-range_with_len_more}
 use Rattle.ar_disks.specs.declared.address.Addr.{Addr}
 use Rattle.ar_disks.specs.declared.address.Key.{Key}
 use Rattle.ar_disks.specs.declared.geometry.Geometry.{Geometry}
 use Rattle.ar_disks.specs.declared.geometry.Geometry.TheVariants.{Paper, Small}
 use Rattle.ar_disks.specs.Geometry.{sectors_of}
-use Rattle.ar_extents.specs.Follows.{Keeps, Anywhere}
-use Rattle.ar_extents.proofs.Follows.{keeps_refl}
 use Rattle.ar_store.specs.Store.{StoreState}
 use Rattle.ar_store.specs.Slots.{stands}
 use Rattle.ar_store.specs.Placing.{Puts}
 use Rattle.ar_cache.specs.Backing.{InTurn}
 use Rattle.ar_cache.specs.Cache.{CacheState, Sees, TakesIn, cached, with_entries, without_key}
-use Rattle.ar_cache.proofs.Turns.{in_turn_seen}
+use Rattle.ar_cache.proofs.Turns.{in_turn_one, in_turn_seen, in_turn_then}
 use Rattle.ar_image.specs.Image.{ArrayState, seen_at}
 use Rattle.ar_image.specs.Sectors.{key_of, keys_from, keys_in}
-use Rattle.ar_image.specs.Storing.{PutsBlock, destaged}
+use Rattle.ar_image.specs.Storing.{PutsBlock, destaged, is_whole}
 use Rattle.ar_image.proofs.Seeing.{seen_by}
 
 -- a put of the cache over the store
@@ -35,9 +33,9 @@ put_stored store b n before after key block sees present absent puts =
       present = λ some. subst (λ (x : List ℕ). after ≡ with_entries before ((key, x) ∷ without_key before.entries key)) is (present some);
       absent = λ none. subst (λ (x : List ℕ). TakesIn before after key x) is (absent none);
       tables = in_turn_seen (λ s. (store s).book) (λ o k m. Puts (store o).book k (store m).book) Puts (λ o m k h. h) (destaged before key after) b n puts;
-      rows = λ none.
+      kept = λ none.
           let same = subst (λ ks. InTurn (λ o k m. Puts (store o).book k (store m).book) ks b n) none puts in
-          subst (λ s. Keeps Anywhere (store b).disks (store s).disks) (sym same) (keeps_refl Anywhere (store b).disks);
+          ap store same;
     }
 
 -- a range of sectors that isn't empty lies in some blocks
@@ -131,3 +129,42 @@ part-edge g at left part is =
       | inl block ↦ inl (block-ended g at part (omega (arith, is, block)))
       | inr rest ↦ inr (omega (arith, is, rest))
     ]
+
+-- one step more, for the block of the next part of a range
+pub turn-more : {S : Type 0} (step : S → Key → S → Type 0) (g : Geometry) (addr : Addr) (lba at part : ℕ) (a b c : S)
+    → lba ≤ at → 0 < part → at % sectors_of g + part ≤ sectors_of g → (at ≡ lba) ⊎ (at % sectors_of g ≡ 0)
+    → InTurn step (keys_in g addr lba (at - lba)) a b → step b (key_of addr (at / sectors_of g)) c → InTurn step (keys_in g addr lba (at + part - lba)) a c
+turn-more step g addr lba at part a b c from some within edge before next =
+    subst (λ ks. InTurn step ks a c) (sym (keys_in-more g addr lba at part from some within edge))
+    (in_turn_then step (keys_in g addr lba (at - lba)) (key_of addr (at / sectors_of g) ∷ []) a b c before
+    (in_turn_one step (key_of addr (at / sectors_of g)) b c next))
+
+-- two tests that ask the same
+same_tests : (part s a b c d : ℕ) → (part ≡ s → (a ≤ b) × (c ≤ d)) → (a ≤ b → c ≤ d → part ≡ s) → part == s ≡ nat_le a b && nat_le c d
+same_tests part s a b c d to from =
+    elim (cases_eq part s) [
+      | inl same ↦ (let low = (to same).0 in let high = (to same).1 in grind (arith, nat_tests))
+      | inr other ↦
+          elim (cases_lt b a) [
+            | inl past ↦ grind (arith, nat_tests)
+            | inr low ↦ elim (cases_lt d c) [ inl past ↦ grind (arith, nat_tests) | inr high ↦ absurd (other (from low high)) ]
+          ]
+    ]
+
+part-full : (g : Geometry) (lba count at part : ℕ) → part ≡ min (sectors_of g - at % sectors_of g) (lba + count - at) → lba ≤ at → at < lba + count
+    → part ≡ sectors_of g → (lba ≤ at / sectors_of g * sectors_of g) × ((at / sectors_of g + 1) * sectors_of g ≤ lba + count)
+part-full Paper lba count at part is from until full = (omega arith, omega arith)
+part-full Small lba count at part is from until full = (omega arith, omega arith)
+
+full-part : (g : Geometry) (lba count at part : ℕ) → part ≡ min (sectors_of g - at % sectors_of g) (lba + count - at) → lba ≤ at → at < lba + count
+    → (at ≡ lba) ⊎ (at % sectors_of g ≡ 0)
+    → lba ≤ at / sectors_of g * sectors_of g → (at / sectors_of g + 1) * sectors_of g ≤ lba + count → part ≡ sectors_of g
+full-part Paper lba count at part is from until edge low high = omega arith
+full-part Small lba count at part is from until edge low high = omega arith
+
+-- a part of a range is a whole block where the range has all of that
+pub part-whole : (g : Geometry) (addr : Addr) (lba count at part : ℕ) → part ≡ min (sectors_of g - at % sectors_of g) (lba + count - at) → lba ≤ at → at < lba + count
+    → (at ≡ lba) ⊎ (at % sectors_of g ≡ 0) → part == sectors_of g ≡ is_whole g lba count (key_of addr (at / sectors_of g))
+part-whole g addr lba count at part is from until edge =
+    same_tests part (sectors_of g) lba (at / sectors_of g * sectors_of g) ((at / sectors_of g + 1) * sectors_of g) (lba + count)
+    (part-full g lba count at part is from until) (full-part g lba count at part is from until edge)

@@ -1,7 +1,12 @@
 -- What reads and writes of blocks leave of a store and of the cache before it.
-use Rattle.std.specs.Prelude.{◌≡◌}
+use Rattle.std.specs.Prelude.{◌≡◌, None, Some}
+use Rattle.ar_disks.specs.declared.address.Key.{Key}
+use Rattle.ar_extents.specs.declared.health.Health.TheVariants.{Broken}
 use Rattle.ar_extents.specs.Follows.{Keeps, Anywhere}
+use Rattle.ar_book.specs.declared.class.Slot.{Slot}
+use Rattle.ar_book.specs.Tables.{home}
 use Rattle.ar_store.specs.Store.{StoreState}
+use Rattle.ar_store.specs.Slots.{AsksForSlot}
 use Rattle.ar_store.specs.Placing.{SameUnits}
 use Rattle.ar_store.specs.Calls.{IsAccessed}
 use Rattle.ar_image.specs.Image.{ArrayState}
@@ -15,6 +20,14 @@ pub record StoreFollows (old new : StoreState) : Type 0 where
 pub record StoreReads (old new : StoreState) : Type 0 where
   pub tables : new.book ≡ old.book
   pub rows : Keeps Anywhere old.disks new.disks
+
+-- One block was read from a store: no disk was asked that its slot doesn't need, and none at all where it has no home, or where the
+-- disks were broken before.
+pub record ReadsStored (old : StoreState) (key : Key) (new : StoreState) : Type 0 where
+  pub reads : StoreReads old new
+  pub unplaced : home old.book key ≡ None → new ≡ old
+  pub asks : (slot : Slot) → home old.book key ≡ Some slot → AsksForSlot old new slot
+  pub lost : old.disks.health ≡ Broken → new ≡ old
 
 -- what both leave of an array: the cache is as large
 pub record Follows (old new : ArrayState) : Type 0 where

@@ -1,16 +1,15 @@
 -- Reads and writes of blocks, one after another, leave what one may: laws of what READ and WRITE run over.
-use Rattle.std.proofs.Common.{◌≡◌, [], ◌∷◌, None, IsSome, refl, sym, ◌∙◌, subst}
+use Rattle.std.proofs.Common.{◌≡◌, ℕ, List, [], ◌∷◌, Option, None, Some, IsSome, refl, sym, ◌∙◌, subst}
 use Rattle.ar_disks.specs.declared.address.Key.{Key}
 use Rattle.ar_store.specs.Store.{StoreState}
-use Rattle.ar_store.specs.Placing.{Puts}
 use Rattle.ar_cache.specs.Backing.{InTurn}
-use Rattle.ar_cache.specs.Cache.{CacheState, TakesIn, cached, with_entries, without_key}
+use Rattle.ar_cache.specs.Cache.{cached}
 use Rattle.ar_store.proofs.Changes.{units_refl, units_then}
 use Rattle.ar_store.proofs.Fills.{accessed_refl, accessed_then}
-use Rattle.ar_image.specs.Image.{ArrayState, seen_at}
+use Rattle.ar_image.specs.Image.{ArrayState}
 use Rattle.ar_image.specs.Following.{StoreFollows, StoreReads, Follows}
 use Rattle.ar_image.specs.Seen.{SamePlaces}
-use Rattle.ar_image.specs.Storing.{PutsBlock, destaged}
+use Rattle.ar_image.specs.Storing.{ReadsBlock}
 
 pub store_refl : (s : StoreState) → StoreFollows s s
 store_refl s = record { units = units_refl s.book; accessed = accessed_refl s.disks }
@@ -30,9 +29,6 @@ reads_then a b c p q = record {
   rows = record { rows = λ place these row. q.rows.rows place these row ∙ p.rows.rows place these row };
 }
 
-pub book_puts_after : (a b c : StoreState) (key : Key) → StoreReads a b → Puts b.book key c.book → Puts a.book key c.book
-book_puts_after a b c key reads put = subst (λ t. Puts t key c.book) reads.tables put
-
 pub follows_refl : (s : ArrayState) → Follows s s
 follows_refl s = record { store = store_refl s.store; geometry = refl; capacity = refl }
 
@@ -49,19 +45,18 @@ places_refl s = record { reads = reads_refl s.store; cache = refl }
 pub places_then : (a b c : ArrayState) → SamePlaces a b → SamePlaces b c → SamePlaces a c
 places_then a b c p q = record { reads = reads_then a.store b.store c.store p.reads q.reads; cache = q.cache ∙ p.cache }
 
--- a put after reads is one of the array as it was before them
-pub puts_after_reads : (a b c : ArrayState) (key : Key) → SamePlaces a b → PutsBlock b key c → PutsBlock a key c
-puts_after_reads a b c key reads put = record {
-  present = λ is.
-      subst (λ (m : CacheState). c.cache ≡ with_entries m ((key, seen_at c key) ∷ without_key m.entries key)) reads.cache
-      (put.present (subst (λ (m : CacheState). IsSome (cached m key)) (sym reads.cache) is));
-  absent = λ none.
-      subst (λ (m : CacheState). TakesIn m c.cache key (seen_at c key)) reads.cache
-      (put.absent (subst (λ (m : CacheState). cached m key ≡ None) (sym reads.cache) none));
-  tables =
-      subst (λ t. InTurn Puts (destaged a.cache key c.cache) t c.store.book) reads.reads.tables
-      (subst (λ (m : CacheState). InTurn Puts (destaged m key c.cache) b.store.book c.store.book) reads.cache put.tables);
-  rows = λ none.
-      let later = put.rows (subst (λ (m : CacheState). destaged m key c.cache ≡ []) (sym reads.cache) none) in
-      record { rows = λ place these row. later.rows place these row ∙ reads.reads.rows.rows place these row };
-}
+-- what one block's read leaves
+pub places_read : (a b : ArrayState) (key : Key) → ReadsBlock a key b → SamePlaces a b
+places_read a b key read = by (cached a.cache key) refl
+  where
+    by : (o : Option (List ℕ)) → cached a.cache key ≡ o → SamePlaces a b
+    by None is = record { reads = (read.miss is).reads; cache = read.cache }
+    by (Some block) is =
+        let hit : IsSome (cached a.cache key) = rw is refl in
+        record { reads = subst (StoreReads a.store) (sym (read.hit hit)) (reads_refl a.store); cache = read.cache }
+
+-- and the reads of some, in turn
+pub places_in_turn : (keys : List Key) (a b : ArrayState) → InTurn ReadsBlock keys a b → SamePlaces a b
+places_in_turn [] a b same = subst (SamePlaces a) (sym same) (places_refl a)
+places_in_turn (key ∷ keys) a b turn =
+    places_then a turn.0 b (places_read a turn.0 key turn.1) (places_in_turn keys turn.0 b turn.2)

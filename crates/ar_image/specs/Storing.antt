@@ -1,11 +1,28 @@
--- Which blocks a WRITE gives to the cache and to the disks.
-use Rattle.std.specs.Prelude.{◌≡◌, ℕ, ◌<◌, ◌≤◌, ◌∷◌, ◌++◌, Bool, true, false, List, [], length, take, None, IsSome}
+-- Which blocks a READ asks for, and which a WRITE gives to the cache and to the disks.
+use Rattle.std.specs.Prelude.{◌≡◌, ℕ, ◌+◌, ◌*◌, ◌<◌, ◌≤◌, ◌∷◌, ◌++◌, ◌&&◌, nat_le, Bool, true, false, List, [], length, take, None, IsSome}
+use Rattle.ar_disks.specs.declared.address.Addr.{Addr}
 use Rattle.ar_disks.specs.declared.address.Key.{Key}
-use Rattle.ar_extents.specs.Follows.{Keeps, Anywhere}
+use Rattle.ar_disks.specs.declared.geometry.Geometry.{Geometry}
+use Rattle.ar_disks.specs.Geometry.{sectors_of}
 use Rattle.ar_store.specs.Placing.{Puts}
 use Rattle.ar_cache.specs.Backing.{InTurn}
 use Rattle.ar_cache.specs.Cache.{CacheState, TakesIn, cached, pushed_out, put_through, with_entries, without_key}
-use Rattle.ar_image.specs.Image.{ArrayState, seen_at}
+use Rattle.ar_image.specs.Following.{ReadsStored}
+use Rattle.ar_image.specs.Image.{ArrayState, geometry_of, seen_at}
+use Rattle.ar_image.specs.Sectors.{keys_in}
+
+-- A block was read: where it is cached, the disks were not asked and the tables are as they were; and else none was asked that the
+-- block doesn't need. The cache is as it was.
+pub record ReadsBlock (old : ArrayState) (key : Key) (new : ArrayState) : Type 0 where
+  pub cache : new.cache ≡ old.cache
+  pub hit : IsSome (cached old.cache key) → new.store ≡ old.store
+  pub miss : cached old.cache key ≡ None → ReadsStored old.store key new.store
+
+-- the blocks of the first so many sectors of a range were read, each once, in ascending order
+pub record ReadsFirst {S : Type 0} (gets : S → Key → S → Type 0) (g : Geometry) (addr : Addr) (lba count : ℕ) (old new : S) : Type 0 where
+  pub many : ℕ
+  pub within : many ≤ count
+  pub in_turn : InTurn gets (keys_in g addr lba many) old new
 
 -- the keys whose blocks a put of this one gives to the disks: what it pushes out of the cache, and its own where there was no
 -- memory for an entry, or there is no cache
@@ -13,13 +30,13 @@ abbrev pub destaged : CacheState → Key → CacheState → List Key
 destaged old key new = pushed_out old key ++ put_through new key
 
 -- A block was put: it is the most recently used entry, or has gone to the disks. The tables are those that the destaged
--- blocks make, in turn, and where there is none of these, no row of any disk was written.
+-- blocks make, in turn, and where there is none of these, no disk was asked.
 pub record PutsBlock (old : ArrayState) (key : Key) (new : ArrayState) : Type 0 where
   pub present : IsSome (cached old.cache key)
       → new.cache ≡ with_entries old.cache ((key, seen_at new key) ∷ without_key old.cache.entries key)
   pub absent : cached old.cache key ≡ None → TakesIn old.cache new.cache key (seen_at new key)
   pub tables : InTurn Puts (destaged old.cache key new.cache) old.store.book new.store.book
-  pub rows : destaged old.cache key new.cache ≡ [] → Keeps Anywhere old.store.disks new.store.disks
+  pub kept : destaged old.cache key new.cache ≡ [] → new.store ≡ old.store
 
 -- A block that was cached has gone to the disks, and where it wasn't nothing has changed.
 pub record ForcesBlock (old : ArrayState) (key : Key) (new : ArrayState) : Type 0 where
@@ -27,10 +44,29 @@ pub record ForcesBlock (old : ArrayState) (key : Key) (new : ArrayState) : Type 
   pub put : IsSome (cached old.cache key) → Puts old.store.book key new.store.book
   pub absent : cached old.cache key ≡ None → new.store ≡ old.store
 
--- Each of these blocks was put once, in turn; then, for FORCE UNIT ACCESS, each was forced to the disks, in turn.
-abbrev pub StoresBlocks : List Key → Bool → ArrayState → ArrayState → Type 0
-StoresBlocks keys false old new = InTurn PutsBlock keys old new
-StoresBlocks keys true old new = (put : ArrayState) × InTurn PutsBlock keys old put × InTurn ForcesBlock keys put new
+-- whether sectors from one on, so many, are all those of a block
+abbrev pub is_whole : Geometry → ℕ → ℕ → Key → Bool
+is_whole g lba count key = nat_le lba (key.rb * sectors_of g) && nat_le ((key.rb + 1) * sectors_of g) (lba + count)
+
+-- a block was put, and nothing more, where it is given whole; else it was read, and then put
+abbrev pub Replaces : {S : Type 0} → (S → Key → S → Type 0) → (S → Key → S → Type 0) → Bool → S → Key → S → Type 0
+Replaces gets puts true old key new = puts old key new
+Replaces {S} gets puts false old key new = (read : S) × gets old key read × puts read key new
+
+-- sectors were written over those of one of their blocks
+abbrev pub Overwrites : {S : Type 0} → (S → Key → S → Type 0) → (S → Key → S → Type 0) → Geometry → ℕ → ℕ → S → Key → S → Type 0
+Overwrites gets puts g lba count old key new = Replaces gets puts (is_whole g lba count key) old key new
+
+-- Each block of these sectors was written over once, in ascending order.
+abbrev pub PutsBlocks : Addr → ℕ → ℕ → ArrayState → ArrayState → Type 0
+PutsBlocks addr lba count old new =
+    InTurn (Overwrites ReadsBlock PutsBlock (geometry_of old) lba count) (keys_in (geometry_of old) addr lba count) old new
+
+-- And then, for FORCE UNIT ACCESS, each was forced to the disks, in ascending order.
+abbrev pub StoresBlocks : Addr → ℕ → ℕ → Bool → ArrayState → ArrayState → Type 0
+StoresBlocks addr lba count false old new = PutsBlocks addr lba count old new
+StoresBlocks addr lba count true old new =
+    (put : ArrayState) × PutsBlocks addr lba count old put × InTurn ForcesBlock (keys_in (geometry_of old) addr lba count) put new
 
 -- The cache was emptied until the array broke: the most recently used of its entries stand, at least the one whose block was being
 -- given to the disks then.

@@ -4,8 +4,8 @@ ghost use Rattle.ar_extents.specs.Changes.{is_broken as is_broken_set};
 ghost use Rattle.ar_store.specs.Slots.{stands};
 ghost use Rattle.ar_store.specs.Placing.{Puts};
 ghost use Rattle.ar_image.specs.Image.{knows_in};
-ghost use Rattle.ar_image.specs.Following.{StoreFollows, StoreReads};
-ghost use Rattle.ar_image.specs.Laws.{book_puts_after, store_refl, store_then, reads_refl, reads_then};
+ghost use Rattle.ar_image.specs.Following.{StoreFollows, ReadsStored};
+ghost use Rattle.ar_image.specs.Laws.{store_refl, store_then};
 
 use ar_cache::Backing;
 use ar_disks::{Block, Completion, Disk, Key};
@@ -28,7 +28,7 @@ impl<D: Disk> Backing for Behind<D> {
 
     ghost follows = { λ old new. StoreFollows old.store new.store };
 
-    ghost reads = { λ old new. StoreReads old.store new.store };
+    ghost gets = { λ old key new. ReadsStored old.store key new.store };
 
     ghost puts = { λ old key new. Puts old.store.book key new.store.book };
 
@@ -43,10 +43,4 @@ impl<D: Disk> Backing for Behind<D> {
     ghost follows_refl = { λ s. store_refl s.store };
 
     ghost follows_trans = { λ a b c first later. store_then a.store b.store c.store first later };
-
-    ghost reads_refl = { λ s. reads_refl s.store };
-
-    ghost reads_trans = { λ a b c first later. reads_then a.store b.store c.store first later };
-
-    ghost puts_after = { λ a b c key reads put. book_puts_after a.store b.store c.store key reads put };
 }

@@ -10,8 +10,8 @@ ghost use Rattle.ar_book.specs.Tables.{has_unit};
 ghost use Rattle.ar_cache.specs.Cache.{cached};
 ghost use Rattle.ar_image.specs.Image.{is_broken, geometry_of, seen_at, knows_in, mark_at};
 ghost use Rattle.ar_image.specs.Following.{Follows};
-ghost use Rattle.ar_image.specs.Laws.{follows_refl, follows_then, places_refl, places_then, puts_after_reads};
-ghost use Rattle.ar_image.specs.Storing.{PutsBlock};
+ghost use Rattle.ar_image.specs.Laws.{follows_refl, follows_then};
+ghost use Rattle.ar_image.specs.Storing.{PutsBlock, ReadsBlock};
 
 use crate::behind::Behind;
 use crate::{Flush, Refusal};
@@ -41,8 +41,6 @@ impl<D: Disk> Model for Blocks<D> {
 }
 
 impl<D: Disk> Backing for Blocks<D> {
-    ghost use Rattle.ar_image.specs.Seen.{SamePlaces};
-
     ghost block_at = { seen_at };
 
     ghost knows = { λ b. knows_in b.store };
@@ -53,7 +51,7 @@ impl<D: Disk> Backing for Blocks<D> {
 
     ghost follows = { Follows };
 
-    ghost reads = { SamePlaces };
+    ghost gets = { ReadsBlock };
 
     ghost puts = { PutsBlock };
 
@@ -74,12 +72,6 @@ impl<D: Disk> Backing for Blocks<D> {
     ghost follows_refl = { follows_refl };
 
     ghost follows_trans = { follows_then };
-
-    ghost reads_refl = { places_refl };
-
-    ghost reads_trans = { places_then };
-
-    ghost puts_after = { puts_after_reads };
 }
 
 impl<D: Disk> Blocks<D> {

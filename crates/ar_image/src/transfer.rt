@@ -1,11 +1,12 @@
 // How READ and WRITE move sectors, block by block.
-ghost use Rattle.std.specs.Prelude.{◌≡◌, ◌≢◌, ◌⊎◌, ◌+◌, ◌*◌, ◌-◌, ◌/◌, ◌%◌, ◌<◌, ◌≤◌, ◌++◌, ℕ, false, IsTrue, length};
+ghost use Rattle.std.specs.Prelude.{◌≡◌, ◌≢◌, ◌⊎◌, ◌+◌, ◌*◌, ◌-◌, ◌/◌, ◌%◌, ◌<◌, ◌≤◌, ◌==◌, ◌++◌, ℕ, false, IsTrue, length, vec_len, vec_capacity};
 ghost use Rattle.std.specs.List.{concat};
 ghost use Rattle.ar_disks.specs.declared.address.Key.{Key};
 ghost use Rattle.ar_disks.specs.Geometry.{sectors_of, block_len_of};
 ghost use Rattle.ar_disks.specs.Block.{sectors_at};
 ghost use Rattle.ar_cache.specs.Backing.{stored, InTurn, Keeps, SameBlocks};
 ghost use Rattle.ar_image.specs.Sectors.{sector_in, sectors_in, key_of, keys_in, blocks_of};
+ghost use Rattle.ar_image.specs.Storing.{Overwrites, ReadsFirst, Replaces};
 
 use ar_cache::Backing;
 use ar_disks::{Addr, Block, Completion, Geometry, Key, SECTOR_LEN};
@@ -36,7 +37,9 @@ fn read_part<B: Backing>(
     ensures sound { result ≢ Transfer.Broken → B.is_broken blocks.new ≡ false }
     ensures blocks { result ≢ Transfer.Broken → SameBlocks (B.block_at blocks.old) (B.block_at blocks.new) }
     ensures keeps { Keeps B.geometry B.knows B.is_broken B.follows blocks.old blocks.new }
-    ensures reads { B.reads blocks.old blocks.new }
+    ensures gets { B.gets blocks.old key blocks.new }
+    ensures room { vec_len out.old + 512 * count ≤ vec_capacity out.old → result ≢ Transfer.NoMemory }
+    ensures capacity { vec_capacity out.old ≤ vec_capacity out.new }
     ensures len { length block.new ≡ length block.old }
 {
     match blocks.get(key, block) {
@@ -48,7 +51,8 @@ fn read_part<B: Backing>(
     }
 }
 
-/// Appends `count` sectors of a unit from number `lba` on to `out`, which has room for them. NoMemory says that it hadn't.
+/// Appends `count` sectors of a unit from number `lba` on to `out`. Their blocks are read once each, in ascending order, until one can't be.
+/// NoMemory says that `out` had no room for them all, and got none.
 pub fn read_sectors<B: Backing>(
     blocks: &mut B,
     geometry: Geometry,
@@ -70,7 +74,9 @@ pub fn read_sectors<B: Backing>(
     ensures sound { result ≢ Transfer.Broken → B.is_broken blocks.new ≡ false }
     ensures blocks { result ≢ Transfer.Broken → SameBlocks (B.block_at blocks.old) (B.block_at blocks.new) }
     ensures keeps { Keeps B.geometry B.knows B.is_broken B.follows blocks.old blocks.new }
-    ensures reads { B.reads blocks.old blocks.new }
+    ensures gets { ReadsFirst B.gets geometry addr lba count blocks.old blocks.new }
+    ensures all { result ≡ Transfer.Done → InTurn B.gets (keys_in geometry addr lba count) blocks.old blocks.new }
+    ensures room { vec_len out.old + 512 * count ≤ vec_capacity out.old → result ≢ Transfer.NoMemory }
     ensures len { length block.new ≡ length block.old }
 {
     let sectors = geometry.sectors();
@@ -111,7 +117,7 @@ fn write_part<B: Backing>(
     ensures outside { result ≡ Completion.Done → (i : ℕ) → (i < first) ⊎ (first + count ≤ i) → i < sectors_of geometry
         → sectors_at (B.block_at blocks.new key) i 1 ≡ sectors_at (B.block_at blocks.old key) i 1 }
     ensures others { result ≡ Completion.Done → (k : Key) → k ≢ key → B.block_at blocks.new k ≡ B.block_at blocks.old k }
-    ensures puts { result ≡ Completion.Done → B.puts blocks.old key blocks.new }
+    ensures puts { result ≡ Completion.Done → Replaces B.gets B.puts (count == sectors_of geometry) blocks.old key blocks.new }
     ensures answer { result ≡ stored (B.is_broken blocks.new) }
     ensures keeps { Keeps B.geometry B.knows B.is_broken B.follows blocks.old blocks.new }
     ensures len { length block.new ≡ length block.old }
@@ -127,7 +133,8 @@ fn write_part<B: Backing>(
     blocks.put(key, block.bytes())
 }
 
-/// Puts the bytes of `count` sectors in place of those of a unit from number `lba` on, block by block in ascending order.
+/// Puts the bytes of `count` sectors in place of those of a unit from number `lba` on, block by block in ascending order. A block of which
+/// they are a part is read first, and no other.
 pub fn write_sectors<B: Backing>(
     blocks: &mut B,
     geometry: Geometry,
@@ -148,7 +155,7 @@ pub fn write_sectors<B: Backing>(
     ensures outside { result ≡ Completion.Done → (i : ℕ) → (i < lba) ⊎ (lba + count ≤ i)
         → sector_in geometry (blocks_of (B.block_at blocks.new) addr) i ≡ sector_in geometry (blocks_of (B.block_at blocks.old) addr) i }
     ensures others { result ≡ Completion.Done → (k : Key) → k.addr ≢ addr → B.block_at blocks.new k ≡ B.block_at blocks.old k }
-    ensures puts { result ≡ Completion.Done → InTurn B.puts (keys_in geometry addr lba count) blocks.old blocks.new }
+    ensures puts { result ≡ Completion.Done → InTurn (Overwrites B.gets B.puts geometry lba count) (keys_in geometry addr lba count) blocks.old blocks.new }
     ensures nothing { count ≡ 0 → blocks.new ≡ blocks.old }
     ensures answer { result ≡ stored (B.is_broken blocks.new) }
     ensures keeps { Keeps B.geometry B.knows B.is_broken B.follows blocks.old blocks.new }

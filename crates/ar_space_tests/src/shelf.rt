@@ -76,7 +76,7 @@ impl Backing for Shelf {
 
     ghost follows = { λ _ _. ⊤ };
 
-    ghost reads = { λ _ _. ⊤ };
+    ghost gets = { λ _ _ _. ⊤ };
 
     ghost puts = { λ _ _ _. ⊤ };
 
@@ -101,12 +101,6 @@ impl Backing for Shelf {
     ghost follows_refl = { λ _. tt };
 
     ghost follows_trans = { λ _ _ _ _ _. tt };
-
-    ghost reads_refl = { λ _. tt };
-
-    ghost reads_trans = { λ _ _ _ _ _. tt };
-
-    ghost puts_after = { λ _ _ _ _ _ _. tt };
 }
 
 // Copies the block under a key, where there is one of this length.

@@ -1,7 +1,8 @@
-use Rattle.std.proofs.Common.{◌≡◌, ◌+◌, ◌*◌, ◌-◌, ◌≤◌, ◌++◌, false, length}
+use Rattle.std.proofs.Common.{◌≡◌, ◌⊎◌, ◌+◌, ◌*◌, ◌-◌, ◌%◌, ◌≤◌, ◌++◌, false, length, vec_capacity}
 use Rattle.std.specs.List.{concat}
-use Rattle.ar_cache.specs.Backing.{Keeps, SameBlocks}
-use Rattle.ar_image.specs.Sectors.{sectors_in, blocks_of}
+use Rattle.ar_disks.specs.Geometry.{sectors_of}
+use Rattle.ar_cache.specs.Backing.{InTurn, Keeps, SameBlocks}
+use Rattle.ar_image.specs.Sectors.{sectors_in, keys_in, blocks_of}
 use Rattle.ar_image.proofs.transfer.read_sectors.Given as goal
 
 abbrev pub invariant-loop-at : goal.invariant-loop-at
@@ -13,7 +14,9 @@ invariant-loop-at g l = record {
   blocks : SameBlocks (g.B.Backing.block_at l.fn.blocks) (g.B.Backing.block_at l.blocks);
   sound : g.B.Backing.is_broken l.blocks ≡ false;
   keeps : Keeps g.B.Backing.geometry g.B.Backing.knows g.B.Backing.is_broken g.B.Backing.follows l.fn.blocks l.blocks;
-  reads : g.B.Backing.reads l.fn.blocks l.blocks;
+  gets : InTurn g.B.Backing.gets (keys_in l.fn.geometry l.addr l.lba (l.at - l.lba)) l.fn.blocks l.blocks;
+  edge : ((l.at ≡ l.lba) ⊎ (l.at % sectors_of l.fn.geometry ≡ 0)) ⊎ (l.at ≡ l.end);
+  capacity : vec_capacity l.fn.out ≤ vec_capacity l.out;
   len : length l.block ≡ length l.fn.block;
 }
 

@@ -1,11 +1,10 @@
-use Rattle.std.proofs.Common.{◌≡◌, ◌⊎◌, ℕ, ◌%◌, ◌/◌, ◌+◌, ◌-◌, ◌*◌, ◌<◌, ◌≤◌, List, [], ◌∷◌, inl, inr, min, take, drop, sym, ap, subst, ◌∙◌, arith}
+use Rattle.std.proofs.Common.{◌≡◌, ◌⊎◌, Bool, ℕ, ◌==◌, ◌%◌, ◌/◌, ◌+◌, ◌-◌, ◌*◌, ◌<◌, ◌≤◌, List, inl, inr, min, take, drop, sym, ap, subst, ◌∙◌, arith}
 use Rattle.ar_disks.specs.Geometry.{sectors_of}
-use Rattle.ar_image.specs.Sectors.{blocks_of, key_of, keys_in}
+use Rattle.ar_image.specs.Sectors.{blocks_of, key_of}
+use Rattle.ar_image.specs.Storing.{Overwrites, Replaces, is_whole}
 use Rattle.ar_cache.proofs.Keeping.{keeps_then}
 use Rattle.ar_disks.specs.declared.address.Key.{Key}
-use Rattle.ar_cache.specs.Backing.{InTurn}
-use Rattle.ar_cache.proofs.Turns.{in_turn_then, in_turn_one}
-use Rattle.ar_image.proofs.Putting.{keys_in-more, part-edge}
+use Rattle.ar_image.proofs.Putting.{part-edge, part-whole, turn-more}
 use Rattle.ar_image.proofs.Pieces.{other_block, other_unit, PutsPart, part-within, part-some, stored_done, written-inside, written-outside, cut_part}
 use Rattle.ar_image.proofs.transfer.write_sectors.Goals as goal
 
@@ -31,10 +30,16 @@ loop-at-preserved g c =
       others = λ q other. c.write_part.ensures.others c.in-Done.is (key_of c.args.addr q) (other_block c.args.addr q (at / c.sectors-sectors.result) other);
     }) in
     let key : Key = key_of c.args.addr (at / sectors_of c.args.geometry) in
-    let put : g.B.Backing.puts c.loop-at.blocks key c.write_part.new.blocks =
-    subst (λ (s : ℕ). g.B.Backing.puts c.loop-at.blocks (key_of c.args.addr (at / s)) c.write_part.new.blocks) sectors (c.write_part.ensures.puts c.in-Done.is) in
     let edge : (at ≡ c.args.lba) ⊎ (at % sectors_of c.args.geometry ≡ 0) =
     elim c.loop-at.invariant.edge [ inl is ↦ is | inr past ↦ absurd (omega (arith, past)) ] in
+    let part_is : part ≡ min (sectors_of c.args.geometry - at % sectors_of c.args.geometry) (c.args.lba + c.args.count - at) =
+    c.min-part.ensures ∙ ap (λ (s : ℕ). min (s - at % s) (c.args.lba + c.args.count - at)) sectors in
+    let part_whole : part == sectors_of c.args.geometry ≡ is_whole c.args.geometry c.args.lba c.args.count key =
+    part-whole c.args.geometry c.args.addr c.args.lba c.args.count at part part_is c.loop-at.invariant.from (omega arith) edge in
+    let put : Overwrites g.B.Backing.gets g.B.Backing.puts c.args.geometry c.args.lba c.args.count c.loop-at.blocks key c.write_part.new.blocks =
+    subst (λ (b : Bool). Replaces g.B.Backing.gets g.B.Backing.puts b c.loop-at.blocks key c.write_part.new.blocks) part_whole
+    (subst (λ (s : ℕ). Replaces g.B.Backing.gets g.B.Backing.puts (part == sectors_of c.args.geometry) c.loop-at.blocks (key_of c.args.addr (at / s)) c.write_part.new.blocks) sectors
+    (c.write_part.ensures.puts c.in-Done.is)) in
     let ended : ((at + part ≡ c.args.lba) ⊎ ((at + part) % sectors_of c.args.geometry ≡ 0)) ⊎ (at + part ≡ c.args.lba + c.args.count) =
     elim (part-edge c.args.geometry at (c.args.lba + c.args.count - at) part (c.min-part.ensures ∙ ap (λ (s : ℕ). min (s - at % s) (c.args.lba + c.args.count - at)) sectors)) [
       | inl whole ↦ inl (inr whole)
@@ -48,10 +53,8 @@ loop-at-preserved g c =
       others = λ k other.
           c.write_part.ensures.others c.in-Done.is k (other_unit k (key_of c.args.addr (at / c.sectors-sectors.result)) other) ∙ c.loop-at.invariant.others k other;
       put =
-          subst (λ ks. InTurn g.B.Backing.puts ks c.args.blocks.now c.write_part.new.blocks)
-          (sym (keys_in-more c.args.geometry c.args.addr c.args.lba at part c.loop-at.invariant.from some within edge))
-          (in_turn_then g.B.Backing.puts (keys_in c.args.geometry c.args.addr c.args.lba (at - c.args.lba)) (key ∷ []) c.args.blocks.now c.loop-at.blocks c.write_part.new.blocks
-          c.loop-at.invariant.put (in_turn_one g.B.Backing.puts key c.loop-at.blocks c.write_part.new.blocks put));
+          turn-more (Overwrites g.B.Backing.gets g.B.Backing.puts c.args.geometry c.args.lba c.args.count) c.args.geometry c.args.addr c.args.lba at part c.args.blocks.now c.loop-at.blocks c.write_part.new.blocks
+          c.loop-at.invariant.from some within edge c.loop-at.invariant.put put;
       edge = ended;
       untouched = λ same. absurd (omega (arith, same, c.loop-at.invariant.from, some));
       sound = stored_done _ (sym c.write_part.ensures.answer ∙ c.in-Done.is);

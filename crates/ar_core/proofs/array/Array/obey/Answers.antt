@@ -1,15 +1,14 @@
-use Rattle.std.proofs.Common.{true, ℕ, ◌*◌, length, Ok, refl, sym, subst, ◌∙◌}
+use Rattle.std.proofs.Common.{true, ℕ, ◌*◌, length, Ok, sym, subst, ◌∙◌}
 use Rattle.ar_scsi.specs.declared.command.Command.{Command}
-use Rattle.ar_scsi.specs.declared.command.Command.TheVariants.{TestReady, Inquiry, Capacity, Read}
+use Rattle.ar_scsi.specs.declared.command.Command.TheVariants.{TestReady, Inquiry, Capacity}
 use Rattle.ar_scsi.specs.Data.{capacity_data}
 use Rattle.ar_scsi.specs.Reply.{good}
 use Rattle.ar_unit.specs.Unit.{obeyed, IsGiven}
 use Rattle.ar_unit.specs.Broken.{broken_obeyed}
 use Rattle.ar_image.specs.Image.{unit_sectors, mark_at}
-use Rattle.ar_image.specs.Laws.{places_refl}
 use Rattle.ar_core.specs.Served.{Serves, Settles}
 use Rattle.ar_image.proofs.Images.{length-unit_sectors}
-use Rattle.ar_core.proofs.Serving.{serves_quiet, settles_read}
+use Rattle.ar_core.proofs.Serving.{serves_quiet, settles_same}
 use Rattle.ar_core.proofs.Short.{capacity_few, given_few, inquiry_few}
 use Rattle.ar_core.proofs.array.Array.obey.Goals as goal
 
@@ -26,7 +25,7 @@ returns-in-TestReady-clause-settles g c =
     subst
     (λ (command : Command). Settles c.args.self.now c.args.addr (Ok command) c.test_ready.result c.args.self.now)
     (sym c.in-TestReady.is)
-    (settles_read c.args.self.now c.args.self.now c.args.addr (Ok (TestReady)) c.test_ready.result refl (places_refl c.args.self.now))
+    (settles_same c.args.self.now c.args.addr (Ok (TestReady)) c.test_ready.result (λ lba count fua is _. cc) (λ lba count is _. cc))
 
 pub returns-in-Inquiry-clause-serves : goal.returns-in-Inquiry-clause-serves
 unfolding obeyed broken_obeyed
@@ -41,7 +40,7 @@ returns-in-Inquiry-clause-settles g c =
     subst
     (λ (command : Command). Settles c.args.self.now c.args.addr (Ok command) c.inquiry.result c.args.self.now)
     (sym c.in-Inquiry.is)
-    (settles_read c.args.self.now c.args.self.now c.args.addr (Ok (Inquiry c.in-Inquiry.allocation_length)) c.inquiry.result refl (places_refl c.args.self.now))
+    (settles_same c.args.self.now c.args.addr (Ok (Inquiry c.in-Inquiry.allocation_length)) c.inquiry.result (λ lba count fua is _. cc) (λ lba count is _. cc))
 
 pub returns-in-Capacity-clause-serves : goal.returns-in-Capacity-clause-serves
 unfolding obeyed broken_obeyed
@@ -58,7 +57,7 @@ returns-in-Capacity-clause-settles g c =
     subst
     (λ (command : Command). Settles c.args.self.now c.args.addr (Ok command) c.capacity.result c.args.self.now)
     (sym c.in-Capacity.is)
-    (settles_read c.args.self.now c.args.self.now c.args.addr (Ok (Capacity)) c.capacity.result refl (places_refl c.args.self.now))
+    (settles_same c.args.self.now c.args.addr (Ok (Capacity)) c.capacity.result (λ lba count fua is _. cc) (λ lba count is _. cc))
 
 pub returns-in-Read-clause-serves : goal.returns-in-Read-clause-serves
 unfolding obeyed broken_obeyed
@@ -73,7 +72,7 @@ returns-in-Read-clause-settles g c =
     subst
     (λ (command : Command). Settles c.args.self.now c.args.addr (Ok command) c.read.result c.read.new.self)
     (sym c.in-Read.is)
-    (settles_read c.args.self.now c.read.new.self c.args.addr (Ok (Read c.in-Read.lba c.in-Read.count)) c.read.result refl c.read.ensures.places)
+    (c.read.ensures.settles)
 
 pub returns-in-Write-clause-serves : goal.returns-in-Write-clause-serves
 unfolding obeyed broken_obeyed

@@ -4,7 +4,7 @@ use Rattle.ar_disks.specs.Geometry.{sectors_of, block_len_of}
 use Rattle.ar_image.specs.Image.{ArrayState, is_broken, geometry_of}
 use Rattle.ar_cache.specs.Backing.{InTurn}
 use Rattle.ar_image.specs.Sectors.{keys_in}
-use Rattle.ar_image.specs.Storing.{PutsBlock}
+use Rattle.ar_image.specs.Storing.{Overwrites, PutsBlock, PutsBlocks, ReadsBlock}
 use Rattle.ar_image.specs.Following.{Follows}
 use Rattle.ar_image.specs.Seen.{IsUnit, Writes}
 use Rattle.ar_core.proofs.Serving.{key_known, padded_written, range_written}
@@ -40,5 +40,7 @@ returns-clause-writes g c = λ done.
 
 pub returns-clause-puts : goal.returns-clause-puts
 returns-clause-puts g c = λ done.
-    subst (λ (s : ArrayState). InTurn PutsBlock (keys_in (geometry_of s) c.args.addr c.args.lba c.args.count) s c.write_sectors.new.blocks) c.self.view_is
-    (subst (λ (h : Geometry). InTurn PutsBlock (keys_in h c.args.addr c.args.lba c.args.count) c.self.inside.blocks c.write_sectors.new.blocks) c.geometry-geometry.ensures (c.write_sectors.ensures.puts done))
+    subst (λ (s : ArrayState). PutsBlocks c.args.addr c.args.lba c.args.count s c.write_sectors.new.blocks) c.self.view_is
+    (subst
+    (λ (h : Geometry). InTurn (Overwrites ReadsBlock PutsBlock h c.args.lba c.args.count) (keys_in h c.args.addr c.args.lba c.args.count) c.self.inside.blocks c.write_sectors.new.blocks)
+    c.geometry-geometry.ensures (c.write_sectors.ensures.puts done))

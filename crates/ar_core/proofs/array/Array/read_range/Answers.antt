@@ -9,7 +9,9 @@ use Rattle.ar_scsi.specs.declared.reply.Reply.{Reply}
 use Rattle.ar_unit.specs.Unit.{IsGiven, leaving}
 use Rattle.ar_image.specs.Image.{ArrayState, is_broken, geometry_of, seen_at}
 use Rattle.ar_image.specs.Following.{Follows}
-use Rattle.ar_image.specs.Sectors.{sectors_in, blocks_of}
+use Rattle.ar_cache.specs.Backing.{InTurn}
+use Rattle.ar_image.specs.Sectors.{sectors_in, keys_in, blocks_of}
+use Rattle.ar_image.specs.Storing.{ReadsBlock, ReadsFirst}
 use Rattle.ar_image.specs.Seen.{IsUnit, present_at, sectors_read}
 use Rattle.ar_core.specs.Served.{Serves}
 use Rattle.ar_core.proofs.Events.{padded_follows}
@@ -55,7 +57,7 @@ returns-clause-serves g c =
     (λ (s : ArrayState). Serves s c.args.addr (leaving (present_at s c.args.addr) (good (sectors_read s c.args.addr c.args.lba c.args.count))) (check internal_target_failure) c.reply_to_read.result c.read_sectors-transfer.new.blocks)
     c.self.view_is
     (serves_read c.self.inside.blocks c.read_sectors-transfer.new.blocks c.args.addr c.args.lba c.args.count c.read_sectors-transfer.result c.read_sectors-transfer.new.out.items c.reply_to_read.result
-    c.read_sectors-transfer.ensures.keeps.joined c.read_sectors-transfer.ensures.reads
+    c.read_sectors-transfer.ensures.keeps.joined
     (λ sound. record { same = (c.read_sectors-transfer.ensures.blocks sound).same })
     (sectors_read-some c.self.inside.blocks c.args.addr c.args.lba c.args.count whole (omega arith))
     c.read_sectors-transfer.ensures.sound c.read_sectors-transfer.ensures.broken
@@ -64,3 +66,14 @@ returns-clause-serves g c =
     ∙ ap (λ (l : List ℕ). l ++ concat (sectors_in c.geometry-geometry.result (blocks_of (seen_at c.self.inside.blocks) c.args.addr) c.args.lba c.args.count)) c.in-Ok.ensures.items
     ∙ ap (λ (h : Geometry). concat (sectors_in h (blocks_of (seen_at c.self.inside.blocks) c.args.addr) c.args.lba c.args.count)) c.geometry-geometry.ensures)
     c.reply_to_read.ensures.done c.reply_to_read.ensures.broken c.reply_to_read.ensures.memory)
+
+pub returns-clause-begun : goal.returns-clause-begun
+returns-clause-begun g c =
+    subst (λ (s : ArrayState). ReadsFirst ReadsBlock (geometry_of s) c.args.addr c.args.lba c.args.count s c.read_sectors-transfer.new.blocks) c.self.view_is
+    (subst (λ (h : Geometry). ReadsFirst ReadsBlock h c.args.addr c.args.lba c.args.count c.self.inside.blocks c.read_sectors-transfer.new.blocks) c.geometry-geometry.ensures c.read_sectors-transfer.ensures.gets)
+
+pub returns-clause-got : goal.returns-clause-got
+returns-clause-got g c = λ good.
+    subst (λ (s : ArrayState). InTurn ReadsBlock (keys_in (geometry_of s) c.args.addr c.args.lba c.args.count) s c.read_sectors-transfer.new.blocks) c.self.view_is
+    (subst (λ (h : Geometry). InTurn ReadsBlock (keys_in h c.args.addr c.args.lba c.args.count) c.self.inside.blocks c.read_sectors-transfer.new.blocks) c.geometry-geometry.ensures
+    (c.read_sectors-transfer.ensures.all (c.reply_to_read.ensures.whole good)))

@@ -22,5 +22,10 @@ returns g c =
       keeps =
           keeps_store (λ (b : Behind g.row.D.Denot). b.store) c.args.self.now (record { store = new })
           (record { units = units_same old.book new.book got.book; accessed = got.accessed });
-      reads = record { tables = got.book; rows = got.keeps };
+      gets = record {
+        reads = record { tables = got.book; rows = got.keeps };
+        unplaced = λ none. (got.zeros none).0;
+        asks = got.asks;
+        lost = got.broken;
+      };
     }
