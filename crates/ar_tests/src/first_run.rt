@@ -9,7 +9,7 @@ use std::process::Abort;
 use std::test::Fail;
 
 /// A unit is made, written, read, removed and made anew, and has zeros then. At the other address no unit is.
-const FIRST_RUN: [Row; 7] = [
+pub const FIRST_RUN: [Row; 7] = [
     (Call::Make(0, 4), Answer::Done),
     (Call::Write(0, 1, 1, 0xAA), Answer::Good(&[])),
     (Call::Read(0, 0), Answer::Sectors(0x00, 0xAA)),

@@ -23,6 +23,8 @@ mod mixed;
 #[cfg(test)]
 mod plain;
 #[cfg(test)]
+mod scarce;
+#[cfg(test)]
 mod scripts;
 #[cfg(test)]
 mod starts;
