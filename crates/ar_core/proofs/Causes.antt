@@ -1,5 +1,5 @@
 -- What events do to the health of the disks.
-use Rattle.std.proofs.Common.{◌≡◌, ◌≢◌, ◌⊎◌, ℕ, ◌<◌, ◌≤◌, true, false, [], ◌∷◌, refl, sym, ap, subst, inl, inr, arith, ◌∙◌}
+use Rattle.std.proofs.Common.{◌≡◌, ◌≢◌, ◌⊎◌, ℕ, ◌-◌, ◌<◌, ◌≤◌, true, false, [], ◌∷◌, refl, sym, ap, subst, inl, inr, arith, ◌∙◌}
 use Rattle.std.specs.Prelude.{◌==◌, length}
 use Rattle.std.proofs.lemmas.Bool.{cases_Bool, cases_lt}
 use Rattle.std.proofs.lemmas.Bool.Decides.{nat_tests}
@@ -17,7 +17,7 @@ use Rattle.ar_image.specs.Image.{ArrayState, is_broken}
 use Rattle.ar_image.proofs.Breaking.{not_broken, sound_is}
 use Rattle.ar_core.specs.Events.{Event}
 use Rattle.ar_core.specs.declared.event.EventOf.TheVariants.{AddDisk, DiskOut, Replace}
-use Rattle.ar_core.specs.Causes.{HasCause, IsTakenOut, IsNotReplaced, FaultsIn, IsHitBy, AreTwoHitBy}
+use Rattle.ar_core.specs.Causes.{HasCause, HurtsNone, IsTakenOut, IsNotReplaced, FaultsIn, IsHitBy, AreTwoHitBy}
 
 -- an array that isn't broken wasn't
 pub was_sound : (event : Event) (old new : ArrayState) → HasCause event old.store.disks new.store.disks → is_broken new ≡ false → is_broken old ≡ false
@@ -55,6 +55,10 @@ two_in event old new stay count two = record {
   other_hit = hit_in event old new two.other stay count two.other_hit;
 }
 
+-- a disk that is being rebuilt is down
+rebuilding_down : (h : Health) (d done : ℕ) → h ≡ Rebuilding d done → IsDown h d
+rebuilding_down h d done is = subst (λ (k : Health). IsDown k d) (sym is) refl
+
 -- reads and writes lose no disk without a fault, whatever the event, if it replaces none
 pub cause_follows : (event : Event) (old new : SetState) → ((x : ℕ) → IsNotReplaced event x) → Follows old new → HasCause event old new
 cause_follows event old new stay follows = record {
@@ -63,6 +67,7 @@ cause_follows event old new stay follows = record {
   faults = λ d _. follows.faults d;
   noticed = λ d fault. follows.noticed d fault.more;
   out = λ d out. elim (follows.out d out) [ inl was ↦ inl was | inr fault ↦ inr (inl (faults_in event old new d stay follows.count fault)) ];
+  rebuilding = λ d done is. rebuilding_down old.health d done (follows.rebuilding d done is);
   broken = λ lost. elim (follows.broken lost) [ inl was ↦ inl was | inr two ↦ inr (two_in event old new stay follows.count two) ];
   stays_broken = stays_broken old new follows;
 }
@@ -75,6 +80,7 @@ cause_advances event old new stay advances = record {
   faults = λ d _. advances.faults d;
   noticed = λ d fault. advances.noticed d fault.more;
   out = λ d out. elim (advances.out d out) [ inl was ↦ inl was | inr again ↦ inr (inl (faults_in event old new d stay advances.count again.faulted)) ];
+  rebuilding = λ d done is. rebuilding_down old.health d (done - 1) ((advances.rebuilding d done is).1);
   broken = λ lost. elim (advances.broken lost) [ inl was ↦ inl was | inr two ↦ inr (two_in event old new stay advances.count two) ];
   stays_broken = λ was. ap (λ (s : SetState). s.health) (advances.stays_broken was) ∙ was;
 }
@@ -82,12 +88,14 @@ cause_advances event old new stay advances = record {
 -- what taking a disk out makes of the health, by the health before
 record Fails (d : ℕ) (h k : Health) : Type 0 where
   out : (x : ℕ) → k ≡ Out x → (h ≡ Out x) ⊎ (d ≡ x)
+  rebuilding : (x n : ℕ) → k ≡ Rebuilding x n → ⊥
   broken : k ≡ Broken → (h ≡ Broken) ⊎ ((x : ℕ) × IsDown h x × (x ≢ d))
   stays : h ≡ Broken → k ≡ Broken
 
 other_down : (d x : ℕ) (h : Health) → IsDown h x → (d == x) ≡ false → Fails d h Broken
 other_down d x h down other = record {
   out = λ y is. absurd (cc);
+  rebuilding = λ y n is. cc;
   broken = λ _. inr (x, down, λ same. (let no = other in absurd (grind (arith, nat_tests))));
   stays = λ _. refl;
 }
@@ -95,6 +103,7 @@ other_down d x h down other = record {
 fails : (d : ℕ) (h : Health) → Fails d h (after_fault h d)
 fails d Whole = record {
   out = λ x is. inr (out_is d x is);
+  rebuilding = λ x n is. cc;
   broken = λ is. absurd (cc);
   stays = λ is. absurd (cc);
 }
@@ -103,12 +112,12 @@ fails d Whole = record {
     out_is a b e = cc
 fails d (Out x) =
     elim (cases_Bool (d == x)) [
-      | inl same ↦ rw same (record { out = λ y is. inl is; broken = λ is. absurd (cc); stays = λ is. absurd (cc) })
+      | inl same ↦ rw same (record { out = λ y is. inl is; rebuilding = λ y n is. cc; broken = λ is. absurd (cc); stays = λ is. absurd (cc) })
       | inr other ↦ rw other (other_down d x (Out x) refl other)
     ]
 fails d (Rebuilding x n) =
     elim (cases_Bool (d == x)) [
-      | inl same ↦ rw same (record { out = λ y is. inr (out_here d x y same is); broken = λ is. absurd (cc); stays = λ is. absurd (cc) })
+      | inl same ↦ rw same (record { out = λ y is. inr (out_here d x y same is); rebuilding = λ y m is. cc; broken = λ is. absurd (cc); stays = λ is. absurd (cc) })
       | inr other ↦ rw other (other_down d x (Rebuilding x n) refl other)
     ]
   where
@@ -117,7 +126,7 @@ fails d (Rebuilding x n) =
         let there : b ≡ c = cc in
         let here : a ≡ b = grind (arith, nat_tests) in
         here ∙ there
-fails d Broken = record { out = λ x is. absurd (cc); broken = λ _. inl refl; stays = λ _. refl }
+fails d Broken = record { out = λ x is. absurd (cc); rebuilding = λ x n is. cc; broken = λ _. inl refl; stays = λ _. refl }
 
 -- a disk that an event takes out is lost for that reason
 pub cause_failed : (s : SetState) (d : ℕ) → d < length s.disks → HasCause (DiskOut d) s (failed s d)
@@ -129,6 +138,7 @@ cause_failed s d there =
       faults = λ x _. omega arith;
       noticed = λ x fault. absurd (let more = fault.more in omega arith);
       out = λ x is. elim (does.out x is) [ inl was ↦ inl was | inr named ↦ inr (inr (taken x named)) ];
+      rebuilding = λ x n is. absurd (does.rebuilding x n is);
       broken = λ is.
           elim (does.broken is) [
             | inl was ↦ inl was
@@ -150,6 +160,7 @@ cause_same event old new same =
       faults = λ x _. omega arith;
       noticed = λ x fault. absurd (let more = fault.more in omega arith);
       out = λ x is. inl is;
+      rebuilding = λ x n is. rebuilding_down old.health x n is;
       broken = λ is. inl is;
       stays_broken = λ is. is;
     })
@@ -162,6 +173,7 @@ cause_added s disk = record {
   faults = λ d _. more d;
   noticed = λ d fault. absurd (let more = fault.more in let same = here d fault.there in omega arith);
   out = λ d is. inl is;
+  rebuilding = λ d n is. rebuilding_down s.health d n is;
   broken = λ is. inl is;
   stays_broken = λ is. is;
 }
@@ -176,18 +188,48 @@ cause_added s disk = record {
           | inr past ↦ (let none = ap (λ (x : DiskState). x.faults) (get_or_past s.disks d no_disk past) in omega arith)
         ]
 
+replaced_is : (a b c d : ℕ) → Rebuilding a b ≡ Rebuilding c d → a ≡ c
+replaced_is a b c d e = cc
+
 -- and so does one that is put in another's place, which then is being rebuilt
-pub cause_replaced : (s : SetState) (number : ℕ) (disk : DiskState) → (s.health ≡ Broken → ⊥) → HasCause (Replace number disk) s (replaced s number disk)
-cause_replaced s number disk sound = record {
+pub cause_replaced : (s : SetState) (number : ℕ) (disk : DiskState) → IsDown s.health number → HasCause (Replace number disk) s (replaced s number disk)
+cause_replaced s number disk down = record {
   geometry = refl;
   extents = refl;
   faults = λ d stays. (let same = here d stays in omega arith);
   noticed = λ d fault. absurd (let more = fault.more in let same = here d fault.same in omega arith);
   out = λ d is. absurd (cc);
+  rebuilding = λ d n is. subst (IsDown s.health) (replaced_is number 0 d n is) down;
   broken = λ is. absurd (cc);
-  stays_broken = λ was. absurd (sound was);
+  stays_broken = λ was. absurd (subst (λ (h : Health). IsDown h number) was down);
 }
   where
     here : (d : ℕ) → IsNotReplaced (Replace number disk) d → faults_of (replaced s number disk) d ≡ faults_of s d
     here d stays =
         ap (λ (x : DiskState). x.faults) (get_or-set_other s.disks number d disk no_disk (λ is. stays disk (ap (λ x. Replace x disk) (sym is))))
+
+-- disks that are whole stay so where none faults and none is taken out
+pub whole_stays : (event : Event) (old new : SetState) → HasCause event old new → HurtsNone event old new → old.health ≡ Whole → new.health ≡ Whole
+whole_stays event old new cause hurts whole = by new.health refl
+  where
+    no_down : (d : ℕ) → IsDown old.health d → ⊥
+    no_down d down = subst (λ (h : Health). IsDown h d) whole down
+
+    no_hit : (d : ℕ) → IsHitBy event old new d → ⊥
+    no_hit d (inl down) = no_down d down
+    no_hit d (inr (inl fault)) = hurts.no_fault d fault
+    no_hit d (inr (inr taken)) = hurts.none_out d taken
+
+    by : (h : Health) → new.health ≡ h → h ≡ Whole
+    by Whole is = refl
+    by (Out d) is =
+        elim (cause.out d is) [
+          | inl was ↦ absurd (let none = sym whole ∙ was in cc)
+          | inr hit ↦ absurd (no_hit d (inr hit))
+        ]
+    by (Rebuilding d n) is = absurd (no_down d (cause.rebuilding d n is))
+    by Broken is =
+        elim (cause.broken is) [
+          | inl was ↦ absurd (let none = sym whole ∙ was in cc)
+          | inr two ↦ absurd (no_hit two.one two.one_hit)
+        ]

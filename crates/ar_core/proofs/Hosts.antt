@@ -18,7 +18,11 @@ use Rattle.ar_core.specs.declared.event.EventOf.TheVariants.{Cmd as CmdEvent}
 use Rattle.ar_core.specs.declared.event.OutcomeOf.TheVariants.{Cmd as CmdOutcome}
 use Rattle.ar_core.specs.Run.{IsIsolated, own, unit_before}
 use Rattle.ar_core.specs.Step.{Steps, addr_in}
-use Rattle.ar_core.specs.Laws.{RunOf, IsAlikeAt, IsAnsweredSoundly, IsWriteWithin}
+use Rattle.ar_core.specs.Laws.{RunOf, IsAlikeAt, IsShapedAlikeAt, IsAnsweredSoundly, IsAnsweredBroken, IsWriteWithin}
+use Rattle.ar_unit.specs.Broken.{Shape, shape_of, broken_answer}
+use Rattle.ar_unit.proofs.Laws.{broken_answer-is}
+use Rattle.ar_image.specs.Sectors.{Address}
+use Rattle.ar_core.proofs.Isolation.{unit_run-shape}
 
 -- what a unit is that began so and met these
 pub same_reply : (one other : RunOf) (k j : ℕ) (host : Host) (lun : ℕ) (cdb payload : List ℕ) (reply told : Reply)
@@ -32,6 +36,22 @@ same_reply one other k j host lun cdb payload reply told isolated apart alike he
     isolated.sound k host lun cdb payload reply here.new here.answered here.after here.sound
     ∙ ap (λ (u : UnitState). (answer u cdb payload).reply) before
     ∙ sym (apart.sound j host lun cdb payload told there.new there.answered there.after there.sound)
+
+-- the same of arrays that have lost their data, by the shape with which the unit began
+pub same_broken_reply : (one other : RunOf) (k j : ℕ) (host : Host) (lun : ℕ) (cdb payload : List ℕ) (reply told : Reply)
+    → IsIsolated one.first one.turns one.states → IsIsolated other.first other.turns other.states
+    → IsShapedAlikeAt (host.number, lun) one k other j
+    → IsAnsweredBroken one k host lun cdb payload reply → IsAnsweredBroken other j host lun cdb payload told → reply ≡ told
+same_broken_reply one other k j host lun cdb payload reply told isolated apart alike here there =
+    let a : Address = (host.number, lun) in
+    let before : shape_of (unit_before one.first a one.turns k) ≡ shape_of (unit_before other.first a other.turns j) =
+    unit_run-shape (own a (take k one.turns)) (image one.first a) (image other.first a) alike.begun
+    ∙ ap (λ (es : List Entry). shape_of (unit_run (image other.first a) es)) alike.met in
+    isolated.broken k host lun cdb payload reply here.new here.answered here.after here.broken
+    ∙ sym (broken_answer-is (unit_before one.first a one.turns k) cdb payload)
+    ∙ ap (λ (s : Shape). broken_answer s cdb (length payload)) before
+    ∙ broken_answer-is (unit_before other.first a other.turns j) cdb payload
+    ∙ sym (apart.broken j host lun cdb payload told there.new there.answered there.after there.broken)
 
 -- the range doesn't end past the unit, and the data are as long as it asks
 within : (n lba count : ℕ) → lba + count ≤ n → is_past_end n lba count ≡ false

@@ -21,7 +21,7 @@ use Rattle.ar_core.specs.Step.{Steps, Obeys, addr_in}
 use Rattle.ar_core.specs.Run.{Turn, Did, Looked, Meets, Run, IsRun, TwoMissing, last_of, own, entry_in, turns_of, IsAnswered, IsIsolated, unit_before, AreTwoHitIn}
 
 -- the shape after a run depends on the shape before it
-unit_run-shape : (entries : List Entry) (u v : UnitState) → shape_of u ≡ shape_of v → shape_of (unit_run u entries) ≡ shape_of (unit_run v entries)
+pub unit_run-shape : (entries : List Entry) (u v : UnitState) → shape_of u ≡ shape_of v → shape_of (unit_run u entries) ≡ shape_of (unit_run v entries)
 unit_run-shape [] u v same = same
 unit_run-shape (entry ∷ entries) u v same =
     unit_run-shape entries (after u entry) (after v entry)
@@ -111,14 +111,17 @@ lost_in old (Did event outcome) new steps lost =
 lost_in old Looked new looks lost =
     elim (looks.accessed.follows.broken (broken_is new.store.disks.health lost)) [ inl was ↦ inl (ap is_broken_set was) | inr two ↦ inr two ]
 
--- why the last state has lost its data
-two_missing : (turns : List Turn) (states : List ArrayState) (old : ArrayState) → Run old turns states
-    → is_broken (last_of old states) ≡ true → (is_broken old ≡ true) ⊎ TwoMissing old turns states
-two_missing [] [] old run lost = inl lost
-two_missing [] (s ∷ states) old run lost = absurd run
-two_missing (turn ∷ turns) [] old run lost = absurd run
-two_missing (turn ∷ turns) (s ∷ states) old run lost =
-    elim (two_missing turns states s run.1 lost) [
+-- why the state after a turn has lost its data
+two_missing : (turns : List Turn) (states : List ArrayState) (old : ArrayState) (k : ℕ) (new : ArrayState) → Run old turns states
+    → slice_get states k ≡ Some new → is_broken new ≡ true → (is_broken old ≡ true) ⊎ TwoMissing old (take (suc k) turns) (take (suc k) states)
+two_missing [] [] old k new run there lost = absurd (cc)
+two_missing [] (s ∷ states) old k new run there lost = absurd run
+two_missing (turn ∷ turns) [] old k new run there lost = absurd run
+two_missing (turn ∷ turns) (s ∷ states) old zero new run there lost =
+    let is : s ≡ new = cc there in
+    elim (lost_in old turn s run.0 (ap is_broken is ∙ lost)) [ inl was ↦ inl was | inr two ↦ inr (inl two) ]
+two_missing (turn ∷ turns) (s ∷ states) old (suc k) new run there lost =
+    elim (two_missing turns states s k new run.1 there lost) [
       | inl here ↦ elim (lost_in old turn s run.0 here) [ inl was ↦ inl was | inr two ↦ inr (inl two) ]
       | inr later ↦ inr (inr later)
     ]
@@ -141,7 +144,7 @@ run-isolated old turns states run = record {
       sym ((left turns states old (image old a) k new a run (record { sound = λ _. refl; shape = refl }) there).sound now);
   shapes = λ k new there a.
       sym (left turns states old (image old a) k new a run (record { sound = λ _. refl; shape = refl }) there).shape;
-  lost = λ gone. two_missing turns states old run gone;
+  lost = λ k new there gone. two_missing turns states old k new run there gone;
 }
 
 -- one more turn

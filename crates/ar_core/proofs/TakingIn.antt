@@ -1,11 +1,16 @@
 -- Adding a disk is a step, and so is putting one in another's place.
-use Rattle.std.proofs.Common.{◌≡◌, ℕ, false, None, Result, Ok, Err, refl, sym, ap, subst}
-use Rattle.std.specs.Prelude.{option_map}
+use Rattle.std.proofs.Common.{◌≡◌, ℕ, Bool, true, false, cond, nat_le, length, None, Some, Result, Ok, Err, refl, sym, ap, subst, inl, inr, arith}
+use Rattle.std.specs.Prelude.{◌==◌, option_map}
+use Rattle.std.proofs.lemmas.Bool.{cases_Bool}
+use Rattle.std.proofs.lemmas.Bool.Decides.{nat_tests}
 use Rattle.ar_disks.specs.Disk.{DiskState}
 use Rattle.ar_extents.specs.Set.{SetState}
 use Rattle.ar_extents.specs.Changes.{replace_refusal}
 use Rattle.ar_extents.specs.declared.health.Health.{Health}
-use Rattle.ar_extents.specs.declared.health.Health.TheVariants.{Broken}
+use Rattle.ar_extents.specs.Health.{IsDown}
+use Rattle.ar_extents.specs.declared.health.Health.TheVariants.{Whole, Out, Rebuilding, Broken}
+use Rattle.ar_extents.specs.declared.refusal.DiskRefusal.{DiskRefusal}
+use Rattle.ar_extents.specs.declared.refusal.DiskRefusal.TheVariants.{NoSuchDisk, NotOut}
 use Rattle.ar_image.specs.declared.refusal.Refusal.{Refusal}
 use Rattle.ar_image.specs.declared.refusal.Refusal.TheVariants.{Disk as DiskRefused}
 use Rattle.ar_image.specs.Image.{ArrayState, is_broken}
@@ -39,10 +44,23 @@ steps_added old new disk result adds seen =
     steps_quiet old new (AddDiskEvent disk) (AddDiskOutcome result) adds (λ a. refl) (added_quiet old new disk result adds seen)
     (added_cause old new disk result adds)
 
--- no disk is taken in by a set that is broken
-not_lost : (s : SetState) (number : ℕ) (disk : DiskState) → option_map DiskRefused (replace_refusal s number disk) ≡ None → s.health ≡ Broken → ⊥
-not_lost s number disk taken is =
-    let refused = subst (λ (h : Health). option_map DiskRefused (replace_refusal (record s { health = h }) number disk) ≡ None) is taken in cc
+refused_both : (b : Bool) (one other : DiskRefusal) → option_map DiskRefused (cond b (Some one) (Some other)) ≡ None → ⊥
+refused_both true one other taken = cc
+refused_both false one other taken = cc
+
+-- a disk is taken in another's place only where that is out
+was_out : (s : SetState) (number : ℕ) (disk : DiskState) → option_map DiskRefused (replace_refusal s number disk) ≡ None → IsDown s.health number
+was_out s number disk taken = by s.health taken
+  where
+    by : (h : Health) → option_map DiskRefused (replace_refusal (record s { health = h }) number disk) ≡ None → IsDown h number
+    by Whole none = refused_both (nat_le (length s.disks) number) NoSuchDisk NotOut none
+    by (Out x) none =
+        elim (cases_Bool (number == x)) [
+          | inl same ↦ grind (arith, nat_tests)
+          | inr other ↦ absurd (refused_both (nat_le (length s.disks) number) NoSuchDisk NotOut (rw other at none))
+        ]
+    by (Rebuilding x n) none = absurd (refused_both (nat_le (length s.disks) number) NoSuchDisk NotOut none)
+    by Broken none = absurd (cc)
 
 replaced_quiet : (old new : ArrayState) (number : ℕ) (disk : DiskState) (result : Result (Unit {0}) (Refusal × DiskState)) → ReplacesDisk old number disk result new
     → (is_broken new ≡ false → SameSeen old new) → IsQuiet old new
@@ -54,7 +72,7 @@ replaced_cause : (old new : ArrayState) (number : ℕ) (disk : DiskState) (resul
     → HasCause (ReplaceEvent number disk) old.store.disks new.store.disks
 replaced_cause old new number disk (Ok done) replaces =
     subst (λ (s : ArrayState). HasCause (ReplaceEvent number disk) old.store.disks s.store.disks) (sym replaces.replaced)
-    (cause_replaced old.store.disks number disk (not_lost old.store.disks number disk replaces.taken))
+    (cause_replaced old.store.disks number disk (was_out old.store.disks number disk replaces.taken))
 replaced_cause old new number disk (Err back) replaces =
     cause_same (ReplaceEvent number disk) old.store.disks new.store.disks (ap (λ (s : ArrayState). s.store.disks) replaces.unchanged)
 

@@ -1,7 +1,7 @@
 -- That no disk is lost without a cause.
 use Rattle.std.specs.Prelude.{◌≡◌, ◌≢◌, ◌⊎◌, ℕ, ◌<◌, ◌≤◌, true, length}
 use Rattle.ar_disks.specs.Disk.{DiskState}
-use Rattle.ar_extents.specs.declared.health.Health.TheVariants.{Out, Broken}
+use Rattle.ar_extents.specs.declared.health.Health.TheVariants.{Out, Rebuilding, Broken}
 use Rattle.ar_extents.specs.Health.{IsDown, is_out}
 use Rattle.ar_extents.specs.Set.{SetState, faults_of}
 use Rattle.ar_extents.specs.Follows.{Faulted}
@@ -35,15 +35,21 @@ pub record AreTwoHitBy (event : Event) (old new : SetState) : Type 0 where
   pub one_hit : IsHitBy event old new one
   pub other_hit : IsHitBy event old new other
 
+-- no disk faults in the event, and none is taken out by it
+pub record HurtsNone (event : Event) (old new : SetState) : Type 0 where
+  pub no_fault : (d : ℕ) → FaultsIn event old new d → ⊥
+  pub none_out : (d : ℕ) → IsTakenOut event old d → ⊥
+
 -- What any event may do to the disks; what one does to their health and number and to the loose extents, its own relation says.
 -- Their shape stays, and the fault counts of those that stay only grow. A disk that has faulted in the event is out after it, or the data
--- are lost; a disk is out only where it was, has faulted in the event or was taken out by it; the data are lost only where they were, or
--- where two disks are hit, and for good.
+-- are lost; a disk is out only where it was, has faulted in the event or was taken out by it, and is being rebuilt only where it was out
+-- or being rebuilt; the data are lost only where they were, or where two disks are hit, and for good.
 pub record HasCause (event : Event) (old new : SetState) : Type 0 where
   pub geometry : new.geometry ≡ old.geometry
   pub extents : new.extents ≡ old.extents
   pub faults : (d : ℕ) → IsNotReplaced event d → faults_of old d ≤ faults_of new d
   pub noticed : (d : ℕ) → FaultsIn event old new d → is_out new.health d ≡ true
   pub out : (d : ℕ) → new.health ≡ Out d → (old.health ≡ Out d) ⊎ (FaultsIn event old new d ⊎ IsTakenOut event old d)
+  pub rebuilding : (d done : ℕ) → new.health ≡ Rebuilding d done → IsDown old.health d
   pub broken : new.health ≡ Broken → (old.health ≡ Broken) ⊎ AreTwoHitBy event old new
   pub stays_broken : old.health ≡ Broken → new.health ≡ Broken

@@ -85,8 +85,10 @@ pub record IsIsolated (old : ArrayState) (turns : List Turn) (states : List Arra
   pub shapes :
       (k : ℕ) (new : ArrayState) → slice_get states k ≡ Some new
       → (a : Address) → shape_of (image new a) ≡ shape_of (unit_before old a turns (suc k))
-  -- no data are lost but by the loss of two disks
-  pub lost : IsTrue (is_broken (last_of old states)) → IsTrue (is_broken old) ⊎ TwoMissing old turns states
+  -- after no turn are the data lost but by the loss of two disks, at one moment of the run so far
+  pub lost :
+      (k : ℕ) (new : ArrayState) → slice_get states k ≡ Some new → IsTrue (is_broken new)
+      → IsTrue (is_broken old) ⊎ TwoMissing old (take (suc k) turns) (take (suc k) states)
 
 -- The array met these turns, one after another, and was left so; and that is the theorem.
 pub record IsRun (old : ArrayState) (turns : List Turn) (new : ArrayState) : Type 0 where

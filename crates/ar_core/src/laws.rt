@@ -8,19 +8,36 @@ ghost use Rattle.ar_unit.specs.Unit.{Present};
 ghost use Rattle.ar_image.specs.Image.{ArrayState, is_broken, image};
 ghost use Rattle.ar_core.specs.Run.{IsIsolated};
 ghost use Rattle.ar_core.specs.Step.{Steps};
-ghost use Rattle.ar_core.specs.Laws.{RunOf, IsAlikeAt, IsAnsweredSoundly, IsWriteWithin};
+ghost use Rattle.ar_core.specs.Laws.{RunOf, IsAlikeAt, IsShapedAlikeAt, IsAnsweredSoundly, IsAnsweredBroken, IsWriteWithin};
+ghost use Rattle.ar_extents.specs.declared.health.Health.TheVariants.{Whole};
+ghost use Rattle.ar_core.specs.Causes.{HurtsNone};
+ghost use Rattle.ar_core.specs.Events.{Event, Outcome};
 
 use crate::{EventOf, OutcomeOf};
 
 /// A host's own entries decide its replies: in two runs, on any arrays and whatever else happened in them, a command to a unit
-/// that began the same and has met the same makings, growths, removals and commands of its own is answered the same. It does
-/// nothing when it is called.
+/// that began the same and has met the same makings, growths, removals and commands of its own is answered the same; where the
+/// data of both arrays are lost, it needs to have begun with the same presence, length and mark alone. It does nothing when it is
+/// called.
 pub fn own_entries_decide_replies()
-    ensures { (one other : RunOf) (k j : ℕ) (host : Host) (lun : ℕ) (cdb payload : List ℕ) (reply answer : Reply)
+    ensures sound { (one other : RunOf) (k j : ℕ) (host : Host) (lun : ℕ) (cdb payload : List ℕ) (reply answer : Reply)
         → IsIsolated one.first one.turns one.states → IsIsolated other.first other.turns other.states
         → IsAlikeAt (host.number, lun) one k other j
         → IsAnsweredSoundly one k host lun cdb payload reply → IsAnsweredSoundly other j host lun cdb payload answer
         → reply ≡ answer }
+    ensures broken { (one other : RunOf) (k j : ℕ) (host : Host) (lun : ℕ) (cdb payload : List ℕ) (reply answer : Reply)
+        → IsIsolated one.first one.turns one.states → IsIsolated other.first other.turns other.states
+        → IsShapedAlikeAt (host.number, lun) one k other j
+        → IsAnsweredBroken one k host lun cdb payload reply → IsAnsweredBroken other j host lun cdb payload answer
+        → reply ≡ answer }
+{}
+
+/// Disks that are whole stay whole over an event in which none of them faults and which takes none out. It does nothing when it is
+/// called.
+pub fn whole_disks_stay_whole()
+    ensures { (old new : ArrayState) (event : Event) (outcome : Outcome) → Steps old event outcome new
+        → HurtsNone event old.store.disks new.store.disks
+        → old.store.disks.health ≡ Whole → new.store.disks.health ≡ Whole }
 {}
 
 /// No write is refused for room: a WRITE inside its unit, with the data for its sectors, is done and GOOD unless the data of the
