@@ -16,7 +16,7 @@ use Rattle.ar_script.specs.declared.order.Action.TheVariants as actions
 use Rattle.ar_script.specs.declared.order.Order.{Order}
 use Rattle.ar_script.specs.declared.order.Order.TheVariants.{Act, Ask}
 use Rattle.ar_script.specs.declared.order.Question.{Question}
-use Rattle.ar_script.specs.declared.order.Question.TheVariants.{Levels, Home, Groups, Room, Health, Block}
+use Rattle.ar_script.specs.declared.order.Question.TheVariants.{Levels, Home, Groups, Room, Health, Picture, Block}
 use Rattle.ar_script.specs.Forms.{ReadsLine}
 use Rattle.ar_script.specs.Orders.{event_in, Acts, Leaves, Looks, Meets}
 use Rattle.ar_script.specs.Setups.{new_disk}
@@ -73,6 +73,7 @@ looked (Home addr rb) old new same = looks_refl old new same
 looked Groups old new same = looks_refl old new same
 looked Room old new same = looks_refl old new same
 looked Health old new same = looks_refl old new same
+looked Picture old new same = looks_refl old new same
 looked (Block disk extent row) old new reads = reads.looks
 
 -- an action is one event to all arrays of one shape

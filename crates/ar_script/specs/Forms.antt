@@ -226,8 +226,9 @@ ReadsArrayOrder name words result =
     MatchBool (bytes_eq name (codes "groups")) (Alone words (Ask questions.Groups) result) (
     MatchBool (bytes_eq name (codes "room")) (Alone words (Ask questions.Room) result) (
     MatchBool (bytes_eq name (codes "health")) (Alone words (Ask questions.Health) result) (
+    MatchBool (bytes_eq name (codes "picture")) (Alone words (Ask questions.Picture) result) (
     MatchBool (bytes_eq name (codes "block")) (Answers (HasRow words) (AsksRow words) result) (
-    result ≡ Err UnknownWord))))))))))))))
+    result ≡ Err UnknownWord)))))))))))))))
 
 -- the words of commands, and those
 abbrev pub ReadsCommand : List ℕ → Words → Result Order FaultKind → Type 0

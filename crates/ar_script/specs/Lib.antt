@@ -4,6 +4,7 @@ pub mod Left
 pub mod Lines
 pub mod Orders
 pub mod Parts
+pub mod Pictures
 pub mod Plays
 pub mod Setups
 pub mod Words

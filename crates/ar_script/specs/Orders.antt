@@ -20,7 +20,7 @@ use Rattle.ar_script.specs.declared.order.Notation.TheVariants.{Bytes}
 use Rattle.ar_script.specs.declared.order.Order.{Order}
 use Rattle.ar_script.specs.declared.order.Order.TheVariants.{Act, Ask}
 use Rattle.ar_script.specs.declared.order.Question.{Question}
-use Rattle.ar_script.specs.declared.order.Question.TheVariants.{Levels, Home, Groups, Room, Health, Block}
+use Rattle.ar_script.specs.declared.order.Question.TheVariants.{Levels, Home, Groups, Room, Health, Picture, Block}
 
 -- the event that an action is to an array: data are copies of one byte, and a disk that is taken in is new, and of the array's shape
 abbrev pub event_in : ArrayState → Action → Event
@@ -68,6 +68,7 @@ Looks (Home addr rb) old new = new ≡ old
 Looks Groups old new = new ≡ old
 Looks Room old new = new ≡ old
 Looks Health old new = new ≡ old
+Looks Picture old new = new ≡ old
 Looks (Block disk extent row) old new = ReadsRow (record { disk = disk; extent = extent }) row old new
 
 -- the array has met one event, the one that the action is

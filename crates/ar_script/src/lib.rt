@@ -2,6 +2,7 @@
 #![tactic(auto)]
 
 mod blocks;
+mod drawing;
 mod fault;
 mod filled;
 mod lines;
@@ -13,10 +14,11 @@ mod runs;
 mod text;
 mod words;
 
+pub use drawing::picture_of;
 pub use fault::{Fault, FaultKind};
 pub use lines::Lines;
 pub use order::{Action, Data, Notation, Order, Question};
 pub use parse::{order_in, unit_and_number};
-pub use run::{Setup, run_script};
-pub use runner::start_array;
+pub use run::{Setup, run_on, run_script};
+pub use runner::{Runner, start_array};
 pub use text::{write_health, write_outcome};

@@ -89,6 +89,8 @@ pub enum Question {
     Room,
     /// Which disk is down, if any.
     Health,
+    /// What each extent is used for, and which disk is down.
+    Picture,
     /// What stands in a row of an extent.
     Block { disk: u8, extent: u16, row: u16 },
 }

@@ -115,6 +115,7 @@ fn array_order_of(name: &str, arguments: &[&str]) -> Result<Order, FaultKind>
         "groups" => alone(arguments, Order::Ask(Question::Groups)),
         "room" => alone(arguments, Order::Ask(Question::Room)),
         "health" => alone(arguments, Order::Ask(Question::Health)),
+        "picture" => alone(arguments, Order::Ask(Question::Picture)),
         "block" => block(arguments),
         _ => return Err(FaultKind::UnknownWord),
     };

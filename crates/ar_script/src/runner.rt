@@ -4,14 +4,17 @@ ghost use Rattle.ar_extents.specs.Changes.{start_fault};
 ghost use Rattle.ar_image.specs.Start.{IsStarted};
 ghost use Rattle.ar_core.specs.Step.{Steps};
 ghost use Rattle.ar_script.specs.Orders.{event_in, Looks, IsLost, Leaves};
+ghost use Rattle.ar_script.specs.Pictures.{IsPicture};
 ghost use Rattle.ar_script.specs.Setups.{disks_of, new_disk, new_disk_for};
 
+use crate::drawing::{picture_of, write_picture};
 use crate::filled::Filled;
 use crate::order::{Action, Order, Question};
 use crate::text::{write_groups, write_health, write_home, write_levels, write_outcome, write_row};
 use crate::{Fault, FaultKind, Setup};
 use ar_core::{Array, CAPACITY_LIMIT, Event, EventOf, NewDisk, Outcome};
 use ar_disks::{Block, Geometry, MemDisk};
+use ar_picture::Picture;
 use std::alloc::{AllocError, Global};
 use std::io::Write;
 use std::marker::Model;
@@ -72,6 +75,13 @@ impl Runner {
             }
             Order::Ask(question) => self.show(alloc, question, out),
         }
+    }
+
+    /// What pictures of the array show. It fails where memory is refused.
+    pub fn picture(&self, alloc: Global) -> Result<Picture, AllocError>
+        ensures { IfOk result (IsPicture self.now) }
+    {
+        picture_of(alloc, &self.array)
     }
 
     // Does one action. Where memory for its data is refused, it is not done.
@@ -145,6 +155,7 @@ impl Runner {
                 writeln!(out, "room {room}")
             }
             Question::Health => write_health(out, self.array.health()),
+            Question::Picture => return write_picture(alloc, &self.array, out),
             Question::Block { disk, extent, row } => {
                 let shown = self.array.block_at(disk, extent, row, &mut self.row);
                 write_row(out, shown, self.row.bytes())

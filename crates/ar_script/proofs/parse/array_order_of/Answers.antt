@@ -1,6 +1,6 @@
 use Rattle.ar_script.specs.Forms.{ReadsArrayOrder}
 use Rattle.ar_script.proofs.ParseLemmas.{named, answered}
-use Rattle.ar_script.proofs.parse.array_order_of.Goals.{in-flush, in-demote, in-clean, in-balance, in-add, in-out, in-replace, in-rebuild, in-levels, in-home, in-groups, in-room, in-health, in-block}
+use Rattle.ar_script.proofs.parse.array_order_of.Goals.{in-flush, in-demote, in-clean, in-balance, in-add, in-out, in-replace, in-rebuild, in-levels, in-home, in-groups, in-room, in-health, in-picture, in-block}
 use Rattle.ar_script.proofs.parse.array_order_of.Goals as goal
 
 pub returns-clause-reads : goal.returns-clause-reads
@@ -19,5 +19,6 @@ returns-clause-reads c =
       | in-groups w ↦ named ReadsArrayOrder _ _ _ _ w.in-groups.is (answered _ _ _ _ _ w.alone-order-in-groups.ensures w.order-is c.ok_or.ensures.value)
       | in-room w ↦ named ReadsArrayOrder _ _ _ _ w.in-room.is (answered _ _ _ _ _ w.alone-order-in-room.ensures w.order-is c.ok_or.ensures.value)
       | in-health w ↦ named ReadsArrayOrder _ _ _ _ w.in-health.is (answered _ _ _ _ _ w.alone-order-in-health.ensures w.order-is c.ok_or.ensures.value)
+      | in-picture w ↦ named ReadsArrayOrder _ _ _ _ w.in-picture.is (answered _ _ _ _ _ w.alone-order-in-picture.ensures w.order-is c.ok_or.ensures.value)
       | in-block w ↦ named ReadsArrayOrder _ _ _ _ w.in-block.is (answered _ _ _ _ _ w.block-order.ensures w.order-is c.ok_or.ensures.value)
     ]
