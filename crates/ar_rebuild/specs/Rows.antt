@@ -58,7 +58,7 @@ NeedsNext Free m i place = ⊥
 NeedsNext Mirrored m i place = IsEither (member m (partner_of i)) (member m i) place
 NeedsNext Parity m i place = IsMember m place
 
--- No disk was accessed that the rebuild of the next extent doesn't need, whichever group has it at whichever position.
+-- Of the extent that is rebuilt next, if a group has it: no disk was accessed that the writing of this member doesn't need.
 pub record AsksNext (old : StoreState) (new : SetState) : Type 0 where
   pub spares :
       (g i : ℕ) → g < length old.book.groups → i < 4 → member (members_of old g) i ≡ next_place old.disks

@@ -70,9 +70,10 @@ impl<D: Disk> Store<D> {
         &self.space.book
     }
 
-    /// Reads the block of a key into `into`, a block of the store's length. A block without a home is read as zeros, and no disk is
-    /// accessed then; else none that the read doesn't need, as `AsksFor` says. No row of any disk changes. `Broken` says that the
-    /// disks are, home or none, and any bytes may stand in `into` then; of a store that was broken before nothing has changed.
+    /// Reads the block of a key into `into`, a block of the store's length. A block without a home is read as zeros, and no disk
+    /// is accessed then; else none that the read doesn't need, as `AsksFor` says. No row of any disk changes. `Broken` says that
+    /// the disks are, whether the block has a home or none, and any bytes may stand in `into` then; of a store that was broken
+    /// before nothing has changed.
     pub fn get(&mut self, key: Key, into: &mut Block) -> Completion
         requires whole { length into.old ≡ block_len_of self.old.disks.geometry }
         ensures outcome { result ≡ outcome_of self.new.disks.health }

@@ -224,7 +224,8 @@ fn groups_are_opened_while_two_are_free(rt: HostRuntime) -> Result<(), Fail> {
     )
 }
 
-// One disk is taken out, and then another: the first leaves every block, the second breaks the store.
+// One disk is taken out, and then another: the first leaves every block, the second breaks the store. Nothing is read from then
+// on, not even block 1, which has no home.
 #[test]
 fn disks_are_taken_out(rt: HostRuntime) -> Result<(), Fail> {
     play(
@@ -244,6 +245,8 @@ fn disks_are_taken_out(rt: HostRuntime) -> Result<(), Fail> {
             (Get(0), Byte(0xAA)),
             (TakeOut(2), Now(Health::Broken)),
             (row(1, 0, 0), Broken),
+            (Get(0), Broken),
+            (Get(1), Broken),
             (TakeOut(3), Now(Health::Broken)),
         ],
     )
@@ -307,7 +310,7 @@ fn a_unit_is_made_and_grown_by_many_sectors(rt: HostRuntime) -> Result<(), Fail>
     )
 }
 
-// Both members of the first pair fault in the first write. A block without a home needs no disk, and none is placed.
+// Both members of the first pair fault in the first write. No block is placed then, and one without a home isn't read as zeros.
 #[test]
 fn a_second_loss_in_a_write_breaks_the_store(rt: HostRuntime) -> Result<(), Fail> {
     let shape = Shape {
@@ -323,7 +326,7 @@ fn a_second_loss_in_a_write_breaks_the_store(rt: HostRuntime) -> Result<(), Fail
             (Put(0, 0xAA), Broken),
             (Call::Health, Now(Health::Broken)),
             (Put(0, 0xAA), Broken),
-            (Get(1), Byte(0)),
+            (Get(1), Broken),
             (Call::Place(1), Broken),
             (Call::Home(1), Nowhere),
         ],
