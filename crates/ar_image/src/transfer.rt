@@ -123,14 +123,15 @@ fn write_part<B: Backing>(
     ensures len { length block.new ≡ length block.old }
 {
     if bytes.len() == geometry.block_len() {
-        block.copy_from_slice(bytes);
-    } else {
-        match blocks.get(key, block) {
-            Completion::Broken => return Completion::Broken,
-            Completion::Done => block.set_sectors(first, bytes),
+        return blocks.put(key, bytes);
+    }
+    match blocks.get(key, block) {
+        Completion::Broken => Completion::Broken,
+        Completion::Done => {
+            block.set_sectors(first, bytes);
+            blocks.put(key, block.bytes())
         }
     }
-    blocks.put(key, block.bytes())
 }
 
 /// Puts the bytes of `count` sectors in place of those of a unit from number `lba` on, block by block in ascending order. A block of which

@@ -24,7 +24,7 @@ returns g c =
           (record { units = units_same old.book new.book got.book; accessed = got.accessed });
       gets = record {
         reads = record { tables = got.book; rows = got.keeps };
-        unplaced = λ none. (got.zeros none).0;
+        unplaced = got.unplaced;
         asks = got.asks;
         lost = got.broken;
       };
