@@ -7,7 +7,7 @@ use crate::{Picture, UNITS_MAX};
 const LEFT: u32 = 64;
 
 /// Where the first extent begins.
-pub const TOP: u32 = 100;
+pub const TOP: u32 = 124;
 
 /// From one disk's column to the next.
 const COLUMN: u32 = 92;
@@ -30,6 +30,8 @@ pub struct Scale {
     pub height: u8,
     /// Where its bar begins, and how tall that is.
     pub bar: (u8, u8),
+    /// How thick its outline is.
+    pub outline: &'static str,
     /// Which extents have their number beside them: the multiples of this.
     pub numbered: u16,
     ghost apart: { 0 < numbered },
@@ -38,16 +40,17 @@ pub struct Scale {
 impl Scale {
     /// The scale for disks of so many extents.
     pub fn of(extents: u16) -> Scale {
-        let (pitch, height, bar, numbered) = match extents {
-            0..=16 => (36, 32, (17, 11), 1),
-            17..=64 => (14, 12, (3, 6), 8),
-            65..=256 => (6, 5, (1, 3), 32),
-            _ => (3, 3, (0, 3), 128),
+        let (pitch, height, bar, outline, numbered) = match extents {
+            0..=16 => (36, 32, (17, 11), "1", 1),
+            17..=64 => (14, 12, (3, 6), "1", 8),
+            65..=256 => (6, 5, (1, 3), "0.5", 32),
+            _ => (3, 3, (0, 3), "0.2", 128),
         };
         Scale {
             pitch,
             height,
             bar,
+            outline,
             numbered,
         }
     }
@@ -91,7 +94,7 @@ pub fn left_of(disk: u8) -> u32
 pub fn line_top(line: u8) -> u32
     ensures { result < 2 ^ 16 }
 {
-    TOP - 36 + LINE * u32::from(line)
+    TOP - 50 + LINE * u32::from(line)
 }
 
 /// Where the legend begins, from the left.

@@ -33,7 +33,7 @@ pub fn write_legend<W: Write>(out: &mut W, picture: &Picture) -> io::Result<()> 
         x,
         6,
         "small",
-        "number of the group: blocks of its slots",
+        "1: 3 of 4 is group 1, 3 of its 4 slots hold a block",
     )?;
     write_units(out, picture, x)
 }
@@ -42,7 +42,7 @@ pub fn write_legend<W: Write>(out: &mut W, picture: &Picture) -> io::Result<()> 
 fn write_units<W: Write>(out: &mut W, picture: &Picture, x: u32) -> io::Result<()>
     requires { x < 2 ^ 17 }
 {
-    write_words(out, x, 8, "head", "Blocks of units")?;
+    write_words(out, x, 8, "head", "Blocks of units on the disks")?;
     for (line, unit) in (9u8..41).zip(picture.units.iter()) {
         let (y, colour) = (line_top(line), colour_of(*unit));
         writeln!(
@@ -51,11 +51,10 @@ fn write_units<W: Write>(out: &mut W, picture: &Picture, x: u32) -> io::Result<(
         )?;
         let (host, lun, blocks, placed) = (unit.host, unit.lun, unit.blocks, unit.placed);
         let (left, base) = (x + 36, y + 12);
-        write!(
+        writeln!(
             out,
-            "<text x='{left}' y='{base}'>unit {host} {lun}: {blocks}, "
+            "<text x='{left}' y='{base}'>unit {host} {lun}: {placed} of {blocks}</text>"
         )?;
-        writeln!(out, "{placed} on the disks</text>")?;
     }
     Ok(())
 }

@@ -2,7 +2,7 @@
 use crate::layout::{Scale, TOP, WIDTH, left_of, size_of};
 use crate::legend::write_legend;
 use crate::palette::COLOURS;
-use crate::{Cell, Content, Group, Health, Held, Picture};
+use crate::{Cell, Class, Content, Group, Health, Picture};
 use ar_disks::Place;
 use std::io;
 use std::io::Write;
@@ -10,21 +10,21 @@ use std::io::Write;
 /// How extents look, by what they are used for.
 const STYLE: &str = "\
 <style>
-text { font-family: 'DejaVu Sans', Verdana, sans-serif; font-size: 12px; fill: #222222 }
+text { font-family: 'DejaVu Sans', Verdana, sans-serif; font-size: 12px; fill: #222222; stroke: none }
 .title { font-size: 17px; font-weight: bold }
 .disk { font-weight: bold; text-anchor: middle }
 .down { fill: #B03A00; font-weight: bold; text-anchor: middle }
 .number { fill: #666666; font-size: 11px; text-anchor: end }
 .head { font-weight: bold }
-.small { font-size: 10px }
+.small { font-size: 10px; paint-order: stroke; stroke: #FFFFFF; stroke-width: 2 }
 .mirrored { fill: #D3EAF9; stroke: #3D8FC4 }
 .parity { fill: #FBF1C0; stroke: #BFA11C }
 .free { fill: #FFFFFF; stroke: #9A9A9A }
 .loose { fill: #EFEFEF; stroke: #9A9A9A; stroke-dasharray: 3 3 }
-.missing { fill: url(#missing); stroke: #B03A00; stroke-width: 1.5 }
+.missing { fill: url(#missing); stroke: #B03A00 }
 </style>
-<defs><pattern id='missing' width='7' height='7' patternUnits='userSpaceOnUse' patternTransform='rotate(45)'>\
-<rect width='2.5' height='7' fill='#B03A00'/></pattern></defs>";
+<defs><pattern id='missing' width='9' height='9' patternUnits='userSpaceOnUse' patternTransform='rotate(45)'>\
+<rect width='2' height='9' fill='#B03A00'/></pattern></defs>";
 
 /// Writes the picture as an SVG: a column for each disk, in it its extents, coloured by the class of their group, each with a bar as
 /// long as the group is full, in the colours of the units whose blocks it holds; and a legend. Extents that can't be used are hatched.
@@ -32,9 +32,12 @@ pub fn write_svg<W: Write>(out: &mut W, picture: &Picture) -> io::Result<()> {
     let scale = Scale::of(picture.extents);
     write_frame(out, picture)?;
     write_numbers(out, picture, scale)?;
+    let outline = scale.outline;
+    writeln!(out, "<g stroke-width='{outline}'>")?;
     for disk in 0..picture.disks {
         write_disk(out, picture, scale, disk)?;
     }
+    writeln!(out, "</g>")?;
     write_legend(out, picture)?;
     writeln!(out, "</svg>")
 }
@@ -120,7 +123,7 @@ fn write_disk<W: Write>(out: &mut W, picture: &Picture, scale: Scale, disk: u8) 
     Ok(())
 }
 
-// Writes an extent: its cell, the bar of its group, and a hatch where it can't be used.
+// Writes an extent: its cell, the bar of its group, a hatch where it can't be used, and words where there is room.
 fn write_extent<W: Write>(
     out: &mut W,
     picture: &Picture,
@@ -128,14 +131,18 @@ fn write_extent<W: Write>(
     place: Place,
 ) -> io::Result<()> {
     let cell = picture.cell_at(place);
+    let number = picture.group_at(place);
     write_cell(out, scale, place, class_of(cell))?;
-    if let Some(number) = picture.group_at(place) {
-        write_group(out, picture, scale, place, number)?;
+    if let Some(number) = number {
+        write_bar(out, picture, scale, place, number)?;
     }
     if cell.is_missing {
         write_cell(out, scale, place, "missing")?;
     }
-    Ok(())
+    match number {
+        Some(number) if scale.has_words() => write_words(out, picture, scale, place, number),
+        _ => Ok(()),
+    }
 }
 
 // The name of the style of a cell.
@@ -160,36 +167,17 @@ fn write_cell<W: Write>(out: &mut W, scale: Scale, place: Place, class: &str) ->
     )
 }
 
-// Writes whose blocks the group of an extent holds, and, where there is room, its number and how many.
-fn write_group<W: Write>(
+// Writes the blocks of an extent's group as a bar, in which each slot is as long as any other.
+fn write_bar<W: Write>(
     out: &mut W,
     picture: &Picture,
     scale: Scale,
     place: Place,
     number: usize,
 ) -> io::Result<()> {
-    let (x, y) = (left_of(place.disk) + 5, scale.top_of(place.extent));
-    if let (Some(group), Some(held)) = (picture.groups.get(number), picture.held.get(number)) {
-        write_bar(out, scale, place, group, held)?;
-        if scale.has_words() {
-            let (blocks, slots, base) = (group.blocks, group.slots, y + 12);
-            writeln!(
-                out,
-                "<text class='small' x='{x}' y='{base}'>{number}: {blocks} of {slots}</text>"
-            )?;
-        }
-    }
-    Ok(())
-}
-
-// Writes the blocks of a group as a bar, in which each slot is as long as any other.
-fn write_bar<W: Write>(
-    out: &mut W,
-    scale: Scale,
-    place: Place,
-    group: &Group,
-    held: &Held,
-) -> io::Result<()> {
+    let (Some(group), Some(held)) = (picture.groups.get(number), picture.held.get(number)) else {
+        return Ok(());
+    };
     let (x, y) = (left_of(place.disk) + 4, scale.bar_of(place.extent));
     let (width, height, slots) = (WIDTH - 8, scale.bar.1, group.slots);
     write!(
@@ -208,4 +196,28 @@ fn write_bar<W: Write>(
         from = from.saturating_add(*blocks);
     }
     writeln!(out, "</svg>")
+}
+
+// Writes the number of an extent's group, and how full that is.
+fn write_words<W: Write>(
+    out: &mut W,
+    picture: &Picture,
+    scale: Scale,
+    place: Place,
+    number: usize,
+) -> io::Result<()> {
+    let (x, y) = (left_of(place.disk) + 5, scale.top_of(place.extent) + 12);
+    write!(out, "<text class='small' x='{x}' y='{y}'>{number}: ")?;
+    match picture.groups.get(number) {
+        Some(
+            Group {
+                class: Class::Mirrored | Class::Parity,
+                blocks,
+                slots,
+                ..
+            },
+        ) => write!(out, "{blocks} of {slots}")?,
+        _ => write!(out, "free")?,
+    }
+    writeln!(out, "</text>")
 }

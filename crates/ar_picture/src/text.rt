@@ -99,6 +99,6 @@ fn write_unit<W: Write>(out: &mut W, unit: Unit) -> io::Result<()> {
     } = unit;
     writeln!(
         out,
-        "unit {host} {lun}: {blocks} blocks, {placed} on the disks"
+        "unit {host} {lun}: {placed} of {blocks} blocks on the disks"
     )
 }

@@ -91,8 +91,8 @@ fn body(rt: &impl Abort, text: &str) {
     stands(rt, text, ">disk 4</text>", 1);
     stands(rt, text, ">out</text>", 1);
     stands(rt, text, ">Disk 3 is out.</text>", 1);
-    stands(rt, text, ">unit 0 0: 8, 7 on the disks</text>", 1);
-    stands(rt, text, ">unit 2 1: 2, 2 on the disks</text>", 1);
+    stands(rt, text, ">unit 0 0: 7 of 8</text>", 1);
+    stands(rt, text, ">unit 2 1: 2 of 2</text>", 1);
 }
 
 #[test]

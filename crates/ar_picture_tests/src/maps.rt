@@ -68,8 +68,8 @@ fn classes_and_fullness(rt: HostRuntime) {
 M mirrored, P with parity; 0 to 9: how full, in ninths of its slots
 -- in a free group, .. in no group, ! can't be used
 all disks are sound
-unit 0 0: 9 blocks, 8 on the disks
-unit 3 7: 1048576 blocks, 0 on the disks
+unit 0 0: 8 of 9 blocks on the disks
+unit 3 7: 0 of 1048576 blocks on the disks
 ",
     );
 }

@@ -25,8 +25,8 @@ pub enum CommandLineFault {
 /// What a command line asks for.
 #[derive(Drop)]
 pub enum Order {
-    /// To answer a script with an array of this setup.
-    Run(Setup),
+    /// To answer a script with an array of this setup, and then to write a picture of it to a file, where one is named.
+    Run(Setup, Option<String>),
     /// To serve hosts.
     Serve(Service),
 }
@@ -51,7 +51,7 @@ pub fn order_in<S: AsStr>(alloc: Global, words: &[S]) -> Result<Order, CommandLi
     match matches.subcommand() {
         Some(("run", options)) => {
             let setup = setup_of(options).ok_or(CommandLineFault::Bad)?;
-            Ok(Order::Run(setup))
+            Ok(Order::Run(setup, picture_of(alloc, options)?))
         }
         Some(("serve", options)) => Ok(Order::Serve(service_of(alloc, options)?)),
         _ => Err(CommandLineFault::Bad),
@@ -77,7 +77,7 @@ fn matches_of<'a, S: AsStr>(alloc: Global, words: &'a [S]) -> Result<ArgMatches<
 
 // `run` and its options, each with one value.
 fn run_command<'a>(alloc: Global) -> Result<Command<'a>, AllocError> {
-    with_setup(alloc, Command::new(alloc, "run"))
+    with_setup(alloc, Command::new(alloc, "run"))?.arg(picture(alloc))
 }
 
 // `serve`, its options, and the units.
@@ -125,6 +125,10 @@ fn cache<'a>(alloc: Global) -> Arg<'a> {
         .default_value("0")
 }
 
+fn picture<'a>(alloc: Global) -> Arg<'a> {
+    Arg::new(alloc, "picture").long("picture")
+}
+
 fn port<'a>(alloc: Global) -> Arg<'a> {
     Arg::new(alloc, "port")
         .long("port")
@@ -152,6 +156,20 @@ fn setup_of(options: &ArgMatches<'_>) -> Option<Setup> {
         extents: options.get_one("extents")?,
         cache: options.get_one("cache")?,
     })
+}
+
+// The file that a picture is to be written to.
+fn picture_of(
+    alloc: Global,
+    options: &ArgMatches<'_>,
+) -> Result<Option<String>, CommandLineFault> {
+    match options.get_str("picture") {
+        Some(file) => match String::from_str(alloc, file) {
+            Ok(file) => Ok(Some(file)),
+            Err(_) => Err(CommandLineFault::NoMemory),
+        },
+        None => Ok(None),
+    }
 }
 
 fn geometry_of(name: &str) -> Option<Geometry> {

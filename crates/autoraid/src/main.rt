@@ -1,12 +1,15 @@
-//! The array as a program: `autoraid run` answers a script on standard input, `autoraid serve` serves hosts over sockets.
+//! The array as a program: `autoraid run` answers a script on standard input and may draw the array, `autoraid serve` serves hosts over
+//! sockets.
 #![tactic(auto)]
 
 mod command_line;
+mod drawing;
 mod serve;
 mod unit;
 
-use ar_script::{Fault, Setup, run_script};
+use ar_script::{Fault, Runner, Setup, run_on, run_script};
 use command_line::{CommandLineFault, Order, order_in};
+use drawing::{DrawingFault, draw};
 use serve::{ServeFault, serve};
 use std::alloc::Global;
 use std::process::ExitCode;
@@ -20,6 +23,8 @@ enum Failure {
     CommandLine(CommandLineFault),
     #[error(transparent)]
     Script(Fault),
+    #[error(transparent)]
+    Drawing(DrawingFault),
     #[error(transparent)]
     Serve(ServeFault),
 }
@@ -36,7 +41,8 @@ impl Failure {
 
 fn main(rt: HostRuntime) -> ExitCode {
     let done = match order(&rt) {
-        Ok(Order::Run(setup)) => run(&rt, setup),
+        Ok(Order::Run(setup, None)) => run(&rt, setup),
+        Ok(Order::Run(setup, Some(file))) => run_and_draw(&rt, setup, file.as_str()),
         Ok(Order::Serve(service)) => serve(&rt, rt.alloc(), &service).map_err(Failure::Serve),
         Err(fault) => Err(Failure::CommandLine(fault)),
     };
@@ -59,6 +65,17 @@ fn order(rt: &HostRuntime) -> Result<Order, CommandLineFault> {
 
 fn run(rt: &HostRuntime, setup: Setup) -> Result<(), Failure> {
     run_script(rt.alloc(), rt.stdin(), rt.stdout(), setup).map_err(Failure::Script)
+}
+
+// Runs a script, and draws the array as it then is, also where a fault has ended the script. That fault is told before any of drawing.
+fn run_and_draw(rt: &HostRuntime, setup: Setup, file: &str) -> Result<(), Failure> {
+    let mut runner = Runner::start(rt.alloc(), setup).map_err(Failure::Script)?;
+    let ended = run_on(rt.alloc(), &mut runner, rt.stdin(), rt.stdout());
+    let drawn = draw(rt, &runner, file);
+    match ended {
+        Ok(()) => drawn.map_err(Failure::Drawing),
+        Err(fault) => Err(Failure::Script(fault)),
+    }
 }
 
 // The words that the program was started with. One that is no text is in no command line.
