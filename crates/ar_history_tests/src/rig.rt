@@ -76,14 +76,17 @@ impl<L: Ledger> Rig<L> {
     }
 }
 
-/// An array of sound disks, without a unit.
+/// An array of sound disks, without a unit. Where one allocation for it was refused, it is asked for once more.
 pub fn array(alloc: Global, shape: Shape) -> Result<Array<FuseDisk>, Fail>
     ensures { IfOk result (λ array. array.store.book.units ≡ []) }
 {
-    let disks = disks(alloc, shape.extents)?;
-    match Array::start(alloc, disks, u32::from(shape.cache)) {
+    let cache = u32::from(shape.cache);
+    match Array::start(alloc, disks(alloc, shape.extents)?, cache) {
         Ok(array) => Ok(array),
-        Err((fault, _)) => Err(Fail::new(fault)),
+        Err((_, disks)) => match Array::start(alloc, disks, cache) {
+            Ok(array) => Ok(array),
+            Err((fault, _)) => Err(Fail::new(fault)),
+        },
     }
 }
 
@@ -92,7 +95,10 @@ fn disks(alloc: Global, extents: u16) -> Result<Vec<FuseDisk>, AllocError>
 {
     let mut disks = Vec::new(alloc);
     for _number in 0..4 {
-        disks.push(disk(alloc, extents)?)?;
+        let disk = disk(alloc, extents)?;
+        if let Err(back) = disks.push(disk) {
+            disks.push(back.value)?;
+        }
     }
     Ok(disks)
 }
@@ -101,6 +107,9 @@ fn disks(alloc: Global, extents: u16) -> Result<Vec<FuseDisk>, AllocError>
 pub fn disk(alloc: Global, extents: u16) -> Result<FuseDisk, AllocError>
     ensures { IfOk result (λ disk. CanCount disk.disk) }
 {
-    let disk = MemDisk::filled(alloc, Geometry::SMALL, extents, 0xEE)?;
+    let disk = match MemDisk::filled(alloc, Geometry::SMALL, extents, 0xEE) {
+        Ok(disk) => disk,
+        Err(_) => MemDisk::filled(alloc, Geometry::SMALL, extents, 0xEE)?,
+    };
     Ok(FuseDisk::new(disk, u64::MAX))
 }
