@@ -1,4 +1,5 @@
 pub mod Balancing
+pub mod Calm
 pub mod Causes
 pub mod Commanding
 pub mod Events

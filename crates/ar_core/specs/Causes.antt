@@ -35,6 +35,10 @@ pub record AreTwoHitBy (event : Event) (old new : SetState) : Type 0 where
   pub one_hit : IsHitBy event old new one
   pub other_hit : IsHitBy event old new other
 
+-- no disk has faulted
+pub record FaultsNone (old new : SetState) : Type 0 where
+  pub none : (d : ℕ) → Faulted old new d → ⊥
+
 -- no disk faults in the event, and none is taken out by it
 pub record HurtsNone (event : Event) (old new : SetState) : Type 0 where
   pub no_fault : (d : ℕ) → FaultsIn event old new d → ⊥

@@ -12,7 +12,7 @@ use Rattle.ar_core.specs.Events.{Event}
 use Rattle.ar_core.specs.declared.event.EventOf.TheVariants.{Cmd as CmdEvent}
 use Rattle.ar_core.specs.Events.{Outcome}
 use Rattle.ar_core.specs.declared.event.OutcomeOf.TheVariants.{Cmd as CmdOutcome}
-use Rattle.ar_core.specs.Causes.{AreTwoHitBy}
+use Rattle.ar_core.specs.Causes.{AreTwoHitBy, FaultsNone, HurtsNone}
 use Rattle.ar_core.specs.Quiet.{LooksAt}
 use Rattle.ar_core.specs.Step.{Steps, entry_at}
 
@@ -60,6 +60,16 @@ AreTwoHitIn Looked old new = TwoHit old.store.disks new.store.disks
 abbrev pub TwoMissing : ArrayState → List Turn → List ArrayState → Type 0
 TwoMissing old (turn ∷ turns) (new ∷ states) = AreTwoHitIn turn old new ⊎ TwoMissing new turns states
 TwoMissing old turns states = ⊥
+
+-- in the turn no disk has faulted, and none was taken out
+abbrev pub IsCalm : Turn → ArrayState → ArrayState → Type 0
+IsCalm (Did event outcome) old new = HurtsNone event old.store.disks new.store.disks
+IsCalm Looked old new = FaultsNone old.store.disks new.store.disks
+
+-- nor in any turn of a run
+abbrev pub AreCalm : ArrayState → List Turn → List ArrayState → Type 0
+AreCalm old (turn ∷ turns) (new ∷ states) = IsCalm turn old new × AreCalm new turns states
+AreCalm old turns states = Unit {0}
 
 -- turn k is a command, and was answered other than BUSY
 pub record IsAnswered (turns : List Turn) (k : ℕ) (host : Host) (lun : ℕ) (cdb payload : List ℕ) (reply : Reply) : Type 0 where

@@ -1,12 +1,12 @@
 // What hosts ask of an array, as laws of steps and runs.
-ghost use Rattle.std.specs.Prelude.{◌≡◌, ℕ, [], false, List};
+ghost use Rattle.std.specs.Prelude.{◌≡◌, ℕ, suc, [], false, Some, List, take, slice_get};
 ghost use Rattle.ar_disks.specs.declared.address.Host.{Host};
 ghost use Rattle.ar_scsi.specs.declared.reply.Reply.{Reply};
 ghost use Rattle.ar_scsi.specs.Reply.{good};
 ghost use Rattle.ar_unit.specs.Sectors.{Sector, written};
 ghost use Rattle.ar_unit.specs.Unit.{Present};
 ghost use Rattle.ar_image.specs.Image.{ArrayState, is_broken, image};
-ghost use Rattle.ar_core.specs.Run.{IsIsolated};
+ghost use Rattle.ar_core.specs.Run.{AreCalm, IsIsolated, Run, Turn};
 ghost use Rattle.ar_core.specs.Step.{Steps};
 ghost use Rattle.ar_core.specs.Laws.{RunOf, IsAlikeAt, IsShapedAlikeAt, IsAnsweredSoundly, IsAnsweredBroken, IsWriteWithin};
 ghost use Rattle.ar_extents.specs.declared.health.Health.TheVariants.{Whole};
@@ -32,12 +32,15 @@ pub fn own_entries_decide_replies()
         → reply ≡ answer }
 {}
 
-/// Disks that are whole stay whole over an event in which none of them faults and which takes none out. It does nothing when it is
-/// called.
+/// Disks that are whole stay whole over an event in which none of them faults and which takes none out, and so over a run of such
+/// turns. It does nothing when it is called.
 pub fn whole_disks_stay_whole()
-    ensures { (old new : ArrayState) (event : Event) (outcome : Outcome) → Steps old event outcome new
+    ensures event { (old new : ArrayState) (event : Event) (outcome : Outcome) → Steps old event outcome new
         → HurtsNone event old.store.disks new.store.disks
         → old.store.disks.health ≡ Whole → new.store.disks.health ≡ Whole }
+    ensures run { (old : ArrayState) (turns : List Turn) (states : List ArrayState) (k : ℕ) (new : ArrayState) → Run old turns states
+        → AreCalm old (take (suc k) turns) (take (suc k) states) → old.store.disks.health ≡ Whole
+        → slice_get states k ≡ Some new → new.store.disks.health ≡ Whole }
 {}
 
 /// No write is refused for room: a WRITE inside its unit, with the data for its sectors, is done and GOOD unless the data of the
