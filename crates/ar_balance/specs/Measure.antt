@@ -6,7 +6,7 @@ use Rattle.ar_extents.specs.Set.{SetState}
 abbrev pub square_of : List Bool → ℕ
 square_of marks = count_by (λ mark. mark) marks * count_by (λ mark. mark) marks
 
--- The sum of the squares of the disks' loose extents: a group that is formed takes an extent of four disks, and a shift evens out two
--- disks that differ by two or more. So it bounds how often balancing can change anything, one time after another.
+-- The sum of the squares of the disks' loose extents: a group that is formed takes an extent of four disks, and a shift evens out
+-- two disks that differ by two or more. So it bounds how often balancing can change anything, one time after another.
 abbrev pub balance_left : SetState → ℕ
 balance_left s = sum_by square_of s.loose

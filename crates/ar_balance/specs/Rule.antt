@@ -47,8 +47,8 @@ pub record CanShift (t : Tables) (on off group position : ℕ) : Type 0 where
   pub stands : StandsAt (group_in t.groups group).members position on
   pub apart : IsOff (group_in t.groups group).members off
 
--- The rule names the extent of a group that is to move to another disk. Fewer than four disks have loose extents; the extent's disk
--- has fewest of them and the other one most, at least two more; and the group is the lowest that can move so.
+-- The rule names the extent of a group that is to move to another disk. Fewer than four disks have loose extents; the extent's
+-- disk has fewest of them and the other one most, at least two more; and the group is the lowest that can move so.
 pub record NamesShift (s : StoreState) (group position : ℕ) (from to : Place) : Type 0 where
   pub whole : s.disks.health ≡ Whole
   pub few : HasFewLoose s.disks
@@ -60,8 +60,8 @@ pub record NamesShift (s : StoreState) (group position : ℕ) (from to : Place) 
   pub from_is : member (members_of s group) position ≡ from
   pub to_is : lowest_loose s.disks to.disk ≡ Some to.extent
 
--- No group is to be formed, and none is to move. No two disks differ by two loose extents or more of which a group stands on the one
--- with fewest and not on the one with most.
+-- No group is to be formed, and none is to move. No two disks differ by two loose extents or more of which a group stands on the
+-- one with fewest and not on the one with most.
 pub record IsEven (s : StoreState) : Type 0 where
   pub few : HasFewLoose s.disks
   pub even : (a b group position : ℕ) → HasFewest s.disks a → HasMost s.disks b → loose_count s.disks a + 2 ≤ loose_count s.disks b

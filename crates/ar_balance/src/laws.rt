@@ -22,15 +22,15 @@ pub fn rule_names_one_action()
     ensures not_both { (s : StoreState) (m : Members) (g p : ℕ) (from to : Place) → NamesForming s m → NamesShift s g p from to → ⊥ }
 {}
 
-/// Balancing ends: whenever it changes a table, less is left to be balanced, and below 0 there is nothing less. It does nothing when
-/// it is called.
+/// Balancing ends: whenever it changes a table, less is left to be balanced, and below 0 there is nothing less. It does nothing
+/// when it is called.
 pub fn balancing_ends()
     ensures { (old new : StoreState) (answer : Balance) → IsSpace old → IsKeptSet old.disks → Balances old new answer
         → IfChanged answer (balance_left new.disks < balance_left old.disks) }
 {}
 
-/// Where balancing is idle, the rule names nothing. And if the disks are whole no two differ by two loose extents or more of which a
-/// group stands on the one with fewest and not on the one with most. It does nothing when it is called.
+/// Where balancing is idle, the rule names nothing. And if the disks are whole no two differ by two loose extents or more of
+/// which a group stands on the one with fewest and not on the one with most. It does nothing when it is called.
 pub fn idle_is_even()
     ensures forming { (old new : StoreState) (m : Members) → IsLeft old new → NamesForming old m → ⊥ }
     ensures shift { (old new : StoreState) (g p : ℕ) (from to : Place) → IsLeft old new → NamesShift old g p from to → ⊥ }

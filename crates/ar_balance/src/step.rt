@@ -31,13 +31,13 @@ pub enum Balance {
     Broken,
 }
 
-/// Balances a store, in one step, while all disks are whole. As long as four disks have loose extents it forms a free group of four:
-/// the lowest of each of the disks with most of them, in order of disk. Else, where the disk with fewest loose extents and the one
-/// with most differ by two or more, it moves an extent from the one to the other: that of the lowest group that stands on the one
-/// and not on the other, to the lowest loose extent, at the same member position. Of disks that tie the lowest is meant.
+/// Balances a store, in one step, while all disks are whole. As long as four disks have loose extents it forms a free group of
+/// four: the lowest of each of the disks with most of them, in order of disk. Else, where the disk with fewest loose extents and
+/// the one with most differ by two or more, it moves an extent from the one to the other: that of the lowest group that stands on
+/// the one and not on the other, to the lowest loose extent, at the same member position. Of disks that tie the lowest is meant.
 ///
-/// Every row of a group that isn't free is copied, and the new extent stays loose until all are. Where a disk faults then the answer
-/// is `GivenUp`, and health has changed but no table. No block changes. Memory is taken for a group alone.
+/// Every row of a group that isn't free is copied, and the new extent stays loose until all are. Where a disk faults then the
+/// answer is `GivenUp`, and health has changed but no table. No block changes. Memory is taken for a group alone.
 pub fn balance_one<D: Disk>(store: &mut Store<D>) -> Balance
     ensures does { Balances store.old store.new result }
     ensures broken { (result ≡ Balance.Broken) ↔ (store.new.disks.health ≡ Health.Broken) }

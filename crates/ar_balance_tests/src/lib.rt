@@ -1,5 +1,5 @@
-//! Tests of added disks and of balancing: which groups are formed and shifted, what is read while disks are lost, and how often disks
-//! are accessed.
+//! Tests of added disks and of balancing: which groups are formed and shifted, what is read while disks are lost, and how often
+//! disks are accessed.
 #![tactic(auto)]
 
 #[cfg(test)]

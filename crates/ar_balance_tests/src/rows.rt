@@ -27,8 +27,8 @@ pub const EVENED_OUT: [Step; 14] = [
     (Group(4), Used(Class::Free, 0)),
 ];
 
-// The block's first copy moves to the new disk, and the second stays where it is. What the old extent held it holds, loose, and what
-// no slot names is copied too.
+// The block's first copy moves to the new disk, and the second stays where it is. What the old extent held it holds, loose, and
+// what no slot names is copied too.
 const MIRRORED_GROUP_SHIFTED: [Step; 12] = [
     (Make(4), Is(true)),
     (Put(0, 0xAA), Done),

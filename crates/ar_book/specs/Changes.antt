@@ -45,8 +45,8 @@ homed units k o =
 abbrev pub assigned : Tables → Key → Slot → Tables
 assigned t k s = record t { groups = vacated (named t.groups s k) (home t k); units = homed t.units k (Some s) }
 
--- the second tables are the first after a block moved: its former slot names nothing, the new one names it, the group that it left
--- is free where none of its slots names a block; nothing else differs, stamps neither
+-- the second tables are the first after a block moved: its former slot names nothing, the new one names it, the group that it
+-- left is free where none of its slots names a block; nothing else differs, stamps neither
 pub record Moved (t : Tables) (key : Key) (to : Slot) (new : Tables) : Type 0 where
   pub tables : new ≡ assigned t key to
 

@@ -10,8 +10,8 @@ use crate::{Book, Class, Slot};
 use ar_disks::Key;
 
 impl Book {
-    /// The group of a class that cleaning empties: among those that have blocks, and whose blocks all fit in the holes of the other
-    /// groups of the class, the one with the fewest, and of those the lowest. None where there is no such group.
+    /// The group of a class that cleaning empties: among those that have blocks, and whose blocks all fit in the holes of the
+    /// other groups of the class, the one with the fewest, and of those the lowest. None where there is no such group.
     pub fn emptiest(&self, class: Class) -> Option<u32>
         ensures found { IfSome result (IsEmptiest self.now class) }
         ensures none { IfNone result ((group : ℕ) → CanBeEmptied self.now class group → ⊥) }

@@ -14,7 +14,8 @@ use ar_index::Steps;
 use std::alloc::AllocError;
 
 impl Book {
-    /// Forms a free group of four extents that are in no group, with the next number, which it answers. Without memory nothing changes.
+    /// Forms a free group of four extents that are in no group, with the next number, which it answers. Without memory nothing
+    /// changes.
     pub fn form_group(&mut self, members: Members) -> Result<u32, AllocError>
         requires apart { AreApart members }
         requires unused { AreUnused self.old members }
@@ -34,8 +35,8 @@ impl Book {
         Ok(number)
     }
 
-    /// Opens the lowest free group for mirrored blocks or for parity, and answers its number; its slots are all empty. Only while at
-    /// least two groups are free: else None, and nothing changes.
+    /// Opens the lowest free group for mirrored blocks or for parity, and answers its number; its slots are all empty. Only while
+    /// at least two groups are free: else None, and nothing changes.
     pub fn open_group(&mut self, class: Class, steps: &mut Steps) -> Option<u32>
         requires { class ≢ Class.Free }
         ensures when { IsSome result ↔ (2 ≤ free_groups self.old) }
@@ -61,8 +62,8 @@ impl Book {
         Some(group)
     }
 
-    /// Opens the one free group for mirrored blocks or for parity, and answers its number; its slots are all empty. The caller empties
-    /// another group at once.
+    /// Opens the one free group for mirrored blocks or for parity, and answers its number; its slots are all empty. The caller
+    /// empties another group at once.
     pub fn open_last(&mut self, class: Class) -> u32
         requires class { class ≢ Class.Free }
         requires last { free_groups self.old ≡ 1 }

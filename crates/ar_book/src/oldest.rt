@@ -9,8 +9,8 @@ use ar_disks::Key;
 use ar_index::Steps;
 
 impl Book {
-    /// The mirrored block with the least stamp; where stamps are equal, that of the unit made first, and in a unit the lowest. None
-    /// where no block stands in a mirrored group. It takes no step: the tree has it.
+    /// The mirrored block with the least stamp; where stamps are equal, that of the unit made first, and in a unit the lowest.
+    /// None where no block stands in a mirrored group. It takes no step: the tree has it.
     pub fn oldest_mirrored(&self, steps: &mut Steps) -> Option<Key>
         ensures found { IfSome result (IsMirrored self.now) }
         ensures oldest { IfSome result (λ key. (other : Key) → IsMirrored self.now other → IsNoNewer self.now key other) }

@@ -24,8 +24,8 @@ fn open_of(best: &Choices, class: Class) -> Option<u32>
 }
 
 impl Book {
-    /// What a group holds: how many of its slots name a block, the lowest that names none, and the oldest block in it, where it is
-    /// mirrored.
+    /// What a group holds: how many of its slots name a block, the lowest that names none, and the oldest block in it, where it
+    /// is mirrored.
     pub fn summary(&self, group: u32) -> Summary
         requires { group < length self.now.groups }
         ensures used { result.used ≡ used (group_in self.now.groups group) }
@@ -96,8 +96,8 @@ impl Book {
         open_of(&self.index.best(), class)
     }
 
-    /// The lowest mirrored group, where a block waits for a home, no group has a hole, and one group is free: then there is one, and
-    /// each of its slots names a block.
+    /// The lowest mirrored group, where a block waits for a home, no group has a hole, and one group is free: then there is one,
+    /// and each of its slots names a block.
     pub fn full_mirrored(&self) -> u32
         requires waiting { IsWaiting self.now }
         requires mirrored { (slot : Slot) → IsHole self.now Class.Mirrored slot → ⊥ }

@@ -23,8 +23,9 @@ const MAX_LUN: u8 = 7;
 const MAX_SECTORS: u32 = 1_048_576;
 
 impl Book {
-    /// Makes a unit of so many sectors, 1 to 1,048,576, without a home. Refused in this order: `BadLun` for a LUN over 7, `Exists`,
-    /// `Size`, `NoRoom` where its blocks exceed the room, which it carries, and `NoMemory`. A refused making changes nothing.
+    /// Makes a unit of so many sectors, 1 to 1,048,576, without a home. Refused in this order: `BadLun` for a LUN over 7,
+    /// `Exists`, `Size`, `NoRoom` where its blocks exceed the room, which it carries, and `NoMemory`. A refused making changes
+    /// nothing.
     pub fn make(&mut self, addr: Addr, sectors: u32) -> Result<(), Refusal>
         ensures granted { OnOk result (make_refusal self.old addr sectors ≡ None) }
         ensures refused { IfErr result (λ refusal. refusal ≡ unwrap_or (make_refusal self.old addr sectors) Refusal.NoMemory) }
@@ -69,9 +70,9 @@ impl Book {
         }
     }
 
-    /// Makes a unit longer, up to 1,048,576 sectors, and sets its mark; the new blocks have no home. Refused in this order: `Absent`,
-    /// `Size` where the length isn't above the present one or too great, `NoRoom` where the added blocks exceed the room, which it
-    /// carries, and `NoMemory`. A refused growth changes nothing.
+    /// Makes a unit longer, up to 1,048,576 sectors, and sets its mark; the new blocks have no home. Refused in this order:
+    /// `Absent`, `Size` where the length isn't above the present one or too great, `NoRoom` where the added blocks exceed the
+    /// room, which it carries, and `NoMemory`. A refused growth changes nothing.
     pub fn grow(&mut self, addr: Addr, sectors: u32) -> Result<(), Refusal>
         ensures granted { OnOk result (grow_refusal self.old addr sectors ≡ None) }
         ensures refused { IfErr result (λ refusal. refusal ≡ unwrap_or (grow_refusal self.old addr sectors) Refusal.NoMemory) }
@@ -109,8 +110,8 @@ impl Book {
         blocks_of(self.geometry, sectors).saturating_sub(self.blocks(addr))
     }
 
-    /// Drops a unit: each slot that was a home of it names nothing, and its blocks are no longer reserved. The other units keep their
-    /// homes, stamps and order. `Absent` exactly where there is no unit; nothing changes then.
+    /// Drops a unit: each slot that was a home of it names nothing, and its blocks are no longer reserved. The other units keep
+    /// their homes, stamps and order. `Absent` exactly where there is no unit; nothing changes then.
     pub fn drop_unit(&mut self, addr: Addr) -> Result<(), Refusal>
         ensures absent { IfErr result (λ refusal. refusal ≡ Refusal.Absent) }
         ensures there { IsOk result ↔ IsTrue (has_unit self.old addr) }

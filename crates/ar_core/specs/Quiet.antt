@@ -15,8 +15,8 @@ pub record IsQuiet (old new : ArrayState) : Type 0 where
   pub groups : length old.store.book.groups ≤ length new.store.book.groups
   pub capacity : new.cache.capacity ≡ old.cache.capacity
 
--- A look at what stands on a disk is no event: it leaves the tables, the cache and every row of every disk, and until the data are lost
--- every block is seen as it was. It may meet a fault of the disk that it reads.
+-- A look at what stands on a disk is no event: it leaves the tables, the cache and every row of every disk, and until the data
+-- are lost every block is seen as it was. It may meet a fault of the disk that it reads.
 pub record LooksAt (old new : ArrayState) : Type 0 where
   pub places : SamePlaces old new
   pub accessed : IsAccessed old.store.disks new.store.disks

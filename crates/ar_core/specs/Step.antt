@@ -129,8 +129,8 @@ pub record Obeys (old : ArrayState) (addr : Addr) (cdb bytes : List ℕ) (reply 
       → InTurn ReadsBlock (keys_in (geometry_of old) addr lba count) old new
   -- a WRITE with FORCE UNIT ACCESS leaves none of its blocks in the cache (SBC-2, WRITE (10) command)
   pub forced : (lba count : ℕ) → reading cdb ≡ Ok (Write lba count true) → reply.status ≡ Good → IsForced new addr lba count
-  -- a WRITE that was done has put each of its blocks once, in ascending order, and no other, and then forced each where it was asked;
-  -- it has read before none but those of which it has only a part
+  -- a WRITE that was done has put each of its blocks once, in ascending order, and no other, and then forced each where it was
+  -- asked; it has read before none but those of which it has only a part
   pub stored : (lba count : ℕ) (fua : Bool) → reading cdb ≡ Ok (Write lba count fua) → reply.status ≡ Good
       → StoresBlocks addr lba count fua old new
 

@@ -53,8 +53,8 @@ pub record HasRow (s : SetState) (place : Place) (row : ℕ) : Type 0 where
   pub extent : HasExtent s place
   pub below : row < rows_of s.geometry
 
--- a row of an extent was read, with this answer: its disk alone was accessed, none where the extent is lost, and every row of every
--- disk has the content that it had
+-- a row of an extent was read, with this answer: its disk alone was accessed, none where the extent is lost, and every row of
+-- every disk has the content that it had
 pub record IsShown (old new : SetState) (place : Place) (row : ℕ) (bytes : List ℕ) (got : Got) : Type 0 where
   pub there : HasRow old place row
   pub answer : Gets old new place row bytes got

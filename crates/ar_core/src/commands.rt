@@ -204,8 +204,8 @@ impl<D: Disk> Array<D> {
         reply_to_write(stored)
     }
 
-    // Puts bytes in place of sectors that the unit has, all of them first, and then, for FORCE UNIT ACCESS, writes their blocks to
-    // the disks.
+    // Puts bytes in place of sectors that the unit has, all of them first, and then, for FORCE UNIT ACCESS, writes their blocks
+    // to the disks.
     fn write_range(
         &mut self,
         addr: Addr,

@@ -1,4 +1,5 @@
-//! The array: units of four hosts, each a plain list of sectors to its own host, whatever happens to all others and to any one disk.
+//! The array: units of four hosts, each a plain list of sectors to its own host, whatever happens to all others and to any one
+//! disk.
 #![tactic(auto)]
 
 mod array;

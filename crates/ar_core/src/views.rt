@@ -138,7 +138,8 @@ impl<D: Disk> Array<D> {
     }
 
     /// Reads a row of an extent, from its disk, into `into`, a block of the array's length. Extents and rows count from 0. After
-    /// another answer than `Bytes` any bytes may stand in `into`. A missing extent isn't accessed, and no row of any disk changes.
+    /// another answer than `Bytes` any bytes may stand in `into`. A missing extent isn't accessed, and no row of any disk
+    /// changes.
     pub fn block_at(&mut self, disk: u8, extent: u16, row: u16, into: &mut Block) -> Shown
         requires whole { length into.old ≡ block_len_of (geometry_of self.old) }
         ensures shows { Shows self.old.store.disks self.new.store.disks (record { disk = disk; extent = extent }) row into.new result }

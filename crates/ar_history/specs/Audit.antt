@@ -17,7 +17,8 @@ pub record DiffersAt (position : ℕ) (one other : List Exchange) : Type 0 where
 abbrev pub IsHostsPart : List Entry → SeatState → Type 0
 IsHostsPart history seat = seat.transcript ≡ part seat.host.number history
 
--- of the seats of hosts from 0 on, the one of this number is the first whose transcript isn't its host's part, and that from this place on
+-- of the seats of hosts from 0 on, the one of this number is the first whose transcript isn't its host's part, and that from this
+-- place on
 pub record IsFirstMismatch (history : List Entry) (seats : List SeatState) (number position : ℕ) : Type 0 where
   pub there : number < length seats
   pub before : (k : ℕ) (seat : SeatState) → slice_get seats k ≡ Some seat → k < number → IsHostsPart history seat
@@ -46,8 +47,8 @@ pub record IsSame (test : Bool) (one other : Exchange) : Type 0 where
   pub same : test ≡ true → one ≡ other
   pub others : test ≡ false → one ≢ other
 
--- A command of a host's part, and where it stands in a history: so many of the part stand before it, and its reply is the one that
--- its unit gives, as the unit's own makings, growths, removals and commands before it have made it.
+-- A command of a host's part, and where it stands in a history: so many of the part stand before it, and its reply is the one
+-- that its unit gives, as the unit's own makings, growths, removals and commands before it have made it.
 pub record StandsAt (history : List Entry) (number position : ℕ) (exchange : Exchange) (place : ℕ) (host : Host) : Type 0 where
   pub entry : slice_get history place ≡ Some (Cmd host exchange)
   pub host_is : host.number ≡ number

@@ -55,7 +55,8 @@ IsNoMemory (events.Remove addr) outcome = outcome ≡ outcomes.Remove (Err (Unit
 IsNoMemory (events.Cmd host lun cdb payload) outcome = outcome ≡ outcomes.Cmd busy
 IsNoMemory event outcome = ⊥
 
--- the event was not begun, since the history could not grow: the array is as it was. A broken one records nothing, and answers each event.
+-- the event was not begun, since the history could not grow: the array is as it was. A broken one records nothing, and answers
+-- each event.
 pub record IsRefused (old : ArrayState) (event : Event) (outcome : Outcome) (new : ArrayState) : Type 0 where
   pub answer : IsNoMemory event outcome
   pub unchanged : new ≡ old

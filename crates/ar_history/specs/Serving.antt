@@ -37,8 +37,8 @@ pub record IsRecorded (old : KeptState) (before : SeatState) (lun : ℕ) (cdb pa
   pub not_busy : is_busy reply.status ≡ false
   pub sound : is_broken new.array ≡ false
 
--- It was not: history and transcript stay. Either the reply is BUSY, and each unit is as it was; or the array is broken after it, and
--- the reply is what a broken array says in place of the unit's.
+-- It was not: history and transcript stay. Either the reply is BUSY, and each unit is as it was; or the array is broken after it,
+-- and the reply is what a broken array says in place of the unit's.
 pub record IsUnrecorded (old : KeptState) (before : SeatState) (lun : ℕ) (cdb payload : List ℕ) (reply : Reply)
     (new : KeptState) (after : SeatState) : Type 0 where
   pub history : new.history ≡ old.history
@@ -60,7 +60,8 @@ abbrev pub Serves : KeptState → SeatState → ℕ → List ℕ → List ℕ �
 Serves old before lun cdb payload reply (Some position) new after = IsRecorded old before lun cdb payload reply position new after
 Serves old before lun cdb payload reply None new after = IsUnrecorded old before lun cdb payload reply new after
 
--- the array took the command as one step, but memory for the copies of its reply was refused, and BUSY stands in the reply's place
+-- the array took the command as one step, but memory for the copies of its reply was refused, and BUSY stands in the reply's
+-- place
 pub record IsUncopied (old : ArrayState) (host : Host) (lun : ℕ) (cdb payload : List ℕ) (reply : Reply) (new : ArrayState) : Type 0 where
   pub first : Reply
   pub steps : Steps old (CmdEvent host lun cdb payload) (CmdOutcome first) new

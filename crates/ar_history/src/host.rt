@@ -20,8 +20,8 @@ use std::sync::ledger::{Book, Ledger};
 #[derive(Debug, Drop, PartialEq, Eq)]
 pub struct Served {
     pub reply: Reply,
-    /// The position of the command's entry in the history, from 0. There is none where the reply is BUSY, or the array has lost its
-    /// data.
+    /// The position of the command's entry in the history, from 0. There is none where the reply is BUSY, or the array has lost
+    /// its data.
     pub at: Option<u64>,
 }
 
@@ -36,8 +36,8 @@ impl<D: Disk + Drop, L: Ledger> Kept<D, L> {
     /// Does a host's command, by its seat: the command block is padded with zeros, and `payload` is the data that came with it.
     /// Where the command is answered, history and transcript have both grown by it and its reply, which is the one that the
     /// unit's own part of the history gives. Their places, and the shares of its data, come first: where one of these is refused
-    /// the command is BUSY and was not begun. So is one that was done and whose reply's bytes can't be shared, which has changed no unit.
-    /// A broken array records nothing more, and nothing grows for it.
+    /// the command is BUSY and was not begun. So is one that was done and whose reply's bytes can't be shared, which has changed
+    /// no unit. A broken array records nothing more, and nothing grows for it.
     pub fn host(&mut self, seat: &mut Seat<L>, lun: u8, cdb: [u8; 16], payload: Bytes) -> Served
         ensures serves { Serves self.old seat.old lun cdb payload result.reply result.at self.new seat.new }
         ensures does { DoesCommand self.old.array seat.old.host lun cdb payload result.reply self.new.array }

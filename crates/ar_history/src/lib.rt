@@ -1,4 +1,5 @@
-//! The array with its stored history: what was done to its units and what each command was answered, and the seats of the four hosts.
+//! The array with its stored history: what was done to its units and what each command was answered, and the seats of the four
+//! hosts.
 #![tactic(auto)]
 
 mod audit;

@@ -114,7 +114,8 @@ impl<D: Disk + Drop, L: Ledger> Kept<D, L> {
         outcome
     }
 
-    // Whether the history has room for one entry more, which is made where there is none. A broken array records nothing, and needs none.
+    // Whether the history has room for one entry more, which is made where there is none. A broken array records nothing, and
+    // needs none.
     pub(crate) fn can_record(&mut self) -> bool
         ensures array { self.new.array ≡ self.old.array }
         ensures history { self.new.history ≡ self.old.history }

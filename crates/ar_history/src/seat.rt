@@ -6,7 +6,8 @@ use ar_disks::Host;
 use std::marker::Model;
 use std::sync::ledger::{Book, Ledger, Share};
 
-/// A host's seat at the kept array of the same ledger: the transcript of its commands, which grows with the array's history alone.
+/// A host's seat at the kept array of the same ledger: the transcript of its commands, which grows with the array's history
+/// alone.
 #[derive(Drop)]
 pub struct Seat<L: Ledger> {
     pub(crate) host: Host,

@@ -1,5 +1,5 @@
-// A drawn run: commands of four hosts to their units, with makings, growths, removals and work in the background between them. Each
-// reply is compared with that of a plain unit, and the audit with what was counted.
+// A drawn run: commands of four hosts to their units, with makings, growths, removals and work in the background between them.
+// Each reply is compared with that of a plain unit, and the audit with what was counted.
 ghost use Rattle.std.specs.Prelude.{◌≡◌};
 
 use crate::calls::{block, filled, transfer, unit};

@@ -1,5 +1,5 @@
-// Memory that is refused. Here none is left at all; single allocations are refused in turn by the gate (`.ci/scarce`), and the last test
-// goes on after any one of them.
+// Memory that is refused. Here none is left at all; single allocations are refused in turn by the gate (`.ci/scarce`), and the
+// last test goes on after any one of them.
 ghost use Rattle.std.specs.Prelude.{◌≡◌};
 
 use crate::calls::{block, filled, unit};

@@ -7,8 +7,8 @@ use Rattle.ar_balance.specs.Balance.{Balances, LeavesAll, IfChanged, gained}
 use Rattle.ar_balance.specs.Measure.{balance_left}
 use Rattle.ar_image.specs.Image.{ArrayState, is_broken}
 
--- What the rule of balancing names was done, or why it was not is told. Every block stands as it did, and the cache stays. There is more
--- room by a group with parity where one was formed, and as much otherwise; and less is left to be balanced.
+-- What the rule of balancing names was done, or why it was not is told. Every block stands as it did, and the cache stays. There
+-- is more room by a group with parity where one was formed, and as much otherwise; and less is left to be balanced.
 pub record BalancesOne (old : ArrayState) (answer : Balance) (new : ArrayState) : Type 0 where
   pub does : Balances old.store new.store answer
   pub leaves : LeavesAll old.store new.store

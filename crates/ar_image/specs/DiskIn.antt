@@ -28,8 +28,8 @@ pub record AddsDisk (old : ArrayState) (disk : DiskState) (result : Result (Unit
   pub added : OnOk result (new ≡ with_disks old (added old.store.disks disk))
   pub unchanged : OnErr result (new ≡ old)
 
--- a disk was put in the place of the one that is out, and is being rebuilt, or it was refused for its reason and handed back; nothing has
--- changed then
+-- a disk was put in the place of the one that is out, and is being rebuilt, or it was refused for its reason and handed back;
+-- nothing has changed then
 pub record ReplacesDisk (old : ArrayState) (number : ℕ) (disk : DiskState) (result : Result (Unit {0}) (Refusal × DiskState)) (new : ArrayState) : Type 0 where
   pub taken : OnOk result (disk_replace_refusal old number disk ≡ None)
   pub refused : IfErr result (λ back. disk_replace_refusal old number disk ≡ Some back.0)

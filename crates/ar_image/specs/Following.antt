@@ -21,8 +21,8 @@ pub record StoreReads (old new : StoreState) : Type 0 where
   pub tables : new.book ≡ old.book
   pub rows : Keeps Anywhere old.disks new.disks
 
--- One block was read from a store: no disk was asked that its slot doesn't need, and none at all where it has no home, or where the
--- disks were broken before.
+-- One block was read from a store: no disk was asked that its slot doesn't need, and none at all where it has no home, or where
+-- the disks were broken before.
 pub record ReadsStored (old : StoreState) (key : Key) (new : StoreState) : Type 0 where
   pub reads : StoreReads old new
   pub unplaced : home old.book key ≡ None → new ≡ old

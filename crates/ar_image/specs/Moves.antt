@@ -16,8 +16,8 @@ pub record MovesBlock (old : ArrayState) (answer : Move) (new : ArrayState) : Ty
   pub cache : new.cache ≡ old.cache
   pub broken : (answer ≡ Broken) ↔ IsTrue (is_broken new)
 
--- The block that the rule of demotion names went to the slot that it names, in a group that was opened for it where the rule says so; or
--- the rule names nothing, and nothing has changed. Where the array broke, a group may have been opened.
+-- The block that the rule of demotion names went to the slot that it names, in a group that was opened for it where the rule says
+-- so; or the rule names nothing, and nothing has changed. Where the array broke, a group may have been opened.
 pub record DemotesOne (old : ArrayState) (answer : Move) (new : ArrayState) : Type 0 where
   pub moves : MovesBlock old answer new
   pub moved : IfMoved answer (λ key to. Demotes old.store.book key to new.store.book)
@@ -25,8 +25,8 @@ pub record DemotesOne (old : ArrayState) (answer : Move) (new : ArrayState) : Ty
   pub idle : answer ≡ Idle → IsLeft old.store new.store (NamesNoDemotion old.store.book)
   pub opened : answer ≡ Broken → MayHaveOpened old.store.book new.store.book
 
--- The block that the rule of cleaning names went to the slot that it names, and less is left to be cleaned; or the rule names nothing, and
--- nothing has changed. No group is opened.
+-- The block that the rule of cleaning names went to the slot that it names, and less is left to be cleaned; or the rule names
+-- nothing, and nothing has changed. No group is opened.
 pub record CleansOne (old : ArrayState) (answer : Move) (new : ArrayState) : Type 0 where
   pub moves : MovesBlock old answer new
   pub moved : IfMoved answer (λ key to. Cleans old.store.book key to new.store.book)

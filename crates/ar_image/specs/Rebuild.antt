@@ -9,9 +9,10 @@ use Rattle.ar_rebuild.specs.Rows.{IsBesideNext, HasNothingNext, AsksNext}
 use Rattle.ar_rebuild.specs.Rebuild.{Answers, Advances, IsQuiet as NothingToRebuild}
 use Rattle.ar_image.specs.Image.{ArrayState, is_broken}
 
--- The lowest extent that wasn't done of the replaced disk is, or why it is not is told. Every slot holds what it held, on that extent too,
--- and every block stands as it did; tables and cache stay, and so do the rows of all other extents. No disk is accessed but those of the
--- extent and of the members from which it is written. Where no used group has the extent none is: it counts as done, and that is all.
+-- The lowest extent that wasn't done of the replaced disk is, or why it is not is told. Every slot holds what it held, on that
+-- extent too, and every block stands as it did; tables and cache stay, and so do the rows of all other extents. No disk is
+-- accessed but those of the extent and of the members from which it is written. Where no used group has the extent none is: it
+-- counts as done, and that is all.
 pub record RebuildsOne (old : ArrayState) (answer : Rebuild) (new : ArrayState) : Type 0 where
   pub answers : Answers old.store.disks new.store.disks answer
   pub idle : (answer ≡ Idle) ↔ NothingToRebuild old.store.disks.health

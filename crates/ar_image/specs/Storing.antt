@@ -11,8 +11,8 @@ use Rattle.ar_image.specs.Following.{ReadsStored}
 use Rattle.ar_image.specs.Image.{ArrayState, geometry_of, seen_at}
 use Rattle.ar_image.specs.Sectors.{keys_in}
 
--- A block was read: where it is cached, the disks were not asked and the tables are as they were; and else none was asked that the
--- block doesn't need. The cache is as it was.
+-- A block was read: where it is cached, the disks were not asked and the tables are as they were; and else none was asked that
+-- the block doesn't need. The cache is as it was.
 pub record ReadsBlock (old : ArrayState) (key : Key) (new : ArrayState) : Type 0 where
   pub cache : new.cache ≡ old.cache
   pub hit : IsSome (cached old.cache key) → new.store ≡ old.store
@@ -68,8 +68,8 @@ StoresBlocks addr lba count false old new = PutsBlocks addr lba count old new
 StoresBlocks addr lba count true old new =
     (put : ArrayState) × PutsBlocks addr lba count old put × InTurn ForcesBlock (keys_in (geometry_of old) addr lba count) put new
 
--- The cache was emptied until the array broke: the most recently used of its entries stand, at least the one whose block was being
--- given to the disks then.
+-- The cache was emptied until the array broke: the most recently used of its entries stand, at least the one whose block was
+-- being given to the disks then.
 pub record LeavesSome (old new : CacheState) : Type 0 where
   pub left : ℕ
   pub some_left : 0 < left

@@ -1,5 +1,5 @@
-//! The units' blocks: a write-back cache over the store, how READ and WRITE move sectors over them, and the unit that its host sees,
-//! whatever stands in the cache and what on the disks.
+//! The units' blocks: a write-back cache over the store, how READ and WRITE move sectors over them, and the unit that its host
+//! sees, whatever stands in the cache and what on the disks.
 #![tactic(auto)]
 
 mod balance;

@@ -51,8 +51,8 @@ fn read_part<B: Backing>(
     }
 }
 
-/// Appends `count` sectors of a unit from number `lba` on to `out`. Their blocks are read once each, in ascending order, until one can't be.
-/// NoMemory says that `out` had no room for them all, and got none.
+/// Appends `count` sectors of a unit from number `lba` on to `out`. Their blocks are read once each, in ascending order, until
+/// one can't be. NoMemory says that `out` had no room for them all, and got none.
 pub fn read_sectors<B: Backing>(
     blocks: &mut B,
     geometry: Geometry,
@@ -134,8 +134,8 @@ fn write_part<B: Backing>(
     }
 }
 
-/// Puts the bytes of `count` sectors in place of those of a unit from number `lba` on, block by block in ascending order. A block of which
-/// they are a part is read first, and no other.
+/// Puts the bytes of `count` sectors in place of those of a unit from number `lba` on, block by block in ascending order. A block
+/// of which they are a part is read first, and no other.
 pub fn write_sectors<B: Backing>(
     blocks: &mut B,
     geometry: Geometry,

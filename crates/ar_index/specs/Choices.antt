@@ -4,8 +4,8 @@ use Rattle.std.specs.Option.{option_or}
 use Rattle.ar_index.specs.declared.choices.Age.{Age}
 use Rattle.ar_index.specs.declared.choices.Choices.{Choices}
 
--- whether the first block was written longer ago; where the stamps are equal its unit was made earlier, or it is the lower one of a
--- unit, or the same
+-- whether the first block was written longer ago; where the stamps are equal its unit was made earlier, or it is the lower one of
+-- a unit, or the same
 abbrev pub is_no_newer : Age → Age → Bool
 is_no_newer a b = nat_lt a.stamp b.stamp || ((a.stamp == b.stamp) && (nat_lt a.order b.order || ((a.order == b.order) && nat_le a.key.rb b.key.rb)))
 

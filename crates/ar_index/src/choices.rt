@@ -3,7 +3,8 @@ ghost use Rattle.std.specs.Prelude.{◌≡◌};
 
 use ar_disks::Key;
 
-/// How old a mirrored block is: by its stamp; where stamps are equal by its unit's place in order of making, and in a unit by its number.
+/// How old a mirrored block is: by its stamp; where stamps are equal by its unit's place in order of making, and in a unit by its
+/// number.
 #[derive(Clone, Copy, Debug, PartialEq, Eq)]
 pub struct Age {
     pub stamp: u64,
@@ -11,8 +12,8 @@ pub struct Age {
     pub key: Key,
 }
 
-/// What is chosen among some groups: the lowest that is mirrored and has a hole, the lowest with parity that has one, the lowest that
-/// is free, and the oldest mirrored block.
+/// What is chosen among some groups: the lowest that is mirrored and has a hole, the lowest with parity that has one, the lowest
+/// that is free, and the oldest mirrored block.
 #[derive(Clone, Copy, Debug, PartialEq, Eq)]
 pub struct Choices {
     pub mirrored: Option<u32>,

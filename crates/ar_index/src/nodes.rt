@@ -1,5 +1,5 @@
-// The nodes of a tree in one list: the root is 1, the children of a node are twice it and the next, and the leaves stand behind the
-// inner nodes.
+// The nodes of a tree in one list: the root is 1, the children of a node are twice it and the next, and the leaves stand behind
+// the inner nodes.
 ghost use Rattle.std.specs.Prelude.{◌≡◌, ℕ, ◌+◌, ◌-◌, ◌*◌, ◌/◌, ◌^◌, ◌<◌, ◌≤◌, length, drop, slice_set, IfOk, OnErr};
 ghost use Rattle.ar_index.specs.Choices.{nothing, join};
 ghost use Rattle.ar_index.specs.Tree as spec;
@@ -99,8 +99,8 @@ fn twice(size: usize) -> Result<usize, AllocError>
     }
 }
 
-/// Makes room for one leaf more in a tree of so many leaves, of which so many are in use, and answers how many leaves it has then.
-/// Without memory nothing changes.
+/// Makes room for one leaf more in a tree of so many leaves, of which so many are in use, and answers how many leaves it has
+/// then. Without memory nothing changes.
 pub(crate) fn make_room(
     alloc: Global,
     nodes: &mut Vec<Choices>,

@@ -4,8 +4,8 @@ ghost use Rattle.std.specs.Borrow.{ftrue};
 
 use std::marker::Model;
 
-/// How many steps were taken: turns of loops, items of iterators and recursive calls. Contracts alone see the count, as `count`; it
-/// takes no bytes, and has no greatest value.
+/// How many steps were taken: turns of loops, items of iterators and recursive calls. Contracts alone see the count, as `count`;
+/// it takes no bytes, and has no greatest value.
 #[derive(Drop)]
 pub struct Steps {
     pub ghost count: { ℕ },

@@ -83,7 +83,8 @@ impl Tree {
         node_at(&self.nodes, 1)
     }
 
-    /// Changes the choices of one group. A step is a node that is joined: there are at most 14 where there are at most 4,096 groups.
+    /// Changes the choices of one group. A step is a node that is joined: there are at most 14 where there are at most 4,096
+    /// groups.
     pub fn set(&mut self, leaf: usize, choices: Choices, steps: &mut Steps)
         requires { leaf < length self.old }
         ensures set { self.new ≡ slice_set self.old leaf choices }

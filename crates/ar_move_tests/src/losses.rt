@@ -63,9 +63,9 @@ fn is_lost_at_each_call(
     Ok(())
 }
 
-// Of a mirrored group's slots the first two stand on disks 0 and 1, the others on 2 and 3, and a block is read from the first of its
-// two. Of a parity group's first row the parity is on disk 0 and the blocks on 1, 2, 3. A write at the parity level reads and writes
-// block and parity. The calls of the disks are then:
+// Of a mirrored group's slots the first two stand on disks 0 and 1, the others on 2 and 3, and a block is read from the first of
+// its two. Of a parity group's first row the parity is on disk 0 and the blocks on 1, 2, 3. A write at the parity level reads and
+// writes block and parity. The calls of the disks are then:
 //
 //     six blocks are written mirrored              4   4   2   2
 //     a group is filled with zeros                 2   2   2   2

@@ -80,8 +80,8 @@ const LAST_FREE_GROUP: [Step; 13] = [
     (Get(7), Byte(8)),
 ];
 
-// Eight blocks are demoted to two groups with parity, of which the second takes two. Three of the first are written again. The one
-// mirrored group can't be emptied then, and of the two others the one with fewer blocks is.
+// Eight blocks are demoted to two groups with parity, of which the second takes two. Three of the first are written again. The
+// one mirrored group can't be emptied then, and of the two others the one with fewer blocks is.
 const PARITY_GROUPS: [Step; 27] = [
     (Make(16), Is(true)),
     (Put(0, 1), Done),

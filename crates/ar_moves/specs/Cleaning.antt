@@ -38,8 +38,8 @@ pub record Cleans (t : Tables) (key : Key) (to : Slot) (new : Tables) : Type 0 w
   pub names : NamesCleaning t key to
   pub moved : Moved t key to new
 
--- A group's part of the work that may be left, by its number of blocks: they meet as many free slots each. And most of all where it was
--- opened and has no block yet, as a block that goes there leaves one more group with blocks.
+-- A group's part of the work that may be left, by its number of blocks: they meet as many free slots each. And most of all where
+-- it was opened and has no block yet, as a block that goes there leaves one more group with blocks.
 abbrev pub work_in : ℕ → ℕ
 work_in blocks = if blocks == 0 then 96 else blocks * (48 - blocks)
 

@@ -14,8 +14,8 @@ pub fn cleaning_ends()
         → cleaning_left new < cleaning_left t }
 {}
 
-/// Each rule names one block and one slot at most, and demotion one state of the tables in which the slot is ready. So a move that is
-/// answered is the one that the rule names. It does nothing when it is called.
+/// Each rule names one block and one slot at most, and demotion one state of the tables in which the slot is ready. So a move
+/// that is answered is the one that the rule names. It does nothing when it is called.
 pub fn rules_name_one_move()
     ensures demotion { (t ready tables : Tables) (key other : Key) (to at : Slot) → TablesAgree t → NamesDemotion t key to ready
         → NamesDemotion t other at tables → (key ≡ other) × (to ≡ at) × (ready ≡ tables) }

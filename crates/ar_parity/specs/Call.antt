@@ -17,7 +17,8 @@ abbrev pub Tells : SetState → Completion → Type 0
 Tells s Done = s.health ≢ AllBroken
 Tells s Broken = s.health ≡ AllBroken
 
--- Whatever four blocks the row agreed on, it agrees on them with a new block at a position, and with the parity that goes with it.
+-- Whatever four blocks the row agreed on, it agrees on them with a new block at a position, and with the parity that goes with
+-- it.
 pub record Changes (old new : SetState) (m : Members) (row position : ℕ) (bytes : List ℕ) : Type 0 where
   pub agrees : (blocks : Blocks) → RowAgrees old m row blocks → RowAgrees new m row (changed blocks position (parity_position row) bytes)
 

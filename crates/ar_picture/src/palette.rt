@@ -1,8 +1,8 @@
 // Colours of units.
 use crate::{UNITS_MAX, Unit};
 
-/// The colour of each unit, by its place: 8 H + L of unit L of host H. The hues of the hosts are told apart by those, too, who see
-/// red and green alike; a host's units are light and dark in turn.
+/// The colour of each unit, by its place: 8 H + L of unit L of host H. The hues of the hosts are told apart by those, too, who
+/// see red and green alike; a host's units are light and dark in turn.
 pub static COLOURS: [&str; UNITS_MAX] = [
     // Host 0: blue.
     "#0072B2", "#99C7E0", "#003350", "#4C9CC9", "#00507D", "#C7E0EE", "#001927", "#73B1D5",

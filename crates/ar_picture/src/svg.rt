@@ -26,8 +26,9 @@ text { font-family: 'DejaVu Sans', Verdana, sans-serif; font-size: 12px; fill: #
 <defs><pattern id='missing' width='9' height='9' patternUnits='userSpaceOnUse' patternTransform='rotate(45)'>\
 <rect width='2' height='9' fill='#B03A00'/></pattern></defs>";
 
-/// Writes the picture as an SVG: a column for each disk, in it its extents, coloured by the class of their group, each with a bar as
-/// long as the group is full, in the colours of the units whose blocks it holds; and a legend. Extents that can't be used are hatched.
+/// Writes the picture as an SVG: a column for each disk, in it its extents, coloured by the class of their group, each with a bar
+/// as long as the group is full, in the colours of the units whose blocks it holds; and a legend. Extents that can't be used are
+/// hatched.
 pub fn write_svg<W: Write>(out: &mut W, picture: &Picture) -> io::Result<()> {
     let scale = Scale::of(picture.extents);
     write_frame(out, picture)?;

@@ -4,9 +4,9 @@ use ar_disks::Place;
 use std::io;
 use std::io::Write;
 
-/// Writes the text map: how many disks and extents there are, the numbers of the disks with the one that is down marked below, a line
-/// for each of the picture's folds, two lines that say what the marks mean, one of the disks' health, and a line for each unit.
-/// Of 12 disks no line is longer than 70 characters.
+/// Writes the text map: how many disks and extents there are, the numbers of the disks with the one that is down marked below, a
+/// line for each of the picture's folds, two lines that say what the marks mean, one of the disks' health, and a line for each
+/// unit. Of 12 disks no line is longer than 70 characters.
 pub fn write_map<W: Write>(out: &mut W, picture: &Picture, folds: &[Fold]) -> io::Result<()> {
     write_heads(out, picture)?;
     for fold in folds {

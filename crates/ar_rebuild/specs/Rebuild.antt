@@ -84,11 +84,12 @@ pub record IsLostAgain (old new : SetState) (d : ℕ) : Type 0 where
   pub down : IsDown old.health d
   pub faulted : Faulted old new d
 
--- How a step of a rebuild leaves the disks: as reads and writes do, but that the mark may have moved on by one extent. Their shape
--- and the loose extents stay; fault counts only grow, and a disk whose count has grown is out, or the set is broken. No extent can be
--- used that couldn't, but the one that was rebuilt. The disks are whole only where they were, or the last extent was rebuilt; a disk is
--- out only where it was, or where it is the replaced one and has faulted, and is being rebuilt only where it was, with one extent fewer
--- done; the set is broken only where it was, or where two disks are hit; and nothing changes once it is broken.
+-- How a step of a rebuild leaves the disks: as reads and writes do, but that the mark may have moved on by one extent. Their
+-- shape and the loose extents stay; fault counts only grow, and a disk whose count has grown is out, or the set is broken. No
+-- extent can be used that couldn't, but the one that was rebuilt. The disks are whole only where they were, or the last extent
+-- was rebuilt; a disk is out only where it was, or where it is the replaced one and has faulted, and is being rebuilt only where
+-- it was, with one extent fewer done; the set is broken only where it was, or where two disks are hit; and nothing changes once
+-- it is broken.
 pub record Advances (old new : SetState) : Type 0 where
   pub geometry : new.geometry ≡ old.geometry
   pub extents : new.extents ≡ old.extents

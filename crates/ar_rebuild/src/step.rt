@@ -26,14 +26,15 @@ pub enum Rebuild {
     Broken,
 }
 
-/// Rebuilds one extent of the disk that was replaced: the lowest that isn't done. Every row of it is written from the other members
-/// of its group, those of empty slots too, and none where it is loose or its group is free; then it counts as done, and is used
-/// from then on. No disk is accessed but its own and those of the members that its rows are read from: the other one of its pair
-/// in a mirrored group, the three others in one with parity. No memory is taken.
+/// Rebuilds one extent of the disk that was replaced: the lowest that isn't done. Every row of it is written from the other
+/// members of its group, those of empty slots too, and none where it is loose or its group is free; then it counts as done, and
+/// is used from then on. No disk is accessed but its own and those of the members that its rows are read from: the other one of
+/// its pair in a mirrored group, the three others in one with parity. No memory is taken.
 ///
 /// Every slot holds what it held, on the rebuilt extent too, and every block stands as it did. Until it is done an extent is
-/// neither read nor written by any other call. After `Finished` the disks are whole, so any one of them may go, as the contract of
-/// `Store::health` says. `GivenUp` and `Broken` count no extent as done; of a store that was broken before nothing has changed.
+/// neither read nor written by any other call. After `Finished` the disks are whole, so any one of them may go, as the contract
+/// of `Store::health` says. `GivenUp` and `Broken` count no extent as done; of a store that was broken before nothing has
+/// changed.
 pub fn rebuild_one<D: Disk>(store: &mut Store<D>) -> Rebuild
     ensures answer { Answers store.old.disks store.new.disks result }
     ensures idle { (result ≡ Rebuild.Idle) ↔ IsQuiet store.old.disks.health }

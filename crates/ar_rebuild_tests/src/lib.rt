@@ -1,4 +1,5 @@
-//! Tests of replacement and rebuilding: what each step answers, what is read while a disk is rebuilt, and what stands on it afterwards.
+//! Tests of replacement and rebuilding: what each step answers, what is read while a disk is rebuilt, and what stands on it
+//! afterwards.
 #![tactic(auto)]
 
 #[cfg(test)]

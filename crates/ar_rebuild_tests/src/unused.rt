@@ -1,8 +1,8 @@
 // Extents that hold nothing: they are done without an access of the new disk, which passes none.
 //
-// Of five disks with three extents each, disks 0 to 3 form group 0 of their extents 0; disk 4 and the extents 1 of disks 0 to 2 form
-// group 1; and disks 0 and 1 with their extents 2, disk 3 with its extent 1 and disk 4 with its extent 1 form group 2. The extents 2 of
-// disks 2, 3 and 4 are loose.
+// Of five disks with three extents each, disks 0 to 3 form group 0 of their extents 0; disk 4 and the extents 1 of disks 0 to 2
+// form group 1; and disks 0 and 1 with their extents 2, disk 3 with its extent 1 and disk 4 with its extent 1 form group 2. The
+// extents 2 of disks 2, 3 and 4 are loose.
 use crate::calls::{Answer, Call, Step, play};
 use crate::fixtures::{FOUR_GROUPS, Shape};
 use Answer::{Byte, Done, Finished, GivenUp, Is, Now, Rebuilt, Used};

@@ -137,7 +137,8 @@ pub record HasWritten (Lba : List ℕ → Type 0) (words : Words) : Type 0 where
   pub sectors : IsNumberOf 16 (word words 3)
   pub filled : IsBytePair (word words 4)
 
--- `write H L LBA COUNT BYTE`, and the same with `fua`, by the operation code of WRITE (10); `write16` likewise, by that of WRITE (16)
+-- `write H L LBA COUNT BYTE`, and the same with `fua`, by the operation code of WRITE (10); `write16` likewise, by that of WRITE
+-- (16)
 abbrev pub AsksWrite : ℕ → Words → Order → Type 0
 AsksWrite code words order =
     (byte : ℕ) × IsByte (word words 4) byte

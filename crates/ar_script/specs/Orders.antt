@@ -22,7 +22,8 @@ use Rattle.ar_script.specs.declared.order.Order.TheVariants.{Act, Ask}
 use Rattle.ar_script.specs.declared.order.Question.{Question}
 use Rattle.ar_script.specs.declared.order.Question.TheVariants.{Levels, Home, Groups, Room, Health, Picture, Block}
 
--- the event that an action is to an array: data are copies of one byte, and a disk that is taken in is new, and of the array's shape
+-- the event that an action is to an array: data are copies of one byte, and a disk that is taken in is new, and of the array's
+-- shape
 abbrev pub event_in : ArrayState → Action → Event
 event_in s (actions.Make addr sectors) = Make addr sectors
 event_in s (actions.Grow addr sectors) = Grow addr sectors
@@ -52,8 +53,8 @@ notation_in (actions.DiskOut disk) = Bytes
 notation_in (actions.Replace disk) = Bytes
 notation_in actions.Rebuild = Bytes
 
--- Reading a row shows what stands there, or why it can't, and leaves the tables, the cache and each unit as they were. It may meet a
--- fault of the row's disk.
+-- Reading a row shows what stands there, or why it can't, and leaves the tables, the cache and each unit as they were. It may
+-- meet a fault of the row's disk.
 pub record ReadsRow (place : Place) (row : ℕ) (old new : ArrayState) : Type 0 where
   pub bytes : List ℕ
   pub shown : Shown

@@ -56,8 +56,8 @@ abbrev pub AreAll : Option (List (List ℕ)) → List (List ℕ) → Type 0
 AreAll None lines = ⊤
 AreAll (Some script) lines = lines ≡ script
 
--- What may be told at a line: that memory was refused or a stream faulted, of which nothing more is said; else only a fault that the
--- line has, by its bytes or by what it says, or that there are too many lines.
+-- What may be told at a line: that memory was refused or a stream faulted, of which nothing more is said; else only a fault that
+-- the line has, by its bytes or by what it says, or that there are too many lines.
 abbrev pub IsSo : Option (List (List ℕ)) → ℕ → FaultKind → Type 0
 IsSo None n kind = ⊤
 IsSo (Some script) n kind =
@@ -84,8 +84,8 @@ pub record PlaysAll (script left : Option (List (List ℕ))) (old new : ArraySta
   pub all : length lines ≡ begun
   pub took : Took script left lines
 
--- So many lines were begun, and the array met each, but that a fault may have come before the last was met: it could not be read, or
--- memory for its data was refused.
+-- So many lines were begun, and the array met each, but that a fault may have come before the last was met: it could not be read,
+-- or memory for its data was refused.
 pub record PlaysTo (script : Option (List (List ℕ))) (result : Result (Unit {0}) Fault) (old new : ArrayState) (begun : ℕ) : Type 0 where
   pub plays : PlaysScript script result old new
   pub few : length plays.lines ≤ begun

@@ -29,8 +29,8 @@ pub fn write_picture<W: Write, D: Disk>(
     write_map(out, &picture, &folds).map_err(|_| FaultKind::WriteFault)
 }
 
-/// The data of an array that its pictures show, also where it is broken. The units are in the order of their hosts and LUNs. It fails
-/// where memory is refused.
+/// The data of an array that its pictures show, also where it is broken. The units are in the order of their hosts and LUNs. It
+/// fails where memory is refused.
 pub fn picture_of<D: Disk>(alloc: Global, array: &Array<D>) -> Result<Picture, AllocError>
     ensures { IfOk result (IsPicture array.now) }
 {

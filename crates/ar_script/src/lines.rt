@@ -60,8 +60,8 @@ impl<R: Read + Drop> Lines<R> {
         !self.is_at_end && self.source.buffer().is_empty()
     }
 
-    /// Goes on to the next line, or says that there is none. Where the reader tells its bytes, the line is the first of those that
-    /// were left, and there is none exactly where none was left.
+    /// Goes on to the next line, or says that there is none. Where the reader tells its bytes, the line is the first of those
+    /// that were left, and there is none exactly where none was left.
     pub fn advance(&mut self) -> Result<bool, Fault>
         ensures taken { IfOk result (λ more. Took (lines_left self.old) (lines_left self.new)
             (if more then self.new.line.items ∷ [] else [])) }

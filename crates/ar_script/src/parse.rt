@@ -62,8 +62,8 @@ fn has_empty(words: &[&str]) -> bool
     words.iter().any(|word| word.is_empty())
 }
 
-// Reads the arguments as those of the order that has this name. (Three functions with a few names each, since a match costs the proof
-// more than by the number of its arms.)
+// Reads the arguments as those of the order that has this name. (Three functions with a few names each, since a match costs the
+// proof more than by the number of its arms.)
 fn order_of(name: &str, arguments: &[&str]) -> Result<Order, FaultKind>
     ensures reads { Reads name.now arguments.now result }
     ensures few { IfErr result (λ kind. kind ≢ FaultKind.TooManyLines) }

@@ -48,8 +48,8 @@ pub fn run_script<R: Read + Drop, W: Write + Drop>(
     run_on(alloc, &mut runner, reader, writer)
 }
 
-/// Runs a script on the array of a runner, as `run_script` does. (Apart from `run_script`, so that no function owns more than one of array, lines and output: with all three
-/// the proof of its exits took a quarter of the crate's.)
+/// Runs a script on the array of a runner, as `run_script` does. (Apart from `run_script`, so that no function owns more than one
+/// of array, lines and output: with all three the proof of its exits took a quarter of the crate's.)
 pub fn run_on<R: Read + Drop, W: Write + Drop>(
     alloc: Global,
     runner: &mut Runner,

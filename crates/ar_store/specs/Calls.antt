@@ -15,8 +15,8 @@ use Rattle.ar_store.specs.Store.{StoreState}
 use Rattle.ar_store.specs.Slots.{SlotHolds}
 use Rattle.ar_store.specs.Placing.{slot_at}
 
--- Rows were read and written: no disk was lost without a cause, and what is loose stays so. An extent that isn't used, of a disk that
--- is out or isn't rebuilt so far, keeps what stands in its rows: the rebuild alone writes them.
+-- Rows were read and written: no disk was lost without a cause, and what is loose stays so. An extent that isn't used, of a disk
+-- that is out or isn't rebuilt so far, keeps what stands in its rows: the rebuild alone writes them.
 pub record IsAccessed (old new : SetState) : Type 0 where
   pub follows : Follows old new
   pub loose : new.loose ≡ old.loose

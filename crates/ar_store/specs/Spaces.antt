@@ -15,7 +15,8 @@ pub record IsReady {X : Type 0} (s : Space X) : Type 0 where
   pub space : IsSpace (store_in s)
   pub scratch : s.scratch.geometry ≡ s.disks.geometry
 
--- The space is ready for the next call, its units are as they were but for homes and stamps, and no disk was lost without a cause.
+-- The space is ready for the next call, its units are as they were but for homes and stamps, and no disk was lost without a
+-- cause.
 pub record Stays {X : Type 0} (old new : Space X) : Type 0 where
   pub ready : IsReady new
   pub units : SameUnits old.book new.book

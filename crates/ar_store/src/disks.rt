@@ -29,8 +29,8 @@ impl<D: Disk> Store<D> {
     }
 
     /// Adds a disk, every extent of which is loose: no group stands on it yet, and every block stands as it did. Refused, in this
-    /// order, on broken disks, with twelve already, for another shape than theirs, or without memory. A refused disk is handed back,
-    /// and nothing has changed.
+    /// order, on broken disks, with twelve already, for another shape than theirs, or without memory. A refused disk is handed
+    /// back, and nothing has changed.
     pub fn add(&mut self, disk: D) -> Result<(), (DiskRefusal, D)>
         requires { CanCount (D.state disk) }
         ensures taken { OnOk result (add_refusal self.old.disks (D.state disk) ≡ None) }
@@ -70,8 +70,9 @@ impl<D: Disk + Drop> Store<D> {
     ghost use Rattle.ar_extents.specs.Changes.{replace_refusal, replaced};
     ghost use Rattle.ar_store.specs.Slots.{AllStand, SlotsHold};
 
-    /// Takes a disk in the place of one that is out, which is let go, and begins to rebuild it: none of its extents is used before it is
-    /// rebuilt, so every block stands as it did, whatever is on the disk. A refused disk is handed back, and nothing changes then.
+    /// Takes a disk in the place of one that is out, which is let go, and begins to rebuild it: none of its extents is used
+    /// before it is rebuilt, so every block stands as it did, whatever is on the disk. A refused disk is handed back, and nothing
+    /// changes then.
     pub fn replace(&mut self, number: u8, disk: D) -> Result<(), (DiskRefusal, D)>
         requires { CanCount (D.state disk) }
         ensures taken { OnOk result (replace_refusal self.old.disks number (D.state disk) ≡ None) }

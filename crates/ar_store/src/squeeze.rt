@@ -18,8 +18,8 @@ impl<D: Disk> Space<D> {
     ghost use Rattle.ar_store.specs.Placing.{slot_at, moved_first, IsVacant, IsSqueezed, HasNoHole, CanMove};
     ghost use Rattle.ar_store.specs.Spaces.{store_in, IsReady, Stays};
 
-    /// Moves all blocks of the lowest mirrored group to the one free group, which is opened for parity, and answers the first hole
-    /// that is left there. None where the disks broke.
+    /// Moves all blocks of the lowest mirrored group to the one free group, which is opened for parity, and answers the first
+    /// hole that is left there. None where the disks broke.
     pub(crate) fn squeeze(&mut self, block: &mut Block) -> Option<Slot>
         requires ready { IsReady self.old }
         requires waiting { IsWaiting self.old.book }

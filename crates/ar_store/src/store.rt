@@ -7,8 +7,8 @@ use ar_disks::{Block, Completion, Disk, Key};
 use ar_extents::{DiskSet, Health};
 use std::marker::Model;
 
-/// The disks of an array and the book of their space. Both are open to the crates that move blocks in the background; whoever changes
-/// them keeps what `IsKept` says of them.
+/// The disks of an array and the book of their space. Both are open to the crates that move blocks in the background; whoever
+/// changes them keeps what `IsKept` says of them.
 #[derive(Drop)]
 pub struct Store<D: Disk> {
     pub space: Space<D>,
@@ -100,8 +100,8 @@ impl<D: Disk> Store<D> {
     }
 
     /// Writes a block of a unit, from a block of the store's length, and gives it the next stamp. It is never refused for room:
-    /// where it goes, `Puts` says. `Broken` says that the disks are: the block has its old home then, and of a store that was broken
-    /// before nothing has changed.
+    /// where it goes, `Puts` says. `Broken` says that the disks are: the block has its old home then, and of a store that was
+    /// broken before nothing has changed.
     pub fn put(&mut self, key: Key, from: &[u8]) -> Completion
         requires block { HasBlock self.old.book key }
         requires whole { length from.now ≡ block_len_of self.old.disks.geometry }
@@ -143,8 +143,9 @@ impl<D: Disk> Store<D> {
         self.space.write(key, way, self.block.bytes())
     }
 
-    /// Moves a block from its home to a slot that names none. The new slot is written before the old one is left; the stamp stays,
-    /// and so does what the other slots of the new one's group hold. After `Broken` the block has its old home; of a store that was broken before nothing has changed.
+    /// Moves a block from its home to a slot that names none. The new slot is written before the old one is left; the stamp
+    /// stays, and so does what the other slots of the new one's group hold. After `Broken` the block has its old home; of a store
+    /// that was broken before nothing has changed.
     pub fn move_rb(&mut self, key: Key, slot: Slot) -> Completion
         requires placed { IsSome (home self.old.book key) }
         requires hole { IsVacant self.old.book slot }
@@ -163,9 +164,9 @@ impl<D: Disk> Store<D> {
         self.space.move_block(key, slot, &mut self.block)
     }
 
-    /// Opens the lowest free group for mirrored blocks or for parity, while two are free. A group that is opened for parity is filled
-    /// with zeros. `Broken` says that the disks are: the group may have been opened then, but of a store that was broken before nothing
-    /// has changed.
+    /// Opens the lowest free group for mirrored blocks or for parity, while two are free. A group that is opened for parity is
+    /// filled with zeros. `Broken` says that the disks are: the group may have been opened then, but of a store that was broken
+    /// before nothing has changed.
     pub fn open_group(&mut self, class: Class) -> Opening
         requires { class ≢ Class.Free }
         ensures opens { Opens self.old self.new class result }

@@ -61,7 +61,8 @@ fn tell(rt: &impl Abort, alloc: Global, shape: Shape, story: Story) -> Result<()
     Ok(())
 }
 
-/// What a new store says of its disks after a story. (Only this function owns a rig, since each that does costs its proof the more.)
+/// What a new store says of its disks after a story. (Only this function owns a rig, since each that does costs its proof the
+/// more.)
 pub fn health_after(
     rt: &impl Abort,
     alloc: Global,

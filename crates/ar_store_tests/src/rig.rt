@@ -81,8 +81,8 @@ impl Rig {
         self.store.book().room()
     }
 
-    /// A unit of twelve blocks takes all the room of three groups. Its blocks are written in order, so that two squeezes leave them
-    /// all at the parity level and one group free.
+    /// A unit of twelve blocks takes all the room of three groups. Its blocks are written in order, so that two squeezes leave
+    /// them all at the parity level and one group free.
     pub fn fills(&mut self, rt: &impl Abort) -> Result<(), Fail> {
         self.meets(rt, Call::Make(24), Answer::Is(true))?;
         self.writes(rt, 12, 1)?;

@@ -91,8 +91,8 @@ fn is_formed(rt: &impl Abort, store: &Store<FuseDisk>, formed: Formed) {
     }
 }
 
-// Starts a store, and compares what it is formed of where that is given. Disks of which none is made come back, with the reason. (Only
-// this function owns a store, since each that does costs its proof the more.)
+// Starts a store, and compares what it is formed of where that is given. Disks of which none is made come back, with the reason.
+// (Only this function owns a store, since each that does costs its proof the more.)
 fn begin(
     rt: &impl Abort,
     alloc: Global,

@@ -181,7 +181,8 @@ fn drawn_events_meet_every_answer(rt: HostRuntime) -> Result<(), Fail> {
     Ok(())
 }
 
-/// Whether an array answered as plain lists do. What a flush or a move did is its own affair, but there is no loss that it can meet.
+/// Whether an array answered as plain lists do. What a flush or a move did is its own affair, but there is no loss that it can
+/// meet.
 pub fn agrees<N>(outcome: &OutcomeOf<N>, answer: &Answer) -> bool {
     match (outcome, answer) {
         (

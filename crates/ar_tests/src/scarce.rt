@@ -1,5 +1,5 @@
-// Runs that go on after the refusal of any one allocation. The gate refuses each in turn, by `.ci/scarce`; with ample memory they are
-// the runs themselves.
+// Runs that go on after the refusal of any one allocation. The gate refuses each in turn, by `.ci/scarce`; with ample memory they
+// are the runs themselves.
 ghost use Rattle.std.specs.Prelude.{All, map, IfOk};
 ghost use Rattle.ar_extents.specs.Set.{CanCount};
 

@@ -26,7 +26,8 @@ pub record Answered : Type 0 where
 abbrev pub leaving : UnitState → Reply → Answered
 leaving state reply = record { reply = reply; state = state }
 
--- where no unit is: INQUIRY tells so, whatever its other fields, and each other command is refused (SAM-3, Incorrect logical unit selection)
+-- where no unit is: INQUIRY tells so, whatever its other fields, and each other command is refused (SAM-3, Incorrect logical unit
+-- selection)
 abbrev pub absent_reply : List ℕ → Reply
 absent_reply cdb =
     if operation_code cdb == 0x12 then good (take (allocation_length cdb) (inquiry_data false))

@@ -59,8 +59,8 @@ fn a_fill_with_its_squeezes(rt: HostRuntime) {
     );
 }
 
-// Eight blocks fill two mirrored groups of small extents. A group with parity has six slots, so that two are opened, each by eight
-// rows of zeros. A block is read, then the zeros in its slot and their parity, and both are written anew.
+// Eight blocks fill two mirrored groups of small extents. A group with parity has six slots, so that two are opened, each by
+// eight rows of zeros. A block is read, then the zeros in its slot and their parity, and both are written anew.
 #[test]
 fn demotions_with_the_groups_that_they_open(rt: HostRuntime) {
     let zeroed = Moves {

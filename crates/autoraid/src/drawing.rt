@@ -16,8 +16,8 @@ pub enum DrawingFault {
     NoMemory,
 }
 
-/// Writes a picture of the array to a file, as an SVG, in the place of what stands there. Where memory is refused, the file is left
-/// as it was.
+/// Writes a picture of the array to a file, as an SVG, in the place of what stands there. Where memory is refused, the file is
+/// left as it was.
 pub fn draw<R: Files + AllocGlobal>(
     rt: &R,
     runner: &Runner,

@@ -1,5 +1,5 @@
-//! The array as a program: `autoraid run` answers a script on standard input and may draw the array, `autoraid serve` serves hosts over
-//! sockets.
+//! The array as a program: `autoraid run` answers a script on standard input and may draw the array, `autoraid serve` serves
+//! hosts over sockets.
 #![tactic(auto)]
 
 mod command_line;
@@ -67,7 +67,8 @@ fn run(rt: &HostRuntime, setup: Setup) -> Result<(), Failure> {
     run_script(rt.alloc(), rt.stdin(), rt.stdout(), setup).map_err(Failure::Script)
 }
 
-// Runs a script, and draws the array as it then is, also where a fault has ended the script. That fault is told before any of drawing.
+// Runs a script, and draws the array as it then is, also where a fault has ended the script. That fault is told before any of
+// drawing.
 fn run_and_draw(rt: &HostRuntime, setup: Setup, file: &str) -> Result<(), Failure> {
     let mut runner = Runner::start(rt.alloc(), setup).map_err(Failure::Script)?;
     let ended = run_on(rt.alloc(), &mut runner, rt.stdin(), rt.stdout());
