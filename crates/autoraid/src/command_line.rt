@@ -159,10 +159,7 @@ fn setup_of(options: &ArgMatches<'_>) -> Option<Setup> {
 }
 
 // The file that a picture is to be written to.
-fn picture_of(
-    alloc: Global,
-    options: &ArgMatches<'_>,
-) -> Result<Option<String>, CommandLineFault> {
+fn picture_of(alloc: Global, options: &ArgMatches<'_>) -> Result<Option<String>, CommandLineFault> {
     match options.get_str("picture") {
         Some(file) => match String::from_str(alloc, file) {
             Ok(file) => Ok(Some(file)),

@@ -23,7 +23,9 @@ pub fn draw<R: Files + AllocGlobal>(
     runner: &Runner,
     file: &str,
 ) -> Result<(), DrawingFault> {
-    let picture = runner.picture(rt.alloc()).map_err(|_| DrawingFault::NoMemory)?;
+    let picture = runner
+        .picture(rt.alloc())
+        .map_err(|_| DrawingFault::NoMemory)?;
     let mut svg = Vec::new(rt.alloc());
     write_svg(&mut svg, &picture).map_err(|_| DrawingFault::NoMemory)?;
     fs::write(rt, file, &svg).map_err(|_| DrawingFault::Write)
