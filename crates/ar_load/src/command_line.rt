@@ -1,0 +1,104 @@
+// What the words of a command line ask for.
+use clap::error::ErrorKind;
+use clap::{Arg, ArgMatches, Command, Error as ParseError, value_parser};
+use std::alloc::{AllocError, Global};
+use std::convert::AsStr;
+use thiserror::Error;
+
+/// Why a command line asks for nothing that the program does.
+#[derive(Clone, Copy, Debug, PartialEq, Eq, Error)]
+pub enum CommandLineFault {
+    /// The words are not the program's options and their values. A call for help is none either.
+    #[error("bad command line: ar_load --port PORT [--hosts 1..4] [--bytes 512|4096|65536] [--seconds 1..10]")]
+    Bad,
+    /// Memory was refused.
+    #[error("no memory")]
+    NoMemory,
+}
+
+/// What is to be measured.
+#[derive(Clone, Copy)]
+pub struct Options {
+    /// The port of 127.0.0.1 at which the array is served.
+    pub port: u16,
+    /// The most hosts that ask at once.
+    pub hosts: u8,
+    /// Sectors of a request.
+    pub sectors: u16,
+    /// For how many seconds the array is asked, and for how many more the bare echo.
+    pub seconds: u32,
+}
+
+static SIZES: [&str; 3] = ["512", "4096", "65536"];
+
+/// The options among all words of the command line, the program's name first.
+pub fn options_in<S: AsStr>(alloc: Global, words: &[S]) -> Result<Options, CommandLineFault> {
+    let matches = matches_of(alloc, words).map_err(|error| fault_of(&error))?;
+    options_of(&matches).ok_or(CommandLineFault::Bad)
+}
+
+fn fault_of(error: &ParseError) -> CommandLineFault {
+    match error.kind() {
+        ErrorKind::OutOfMemory => CommandLineFault::NoMemory,
+        _ => CommandLineFault::Bad,
+    }
+}
+
+fn matches_of<'a, S: AsStr>(alloc: Global, words: &'a [S]) -> Result<ArgMatches<'a>, ParseError> {
+    command(alloc)?.try_get_matches_from(words)
+}
+
+fn command<'a>(alloc: Global) -> Result<Command<'a>, AllocError> {
+    Command::new(alloc, "ar_load")
+        .arg(port(alloc))?
+        .arg(hosts(alloc))?
+        .arg(bytes(alloc))?
+        .arg(seconds(alloc))
+}
+
+fn port<'a>(alloc: Global) -> Arg<'a> {
+    Arg::new(alloc, "port")
+        .long("port")
+        .value_parser(value_parser!(u16).range(1..=65_535))
+        .required(true)
+}
+
+fn hosts<'a>(alloc: Global) -> Arg<'a> {
+    Arg::new(alloc, "hosts")
+        .long("hosts")
+        .value_parser(value_parser!(u8).range(1..=4))
+        .default_value("4")
+}
+
+fn bytes<'a>(alloc: Global) -> Arg<'a> {
+    Arg::new(alloc, "bytes")
+        .long("bytes")
+        .value_parser(SIZES.as_slice())
+        .default_value("512")
+}
+
+fn seconds<'a>(alloc: Global) -> Arg<'a> {
+    Arg::new(alloc, "seconds")
+        .long("seconds")
+        .value_parser(value_parser!(u32).range(1..=10))
+        .default_value("2")
+}
+
+fn options_of(matches: &ArgMatches<'_>) -> Option<Options> {
+    Some(Options {
+        port: matches.get_one("port")?,
+        hosts: matches.get_one("hosts")?,
+        sectors: sectors_of(matches.get_str("bytes")?)?,
+        seconds: matches.get_one("seconds")?,
+    })
+}
+
+// How many sectors so many bytes are.
+fn sectors_of(bytes: &str) -> Option<u16> {
+    match bytes {
+        "512" => Some(1),
+        "4096" => Some(8),
+        "65536" => Some(128),
+        _ => None,
+    }
+}

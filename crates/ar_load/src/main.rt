@@ -1,0 +1,93 @@
+//! What a served array takes: hosts ask it over sockets, request after request, and beside it a bare echo.
+#![tactic(auto)]
+
+mod command_line;
+mod echo;
+mod exchange;
+mod failure;
+mod figures;
+mod host;
+mod measure;
+mod plan;
+mod request;
+
+use command_line::{CommandLineFault, Options, options_in};
+use failure::Failure;
+use figures::Line;
+use measure::{Trial, measure};
+use request::{Kind, Shape};
+use std::alloc::Global;
+use std::net::{Net, TcpListener, TcpStream};
+use std::process::ExitCode;
+use std::sync::Wait;
+use std::thread::Threads;
+use std::time::Clock;
+use std::{env, io};
+
+fn main(rt: HostRuntime) -> ExitCode {
+    let done = match options(&rt) {
+        Ok(options) => run(&rt, rt.alloc(), options),
+        Err(fault) => Err(Failure::CommandLine(fault)),
+    };
+    match done {
+        Ok(()) => ExitCode::SUCCESS,
+        Err(failure) => {
+            // Where standard error takes nothing, the status alone tells.
+            let _ = eprintln!(rt; "{failure}");
+            ExitCode::from(failure.status())
+        }
+    }
+}
+
+// What the command line asks for.
+fn options(rt: &HostRuntime) -> Result<Options, CommandLineFault> {
+    let alloc = rt.alloc();
+    let words = words_of(rt, alloc)?;
+    options_in(alloc, words.as_slice())
+}
+
+// The words that the program was started with. One that is no text is in no command line.
+fn words_of(rt: &HostRuntime, alloc: Global) -> Result<Vec<String>, CommandLineFault> {
+    match env::args(rt) {
+        Ok(words) => words.collect(alloc).map_err(|_| CommandLineFault::NoMemory),
+        Err(error) if error.kind() == io::ErrorKind::OutOfMemory => Err(CommandLineFault::NoMemory),
+        Err(_) => Err(CommandLineFault::Bad),
+    }
+}
+
+// Measures reads, and then overwrites.
+fn run<R: Threads + Wait + Clock + Net<Listener = TcpListener, Stream = TcpStream> + Print + Sync>(
+    rt: &R,
+    alloc: Global,
+    options: Options,
+) -> Result<(), Failure> {
+    for kind in Kind::ALL {
+        let sectors = options.sectors;
+        run_shape(rt, alloc, options, Shape { kind, sectors })?;
+    }
+    Ok(())
+}
+
+// Measures one host, and then as many as are asked for.
+fn run_shape<
+    R: Threads + Wait + Clock + Net<Listener = TcpListener, Stream = TcpStream> + Print + Sync,
+>(rt: &R, alloc: Global, options: Options, shape: Shape) -> Result<(), Failure> {
+    let trial = |hosts| Trial {
+        port: options.port,
+        shape,
+        hosts,
+        seconds: options.seconds,
+    };
+    let one = measure(rt, alloc, trial(1))?;
+    tell(rt, Line::of_one(shape, one))?;
+    if options.hosts > 1 {
+        let hosts = options.hosts;
+        let many = measure(rt, alloc, trial(hosts))?;
+        tell(rt, Line::of_many(shape, hosts, many, one))?;
+    }
+    Ok(())
+}
+
+fn tell<R: Print>(rt: &R, line: Line) -> Result<(), Failure> {
+    println!(rt; "{line}").map_err(|_| Failure::Write)
+}
