@@ -1,4 +1,3 @@
-use Rattle.std.proofs.Common.{◌≡◌, ℕ, ◌<◌}
 use Rattle.ar_picture.specs.Folds.{AreAlikeBelow}
 use Rattle.ar_picture.proofs.picture.Picture.are_alike.Given as goal
 

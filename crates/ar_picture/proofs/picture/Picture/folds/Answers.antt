@@ -1,4 +1,4 @@
-use Rattle.std.proofs.Common.{ℕ, ◌≤◌, List, [], ◌∷◌, ◌++◌, length, length-append, subst, sym, arith, All, ◌≡◌}
+use Rattle.std.proofs.Common.{◌≤◌, List, length, subst, sym, All, ◌≡◌}
 use Rattle.std.specs.List.{flat_map, range_with_len}
 use Rattle.std.proofs.lemmas.List.Elements.{All-push}
 use Rattle.ar_picture.specs.declared.folds.Fold.{Fold}
