@@ -1,5 +1,5 @@
 // Which extents a text map shows by one line.
-ghost use Rattle.std.specs.Prelude.{◌≡◌, ◌↔◌, ◌≤◌, ◌<◌, ◌⊎◌, All, IfOk, IsTrue, length};
+ghost use Rattle.std.specs.Prelude.{◌≡◌, ◌↔◌, ◌≤◌, ◌<◌, All, IfOk, IsTrue, length};
 ghost use Rattle.std.specs.List.{flat_map, range_with_len};
 ghost use Rattle.ar_picture.specs.Folds.{AreAlike, IsFold, extents_of};
 
