@@ -8,7 +8,7 @@ use std::process::Abort;
 
 const GROUPS: u16 = 1_024;
 
-const EVENTS: u32 = 200;
+const EVENTS: u32 = 2_000;
 
 // The next of a run of numbers that look drawn.
 fn draw(seed: &mut u64) -> u32 {
