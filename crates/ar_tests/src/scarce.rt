@@ -3,7 +3,7 @@
 ghost use Rattle.std.specs.Prelude.{All, map, IfOk};
 ghost use Rattle.ar_extents.specs.Set.{CanCount};
 
-use crate::arrays::fused_disk;
+use crate::arrays::{Loss, fused_disk, fused_disks};
 use crate::calls::{Answer, Call, READ_CAPACITY, event_of, is_answer, unit};
 use crate::first_run::FIRST_RUN;
 use ar_core::{
@@ -55,14 +55,16 @@ fn disk(alloc: Global, extents: u16) -> Result<FuseDisk, AllocError>
 fn disks(alloc: Global, extents: u16) -> Result<Vec<FuseDisk>, AllocError>
     ensures { IfOk result (λ disks. All CanCount (map (λ disk. disk.disk) disks.items)) }
 {
-    let mut disks = Vec::new(alloc);
-    for _ in 0..4 {
-        let disk = disk(alloc, extents)?;
-        if let Err(back) = disks.push(disk) {
-            disks.push(back.value)?;
-        }
+    let sound = Loss {
+        extents,
+        cache: 0,
+        disk: 0,
+        calls: u64::MAX,
+    };
+    match fused_disks(alloc, 4, sound) {
+        Ok(disks) => Ok(disks),
+        Err(_) => fused_disks(alloc, 4, sound),
     }
-    Ok(disks)
 }
 
 // An array. A start that is refused is tried again with the disks that it handed back.
