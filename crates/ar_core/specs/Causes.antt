@@ -45,9 +45,9 @@ pub record HurtsNone (event : Event) (old new : SetState) : Type 0 where
   pub none_out : (d : ℕ) → IsTakenOut event old d → ⊥
 
 -- What any event may do to the disks; what one does to their health and number and to the loose extents, its own relation says.
--- Their shape stays, and the fault counts of those that stay only grow. A disk that has faulted in the event is out after it, or the data
--- are lost; a disk is out only where it was, has faulted in the event or was taken out by it, and is being rebuilt only where it was
--- out or being rebuilt; the data are lost only where they were, or where two disks are hit, and for good.
+-- Their shape stays, and the fault counts of those that stay only grow. A disk that has faulted in the event is out after it, or
+-- the data are lost; a disk is out only where it was, has faulted in the event or was taken out by it, and is being rebuilt only
+-- where it was out or being rebuilt; the data are lost only where they were, or where two disks are hit, and for good.
 pub record HasCause (event : Event) (old new : SetState) : Type 0 where
   pub geometry : new.geometry ≡ old.geometry
   pub extents : new.extents ≡ old.extents

@@ -32,8 +32,8 @@ pub fn own_entries_decide_replies()
         → reply ≡ answer }
 {}
 
-/// Disks that are whole stay whole over an event in which none of them faults and which takes none out. It does nothing when it
-/// is called.
+/// Disks that are whole stay whole over an event in which none of them faults and which takes none out, and so over a run of such
+/// turns. It does nothing when it is called.
 pub fn whole_disks_stay_whole()
     ensures event { (old new : ArrayState) (event : Event) (outcome : Outcome) → Steps old event outcome new
         → HurtsNone event old.store.disks new.store.disks

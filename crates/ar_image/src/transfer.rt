@@ -51,8 +51,8 @@ fn read_part<B: Backing>(
     }
 }
 
-/// Appends `count` sectors of a unit from number `lba` on to `out`. Their blocks are read once each, in ascending order, until one
-/// can't be. NoMemory says that `out` had no room for them all, and got none.
+/// Appends `count` sectors of a unit from number `lba` on to `out`. Their blocks are read once each, in ascending order, until
+/// one can't be. NoMemory says that `out` had no room for them all, and got none.
 pub fn read_sectors<B: Backing>(
     blocks: &mut B,
     geometry: Geometry,
