@@ -72,8 +72,8 @@ fn write_cell<W: Write>(out: &mut W, cell: Cell) -> io::Result<()> {
     match cell.content {
         Content::Loose => write!(out, "  {mark}.."),
         Content::Free => write!(out, "  {mark}--"),
-        Content::Mirrored(full) => write!(out, "  {mark}M{full}"),
-        Content::Parity(full) => write!(out, "  {mark}P{full}"),
+        Content::Mirrored(full) => write!(out, "  {mark}{full}M"),
+        Content::Parity(full) => write!(out, "  {mark}{full}P"),
     }
 }
 

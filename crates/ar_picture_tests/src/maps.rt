@@ -61,8 +61,8 @@ fn classes_and_fullness(rt: HostRuntime) {
         &[UNIT, OTHER],
         "4 disks (columns) of 4 extents (lines)
               0    1    2    3
-   0         M4   M4   M4   M4
-   1         P9   P9   P9   P9
+   0         4M   4M   4M   4M
+   1         9P   9P   9P   9P
    2         --   --   --   --
    3         ..   ..   ..   ..
 M mirrored, P with parity; 0 to 9: how full, in ninths of its slots
@@ -83,8 +83,8 @@ fn a_disk_that_is_out(rt: HostRuntime) {
         "4 disks (columns) of 4 extents (lines)
               0    1    2    3
                  out
-   0         M4  !M4   M4   M4
-   1         P9  !P9   P9   P9
+   0         4M  !4M   4M   4M
+   1         9P  !9P   9P   9P
    2         --  !--   --   --
    3         ..  !..   ..   ..
 M mirrored, P with parity; 0 to 9: how full, in ninths of its slots
@@ -103,8 +103,8 @@ fn a_disk_that_is_rebuilt(rt: HostRuntime) {
         "4 disks (columns) of 4 extents (lines)
               0    1    2    3
             new
-   0         M4   M4   M4   M4
-   1        !P9   P9   P9   P9
+   0         4M   4M   4M   4M
+   1        !9P   9P   9P   9P
    2        !--   --   --   --
    3        !..   ..   ..   ..
 M mirrored, P with parity; 0 to 9: how full, in ninths of its slots
@@ -122,8 +122,8 @@ fn lost_data(rt: HostRuntime) {
         &[],
         "4 disks (columns) of 4 extents (lines)
               0    1    2    3
-   0         M4   M4   M4   M4
-   1         P9   P9   P9   P9
+   0         4M   4M   4M   4M
+   1         9P   9P   9P   9P
    2         --   --   --   --
    3         ..   ..   ..   ..
 M mirrored, P with parity; 0 to 9: how full, in ninths of its slots
@@ -159,12 +159,12 @@ fn extents_that_look_alike_are_one_line(rt: HostRuntime) {
         },
         "5 disks (columns) of 8 extents (lines)
               0    1    2    3    4
-   0         M2   M2   M2   M2   P7
-   1         M2   M2   M2   M2   ..
-   2         P1   P1   P1   P1   ..
-   3         M2   M2   M2   M2   ..
-   4..5      M9   M9   M9   M9   ..
-   6         ..   P7   P7   P7   ..
+   0         2M   2M   2M   2M   7P
+   1         2M   2M   2M   2M   ..
+   2         1P   1P   1P   1P   ..
+   3         2M   2M   2M   2M   ..
+   4..5      9M   9M   9M   9M   ..
+   6         ..   7P   7P   7P   ..
    7         ..   ..   ..   ..   ..
 M mirrored, P with parity; 0 to 9: how full, in ninths of its slots
 -- in a free group, .. in no group, ! can't be used
