@@ -398,3 +398,8 @@ no_free (x ∷ gs) never =
 pub room_fits : (g : Geometry) (n : ℕ) → n ≤ 16777216 → 3 * rows_of g * (n - 1) < 2 ^ 32
 room_fits Paper n h = omega arith
 room_fits Small n h = omega arith
+
+-- a group has few slots
+pub slots_few : (g : Geometry) → 3 * rows_of g ≤ 48
+slots_few Paper = omega arith
+slots_few Small = omega arith

@@ -1,17 +1,11 @@
 -- The tree after each change of the book.
-use Rattle.std.proofs.Common.{◌≡◌, ◌≢◌, ℕ, ◌+◌, ◌*◌, ◌<◌, ◌≤◌, Bool, true, false, not, cond, eqb, Option, None, Some, IsSome, List, [], ◌∷◌, ◌++◌, length, get_or, set, fold, refl, sym, ap, subst, ◌∙◌, inl, inr, arith, get_or-set_same, get_or-set_other}
-use Rattle.std.specs.Prelude.{nat_lt}
-use Rattle.std.specs.List.{IsDistinct, position, position_or_len}
-use Rattle.std.specs.Map.{lookup, keys_of}
+use Rattle.std.proofs.Common.{◌≡◌, ◌≢◌, ℕ, ◌+◌, ◌*◌, ◌<◌, ◌≤◌, Option, None, Some, List, [], ◌∷◌, ◌++◌, length, get_or, set, fold, refl, sym, ap, subst, ◌∙◌, inl, inr, arith, get_or-set_same, get_or-set_other}
+use Rattle.std.specs.List.{position_or_len}
 use Rattle.std.specs.Option.{ForSome, MatchOption}
 use Rattle.std.proofs.lemmas.Bool.{cases_eq}
-use Rattle.std.proofs.lemmas.Bool.Decides.{nat_tests, Decides-ltb}
-use Rattle.std.proofs.lemmas.Option.{none-some, same_Some, slice_get_within}
+use Rattle.std.proofs.lemmas.Option.{none-some, same_Some}
 use Rattle.std.proofs.lemmas.List.{length-set, ext_get_or}
-use Rattle.std.proofs.lemmas.List.Sums.{prefix_len-le-length}
-use Rattle.std.proofs.lemmas.List.Folds.{position_or_len_push}
 use Rattle.std.proofs.lemmas.Map.{keys-set_value}
-use Rattle.std.proofs.lemmas.Map.Entries.{length-keys_of}
 use Rattle.ar_disks.specs.Geometry.{rows_of}
 use Rattle.ar_disks.specs.Members.{with_member}
 use Rattle.ar_disks.specs.declared.address.Addr.{Addr}
@@ -20,72 +14,45 @@ use Rattle.ar_disks.specs.declared.address.Place.{Place}
 use Rattle.ar_disks.specs.declared.address.Members.{Members}
 use Rattle.ar_disks.specs.declared.geometry.Geometry.{Geometry}
 use Rattle.ar_index.specs.declared.choices.Choices.{Choices}
-use Rattle.ar_index.specs.Choices.{nothing}
+use Rattle.ar_index.specs.Choices.{place_in, nothing}
 use Rattle.ar_book.specs.declared.class.Class.{Class}
 use Rattle.ar_book.specs.declared.class.Slot.{Slot}
 use Rattle.ar_disks.specs.Addresses.{same_addr}
 use Rattle.ar_book.specs.Tables.{GroupState, UnitState, Tables, group_in, unit_in, key_at, home, HasBlock, HasSlot}
-use Rattle.ar_book.specs.Changes.{with_key, without_key, named, vacated, homed, restamped, made, grown, unmarked, opened, free_group, formed, shifted}
+use Rattle.ar_book.specs.Changes.{with_key, without_key, named, vacated, homed, restamped, grown, unmarked, opened, free_group, formed, shifted}
 use Rattle.ar_book.specs.Book.{TablesAgree}
-use Rattle.ar_book.specs.Index.{age_of, choices_in, leaves_of, free_leaf}
+use Rattle.ar_book.specs.Index.{age_of, choices_in, choices_of, leaves_from, leaves_of, free_leaf}
 use Rattle.ar_book.proofs.Keys.{addr_tells, make_key}
 use Rattle.ar_book.proofs.UnitLemmas.{has_by_block, unit_same, unit_other}
-use Rattle.ar_book.proofs.UnitPlaces.{some_place}
 use Rattle.ar_book.proofs.GroupLemmas.{there_group, named_shape, vacated_size, vacated_shape}
 use Rattle.ar_book.proofs.KeptLemmas.{former_group}
-use Rattle.ar_book.proofs.Homes.{key_block}
 use Rattle.ar_book.proofs.AfterAssign.{assigned_stamp, assigned_order}
 use Rattle.ar_book.proofs.AfterRelease.{released_stamp, released_order}
-use Rattle.ar_book.proofs.AfterMake.{made_stamp, made_order, grown_stamp, grown_order, unmarked_stamp, unmarked_order}
+use Rattle.ar_book.proofs.AfterMake.{grown_stamp, grown_order, unmarked_stamp, unmarked_order}
 use Rattle.ar_book.proofs.IndexLemmas.{leaves_length, leaf_of, refreshed, same_ages, same_choices, same_leaves, same_leaf, leaves_push}
 
--- a unit that is there has a place
-place_bound : (us : List (Addr × UnitState)) (a : Addr) → IsDistinct same_addr (keys_of us) → IsSome (lookup (same_addr a) us) → position_or_len (same_addr a) (keys_of us) < length (keys_of us)
-place_bound us a distinct there =
-    let p = some_place us a distinct there in
-    let inside : position_or_len (same_addr a) (keys_of us) < length us = slice_get_within us (position_or_len (same_addr a) (keys_of us)) (a, p.0) p.1 in
-    omega (arith, length-keys_of us)
-
--- an address that is there keeps its place where another is put behind all
-push_place : (test : Addr → Bool) (ks : List Addr) (a : Addr) → position_or_len test ks < length ks → position_or_len test (ks ++ a ∷ []) ≡ position_or_len test ks
-push_place test ks a inside =
-    position_or_len_push test ks a ∙ ap (λ b. cond b (length ks + cond (test a) 0 1) (position_or_len test ks)) (differ (position_or_len test ks) (length ks) inside)
-  where
-    differ : (m n : ℕ) → m < n → eqb m n ≡ false
-    differ m n h = grind (arith, nat_tests)
-
-same_age : (us new : List (Addr × UnitState)) (k : Key) → get_or (unit_in new k.addr).stamps k.rb 0 ≡ get_or (unit_in us k.addr).stamps k.rb 0
-    → position_or_len (same_addr k.addr) (keys_of new) ≡ position_or_len (same_addr k.addr) (keys_of us) → age_of new k ≡ age_of us k
-same_age us new k stamp order = λ i. record { stamp = stamp i; order = order i; key = k }
+same_age : (us new : List (Addr × UnitState)) (k : Key) → get_or (unit_in new k.addr).stamps k.rb 0 ≡ get_or (unit_in us k.addr).stamps k.rb 0 → age_of new k ≡ age_of us k
+same_age us new k stamp = λ i. record { stamp = stamp i; key = k }
 
 module _ (t : Tables) where
   pub unmarked_leaves : (a : Addr) → leaves_of t.geometry (unmarked t a).units t.groups ≡ leaves_of t.geometry t.units t.groups
-  unmarked_leaves a = same_ages t.geometry t.units (unmarked t a).units t.groups (unmarked_stamp t a) (λ b. ap (λ l. position_or_len (same_addr b) l) (unmarked_order t a))
+  unmarked_leaves a = same_ages t.geometry t.units (unmarked t a).units t.groups (unmarked_stamp t a) (unmarked_order t a)
 
   pub grown_leaves : (a : Addr) (n : ℕ) → leaves_of t.geometry (grown t a n).units t.groups ≡ leaves_of t.geometry t.units t.groups
-  grown_leaves a n = same_ages t.geometry t.units (grown t a n).units t.groups (grown_stamp t a n) (λ b. ap (λ l. position_or_len (same_addr b) l) (grown_order t a n))
-
-  pub made_leaves : TablesAgree t → (a : Addr) (n : ℕ) → leaves_of t.geometry (made t a n).units t.groups ≡ leaves_of t.geometry t.units t.groups
-  made_leaves ok a n =
-      same_leaves t.geometry (age_of (made t a n).units) (age_of t.units) 0 t.groups
-      (λ i j k e.
-      let block : HasBlock t k = key_block t ok (record { group = i; slot = j }) k e in
-      let there = has_by_block t.units k.addr k.rb block in
-      same_age t.units (made t a n).units k (made_stamp t a n k)
-      (ap (λ l. position_or_len (same_addr k.addr) l) (made_order t a n) ∙ push_place (same_addr k.addr) (keys_of t.units) a (place_bound t.units k.addr ok.units.distinct there)))
+  grown_leaves a n = same_ages t.geometry t.units (grown t a n).units t.groups (grown_stamp t a n) (grown_order t a n)
 
   pub shifted_leaves : (g p : ℕ) (x : Place) → leaves_of t.geometry t.units (shifted t g p x).groups ≡ leaves_of t.geometry t.units t.groups
-  shifted_leaves g p x = same_leaf t.geometry (age_of t.units) g t.groups (record (group_in t.groups g) { members = with_member (group_in t.groups g).members p x }) refl refl
+  shifted_leaves g p x = same_leaf t.geometry (place_in t.units) (age_of t.units) g t.groups (record (group_in t.groups g) { members = with_member (group_in t.groups g).members p x }) refl refl
 
   pub formed_leaves : (m : Members) → leaves_of t.geometry t.units (formed t m).groups ≡ leaves_of t.geometry t.units t.groups ++ free_leaf (length t.groups) ∷ []
   formed_leaves m =
-      leaves_push t.geometry (age_of t.units) 0 t.groups (free_group m (3 * rows_of t.geometry))
+      leaves_push t.geometry (place_in t.units) (age_of t.units) 0 t.groups (free_group m (3 * rows_of t.geometry))
       ∙ ap (λ n. leaves_of t.geometry t.units t.groups ++ free_leaf n ∷ []) (let e : 0 + length t.groups ≡ length t.groups = omega arith in e)
 
 -- a slot is vacated, where there is one
 pub vacated_leaves : (g : Geometry) (units : List (Addr × UnitState)) (gs new : List GroupState) (index now : List Choices) (o : Option Slot) → ForSome o (λ q. q.group < length gs)
     → index ≡ leaves_of g units gs → new ≡ vacated gs o
-    → MatchOption o (now ≡ index) (λ q. now ≡ set index q.group (choices_in g (age_of units) q.group (group_in new q.group))) → now ≡ leaves_of g units new
+    → MatchOption o (now ≡ index) (λ q. now ≡ set index q.group (choices_of g units q.group (group_in new q.group))) → now ≡ leaves_of g units new
 vacated_leaves g units gs new index now None there before put e = e ∙ before ∙ sym (ap (leaves_of g units) put)
 vacated_leaves g units gs new index now (Some q) there before put e =
     refreshed g units gs new index now q.group (without_key (group_in gs q.group) q.slot) (there q refl) before put e
@@ -93,22 +60,22 @@ vacated_leaves g units gs new index now (Some q) there before put e =
 -- a block moves
 module _ (t : Tables) (k : Key) (s : Slot) (ok : TablesAgree t) (slot : HasSlot t s) (empty : key_at t s ≡ None) where
   pub assigned_leaves : (gs new : List GroupState) (index mid now : List Choices) (o : Option Slot) → o ≡ home t k → gs ≡ named t.groups s k → new ≡ vacated gs o
-      → index ≡ leaves_of t.geometry t.units t.groups → mid ≡ set index s.group (choices_in t.geometry (age_of t.units) s.group (group_in gs s.group))
-      → MatchOption o (now ≡ mid) (λ q. now ≡ set mid q.group (choices_in t.geometry (age_of t.units) q.group (group_in new q.group)))
+      → index ≡ leaves_of t.geometry t.units t.groups → mid ≡ set index s.group (choices_of t.geometry t.units s.group (group_in gs s.group))
+      → MatchOption o (now ≡ mid) (λ q. now ≡ set mid q.group (choices_of t.geometry t.units q.group (group_in new q.group)))
       → now ≡ leaves_of t.geometry (homed t.units k (Some s)) new
   assigned_leaves gs new index mid now o former first second before one two =
       let a : mid ≡ leaves_of t.geometry t.units gs = refreshed t.geometry t.units t.groups gs index mid s.group (with_key (group_in t.groups s.group) s.slot k) slot.0 before first one in
       let b : now ≡ leaves_of t.geometry t.units new = vacated_leaves t.geometry t.units gs new mid now o
       (λ q e. subst (λ l. q.group < length l) (sym first) (former_group t k s ok slot empty q (sym former ∙ e))) a second two in
-      b ∙ sym (same_ages t.geometry t.units (homed t.units k (Some s)) new (assigned_stamp t k s) (λ x. ap (λ l. position_or_len (same_addr x) l) (assigned_order t k s)))
+      b ∙ sym (same_ages t.geometry t.units (homed t.units k (Some s)) new (assigned_stamp t k s) (assigned_order t k s))
 
 pub released_leaves : (t : Tables) (k : Key) (ok : TablesAgree t) (new : List GroupState) (index now : List Choices) (o : Option Slot) → o ≡ home t k → new ≡ vacated t.groups o
     → index ≡ leaves_of t.geometry t.units t.groups
-    → MatchOption o (now ≡ index) (λ q. now ≡ set index q.group (choices_in t.geometry (age_of t.units) q.group (group_in new q.group)))
+    → MatchOption o (now ≡ index) (λ q. now ≡ set index q.group (choices_of t.geometry t.units q.group (group_in new q.group)))
     → now ≡ leaves_of t.geometry (homed t.units k None) new
 released_leaves t k ok new index now o former put before two =
     vacated_leaves t.geometry t.units t.groups new index now o (λ q e. there_group t.groups q k (ok.agree.to_slot k q (sym former ∙ e))) before put two
-    ∙ sym (same_ages t.geometry t.units (homed t.units k None) new (released_stamp t k) (λ x. ap (λ l. position_or_len (same_addr x) l) (released_order t k)))
+    ∙ sym (same_ages t.geometry t.units (homed t.units k None) new (released_stamp t k) (released_order t k))
 
 -- a block has another stamp
 module _ (t : Tables) (k : Key) (n : ℕ) (ok : TablesAgree t) (block : HasBlock t k) where
@@ -129,33 +96,38 @@ module _ (t : Tables) (k : Key) (n : ℕ) (ok : TablesAgree t) (block : HasBlock
             ∙ ap (λ a. get_or (unit_in t.units a).stamps j.rb 0) e.1
         | inr d ↦ ap (λ x. get_or x.stamps j.rb 0) (unit_other t.units k.addr new there j.addr d.1)
       ])
-      (ap (λ l. position_or_len (same_addr j.addr) l) (keys-set_value (same_addr k.addr) t.units new))
+
+  same_places : place_in units ≡ place_in t.units
+  same_places =
+      let u = unit_in t.units k.addr in
+      λ i. λ a. position_or_len (same_addr a) (keys-set_value (same_addr k.addr) t.units (record u { stamps = set u.stamps k.rb n }) i)
 
   -- a group that is not its home's has the choices that it had
-  elsewhere : (i : ℕ) → ((q : Slot) → home t k ≡ Some q → i ≢ q.group) → choices_in t.geometry (age_of units) i (group_in t.groups i) ≡ choices_in t.geometry (age_of t.units) i (group_in t.groups i)
+  elsewhere : (i : ℕ) → ((q : Slot) → home t k ≡ Some q → i ≢ q.group) → choices_of t.geometry units i (group_in t.groups i) ≡ choices_of t.geometry t.units i (group_in t.groups i)
   elsewhere i apart =
-      same_choices t.geometry (age_of units) (age_of t.units) i (group_in t.groups i)
+      ap (λ (p : Addr → ℕ). choices_in t.geometry p (age_of units) i (group_in t.groups i)) same_places
+      ∙ same_choices t.geometry (place_in t.units) (age_of units) (age_of t.units) i (group_in t.groups i)
       (λ j x e. other_age x (λ same. apart (record { group = i; slot = j }) (ok.agree.to_home k (record { group = i; slot = j }) (e ∙ ap Some same)) refl))
 
   pub stamped_leaves : (index now : List Choices) (o : Option Slot) → o ≡ home t k → index ≡ leaves_of t.geometry t.units t.groups
-      → MatchOption o (now ≡ index) (λ q. now ≡ set index q.group (choices_in t.geometry (age_of units) q.group (group_in t.groups q.group)))
+      → MatchOption o (now ≡ index) (λ q. now ≡ set index q.group (choices_of t.geometry units q.group (group_in t.groups q.group)))
       → now ≡ leaves_of t.geometry units t.groups
   stamped_leaves index now None former before e =
       e ∙ before
-      ∙ sym (same_leaves t.geometry (age_of units) (age_of t.units) 0 t.groups
+      ∙ sym (ap (λ (p : Addr → ℕ). leaves_from t.geometry p (age_of units) 0 t.groups) same_places ∙ same_leaves t.geometry (place_in t.units) (age_of units) (age_of t.units) 0 t.groups
       (λ i j x at. other_age x (λ same. none-some (record { group = i; slot = j }) (former ∙ ok.agree.to_home k (record { group = i; slot = j }) (at ∙ ap Some same)))))
   stamped_leaves index now (Some q) former before e =
       let inside : q.group < length t.groups = there_group t.groups q k (ok.agree.to_slot k q (sym former)) in
       let old : List Choices = leaves_of t.geometry t.units t.groups in
       let new : List Choices = leaves_of t.geometry units t.groups in
-      let c : Choices = choices_in t.geometry (age_of units) q.group (group_in t.groups q.group) in
-      let size : length (set old q.group c) ≡ length t.groups = length-set old q.group c ∙ leaves_length t.geometry (age_of t.units) 0 t.groups in
+      let c : Choices = choices_of t.geometry units q.group (group_in t.groups q.group) in
+      let size : length (set old q.group c) ≡ length t.groups = length-set old q.group c ∙ leaves_length t.geometry (place_in t.units) (age_of t.units) 0 t.groups in
       let only : (i : ℕ) → i ≢ q.group → (r : Slot) → home t k ≡ Some r → i ≢ r.group = λ i ne r at same. ne (same ∙ ap (λ x. x.group) (same_Some r q (sym at ∙ sym former))) in
       e ∙ ap (λ l. set l q.group c) before
-      ∙ ext_get_or nothing (set old q.group c) new (size ∙ sym (leaves_length t.geometry (age_of units) 0 t.groups))
+      ∙ ext_get_or nothing (set old q.group c) new (size ∙ sym (leaves_length t.geometry (place_in units) (age_of units) 0 t.groups))
       (λ i h. elim (cases_eq i q.group) [
         | inl same ↦
-            ap (λ x. get_or (set old q.group c) x nothing) same ∙ get_or-set_same old q.group c nothing (omega (arith, leaves_length t.geometry (age_of t.units) 0 t.groups))
+            ap (λ x. get_or (set old q.group c) x nothing) same ∙ get_or-set_same old q.group c nothing (omega (arith, leaves_length t.geometry (place_in t.units) (age_of t.units) 0 t.groups))
             ∙ sym (leaf_of t.geometry units t.groups q.group inside) ∙ ap (λ x. get_or new x nothing) (sym same)
         | inr ne ↦
             get_or-set_other old q.group i c nothing ne ∙ leaf_of t.geometry t.units t.groups i (omega arith)
@@ -164,7 +136,7 @@ module _ (t : Tables) (k : Key) (n : ℕ) (ok : TablesAgree t) (block : HasBlock
 
 -- a group gets a class
 pub opened_leaves : (t : Tables) (g : ℕ) (c : Class) (new : List GroupState) (index now : List Choices) → g < length t.groups → new ≡ (opened t g c).groups
-    → index ≡ leaves_of t.geometry t.units t.groups → now ≡ set index g (choices_in t.geometry (age_of t.units) g (group_in new g)) → now ≡ leaves_of t.geometry t.units new
+    → index ≡ leaves_of t.geometry t.units t.groups → now ≡ set index g (choices_of t.geometry t.units g (group_in new g)) → now ≡ leaves_of t.geometry t.units new
 opened_leaves t g c new index now inside put before e = refreshed t.geometry t.units t.groups new index now g (record (group_in t.groups g) { class = c }) inside before put e
 
 -- the steps of a refresh of a home's group
@@ -182,14 +154,6 @@ vacated_long g gs (Some q) there long i h = vacated_shape gs q (there q refl) i 
 pub named_long : (g : Geometry) (gs : List GroupState) (s : Slot) (k : Key) → s.group < length gs → ((i : ℕ) → i < length gs → length (group_in gs i).slots ≡ 3 * rows_of g)
     → (i : ℕ) → i < length gs → length (group_in (named gs s k) i).slots ≡ 3 * rows_of g
 named_long g gs s k inside long i h = named_shape gs s k inside i ∙ long i h
-
--- where a unit has no place it has that of the next one
-pub no_place : (test : Addr → Bool) (ks : List Addr) → position test ks ≡ None → position_or_len test ks ≡ length ks
-no_place test ks e = by (nat_lt (position_or_len test ks) (length ks)) refl e
-  where
-    by : (b : Bool) → nat_lt (position_or_len test ks) (length ks) ≡ b → cond b (Some (position_or_len test ks)) None ≡ None → position_or_len test ks ≡ length ks
-    by true f h = absurd (none-some (position_or_len test ks) (sym h))
-    by false f h = let most = prefix_len-le-length (λ x. not (test x)) ks in let no = Decides-ltb (position_or_len test ks) (length ks) in grind (arith, nat_tests)
 
 -- as many groups stay where slots are vacated
 pub vacated_all_size : (homes : List (Option Slot)) (gs : List GroupState) → length (fold vacated gs homes) ≡ length gs

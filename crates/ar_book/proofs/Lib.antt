@@ -9,6 +9,7 @@ pub mod KeptLemmas
 pub mod UnitChanges
 pub mod GroupChanges
 pub mod RefusalLemmas
+pub mod Reorders
 pub mod CountLemmas
 pub mod DropLemmas
 pub mod Homes
@@ -24,4 +25,3 @@ pub mod IndexLemmas
 pub mod Searches
 pub mod Ages
 pub mod IndexAfter
-pub mod UnitPlaces

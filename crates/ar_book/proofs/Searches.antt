@@ -7,18 +7,19 @@ use Rattle.std.proofs.lemmas.Bool.Decides.{Decides-ltb}
 use Rattle.std.proofs.lemmas.Option.{none-some, same_Some}
 use Rattle.std.proofs.lemmas.List.{length-take-le, get_or-take, get_or-drop}
 use Rattle.std.proofs.lemmas.List.Sums.{sum_by-take-drop, sum_by-cons, count_by-le-length}
+use Rattle.ar_disks.specs.declared.address.Addr.{Addr}
 use Rattle.ar_disks.specs.declared.address.Key.{Key}
 use Rattle.ar_disks.specs.declared.geometry.Geometry.{Geometry}
 use Rattle.ar_index.specs.declared.choices.Age.{Age}
 use Rattle.ar_index.specs.declared.choices.Choices.{Choices}
-use Rattle.ar_index.specs.Choices.{nothing, join, search_all}
+use Rattle.ar_index.specs.Choices.{place_in, nothing, join, search_all}
 use Rattle.ar_book.specs.declared.class.Class.{Class}
 use Rattle.ar_book.specs.declared.class.Class.TheVariants.{Free, Mirrored, Parity}
 use Rattle.ar_book.specs.declared.class.Slot.{Slot}
 use Rattle.ar_book.specs.Tables.{GroupState, Tables, group_in, class_of, slots_of, used, is_free, free_groups}
 use Rattle.ar_book.specs.Choices.{IsHole, IsHoleOf, IsLowestFree}
 use Rattle.ar_book.specs.Book.{TablesAgree}
-use Rattle.ar_book.specs.Index.{choices_by, choices_in, leaves_from, leaves_of, open_in}
+use Rattle.ar_book.specs.Index.{age_of, choices_by, choices_in, leaves_from, leaves_of, open_in}
 use Rattle.ar_book.proofs.CountLemmas.{all_used, none_used}
 use Rattle.ar_book.proofs.PlaceLemmas.{slots_within}
 use Rattle.ar_book.proofs.GroupLemmas.{no_free}
@@ -68,16 +69,16 @@ first_none p n (x ∷ gs) e i h = by (p x) refl e (first_none p (suc n) gs) i h
     by false t f rest (suc i) h = rest f i (omega arith)
 
 -- a search for a choice that is each group's own number, or none
-module _ (g : Geometry) (age : Key → Age) (q : Choices → Option ℕ) (p : GroupState → Bool) (empty : q nothing ≡ None)
-    (joins : (a b : Choices) → q (join a b) ≡ option_or (q a) (q b)) (own : (n : ℕ) (x : GroupState) → q (choices_in g age n x) ≡ cond (p x) (Some n) None) where
-  search_first : (n : ℕ) (gs : List GroupState) → q (search_all (leaves_from g age n gs)) ≡ first_where p n gs
+module _ (g : Geometry) (place : Addr → ℕ) (age : Key → Age) (q : Choices → Option ℕ) (p : GroupState → Bool) (empty : q nothing ≡ None)
+    (joins : (a b : Choices) → q (join place a b) ≡ option_or (q a) (q b)) (own : (n : ℕ) (x : GroupState) → q (choices_in g place age n x) ≡ cond (p x) (Some n) None) where
+  search_first : (n : ℕ) (gs : List GroupState) → q (search_all place (leaves_from g place age n gs)) ≡ first_where p n gs
   search_first n [] = empty
   search_first n (x ∷ gs) =
-      joins (choices_in g age n x) (search_all (leaves_from g age (suc n) gs))
-      ∙ ap (λ o. option_or o (q (search_all (leaves_from g age (suc n) gs)))) (own n x)
+      joins (choices_in g place age n x) (search_all place (leaves_from g place age (suc n) gs))
+      ∙ ap (λ o. option_or o (q (search_all place (leaves_from g place age (suc n) gs)))) (own n x)
       ∙ pick (p x) ∙ ap (λ o. cond (p x) (Some n) o) (search_first (suc n) gs)
     where
-      pick : (b : Bool) → option_or (cond b (Some n) None) (q (search_all (leaves_from g age (suc n) gs))) ≡ cond b (Some n) (q (search_all (leaves_from g age (suc n) gs)))
+      pick : (b : Bool) → option_or (cond b (Some n) None) (q (search_all place (leaves_from g place age (suc n) gs))) ≡ cond b (Some n) (q (search_all place (leaves_from g place age (suc n) gs)))
       pick true = refl
       pick false = refl
 
@@ -95,20 +96,20 @@ opens_by Parity Parity = true
 abbrev opens : Geometry → Class → GroupState → Bool
 opens g c x = opens_by c x.class && nat_lt (used x) (slots_of g x.class)
 
-open_joins : (c : Class) (a b : Choices) → open_in c (join a b) ≡ option_or (open_in c a) (open_in c b)
-open_joins Free a b = refl
-open_joins Mirrored a b = refl
-open_joins Parity a b = refl
+open_joins : (place : Addr → ℕ) (c : Class) (a b : Choices) → open_in c (join place a b) ≡ option_or (open_in c a) (open_in c b)
+open_joins place Free a b = refl
+open_joins place Mirrored a b = refl
+open_joins place Parity a b = refl
 
 open_nothing : (c : Class) → open_in c nothing ≡ None
 open_nothing Free = refl
 open_nothing Mirrored = refl
 open_nothing Parity = refl
 
-open_own : (g : Geometry) (age : Key → Age) (c : Class) (n : ℕ) (x : GroupState) → open_in c (choices_in g age n x) ≡ cond (opens g c x) (Some n) None
-open_own g age c n x = by c x.class
+open_own : (g : Geometry) (place : Addr → ℕ) (age : Key → Age) (c : Class) (n : ℕ) (x : GroupState) → open_in c (choices_in g place age n x) ≡ cond (opens g c x) (Some n) None
+open_own g place age c n x = by c x.class
   where
-    by : (c d : Class) → open_in c (choices_by d g age n x) ≡ cond (opens_by c d && nat_lt (used x) (slots_of g x.class)) (Some n) None
+    by : (c d : Class) → open_in c (choices_by d g place age n x) ≡ cond (opens_by c d && nat_lt (used x) (slots_of g x.class)) (Some n) None
     by Free Free = refl
     by Free Mirrored = refl
     by Free Parity = refl
@@ -206,10 +207,10 @@ module _ (t : Tables) (ok : TablesAgree t) where
     pub least : (s : Slot) → IsHole t c s → m ≤ s.group
 
   module _ (c : Class) where
-    found : open_in c (search_all (leaves_of t.geometry t.units t.groups)) ≡ first_where (opens t.geometry c) 0 t.groups
-    found = search_first t.geometry _ (open_in c) (opens t.geometry c) (open_nothing c) (open_joins c) (open_own t.geometry _ c) 0 t.groups
+    found : open_in c (search_all (place_in t.units) (leaves_of t.geometry t.units t.groups)) ≡ first_where (opens t.geometry c) 0 t.groups
+    found = search_first t.geometry (place_in t.units) (age_of t.units) (open_in c) (opens t.geometry c) (open_nothing c) (open_joins (place_in t.units) c) (open_own t.geometry (place_in t.units) (age_of t.units) c) 0 t.groups
 
-    pub open_found : (m : ℕ) → open_in c (search_all (leaves_of t.geometry t.units t.groups)) ≡ Some m → IsOpen c m
+    pub open_found : (m : ℕ) → open_in c (search_all (place_in t.units) (leaves_of t.geometry t.units t.groups)) ≡ Some m → IsOpen c m
     open_found m e =
         let f = first_found (opens t.geometry c) 0 t.groups m (sym found ∙ e) in
         let same : m ≡ f.place = omega (arith, f.is) in
@@ -224,49 +225,49 @@ module _ (t : Tables) (ok : TablesAgree t) where
           ];
         }
 
-    pub open_none : open_in c (search_all (leaves_of t.geometry t.units t.groups)) ≡ None → (s : Slot) → IsHole t c s → ⊥
+    pub open_none : open_in c (search_all (place_in t.units) (leaves_of t.geometry t.units t.groups)) ≡ None → (s : Slot) → IsHole t c s → ⊥
     open_none e s h = true≢false (sym (hole_opens c s h) ∙ first_none (opens t.geometry c) 0 t.groups (sym found ∙ e) s.group h.group)
 
     -- and so for either answer
-    pub open_there : (o : Option ℕ) → open_in c (search_all (leaves_of t.geometry t.units t.groups)) ≡ o → IfSome o (λ m. m < length t.groups)
+    pub open_there : (o : Option ℕ) → open_in c (search_all (place_in t.units) (leaves_of t.geometry t.units t.groups)) ≡ o → IfSome o (λ m. m < length t.groups)
     open_there None e = tt
     open_there (Some m) e = (open_found m e).there
 
-    pub open_class : (o : Option ℕ) → open_in c (search_all (leaves_of t.geometry t.units t.groups)) ≡ o → IfSome o (λ m. class_of t m ≡ c)
+    pub open_class : (o : Option ℕ) → open_in c (search_all (place_in t.units) (leaves_of t.geometry t.units t.groups)) ≡ o → IfSome o (λ m. class_of t m ≡ c)
     open_class None e = tt
     open_class (Some m) e = (open_found m e).class
 
-    pub open_some : (o : Option ℕ) → open_in c (search_all (leaves_of t.geometry t.units t.groups)) ≡ o → IfSome o (λ m. ((i : ℕ) → IsHoleOf t m i → ⊥) → ⊥)
+    pub open_some : (o : Option ℕ) → open_in c (search_all (place_in t.units) (leaves_of t.geometry t.units t.groups)) ≡ o → IfSome o (λ m. ((i : ℕ) → IsHoleOf t m i → ⊥) → ⊥)
     open_some None e = tt
     open_some (Some m) e = (open_found m e).some
 
-    pub open_least : (o : Option ℕ) → open_in c (search_all (leaves_of t.geometry t.units t.groups)) ≡ o → IfSome o (λ m. (s : Slot) → IsHole t c s → m ≤ s.group)
+    pub open_least : (o : Option ℕ) → open_in c (search_all (place_in t.units) (leaves_of t.geometry t.units t.groups)) ≡ o → IfSome o (λ m. (s : Slot) → IsHole t c s → m ≤ s.group)
     open_least None e = tt
     open_least (Some m) e = (open_found m e).least
 
-    pub open_never : (o : Option ℕ) → open_in c (search_all (leaves_of t.geometry t.units t.groups)) ≡ o → IfNone o ((s : Slot) → IsHole t c s → ⊥)
+    pub open_never : (o : Option ℕ) → open_in c (search_all (place_in t.units) (leaves_of t.geometry t.units t.groups)) ≡ o → IfNone o ((s : Slot) → IsHole t c s → ⊥)
     open_never None e = open_none e
     open_never (Some m) e = tt
 
 -- the lowest free group
 module _ (t : Tables) where
-  free_own : (g : Geometry) (age : Key → Age) (n : ℕ) (x : GroupState) → (choices_in g age n x).free ≡ cond (is_free x.class) (Some n) None
-  free_own g age n x = by x.class
+  free_own : (g : Geometry) (place : Addr → ℕ) (age : Key → Age) (n : ℕ) (x : GroupState) → (choices_in g place age n x).free ≡ cond (is_free x.class) (Some n) None
+  free_own g place age n x = by x.class
     where
-      by : (c : Class) → (choices_by c g age n x).free ≡ cond (is_free c) (Some n) None
+      by : (c : Class) → (choices_by c g place age n x).free ≡ cond (is_free c) (Some n) None
       by Free = refl
       by Mirrored = refl
       by Parity = refl
 
-  free_found : (search_all (leaves_of t.geometry t.units t.groups)).free ≡ first_where (λ x. is_free x.class) 0 t.groups
-  free_found = search_first t.geometry _ (λ c. c.free) (λ x. is_free x.class) refl (λ a b. refl) (free_own t.geometry _) 0 t.groups
+  free_found : (search_all (place_in t.units) (leaves_of t.geometry t.units t.groups)).free ≡ first_where (λ x. is_free x.class) 0 t.groups
+  free_found = search_first t.geometry (place_in t.units) (age_of t.units) (λ c. c.free) (λ x. is_free x.class) refl (λ a b. refl) (free_own t.geometry (place_in t.units) (age_of t.units)) 0 t.groups
 
   class_free : (c : Class) → is_free c ≡ true → c ≡ Free
   class_free Free e = refl
   class_free Mirrored e = absurd (true≢false (sym e))
   class_free Parity e = absurd (true≢false (sym e))
 
-  pub lowest_found : (m : ℕ) → (search_all (leaves_of t.geometry t.units t.groups)).free ≡ Some m → IsLowestFree t m
+  pub lowest_found : (m : ℕ) → (search_all (place_in t.units) (leaves_of t.geometry t.units t.groups)).free ≡ Some m → IsLowestFree t m
   lowest_found m e =
       let f = first_found (λ x. is_free x.class) 0 t.groups m (sym free_found ∙ e) in
       let same : m ≡ f.place = omega (arith, f.is) in
@@ -276,5 +277,5 @@ module _ (t : Tables) where
         least = λ h l free. true≢false (sym (ap is_free free) ∙ f.least h (omega arith));
       }
 
-  pub lowest_none : (search_all (leaves_of t.geometry t.units t.groups)).free ≡ None → free_groups t ≡ 0
+  pub lowest_none : (search_all (place_in t.units) (leaves_of t.geometry t.units t.groups)).free ≡ None → free_groups t ≡ 0
   lowest_none e = no_free t.groups (λ h l free. true≢false (sym (ap is_free free) ∙ first_none (λ x. is_free x.class) 0 t.groups (sym free_found ∙ e) h l))

@@ -7,7 +7,7 @@ ghost use Rattle.ar_book.specs.Tables.{unit_in, key_at, home, level, stamp_of, c
 ghost use Rattle.ar_book.specs.Changes.{unmarked};
 ghost use Rattle.ar_book.specs.Book.{TablesAgree};
 
-use crate::tables::{clear_mark, home_in, key_in, level_in};
+use crate::tables::{clear_attention, home_in, key_in, level_in};
 use crate::{Class, Group, Level, Slot, UnitTable};
 use ar_disks::{Addr, Geometry, Key, Members};
 use ar_index::Tree;
@@ -157,7 +157,7 @@ impl Book {
     pub fn clear_attention(&mut self, addr: Addr)
         ensures { self.new ≡ unmarked self.old addr }
     {
-        clear_mark(&mut self.units, addr);
+        clear_attention(&mut self.units, addr);
     }
 
     /// The slot that is a block's home; None where it has none, or is no block of a unit.

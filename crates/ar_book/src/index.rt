@@ -1,28 +1,17 @@
 // The tree over the groups, kept right: the choices of a group, by one scan of its slots, and one climb.
-ghost use Rattle.std.specs.Prelude.{◌≡◌, ◌+◌, ◌^◌, ◌<◌, ◌≤◌, length, slice_set};
-ghost use Rattle.std.specs.List.{position_or_len};
+ghost use Rattle.std.specs.Prelude.{◌≡◌, ℕ, ◌+◌, ◌<◌, ◌≤◌, length, slice_set};
 ghost use Rattle.std.specs.Option.{option_map, ForSome, MatchOption};
-ghost use Rattle.std.specs.Map.{keys_of};
-ghost use Rattle.ar_disks.specs.Addresses.{same_addr};
+ghost use Rattle.ar_index.specs.Choices.{place_in};
+ghost use Rattle.ar_index.specs.Tree.{leaves, IsRight};
 ghost use Rattle.ar_book.specs.Tables.{group_in};
 ghost use Rattle.ar_book.specs.Index as spec;
-ghost use Rattle.ar_book.specs.Index.{oldest_named, choices_in, leaves_of};
+ghost use Rattle.ar_book.specs.Index.{oldest_named, leaves_of, AreInside, IsBlanked, IsLeafOrBlank};
 
 use crate::group::slots_of;
 use crate::{Class, Group, Slot, UnitTable};
 use ar_disks::{Addr, Geometry, Key};
 use ar_index::{Age, Choices, Steps, Tree};
 use indexmap::IndexMap;
-
-// A unit's place in order of making; past the last where there is no unit.
-fn order_of(units: &IndexMap<Addr, UnitTable>, addr: Addr) -> usize
-    ensures { result ≡ position_or_len (same_addr addr) (keys_of units.now.entries) }
-{
-    match units.get_index_of(&addr) {
-        Some(place) => place,
-        None => units.len(),
-    }
-}
 
 // A block's stamp; 0 where there is no unit.
 fn stamp_in(units: &IndexMap<Addr, UnitTable>, key: Key) -> u64
@@ -41,7 +30,6 @@ fn age_in(units: &IndexMap<Addr, UnitTable>, named: Option<Key>) -> Option<Age>
     let key = named?;
     Some(Age {
         stamp: stamp_in(units, key),
-        order: order_of(units, key.addr),
         key,
     })
 }
@@ -52,13 +40,13 @@ fn oldest_in(
     units: &IndexMap<Addr, UnitTable>,
     steps: &mut Steps,
 ) -> Option<Age>
-    ensures oldest { result ≡ oldest_named (spec.age_of units.now.entries) slots.now }
+    ensures oldest { result ≡ oldest_named (place_in units.now.entries) (spec.age_of units.now.entries) slots.now }
     ensures few { steps.new.count ≡ steps.old.count + length slots.now }
 {
     let mut oldest = None;
     for named in slots {
         steps.tick();
-        oldest = Age::older(oldest, age_in(units, *named));
+        oldest = Age::older(oldest, age_in(units, *named), units);
     }
     oldest
 }
@@ -94,7 +82,7 @@ pub(crate) fn choices_of(
     units: &IndexMap<Addr, UnitTable>,
     steps: &mut Steps,
 ) -> Choices
-    ensures choices { result ≡ choices_in geometry (spec.age_of units.now.entries) number group.now }
+    ensures choices { result ≡ spec.choices_of geometry units.now.entries number group.now }
     ensures few { steps.new.count ≤ steps.old.count + length group.now.slots }
 {
     match group.class() {
@@ -124,12 +112,16 @@ pub(crate) fn refresh(
     steps: &mut Steps,
 )
     requires there { number < length groups.now.items }
-    requires leaves { length index.old ≡ length groups.now.items }
-    ensures set { index.new ≡ slice_set index.old number (choices_in geometry (spec.age_of units.now.entries) number (group_in groups.now.items number)) }
-    ensures few { length groups.now.items ≤ 4096 → steps.new.count ≤ steps.old.count + (length (group_in groups.now.items number).slots + 14) }
+    requires leaves { length (leaves index.old) ≡ length groups.now.items }
+    requires right { IsRight (place_in units.now.entries) index.old }
+    ensures set { leaves index.new
+        ≡ slice_set (leaves index.old) number (spec.choices_of geometry units.now.entries number (group_in groups.now.items number)) }
+    ensures right { IsRight (place_in units.now.entries) index.new }
+    ensures few { length groups.now.items ≤ 4096
+        → steps.new.count ≤ steps.old.count + (length (group_in groups.now.items number).slots + 14) }
 {
     let choices = choices_of(&groups[number as usize], number, geometry, units, steps);
-    index.set(number as usize, choices, steps);
+    index.set(number as usize, choices, units, steps);
 }
 
 /// Keeps the tree right after a change of the group of a home, where there is one.
@@ -142,28 +134,62 @@ pub(crate) fn refresh_home(
     steps: &mut Steps,
 )
     requires there { ForSome home (λ slot. slot.group < length groups.now.items) }
-    requires leaves { length index.old ≡ length groups.now.items }
-    ensures set { MatchOption home (index.new ≡ index.old) (λ slot. index.new ≡ slice_set index.old slot.group (choices_in geometry (spec.age_of units.now.entries) slot.group (group_in groups.now.items slot.group))) }
-    ensures few { length groups.now.items ≤ 4096 → MatchOption home (steps.new.count ≡ steps.old.count) (λ slot. steps.new.count ≤ steps.old.count + (length (group_in groups.now.items slot.group).slots + 14)) }
+    requires leaves { length (leaves index.old) ≡ length groups.now.items }
+    requires right { IsRight (place_in units.now.entries) index.old }
+    ensures set { MatchOption home (leaves index.new ≡ leaves index.old) (λ slot. leaves index.new
+        ≡ slice_set (leaves index.old) slot.group
+        (spec.choices_of geometry units.now.entries slot.group (group_in groups.now.items slot.group))) }
+    ensures right { IsRight (place_in units.now.entries) index.new }
+    ensures few { length groups.now.items ≤ 4096
+        → MatchOption home (steps.new.count ≡ steps.old.count)
+        (λ slot. steps.new.count ≤ steps.old.count + (length (group_in groups.now.items slot.group).slots + 14)) }
 {
     if let Some(slot) = home {
         refresh(index, groups, units, geometry, slot.group, steps);
     }
 }
 
-/// Makes the tree right whatever has changed, by a refresh of each group.
-pub(crate) fn refresh_all(
+/// Leaves no choice in the groups of these homes, so that no node knows of a block that stands in them.
+pub(crate) fn blank_all(index: &mut Tree, homes: &[Option<Slot>], units: &IndexMap<Addr, UnitTable>)
+    requires there { AreInside homes.now (length (leaves index.old)) }
+    requires right { IsRight (place_in units.now.entries) index.old }
+    ensures size { length (leaves index.new) ≡ length (leaves index.old) }
+    ensures right { IsRight (place_in units.now.entries) index.new }
+    ensures blank { (i : ℕ) → IsBlanked homes.now (length homes.now) index.old index.new i }
+{
+    let mut steps = Steps::new();
+    for home in homes {
+        if let Some(slot) = home {
+            let group = slot.group as usize;
+            if !index.is_blank(group) {
+                index.set(group, Choices::nothing(), units, &mut steps);
+            }
+        }
+    }
+}
+
+/// Makes the tree right where groups of these homes are blank, by a refresh of each of them.
+pub(crate) fn refresh_blank(
     index: &mut Tree,
     groups: &Vec<Group>,
     units: &IndexMap<Addr, UnitTable>,
     geometry: Geometry,
+    homes: &[Option<Slot>],
 )
-    requires few { length groups.now.items < 2 ^ 32 }
-    requires leaves { length index.old ≡ length groups.now.items }
-    ensures { index.new ≡ leaves_of geometry units.now.entries groups.now.items }
+    requires there { AreInside homes.now (length groups.now.items) }
+    requires leaves { length (leaves index.old) ≡ length groups.now.items }
+    requires right { IsRight (place_in units.now.entries) index.old }
+    requires each { (i : ℕ) → i < length groups.now.items
+        → IsLeafOrBlank geometry units.now.entries groups.now.items homes.now 0 index.old i }
+    ensures leaves { leaves index.new ≡ leaves_of geometry units.now.entries groups.now.items }
+    ensures right { IsRight (place_in units.now.entries) index.new }
 {
     let mut steps = Steps::new();
-    for number in 0..groups.len() as u32 {
-        refresh(index, groups, units, geometry, number, &mut steps);
+    for home in homes {
+        if let Some(slot) = home {
+            if index.is_blank(slot.group as usize) {
+                refresh(index, groups, units, geometry, slot.group, &mut steps);
+            }
+        }
     }
 }

@@ -153,7 +153,7 @@ pub(crate) fn take_unit(units: &mut IndexMap<Addr, UnitTable>, addr: Addr) -> Op
 
 /// Clears a unit's mark, if the unit is there.
 #[tactic(auto, using(crate::proofs::UnitLemmas::put_absent))]
-pub(crate) fn clear_mark(units: &mut IndexMap<Addr, UnitTable>, addr: Addr)
+pub(crate) fn clear_attention(units: &mut IndexMap<Addr, UnitTable>, addr: Addr)
     ensures { units.new.entries ≡ set_value (same_addr addr) units.old.entries (record (unit_in units.old.entries addr) { attention = false }) }
 {
     if let Some(unit) = units.get_mut(&addr) {

@@ -10,7 +10,7 @@ ghost use Rattle.ar_book.specs.Tables.{key_at, home, level, stamp_of, has_unit, 
 ghost use Rattle.ar_book.specs.Changes.{made, grown, dropped};
 ghost use Rattle.ar_book.specs.Refusals.{make_refusal, grow_refusal};
 
-use crate::index::refresh_all;
+use crate::index::{blank_all, refresh_blank};
 use crate::tables::{add_unit, grow_unit, take_unit, vacate_all};
 use crate::unit::blocks_of;
 use crate::{Book, Refusal};
@@ -123,13 +123,23 @@ impl Book {
         ensures stamps { (k : Key) → k.addr ≢ addr → stamp_of self.new k ≡ stamp_of self.old k }
         ensures order { OnOk result (keys_of self.new.units ≡ remove_key (same_addr addr) (keys_of self.old.units)) }
     {
-        let Some(unit) = take_unit(&mut self.units, addr) else {
+        let Some(unit) = self.units.get(&addr) else {
             return Err(Refusal::Absent);
+        };
+        // The tree forgets the unit's blocks before the unit goes: it is right for the order of the others then, as theirs stays.
+        blank_all(&mut self.index, unit.homes(), &self.units);
+        let Some(unit) = take_unit(&mut self.units, addr) else {
+            unreachable!()
         };
         vacate_all(&mut self.groups, unit.homes());
         self.reserved -= unit.blocks() as u32;
-        // The places of the units behind it have changed, and so has the order that the tree knows blocks by.
-        refresh_all(&mut self.index, &self.groups, &self.units, self.geometry);
+        refresh_blank(
+            &mut self.index,
+            &self.groups,
+            &self.units,
+            self.geometry,
+            unit.homes(),
+        );
         Ok(())
     }
 }

@@ -3,16 +3,17 @@ use Rattle.std.proofs.Common.{◌≡◌, ◌≢◌, ℕ, suc, ◌+◌, ◌-◌, 
 use Rattle.std.proofs.Math.Nat.{mul-le-mul_left, pow-succ'}
 use Rattle.std.proofs.lemmas.Bool.{cases_eq}
 use Rattle.std.proofs.lemmas.List.{length-set, drop-set-lt, get_or-set_other, get_or-set_same}
+use Rattle.ar_disks.specs.declared.address.Addr.{Addr}
 use Rattle.ar_index.specs.declared.choices.Choices.{Choices}
 use Rattle.ar_index.specs.Choices.{nothing, join}
 use Rattle.ar_index.specs.Tree.{node_at, IsJoined, AreJoinedBut}
 
 -- what holds at a node on the way up, where it began at another, with the leaves and the count of steps of the beginning
-pub record IsClimbing (size : ℕ) (old nodes : List Choices) (start node before steps : ℕ) : Type 0 where
+pub record IsClimbing (place : Addr → ℕ) (size : ℕ) (old nodes : List Choices) (start node before steps : ℕ) : Type 0 where
   pub twice : length nodes ≡ 2 * size
   pub low : 0 < node
   pub high : node < 2 * size
-  pub joined : AreJoinedBut size nodes (node / 2)
+  pub joined : AreJoinedBut place size nodes (node / 2)
   pub leaves : drop size nodes ≡ drop size old
   pub few : 2 ^ (steps - before) * node ≤ start
   pub on : before ≤ steps
@@ -27,40 +28,40 @@ doubled p n start h =
 power : (b s : ℕ) → b ≤ s → 2 ^ (s + 1 - b) ≡ 2 * 2 ^ (s - b)
 power b s h = ap (λ n. 2 ^ n) (let e : s + 1 - b ≡ suc (s - b) = omega arith in e) ∙ pow-succ' 2 (s - b)
 
-module _ (size : ℕ) (nodes : List Choices) (n : ℕ) (twice : length nodes ≡ 2 * size) (low : 1 < n) (high : n < 2 * size) (joined : AreJoinedBut size nodes (n / 2)) where
+module _ (place : Addr → ℕ) (size : ℕ) (nodes : List Choices) (n : ℕ) (twice : length nodes ≡ 2 * size) (low : 1 < n) (high : n < 2 * size) (joined : AreJoinedBut place size nodes (n / 2)) where
   abbrev m : ℕ
   m = n / 2
 
   abbrev next : List Choices
-  next = set nodes m (join (node_at nodes (2 * m)) (node_at nodes (2 * m + 1)))
+  next = set nodes m (join place (node_at nodes (2 * m)) (node_at nodes (2 * m + 1)))
 
-  there : node_at next m ≡ join (node_at nodes (2 * m)) (node_at nodes (2 * m + 1))
+  there : node_at next m ≡ join place (node_at nodes (2 * m)) (node_at nodes (2 * m + 1))
   there = get_or-set_same nodes m _ nothing (omega arith)
 
   elsewhere : (i : ℕ) → i ≢ m → node_at next i ≡ node_at nodes i
   elsewhere i ne = get_or-set_other nodes m i _ nothing ne
 
   -- a node is joined in the new list, as it is no parent of the changed one
-  pub joined_above : AreJoinedBut size next (m / 2)
+  pub joined_above : AreJoinedBut place size next (m / 2)
   joined_above i some inside ne =
       elim (cases_eq i m) [
-        | inl e ↦ subst (λ j. IsJoined next j) (sym e) here
+        | inl e ↦ subst (λ j. IsJoined place next j) (sym e) here
         | inr other ↦ elsewhere i other ∙ joined i some inside other ∙ sym (below i (omega arith) (omega arith))
       ]
     where
-      below : (j : ℕ) → 2 * j ≢ m → 2 * j + 1 ≢ m → join (node_at next (2 * j)) (node_at next (2 * j + 1)) ≡ join (node_at nodes (2 * j)) (node_at nodes (2 * j + 1))
-      below j a b = ap (λ x. join x (node_at next (2 * j + 1))) (elsewhere (2 * j) a) ∙ ap (join (node_at nodes (2 * j))) (elsewhere (2 * j + 1) b)
+      below : (j : ℕ) → 2 * j ≢ m → 2 * j + 1 ≢ m → join place (node_at next (2 * j)) (node_at next (2 * j + 1)) ≡ join place (node_at nodes (2 * j)) (node_at nodes (2 * j + 1))
+      below j a b = ap (λ x. join place x (node_at next (2 * j + 1))) (elsewhere (2 * j) a) ∙ ap (join place (node_at nodes (2 * j))) (elsewhere (2 * j + 1) b)
 
-      here : IsJoined next m
+      here : IsJoined place next m
       here = there ∙ sym (below m (omega arith) (omega arith))
 
-pub climbed : (size : ℕ) (old nodes : List Choices) (start n before steps : ℕ) → 1 < n → IsClimbing size old nodes start n before steps
-    → IsClimbing size old (set nodes (n / 2) (join (node_at nodes (2 * (n / 2))) (node_at nodes (2 * (n / 2) + 1)))) start (n / 2) before (steps + 1)
-climbed size old nodes start n before steps low h = record {
+pub climbed : (place : Addr → ℕ) (size : ℕ) (old nodes : List Choices) (start n before steps : ℕ) → 1 < n → IsClimbing place size old nodes start n before steps
+    → IsClimbing place size old (set nodes (n / 2) (join place (node_at nodes (2 * (n / 2))) (node_at nodes (2 * (n / 2) + 1)))) start (n / 2) before (steps + 1)
+climbed place size old nodes start n before steps low h = record {
   twice = length-set nodes (n / 2) _ ∙ h.twice;
   low = omega arith;
   high = omega (arith, h.high);
-  joined = joined_above size nodes n h.twice low h.high h.joined;
+  joined = joined_above place size nodes n h.twice low h.high h.joined;
   leaves = drop-set-lt size nodes (n / 2) _ (omega (arith, h.high)) ∙ h.leaves;
   few = subst (λ p. p * (n / 2) ≤ start) (sym (power before steps h.on)) (doubled (2 ^ (steps - before)) n start h.few);
   on = omega (arith, h.on);

@@ -1,21 +1,11 @@
 -- The join of two neighbours is associative, and nothing is its unit.
-use Rattle.std.proofs.Common.{◌≡◌, Bool, true, false, cond, List, [], ◌∷◌, ◌++◌, Option, None, Some, true≢false, refl, sym, ap, ◌∙◌, arith}
+use Rattle.std.proofs.Common.{◌≡◌, ℕ, Bool, true, false, cond, List, [], ◌∷◌, ◌++◌, Option, None, Some, true≢false, refl, sym, ap, ◌∙◌, arith}
 use Rattle.std.specs.Option.{option_or}
 use Rattle.std.proofs.lemmas.Bool.Decides.{nat_tests}
+use Rattle.ar_disks.specs.declared.address.Addr.{Addr}
 use Rattle.ar_index.specs.declared.choices.Age.{Age}
 use Rattle.ar_index.specs.declared.choices.Choices.{Choices}
 use Rattle.ar_index.specs.Choices.{is_no_newer, older, nothing, join, search_all}
-
--- the order of ages is total
-pub ages_total : (a b : Age) → is_no_newer a b ≡ false → is_no_newer b a ≡ true
-ages_total a b h = grind (arith, nat_tests)
-
--- and transitive
-pub ages_trans : (a b c : Age) → is_no_newer a b ≡ true → is_no_newer b c ≡ true → is_no_newer a c ≡ true
-ages_trans a b c h i = grind (arith, nat_tests)
-
-pub ages_self : (a : Age) → is_no_newer a a ≡ true
-ages_self a = grind (arith, nat_tests)
 
 or_assoc : {A : Type 0} (x y z : Option A) → option_or (option_or x y) z ≡ option_or x (option_or y z)
 or_assoc None y z = refl
@@ -25,56 +15,68 @@ or_none : {A : Type 0} (x : Option A) → option_or x None ≡ x
 or_none None = refl
 or_none (Some a) = refl
 
-pub older_none : (x : Option Age) → older x None ≡ x
-older_none None = refl
-older_none (Some a) = refl
-
--- of three, whichever two are compared first
-pick_assoc : (a b c : Age) → older (older (Some a) (Some b)) (Some c) ≡ older (Some a) (older (Some b) (Some c))
-pick_assoc a b c = by (is_no_newer a b) (is_no_newer b c) refl refl
-  where
-    first : (p : Bool) → is_no_newer a b ≡ p → older (older (Some a) (Some b)) (Some c) ≡ older (Some (cond p a b)) (Some c)
-    first p e = ap (λ r. older (Some (cond r a b)) (Some c)) e
-
-    second : (q : Bool) → is_no_newer b c ≡ q → older (Some a) (older (Some b) (Some c)) ≡ older (Some a) (Some (cond q b c))
-    second q f = ap (λ r. older (Some a) (Some (cond r b c))) f
-
-    not_first : is_no_newer a b ≡ false → is_no_newer b c ≡ false → is_no_newer a c ≡ false
-    not_first e f = at (is_no_newer a c) refl
-      where
-        at : (r : Bool) → is_no_newer a c ≡ r → is_no_newer a c ≡ false
-        at false g = g
-        at true g = let h = ages_total b c f in let i = ages_trans a c b g h in absurd (true≢false (sym i ∙ e))
-
-    by : (p q : Bool) → is_no_newer a b ≡ p → is_no_newer b c ≡ q → older (older (Some a) (Some b)) (Some c) ≡ older (Some a) (older (Some b) (Some c))
-    by true true e f =
-        let g = ages_trans a b c e f in
-        first true e ∙ ap (λ r. Some (cond r a c)) g ∙ sym (ap (λ r. Some (cond r a b)) e) ∙ sym (second true f)
-    by true false e f = first true e ∙ sym (second false f)
-    by false true e f = first false e ∙ ap (λ r. Some (cond r b c)) f ∙ sym (ap (λ r. Some (cond r a b)) e) ∙ sym (second true f)
-    by false false e f =
-        let no : is_no_newer a c ≡ false = not_first e f in
-        first false e ∙ ap (λ r. Some (cond r b c)) f ∙ sym (ap (λ r. Some (cond r a c)) no) ∙ sym (second false f)
-
-pub older_assoc : (x y z : Option Age) → older (older x y) z ≡ older x (older y z)
-older_assoc None y z = refl
-older_assoc (Some a) None z = refl
-older_assoc (Some a) (Some b) None = older_none (older (Some a) (Some b))
-older_assoc (Some a) (Some b) (Some c) = pick_assoc a b c
-
 same_choices : (a b : Choices) → a.mirrored ≡ b.mirrored → a.parity ≡ b.parity → a.free ≡ b.free → a.oldest ≡ b.oldest → a ≡ b
 same_choices a b m p f o = λ i. record { mirrored = m i; parity = p i; free = f i; oldest = o i }
 
-pub join_assoc : (x y z : Choices) → join (join x y) z ≡ join x (join y z)
-join_assoc x y z = same_choices (join (join x y) z) (join x (join y z)) (or_assoc x.mirrored y.mirrored z.mirrored) (or_assoc x.parity y.parity z.parity) (or_assoc x.free y.free z.free) (older_assoc x.oldest y.oldest z.oldest)
+module _ (place : Addr → ℕ) where
+  -- the order of ages is total
+  pub ages_total : (a b : Age) → is_no_newer place a b ≡ false → is_no_newer place b a ≡ true
+  ages_total a b h = grind (arith, nat_tests)
 
-pub join_nothing : (x : Choices) → join x nothing ≡ x
-join_nothing x = same_choices (join x nothing) x (or_none x.mirrored) (or_none x.parity) (or_none x.free) (older_none x.oldest)
+  -- and transitive
+  pub ages_trans : (a b c : Age) → is_no_newer place a b ≡ true → is_no_newer place b c ≡ true → is_no_newer place a c ≡ true
+  ages_trans a b c h i = grind (arith, nat_tests)
 
-pub nothing_join : (x : Choices) → join nothing x ≡ x
-nothing_join x = refl
+  pub ages_self : (a : Age) → is_no_newer place a a ≡ true
+  ages_self a = grind (arith, nat_tests)
 
--- a search over two lists is the join of the searches
-pub search_both : (xs ys : List Choices) → search_all (xs ++ ys) ≡ join (search_all xs) (search_all ys)
-search_both [] ys = sym (nothing_join (search_all ys))
-search_both (x ∷ xs) ys = ap (join x) (search_both xs ys) ∙ sym (join_assoc x (search_all xs) (search_all ys))
+  pub older_none : (x : Option Age) → older place x None ≡ x
+  older_none None = refl
+  older_none (Some a) = refl
+
+  -- of three, whichever two are compared first
+  pick_assoc : (a b c : Age) → older place (older place (Some a) (Some b)) (Some c) ≡ older place (Some a) (older place (Some b) (Some c))
+  pick_assoc a b c = by (is_no_newer place a b) (is_no_newer place b c) refl refl
+    where
+      first : (p : Bool) → is_no_newer place a b ≡ p → older place (older place (Some a) (Some b)) (Some c) ≡ older place (Some (cond p a b)) (Some c)
+      first p e = ap (λ r. older place (Some (cond r a b)) (Some c)) e
+
+      second : (q : Bool) → is_no_newer place b c ≡ q → older place (Some a) (older place (Some b) (Some c)) ≡ older place (Some a) (Some (cond q b c))
+      second q f = ap (λ r. older place (Some a) (Some (cond r b c))) f
+
+      not_first : is_no_newer place a b ≡ false → is_no_newer place b c ≡ false → is_no_newer place a c ≡ false
+      not_first e f = at (is_no_newer place a c) refl
+        where
+          at : (r : Bool) → is_no_newer place a c ≡ r → is_no_newer place a c ≡ false
+          at false g = g
+          at true g = let h = ages_total b c f in let i = ages_trans a c b g h in absurd (true≢false (sym i ∙ e))
+
+      by : (p q : Bool) → is_no_newer place a b ≡ p → is_no_newer place b c ≡ q → older place (older place (Some a) (Some b)) (Some c) ≡ older place (Some a) (older place (Some b) (Some c))
+      by true true e f =
+          let g = ages_trans a b c e f in
+          first true e ∙ ap (λ r. Some (cond r a c)) g ∙ sym (ap (λ r. Some (cond r a b)) e) ∙ sym (second true f)
+      by true false e f = first true e ∙ sym (second false f)
+      by false true e f = first false e ∙ ap (λ r. Some (cond r b c)) f ∙ sym (ap (λ r. Some (cond r a b)) e) ∙ sym (second true f)
+      by false false e f =
+          let no : is_no_newer place a c ≡ false = not_first e f in
+          first false e ∙ ap (λ r. Some (cond r b c)) f ∙ sym (ap (λ r. Some (cond r a c)) no) ∙ sym (second false f)
+
+  pub older_assoc : (x y z : Option Age) → older place (older place x y) z ≡ older place x (older place y z)
+  older_assoc None y z = refl
+  older_assoc (Some a) None z = refl
+  older_assoc (Some a) (Some b) None = older_none (older place (Some a) (Some b))
+  older_assoc (Some a) (Some b) (Some c) = pick_assoc a b c
+
+  pub join_assoc : (x y z : Choices) → join place (join place x y) z ≡ join place x (join place y z)
+  join_assoc x y z = same_choices (join place (join place x y) z) (join place x (join place y z)) (or_assoc x.mirrored y.mirrored z.mirrored) (or_assoc x.parity y.parity z.parity) (or_assoc x.free y.free z.free) (older_assoc x.oldest y.oldest z.oldest)
+
+  pub join_nothing : (x : Choices) → join place x nothing ≡ x
+  join_nothing x = same_choices (join place x nothing) x (or_none x.mirrored) (or_none x.parity) (or_none x.free) (older_none x.oldest)
+
+  pub nothing_join : (x : Choices) → join place nothing x ≡ x
+  nothing_join x = refl
+
+  -- a search over two lists is the join of the searches
+  pub search_both : (xs ys : List Choices) → search_all place (xs ++ ys) ≡ join place (search_all place xs) (search_all place ys)
+  search_both [] ys = sym (nothing_join (search_all place ys))
+  search_both (x ∷ xs) ys = ap (join place x) (search_both xs ys) ∙ sym (join_assoc x (search_all place xs) (search_all place ys))

@@ -5,9 +5,10 @@ use Rattle.std.proofs.lemmas.Bool.{cases_lt}
 use Rattle.std.proofs.lemmas.Nat.{pow_below}
 use Rattle.std.proofs.lemmas.List.{length-drop, length-take-le, get_or-drop, get_or-set_other, get_or-set_same, get_or-take}
 use Rattle.std.proofs.lemmas.List.Sums.{sum_by-set, sum_by-cons, sum_by-append, count_by-le-length}
+use Rattle.ar_disks.specs.declared.address.Addr.{Addr}
 use Rattle.ar_index.specs.declared.choices.Choices.{Choices}
 use Rattle.ar_index.specs.Choices.{nothing, search_all}
-use Rattle.ar_index.specs.Tree.{node_at, IsTree, IsGrown, IsKept, leaves_in, free_in}
+use Rattle.ar_index.specs.Tree.{node_at, AreJoinedBut, IsGrown, IsKept, leaves_in, free_in}
 use Rattle.ar_index.proofs.Search.{root, search_behind}
 
 module _ (size leaf : ℕ) (old new : List Choices) (c : Choices) (put : drop size new ≡ set (drop size old) leaf c) where
@@ -34,9 +35,9 @@ module _ (size leaf : ℕ) (old new : List Choices) (c : Choices) (put : drop si
       ∙ take-suc-set (drop size old) leaf c (omega (arith, length-drop size old))
 
   -- the tree with it, where so many leaves are in use then
-  pub put_grown : (count more : ℕ) → IsGrown size count old → IsTree size new → count ≤ more → leaf < more → more ≤ size → IsGrown size more new
-  put_grown count more ok tree le inside within = record {
-    tree = tree;
+  pub put_grown : (count more : ℕ) → IsGrown size count old → length new ≡ 2 * size → count ≤ more → leaf < more → more ≤ size → IsGrown size more new
+  put_grown count more ok twice le inside within = record {
+    twice = twice;
     height = ok.height;
     within = within;
     empty = λ i h.
@@ -79,25 +80,26 @@ few_steps size leaf count before after few inside close most on =
     ]
 
 -- a tree that is kept, and the choices at its root
-pub best_kept : (size count free : ℕ) (nodes : List Choices) → IsKept size count free nodes → 0 < size → node_at nodes 1 ≡ search_all (leaves_in size count nodes)
-best_kept size count free nodes ok some =
+pub best_kept : (place : Addr → ℕ) (size count free : ℕ) (nodes : List Choices) → IsKept size count free nodes → AreJoinedBut place size nodes 0 → 0 < size
+    → node_at nodes 1 ≡ search_all place (leaves_in size count nodes)
+best_kept place size count free nodes ok joined some =
     let p = ok.grown.height some in
-    root size nodes ok.grown.tree p.0 p.1
-    ∙ search_behind (drop size nodes) count (λ i h. get_or-drop size nodes i nothing ∙ ok.grown.empty (size + i) (omega arith))
+    root place size nodes (record { twice = ok.grown.twice; joined = joined }) p.0 p.1
+    ∙ search_behind place (drop size nodes) count (λ i h. get_or-drop size nodes i nothing ∙ ok.grown.empty (size + i) (omega arith))
 
 -- the choices of a leaf are put
 module _ (size count free leaf : ℕ) (old new : List Choices) (c : Choices) (ok : IsKept size count free old) (inside : leaf < count)
-    (tree : IsTree size new) (put : drop size new ≡ set (drop size old) leaf c) where
+    (twice : length new ≡ 2 * size) (put : drop size new ≡ set (drop size old) leaf c) where
   pub set_kept : (now : ℕ) → now + one_if_free (node_at old (size + leaf)) ≡ free + one_if_free c → IsKept size count now new
   set_kept now e =
       let before : get_or (leaves_in size count old) leaf nothing ≡ node_at old (size + leaf) = leaf_at size count leaf old inside in
       let all : free_in (set (leaves_in size count old) leaf c) + one_if_free (get_or (leaves_in size count old) leaf nothing) ≡ free_in (leaves_in size count old) + one_if_free c =
-      free_put (leaves_in size count old) leaf c (omega (arith, leaves_count size count old ok.grown.tree.twice ok.grown.within)) in
+      free_put (leaves_in size count old) leaf c (omega (arith, leaves_count size count old ok.grown.twice ok.grown.within)) in
       let same : one_if_free (get_or (leaves_in size count old) leaf nothing) ≡ one_if_free (node_at old (size + leaf)) = ap one_if_free before in
       let after : free_in (leaves_in size count new) ≡ free_in (set (leaves_in size count old) leaf c) = ap free_in (put_leaves size leaf old new c put count inside) in
       let counted = ok.counted in
       record {
-        grown = put_grown size leaf old new c put count count ok.grown tree (omega arith) inside ok.grown.within;
+        grown = put_grown size leaf old new c put count count ok.grown twice (omega arith) inside ok.grown.within;
         close = ok.close;
         counted = omega arith;
       }
@@ -105,19 +107,19 @@ module _ (size count free leaf : ℕ) (old new : List Choices) (c : Choices) (ok
   pub set_some : is_some (node_at old (size + leaf)).free ≡ true → 0 < free
   set_some e =
       let before : get_or (leaves_in size count old) leaf nothing ≡ node_at old (size + leaf) = leaf_at size count leaf old inside in
-      let some = some_free (leaves_in size count old) leaf (omega (arith, leaves_count size count old ok.grown.tree.twice ok.grown.within)) (ap (λ x. is_some x.free) before ∙ e) in
+      let some = some_free (leaves_in size count old) leaf (omega (arith, leaves_count size count old ok.grown.twice ok.grown.within)) (ap (λ x. is_some x.free) before ∙ e) in
       omega (arith, ok.counted)
 
 -- a leaf in use is one of the list that is seen
 pub seen_inside : (size count leaf : ℕ) (nodes seen : List Choices) → IsGrown size count nodes → leaves_in size count nodes ≡ seen → leaf < length seen → leaf < count
-seen_inside size count leaf nodes seen ok e inside = omega (arith, leaves_count size count nodes ok.tree.twice ok.within, ap length e)
+seen_inside size count leaf nodes seen ok e inside = omega (arith, leaves_count size count nodes ok.twice ok.within, ap length e)
 
 -- the choices of a leaf are put behind the others, after room was made for it
 module _ (size more count free : ℕ) (old mid new : List Choices) (c : Choices) (ok : IsKept size count free old) (grown : IsGrown more count mid)
     (room : (count < more) × (more ≤ 2 * (count + 1))) (same : leaves_in more count mid ≡ leaves_in size count old)
-    (tree : IsTree more new) (put : drop more new ≡ set (drop more mid) count c) where
+    (twice : length new ≡ 2 * more) (put : drop more new ≡ set (drop more mid) count c) where
   pub push_leaves : leaves_in more (count + 1) new ≡ leaves_in size count old ++ c ∷ []
-  push_leaves = put_behind more count mid new c put grown.tree.twice room.0 ∙ ap (λ xs. xs ++ c ∷ []) same
+  push_leaves = put_behind more count mid new c put grown.twice room.0 ∙ ap (λ xs. xs ++ c ∷ []) same
 
   pub push_kept : (now : ℕ) → now ≡ free + one_if_free c → IsKept more (count + 1) now new
   push_kept now e =
@@ -126,7 +128,7 @@ module _ (size more count free : ℕ) (old mid new : List Choices) (c : Choices)
       let one : free_in (c ∷ []) ≡ one_if_free c + 0 = sum_by-cons one_if_free c [] in
       let counted = ok.counted in
       record {
-        grown = put_grown more count mid new c put count (count + 1) grown tree (omega arith) (omega arith) (omega (arith, room.0));
+        grown = put_grown more count mid new c put count (count + 1) grown twice (omega arith) (omega arith) (omega (arith, room.0));
         close = room.1;
         counted = omega arith;
       }

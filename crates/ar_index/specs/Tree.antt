@@ -1,5 +1,6 @@
 -- The tree over the groups.
 use Rattle.std.specs.Prelude.{◌≡◌, ◌≢◌, ℕ, zero, suc, ◌+◌, ◌*◌, ◌<◌, ◌≤◌, List, length, take, drop, slice_index_or, count_by, is_some}
+use Rattle.ar_disks.specs.declared.address.Addr.{Addr}
 use Rattle.ar_index.specs.declared.choices.Choices.{Choices}
 use Rattle.ar_index.specs.Choices.{nothing, join}
 
@@ -7,18 +8,18 @@ use Rattle.ar_index.specs.Choices.{nothing, join}
 abbrev pub node_at : List Choices → ℕ → Choices
 node_at nodes i = slice_index_or nodes i nothing
 
--- the node is the join of its children
-abbrev pub IsJoined : List Choices → ℕ → Type 0
-IsJoined nodes i = node_at nodes i ≡ join (node_at nodes (2 * i)) (node_at nodes (2 * i + 1))
+-- the node is the join of its children, where units have these places
+abbrev pub IsJoined : (Addr → ℕ) → List Choices → ℕ → Type 0
+IsJoined place nodes i = node_at nodes i ≡ join place (node_at nodes (2 * i)) (node_at nodes (2 * i + 1))
 
 -- each node below so many is the join of its children, but perhaps for one
-abbrev pub AreJoinedBut : ℕ → List Choices → ℕ → Type 0
-AreJoinedBut size nodes but = (i : ℕ) → 0 < i → i < size → i ≢ but → IsJoined nodes i
+abbrev pub AreJoinedBut : (Addr → ℕ) → ℕ → List Choices → ℕ → Type 0
+AreJoinedBut place size nodes but = (i : ℕ) → 0 < i → i < size → i ≢ but → IsJoined place nodes i
 
 -- so many leaves stand behind as many inner nodes, each the join of its children
-pub record IsTree (size : ℕ) (nodes : List Choices) : Type 0 where
+pub record IsTree (place : Addr → ℕ) (size : ℕ) (nodes : List Choices) : Type 0 where
   pub twice : length nodes ≡ 2 * size
-  pub joined : AreJoinedBut size nodes 0
+  pub joined : AreJoinedBut place size nodes 0
 
 -- how many leaves stand under a node of a height
 abbrev pub leaves_under : ℕ → ℕ
@@ -33,16 +34,31 @@ leaves_in size count nodes = take count (drop size nodes)
 abbrev pub free_in : List Choices → ℕ
 free_in leaves = count_by (λ c. is_some c.free) leaves
 
--- a tree of so many leaves, a power of two, of which so many are in use
+-- a list for the nodes of a tree of so many leaves, a power of two, of which so many are in use
 pub record IsGrown (size count : ℕ) (nodes : List Choices) : Type 0 where
-  pub tree : IsTree size nodes
+  pub twice : length nodes ≡ 2 * size
   pub height : 0 < size → (h : ℕ) × (leaves_under h ≡ size)
   pub within : count ≤ size
   -- the leaves behind those in use have nothing
   pub empty : (i : ℕ) → size + count ≤ i → node_at nodes i ≡ nothing
 
--- a tree that has grown no further than it had to, of whose leaves so many are free
+-- it has grown no further than it had to, and so many of its leaves are free
 pub record IsKept (size count free : ℕ) (nodes : List Choices) : Type 0 where
   pub grown : IsGrown size count nodes
   pub close : size ≤ 2 * count
   pub counted : free ≡ free_in (leaves_in size count nodes)
+
+-- what a tree is seen as: its nodes, how many leaves they have room for, and how many of those are in use
+pub record TreeState : Type 0 where
+  pub size : ℕ
+  pub count : ℕ
+  pub nodes : List Choices
+
+-- the leaves of a tree: the choices of groups 0, 1, ..
+abbrev pub leaves : TreeState → List Choices
+leaves t = leaves_in t.size t.count t.nodes
+
+-- each inner node is the join of its children, where units have these places, and the leaves behind those in use have nothing
+pub record IsRight (place : Addr → ℕ) (t : TreeState) : Type 0 where
+  pub joined : AreJoinedBut place t.size t.nodes 0
+  pub behind : (i : ℕ) → t.size + t.count ≤ i → node_at t.nodes i ≡ nothing

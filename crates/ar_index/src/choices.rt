@@ -1,14 +1,17 @@
 // The choices of a group, and of two neighbours together.
 ghost use Rattle.std.specs.Prelude.{◌≡◌};
+ghost use Rattle.ar_index.specs.Choices.{place_in};
 
-use ar_disks::Key;
+use ar_disks::{Addr, Key};
+use indexmap::IndexMap;
 
 /// How old a mirrored block is: by its stamp; where stamps are equal by its unit's place in order of making, and in a unit by its
 /// number.
+///
+/// The place isn't kept, as it changes when an earlier unit goes: it is asked of the units where two stamps are equal.
 #[derive(Clone, Copy, Debug, PartialEq, Eq)]
 pub struct Age {
     pub stamp: u64,
-    pub order: usize,
     pub key: Key,
 }
 
@@ -22,23 +25,36 @@ pub struct Choices {
     pub oldest: Option<Age>,
 }
 
+// A unit's place in order of making; past the last where there is no unit.
+fn place_of<V>(units: &IndexMap<Addr, V>, addr: Addr) -> usize
+    ensures { result ≡ place_in units.now.entries addr }
+{
+    match units.get_index_of(&addr) {
+        Some(place) => place,
+        None => units.len(),
+    }
+}
+
 impl Age {
     ghost use Rattle.std.specs.Prelude.{◌≡◌};
-    ghost use Rattle.ar_index.specs.Choices.{is_no_newer};
+    ghost use Rattle.ar_index.specs.Choices.{place_in, is_no_newer};
 
-    // Whether the block is older than another, or as old.
-    fn is_no_newer(&self, other: &Age) -> bool
-        ensures { result ≡ is_no_newer self.now other.now }
+    // Whether the block is older than another, or as old. The units are asked where the stamps are equal.
+    fn is_no_newer<V>(&self, other: &Age, units: &IndexMap<Addr, V>) -> bool
+        ensures { result ≡ is_no_newer (place_in units.now.entries) self.now other.now }
     {
-        let in_unit = self.order == other.order && self.key.rb <= other.key.rb;
-        let in_order = self.order < other.order || in_unit;
-        self.stamp < other.stamp || (self.stamp == other.stamp && in_order)
+        if self.stamp != other.stamp {
+            return self.stamp < other.stamp;
+        }
+        let own = place_of(units, self.key.addr);
+        let others = place_of(units, other.key.addr);
+        own < others || (own == others && self.key.rb <= other.key.rb)
     }
 }
 
 impl Choices {
     ghost use Rattle.std.specs.Prelude.{◌≡◌};
-    ghost use Rattle.ar_index.specs.Choices.{nothing, join};
+    ghost use Rattle.ar_index.specs.Choices.{place_in, nothing, is_nothing, join};
 
     /// The choices among no groups.
     pub fn nothing() -> Choices
@@ -52,31 +68,45 @@ impl Choices {
         }
     }
 
+    /// Whether there is no choice, as among no groups.
+    pub fn is_nothing(&self) -> bool
+        ensures { result ≡ is_nothing self.now }
+    {
+        self.mirrored.is_none()
+            && self.parity.is_none()
+            && self.free.is_none()
+            && self.oldest.is_none()
+    }
+
     /// The choices among the groups of both, of which those of `left` have the lower numbers.
-    pub fn join(left: &Choices, right: &Choices) -> Choices
-        ensures { result ≡ join left.now right.now }
+    pub fn join<V>(left: &Choices, right: &Choices, units: &IndexMap<Addr, V>) -> Choices
+        ensures { result ≡ join (place_in units.now.entries) left.now right.now }
     {
         Choices {
             mirrored: left.mirrored.or(right.mirrored),
             parity: left.parity.or(right.parity),
             free: left.free.or(right.free),
-            oldest: Age::older(left.oldest, right.oldest),
+            oldest: Age::older(left.oldest, right.oldest, units),
         }
     }
 }
 
 impl Age {
     ghost use Rattle.std.specs.Prelude.{◌≡◌};
-    ghost use Rattle.ar_index.specs.Choices.{older};
+    ghost use Rattle.ar_index.specs.Choices.{place_in, older};
 
     /// The older of two blocks, or the one that there is. The first where they are of one age.
-    pub fn older(first: Option<Age>, second: Option<Age>) -> Option<Age>
-        ensures { result ≡ older first second }
+    pub fn older<V>(
+        first: Option<Age>,
+        second: Option<Age>,
+        units: &IndexMap<Addr, V>,
+    ) -> Option<Age>
+        ensures { result ≡ older (place_in units.now.entries) first second }
     {
         let (Some(one), Some(other)) = (first, second) else {
             return first.or(second);
         };
-        if one.is_no_newer(&other) {
+        if one.is_no_newer(&other, units) {
             first
         } else {
             second

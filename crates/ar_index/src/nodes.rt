@@ -1,11 +1,13 @@
 // The nodes of a tree in one list: the root is 1, the children of a node are twice it and the next, and the leaves stand behind
 // the inner nodes.
 ghost use Rattle.std.specs.Prelude.{◌≡◌, ℕ, ◌+◌, ◌-◌, ◌*◌, ◌/◌, ◌^◌, ◌<◌, ◌≤◌, length, drop, slice_set, IfOk, OnErr};
-ghost use Rattle.ar_index.specs.Choices.{nothing, join};
+ghost use Rattle.ar_index.specs.Choices.{place_in, nothing, join};
 ghost use Rattle.ar_index.specs.Tree as spec;
 ghost use Rattle.ar_index.specs.Tree.{AreJoinedBut, IsTree, IsGrown, leaves_in};
 
 use crate::{Choices, Steps};
+use ar_disks::Addr;
+use indexmap::IndexMap;
 use std::alloc::{AllocError, Global};
 
 /// The choices of a node.
@@ -17,20 +19,28 @@ pub(crate) fn node_at(nodes: &[Choices], node: usize) -> Choices
 }
 
 // Joins the children of an inner node.
-fn join_at(nodes: &mut Vec<Choices>, node: usize)
+fn join_at<V>(nodes: &mut Vec<Choices>, node: usize, units: &IndexMap<Addr, V>)
     requires { 2 * node + 1 < length nodes.old.items }
-    ensures { nodes.new.items ≡ slice_set nodes.old.items node (join (spec.node_at nodes.old.items (2 * node)) (spec.node_at nodes.old.items (2 * node + 1))) }
+    ensures { nodes.new.items
+        ≡ slice_set nodes.old.items node
+        (join (place_in units.now.entries) (spec.node_at nodes.old.items (2 * node)) (spec.node_at nodes.old.items (2 * node + 1))) }
 {
-    let joined = Choices::join(&nodes[2 * node], &nodes[2 * node + 1]);
+    let joined = Choices::join(&nodes[2 * node], &nodes[2 * node + 1], units);
     nodes[node] = joined;
 }
 
 // Joins the nodes above a leaf of a tree of so many leaves, from the lowest to the root. A step is a node.
-fn climb(nodes: &mut Vec<Choices>, size: usize, leaf: usize, steps: &mut Steps)
+fn climb<V>(
+    nodes: &mut Vec<Choices>,
+    size: usize,
+    leaf: usize,
+    units: &IndexMap<Addr, V>,
+    steps: &mut Steps,
+)
     requires twice { length nodes.old.items ≡ 2 * size }
     requires there { leaf < size }
-    requires joined { AreJoinedBut size nodes.old.items ((size + leaf) / 2) }
-    ensures tree { IsTree size nodes.new.items }
+    requires joined { AreJoinedBut (place_in units.now.entries) size nodes.old.items ((size + leaf) / 2) }
+    ensures tree { IsTree (place_in units.now.entries) size nodes.new.items }
     ensures leaves { drop size nodes.new.items ≡ drop size nodes.old.items }
     ensures few { 2 ^ (steps.new.count - steps.old.count) ≤ size + leaf }
     ensures on { steps.old.count ≤ steps.new.count }
@@ -39,47 +49,50 @@ fn climb(nodes: &mut Vec<Choices>, size: usize, leaf: usize, steps: &mut Steps)
     while node > 1 {
         steps.tick();
         node /= 2;
-        join_at(nodes, node);
+        join_at(nodes, node, units);
     }
 }
 
 /// Puts the choices of a leaf into a tree of so many leaves, and climbs once.
-pub(crate) fn put(
+pub(crate) fn put<V>(
     nodes: &mut Vec<Choices>,
     size: usize,
     leaf: usize,
     choices: Choices,
+    units: &IndexMap<Addr, V>,
     steps: &mut Steps,
 )
-    requires tree { IsTree size nodes.old.items }
+    requires tree { IsTree (place_in units.now.entries) size nodes.old.items }
     requires there { leaf < size }
-    ensures tree { IsTree size nodes.new.items }
+    ensures tree { IsTree (place_in units.now.entries) size nodes.new.items }
     ensures leaves { drop size nodes.new.items ≡ slice_set (drop size nodes.old.items) leaf choices }
     ensures few { 2 ^ (steps.new.count - steps.old.count) ≤ size + leaf }
     ensures on { steps.old.count ≤ steps.new.count }
 {
     nodes[size + leaf] = choices;
-    climb(nodes, size, leaf, steps);
+    climb(nodes, size, leaf, units, steps);
 }
 
 // A tree of more leaves, of which the first are those of this one, and the others have nothing.
-fn spread(
+fn spread<V>(
     alloc: Global,
     nodes: &[Choices],
     size: usize,
     more: usize,
+    units: &IndexMap<Addr, V>,
 ) -> Result<Vec<Choices>, AllocError>
     requires twice { length nodes.now ≡ 2 * size }
     requires more { size ≤ more }
     requires fits { 2 * more < 2 ^ 64 }
-    ensures tree { IfOk result (λ tree. IsTree more tree.items) }
-    ensures leaves { IfOk result (λ tree. (i : ℕ) → i < size → spec.node_at tree.items (more + i) ≡ spec.node_at nodes.now (size + i)) }
+    ensures tree { IfOk result (λ tree. IsTree (place_in units.now.entries) more tree.items) }
+    ensures leaves { IfOk result (λ tree. (i : ℕ) → i < size
+        → spec.node_at tree.items (more + i) ≡ spec.node_at nodes.now (size + i)) }
     ensures behind { IfOk result (λ tree. (i : ℕ) → size ≤ i → spec.node_at tree.items (more + i) ≡ nothing) }
 {
     let mut steps = Steps::new();
     let mut tree = vec![in alloc; Choices::nothing(); 2 * more]?;
     for leaf in 0..size {
-        put(&mut tree, more, leaf, nodes[size + leaf], &mut steps);
+        put(&mut tree, more, leaf, nodes[size + leaf], units, &mut steps);
     }
     Ok(tree)
 }
@@ -101,15 +114,18 @@ fn twice(size: usize) -> Result<usize, AllocError>
 
 /// Makes room for one leaf more in a tree of so many leaves, of which so many are in use, and answers how many leaves it has
 /// then. Without memory nothing changes.
-pub(crate) fn make_room(
+pub(crate) fn make_room<V>(
     alloc: Global,
     nodes: &mut Vec<Choices>,
     size: usize,
     count: usize,
+    units: &IndexMap<Addr, V>,
 ) -> Result<usize, AllocError>
     requires grown { IsGrown size count nodes.old.items }
+    requires tree { IsTree (place_in units.now.entries) size nodes.old.items }
     requires close { size ≤ 2 * count }
     ensures grown { IfOk result (λ more. IsGrown more count nodes.new.items) }
+    ensures tree { IfOk result (λ more. IsTree (place_in units.now.entries) more nodes.new.items) }
     ensures room { IfOk result (λ more. (count < more) × (more ≤ 2 * (count + 1))) }
     ensures leaves { IfOk result (λ more. leaves_in more count nodes.new.items ≡ leaves_in size count nodes.old.items) }
     ensures unchanged { OnErr result (nodes.new.items ≡ nodes.old.items) }
@@ -118,6 +134,6 @@ pub(crate) fn make_room(
         return Ok(size);
     }
     let more = twice(size)?;
-    *nodes = spread(alloc, nodes, size, more)?;
+    *nodes = spread(alloc, nodes, size, more, units)?;
     Ok(more)
 }

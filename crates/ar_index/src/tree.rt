@@ -1,14 +1,21 @@
 // The tree over the groups.
-ghost use Rattle.std.specs.Prelude.{◌≡◌, ◌+◌, ◌^◌, ◌<◌, ◌≤◌, true, cond, length, [], ◌∷◌, ◌++◌, slice_set, OnOk, OnErr};
-ghost use Rattle.ar_index.specs.Choices.{search_all};
-ghost use Rattle.ar_index.specs.Tree.{free_in};
+ghost use Rattle.std.specs.Prelude.{◌≡◌, ℕ, ◌+◌, ◌^◌, ◌<◌, ◌≤◌, true, cond, length, [], ◌∷◌, ◌++◌, slice_index_or, slice_set, OnOk, OnErr};
+ghost use Rattle.ar_disks.specs.declared.address.Addr.{Addr};
+ghost use Rattle.ar_index.specs.Choices.{place_in, nothing, is_nothing, search_all};
+ghost use Rattle.ar_index.specs.Tree.{leaves, free_in, IsRight};
 
 use crate::nodes::{make_room, node_at, put};
 use crate::{Choices, Steps};
+use ar_disks::Addr;
+use indexmap::IndexMap;
 use std::alloc::{AllocError, Global};
 use std::marker::Model;
 
 /// The choices of groups 0, 1, .. as the leaves of a tree, whose root has the choices among them all.
+///
+/// The tree is right for an order of units, which decides where stamps are equal: each call that joins nodes is handed the units,
+/// and asks that the tree is right for them. Where units come and go it stays right while the blocks that leaves name are in the
+/// same order as before.
 ///
 /// Memory is taken by `push` alone.
 #[derive(Drop)]
@@ -21,13 +28,11 @@ pub struct Tree {
 }
 
 impl Model for Tree {
-    ghost use Rattle.std.specs.Prelude.{List};
-    ghost use Rattle.ar_index.specs.declared.choices.Choices.{Choices};
-    ghost use Rattle.ar_index.specs.Tree.{leaves_in, IsKept};
+    ghost use Rattle.ar_index.specs.Tree.{TreeState, IsKept};
 
-    ghost Value = { List Choices };
+    ghost Value = { TreeState };
 
-    ghost view = { λ t. leaves_in t.size t.count t.nodes.items };
+    ghost view = { λ t. record { size = t.size; count = t.count; nodes = t.nodes.items } };
 
     ghost invariant = { λ t. IsKept t.size t.count t.free t.nodes.items };
 }
@@ -46,9 +51,10 @@ fn recount(free: usize, was: bool, is: bool) -> usize
 }
 
 impl Tree {
-    /// A tree without a leaf.
+    /// A tree without a leaf, which is right for any order.
     pub fn new(alloc: Global) -> Tree
-        ensures { result ≡ [] }
+        ensures empty { leaves result ≡ [] }
+        ensures right { (place : Addr → ℕ) → IsRight place result }
     {
         Tree {
             alloc,
@@ -61,21 +67,30 @@ impl Tree {
 
     /// How many leaves there are.
     pub fn len(&self) -> usize
-        ensures { result ≡ length self.now }
+        ensures { result ≡ length (leaves self.now) }
     {
         self.count
     }
 
     /// How many of the groups are free.
     pub fn free(&self) -> usize
-        ensures { result ≡ free_in self.now }
+        ensures { result ≡ free_in (leaves self.now) }
     {
         self.free
     }
 
-    /// The choices among all groups: those of a plain search from the first to the last.
+    /// Whether there is no choice in a group.
+    pub fn is_blank(&self, leaf: usize) -> bool
+        requires { leaf < length (leaves self.now) }
+        ensures { result ≡ is_nothing (slice_index_or (leaves self.now) leaf nothing) }
+    {
+        node_at(&self.nodes, self.size + leaf).is_nothing()
+    }
+
+    /// The choices among all groups: those of a plain search from the first to the last, where units have the places that the tree
+    /// is right for.
     pub fn best(&self) -> Choices
-        ensures { result ≡ search_all self.now }
+        ensures { (place : Addr → ℕ) → IsRight place self.now → result ≡ search_all place (leaves self.now) }
     {
         if self.size == 0 {
             return Choices::nothing();
@@ -85,24 +100,41 @@ impl Tree {
 
     /// Changes the choices of one group. A step is a node that is joined: there are at most 14 where there are at most 4,096
     /// groups.
-    pub fn set(&mut self, leaf: usize, choices: Choices, steps: &mut Steps)
-        requires { leaf < length self.old }
-        ensures set { self.new ≡ slice_set self.old leaf choices }
-        ensures few { length self.old ≤ 4096 → steps.new.count ≤ steps.old.count + 14 }
+    pub fn set<V>(
+        &mut self,
+        leaf: usize,
+        choices: Choices,
+        units: &IndexMap<Addr, V>,
+        steps: &mut Steps,
+    )
+        requires there { leaf < length (leaves self.old) }
+        requires right { IsRight (place_in units.now.entries) self.old }
+        ensures set { leaves self.new ≡ slice_set (leaves self.old) leaf choices }
+        ensures right { IsRight (place_in units.now.entries) self.new }
+        ensures few { length (leaves self.old) ≤ 4096 → steps.new.count ≤ steps.old.count + 14 }
     {
         let former = node_at(&self.nodes, self.size + leaf);
         self.free = recount(self.free, former.free.is_some(), choices.free.is_some());
-        put(&mut self.nodes, self.size, leaf, choices, steps);
+        put(&mut self.nodes, self.size, leaf, choices, units, steps);
     }
 
     /// Adds the choices of a group behind the others. Without memory nothing changes.
-    pub fn push(&mut self, choices: Choices) -> Result<(), AllocError>
-        ensures pushed { OnOk result (self.new ≡ self.old ++ choices ∷ []) }
+    pub fn push<V>(&mut self, choices: Choices, units: &IndexMap<Addr, V>) -> Result<(), AllocError>
+        requires { IsRight (place_in units.now.entries) self.old }
+        ensures pushed { OnOk result (leaves self.new ≡ leaves self.old ++ choices ∷ []) }
+        ensures right { IsRight (place_in units.now.entries) self.new }
         ensures unchanged { OnErr result (self.new ≡ self.old) }
     {
         let leaf = self.count;
-        self.size = make_room(self.alloc, &mut self.nodes, self.size, leaf)?;
-        put(&mut self.nodes, self.size, leaf, choices, &mut Steps::new());
+        self.size = make_room(self.alloc, &mut self.nodes, self.size, leaf, units)?;
+        put(
+            &mut self.nodes,
+            self.size,
+            leaf,
+            choices,
+            units,
+            &mut Steps::new(),
+        );
         self.count = leaf + 1;
         self.free = recount(self.free, false, choices.free.is_some());
         Ok(())

@@ -64,6 +64,39 @@ fn a_unit_grows_into_the_room(rt: HostRuntime) {
 }
 
 #[test]
+fn equal_stamps_keep_the_units_order_where_an_earlier_unit_goes(rt: HostRuntime) {
+    let mirrored = Class::Mirrored;
+    run(
+        &rt,
+        Geometry::SMALL,
+        4,
+        &[
+            (Call::Make((0, 0), 4), Answer::Done),
+            (Call::Make((3, 0), 4), Answer::Done),
+            (Call::Make((1, 0), 4), Answer::Done),
+            (Call::Open(mirrored), Answer::Number(0)),
+            (Call::Place((1, 0), 1, mirrored), Answer::Slot(0, 0)),
+            (Call::Place((1, 0), 0, mirrored), Answer::Slot(0, 1)),
+            (Call::Place((3, 0), 0, mirrored), Answer::Slot(0, 2)),
+            (Call::Place((0, 0), 0, mirrored), Answer::Slot(0, 3)),
+            (Call::Open(mirrored), Answer::Number(1)),
+            (Call::Place((3, 0), 1, mirrored), Answer::Slot(1, 0)),
+            (Call::Place((0, 0), 1, mirrored), Answer::Slot(1, 1)),
+            (Call::OldestMirrored, Answer::Block((0, 0), 0)),
+            (Call::Drop((0, 0)), Answer::Done),
+            (Call::OldestMirrored, Answer::Block((3, 0), 0)),
+            (Call::Hole(mirrored), Answer::Slot(0, 3)),
+            (Call::Make((0, 0), 4), Answer::Done),
+            (Call::Place((0, 0), 0, mirrored), Answer::Slot(0, 3)),
+            (Call::OldestMirrored, Answer::Block((3, 0), 0)),
+            (Call::Drop((3, 0)), Answer::Done),
+            (Call::OldestMirrored, Answer::Block((1, 0), 0)),
+            (Call::Hole(mirrored), Answer::Slot(0, 2)),
+        ],
+    );
+}
+
+#[test]
 fn no_unit_is_made_without_a_group(rt: HostRuntime) {
     run(
         &rt,

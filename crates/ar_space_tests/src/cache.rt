@@ -542,3 +542,26 @@ fn no_put_is_refused_for_memory(rt: HostRuntime) -> Result<(), Fail> {
         ],
     )
 }
+
+// The largest cache holds as many blocks as it may, and one more destages the first.
+#[test]
+fn the_largest_cache(rt: HostRuntime) -> Result<(), Fail> {
+    run(
+        &rt,
+        Setup {
+            capacity: 65_536,
+            blocks: 65_537,
+            ..SOUND
+        },
+        &[
+            (Call::PutAll(65_536, 7), Answer::Done),
+            (Call::Asked, Answer::Asked(0, 0)),
+            (Call::Len, Answer::Len(65_536)),
+            (Call::Put((0, 0, 65_536), 8), Answer::Done),
+            (Call::Asked, Answer::Asked(0, 1)),
+            (Call::Len, Answer::Len(65_536)),
+            (Call::FlushOne, Answer::Flushed(SECOND)),
+            (Call::Read((0, 0, 65_536)), Answer::Byte(8)),
+        ],
+    )
+}

@@ -6,11 +6,12 @@ use Rattle.std.proofs.Common.{◌<◌, ◌≤◌, ◌*◌, length, refl, ap, ari
 use Rattle.std.specs.Option.{ForSome}
 use Rattle.ar_disks.specs.Geometry.{rows_of}
 use Rattle.ar_book.specs.Tables.{group_in}
-use Rattle.ar_book.specs.Changes.{named, vacated}
+use Rattle.ar_book.specs.Changes.{named, vacated, homed}
 use Rattle.ar_book.proofs.GroupLemmas.{named_size, vacated_size}
-use Rattle.ar_book.proofs.IndexLemmas.{index_length}
+use Rattle.ar_book.proofs.IndexLemmas.{index_length, same_order}
+use Rattle.ar_book.proofs.AfterAssign.{assigned_order}
 use Rattle.ar_book.proofs.IndexAfter.{assigned_leaves, few_home, named_long, vacated_long}
-use Rattle.std.proofs.Common.{◌≡◌, sym, subst, ◌∙◌, None}
+use Rattle.std.proofs.Common.{◌≡◌, sym, subst, ◌∙◌, None, Some}
 use Rattle.ar_book.specs.contracts.book.Book.{the_view}
 use Rattle.ar_book.specs.Tables.{Tables, key_at, HasBlock, HasSlot}
 use Rattle.ar_book.proofs.KeptLemmas.{former_group, former_slot, assigned_kept}
@@ -67,6 +68,7 @@ invariant_of-self c =
       leaves = assigned_leaves t c.args.key c.args.slot c.self.invariant.kept.tables slot empty _ _ _ _ _ _ refl refl refl c.self.invariant.leaves
           (rw c.name_slot.ensures at c.refresh.ensures.set)
           (rw (c.vacate_slot.ensures, c.name_slot.ensures, c.home_in-former.ensures) at c.refresh_home.ensures.set);
+      right = same_order t.units (homed t.units c.args.key (Some c.args.slot)) _ (assigned_order t c.args.key c.args.slot) c.refresh_home.ensures.right;
     })
 
 pub returns-clause-few : goal.returns-clause-few

@@ -1,4 +1,4 @@
-use Rattle.ar_book.proofs.IndexAfter.{made_leaves}
+use Rattle.ar_book.proofs.Reorders.{made_leaves, made_right}
 use Rattle.std.proofs.Common.{sym, ap, ◌∙◌, arith}
 use Rattle.ar_book.specs.contracts.book.Book.{the_view}
 use Rattle.ar_book.specs.Tables.{Tables}
@@ -22,4 +22,4 @@ invariant_of-self-2 c =
     let ok = at_ok c.add_unit.result _ (sym c.is_err.ensures.value ∙ c.if-is_err.false) c.add_unit.ensures.ok in
     let distinct = at_ok c.add_unit.result _ (sym c.is_err.ensures.value ∙ c.if-is_err.false) c.add_unit.ensures.distinct in
     rw (c.blocks_of-blocks.ensures, ok)
-    (record { kept = made_kept t c.self.inside.reserved c.args.addr c.args.sectors c.self.invariant.kept can.some can.few can.room (rw ok at distinct); leaves = c.self.invariant.leaves ∙ sym (made_leaves t c.self.invariant.kept.tables c.args.addr c.args.sectors) })
+    (record { kept = made_kept t c.self.inside.reserved c.args.addr c.args.sectors c.self.invariant.kept can.some can.few can.room (rw ok at distinct); leaves = c.self.invariant.leaves ∙ sym (made_leaves t c.self.invariant.kept.tables c.args.addr c.args.sectors can.fresh); right = made_right t c.self.invariant.kept.tables c.args.addr c.args.sectors can.fresh _ c.self.invariant.leaves c.self.invariant.right })

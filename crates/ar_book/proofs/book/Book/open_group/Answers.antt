@@ -17,6 +17,7 @@ invariant_of-self c =
     rw c.open_class.ensures (record {
       kept = opened_kept (the_view c.self.inside) c.self.inside.reserved c.lowest_free-group.result c.args.class c.self.invariant.kept low.there low.free;
       leaves = opened_leaves (the_view c.self.inside) c.lowest_free-group.result c.args.class _ _ _ low.there refl c.self.invariant.leaves (rw c.open_class.ensures at c.refresh.ensures.set);
+      right = c.refresh.ensures.right;
     })
 
 pub refresh-requires-clause-leaves : goal.refresh-requires-clause-leaves

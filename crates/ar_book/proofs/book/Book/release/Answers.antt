@@ -1,11 +1,12 @@
 use Rattle.std.proofs.Common.{◌<◌, ◌≤◌, length, refl, ap, arith}
 use Rattle.std.specs.Option.{ForSome}
 use Rattle.ar_disks.specs.Geometry.{rows_of}
-use Rattle.ar_book.specs.Changes.{vacated}
+use Rattle.ar_book.specs.Changes.{vacated, homed}
 use Rattle.ar_book.proofs.GroupLemmas.{vacated_size}
-use Rattle.ar_book.proofs.IndexLemmas.{index_length}
+use Rattle.ar_book.proofs.IndexLemmas.{index_length, same_order}
+use Rattle.ar_book.proofs.AfterRelease.{released_order}
 use Rattle.ar_book.proofs.IndexAfter.{released_leaves, few_home, vacated_long}
-use Rattle.std.proofs.Common.{sym, subst, ◌∙◌}
+use Rattle.std.proofs.Common.{None, sym, subst, ◌∙◌}
 use Rattle.ar_book.specs.contracts.book.Book.{the_view}
 use Rattle.ar_book.specs.Tables.{Tables, HasBlock}
 use Rattle.ar_book.proofs.GroupLemmas.{there_group, there_slot}
@@ -40,6 +41,7 @@ invariant_of-self c =
       kept = kept;
       leaves = released_leaves t c.args.key c.self.invariant.kept.tables _ _ _ _ refl refl c.self.invariant.leaves
           (rw (c.vacate_slot.ensures, c.home_in-home.ensures) at c.refresh_home.ensures.set);
+      right = same_order t.units (homed t.units c.args.key None) _ (released_order t c.args.key) c.refresh_home.ensures.right;
     })
 
 pub returns-clause-few : goal.returns-clause-few

@@ -12,6 +12,7 @@ pub invariant_of-self : goal.invariant_of-self
 invariant_of-self c =
     rw c.replace_member.ensures
     (record {
+      right = c.self.invariant.right;
       leaves = c.self.invariant.leaves ∙ sym (shifted_leaves (the_view c.self.inside) c.args.group c.args.position c.args.place);
       kept = shifted_kept (the_view c.self.inside) c.self.inside.reserved c.args.group c.args.position c.args.place c.self.invariant.kept
           (subst (λ (x : Tables). c.args.group < length x.groups) (sym c.self.view_is) c.requires.there)

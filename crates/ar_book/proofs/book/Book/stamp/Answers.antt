@@ -1,11 +1,14 @@
 use Rattle.std.proofs.Common.{◌<◌, ◌≤◌, ◌∙◌, length, sym, ap, subst, arith}
 use Rattle.std.specs.Option.{ForSome}
+use Rattle.std.specs.Map.{keys_of}
+use Rattle.std.proofs.lemmas.Map.{keys-set_value}
+use Rattle.ar_disks.specs.Addresses.{same_addr}
 use Rattle.ar_disks.specs.Geometry.{rows_of}
 use Rattle.ar_book.specs.contracts.book.Book.{the_view}
 use Rattle.ar_book.specs.Tables.{Tables, HasBlock}
 use Rattle.ar_book.proofs.GroupLemmas.{there_group}
 use Rattle.ar_book.proofs.UnitChanges.{restamped_kept, stamps_long}
-use Rattle.ar_book.proofs.IndexLemmas.{index_length}
+use Rattle.ar_book.proofs.IndexLemmas.{index_length, same_order}
 use Rattle.ar_book.proofs.IndexAfter.{stamped_leaves, few_home}
 use Rattle.ar_book.proofs.book.Book.stamp.Goals as goal
 
@@ -19,6 +22,11 @@ refresh_home-requires-clause-there c = λ q e.
 pub refresh_home-requires-clause-leaves : goal.refresh_home-requires-clause-leaves
 refresh_home-requires-clause-leaves c = index_length (the_view c.self.inside) _ _ c.self.invariant
 
+pub refresh_home-requires-clause-right : goal.refresh_home-requires-clause-right
+refresh_home-requires-clause-right c =
+    let t : Tables = the_view c.self.inside in
+    same_order t.units c.set_stamp.new.units.entries _ (ap keys_of c.set_stamp.ensures ∙ keys-set_value (same_addr c.args.key.addr) t.units _) c.self.invariant.right
+
 pub invariant_of-self : goal.invariant_of-self
 invariant_of-self c =
     let t : Tables = the_view c.self.inside in
@@ -28,6 +36,7 @@ invariant_of-self c =
       kept = restamped_kept t c.self.inside.reserved c.saturating_add-self-inside.result c.saturating_add-self-inside.result c.args.key c.self.invariant.kept block;
       leaves = stamped_leaves t c.args.key c.saturating_add-self-inside.result c.self.invariant.kept.tables block _ _ _ c.home_in-home.ensures c.self.invariant.leaves
           (rw c.set_stamp.ensures at c.refresh_home.ensures.set);
+      right = rw c.set_stamp.ensures at c.refresh_home.ensures.right;
     })
 
 pub returns-clause-few : goal.returns-clause-few

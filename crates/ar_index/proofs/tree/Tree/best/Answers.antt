@@ -1,10 +1,13 @@
-use Rattle.std.proofs.Common.{◌<◌, ◌∙◌, ap, arith}
-use Rattle.ar_index.specs.Tree.{node_at}
-use Rattle.ar_index.proofs.Leaves.{best_kept}
+use Rattle.std.proofs.Common.{◌<◌, ◌∙◌, sym, ap, subst, arith}
+use Rattle.ar_index.specs.Tree.{node_at, leaves, IsRight}
 use Rattle.ar_index.specs.Choices.{search_all}
+use Rattle.ar_index.specs.contracts.tree.Tree.{the_view}
+use Rattle.ar_index.proofs.Leaves.{best_kept}
 use Rattle.ar_index.proofs.tree.Tree.best.Goals as goal
 
 pub returns : goal.returns
-returns c =
+returns c = λ place right.
     let some : 0 < c.self.inside.size = omega (arith, c.if-self-eq0.false) in
-    c.node_at.ensures ∙ ap (λ xs. node_at xs 1) c.deref.ensures.value ∙ best_kept _ _ _ _ c.self.invariant some ∙ ap search_all c.self.view_is
+    let here : IsRight place (the_view c.self.inside) = subst (IsRight place) (sym c.self.view_is) right in
+    c.node_at.ensures ∙ ap (λ xs. node_at xs 1) c.deref.ensures.value ∙ best_kept place _ _ _ _ c.self.invariant here.joined some
+    ∙ ap (λ t. search_all place (leaves t)) c.self.view_is

@@ -1,25 +1,35 @@
-use Rattle.std.proofs.Common.{◌+◌, ◌≡◌, ◌∙◌, ℕ, cond, arith, ap, length}
+use Rattle.std.proofs.Common.{◌+◌, ◌≡◌, ◌∙◌, ℕ, cond, arith, ap, sym, subst, length}
 use Rattle.std.specs.Prelude.{slice_set}
 use Rattle.ar_index.proofs.Leaves.{one_if_free, seen_inside, set_kept, put_leaves, few_steps, leaves_count}
-use Rattle.ar_index.specs.Tree.{node_at}
+use Rattle.ar_index.specs.Choices.{place_in}
+use Rattle.ar_index.specs.Tree.{node_at, leaves, IsRight}
+use Rattle.ar_index.specs.contracts.tree.Tree.{the_view}
 use Rattle.ar_index.proofs.tree.Tree.set.Goals as goal
 
+pub put-requires-clause-tree : goal.put-requires-clause-tree
+put-requires-clause-tree g c =
+    let right : IsRight (place_in c.args.units.now.entries) (the_view c.self.inside) = subst (IsRight (place_in c.args.units.now.entries)) (sym c.self.view_is) c.requires.right in
+    record { twice = c.self.invariant.grown.twice; joined = right.joined }
+
 pub invariant_of-self : goal.invariant_of-self
-invariant_of-self c =
-    let inside = seen_inside _ _ c.args.leaf _ _ c.self.invariant.grown c.self.view_is c.requires in
+invariant_of-self g c =
+    let inside = seen_inside _ _ c.args.leaf _ _ c.self.invariant.grown (ap leaves c.self.view_is) c.requires.there in
     let former : c.node_at-former.result ≡ node_at c.self.inside.nodes.items (c.self.inside.size + c.args.leaf) = c.node_at-former.ensures ∙ ap (λ xs. node_at xs (c.self.inside.size + c.args.leaf)) c.deref.ensures.value in
     let was : cond {A = ℕ} c.is_some.result 1 0 ≡ one_if_free (node_at c.self.inside.nodes.items (c.self.inside.size + c.args.leaf)) = ap (λ b. cond {A = ℕ} b 1 0) c.is_some.ensures ∙ ap one_if_free former in
     let is : cond {A = ℕ} c.is_some-2.result 1 0 ≡ one_if_free c.args.choices = ap (λ b. cond {A = ℕ} b 1 0) c.is_some-2.ensures in
     let e : c.recount-self-inside.result + one_if_free (node_at c.self.inside.nodes.items (c.self.inside.size + c.args.leaf)) ≡ c.self.inside.free + one_if_free c.args.choices = omega (arith, c.recount-self-inside.ensures) in
-    set_kept _ _ _ _ _ _ _ c.self.invariant inside c.put.ensures.tree c.put.ensures.leaves _ e
+    set_kept _ _ _ _ _ _ _ c.self.invariant inside c.put.ensures.tree.twice c.put.ensures.leaves _ e
 
 pub returns-clause-set : goal.returns-clause-set
-returns-clause-set c =
-    let inside = seen_inside _ _ c.args.leaf _ _ c.self.invariant.grown c.self.view_is c.requires in
-    put_leaves c.self.inside.size c.args.leaf c.self.inside.nodes.items c.put.new.nodes.items c.args.choices c.put.ensures.leaves c.self.inside.count inside ∙ ap (λ xs. slice_set xs c.args.leaf c.args.choices) c.self.view_is
+returns-clause-set g c =
+    let inside = seen_inside _ _ c.args.leaf _ _ c.self.invariant.grown (ap leaves c.self.view_is) c.requires.there in
+    put_leaves c.self.inside.size c.args.leaf c.self.inside.nodes.items c.put.new.nodes.items c.args.choices c.put.ensures.leaves c.self.inside.count inside ∙ ap (λ xs. slice_set xs c.args.leaf c.args.choices) (ap leaves c.self.view_is)
+
+pub returns-clause-right : goal.returns-clause-right
+returns-clause-right g c = record { joined = c.put.ensures.tree.joined; behind = (invariant_of-self g c).grown.empty }
 
 pub returns-clause-few : goal.returns-clause-few
-returns-clause-few c most =
-    let inside = seen_inside _ _ c.args.leaf _ _ c.self.invariant.grown c.self.view_is c.requires in
-    let count = leaves_count _ _ _ c.self.invariant.grown.tree.twice c.self.invariant.grown.within in
-    few_steps _ c.args.leaf c.self.inside.count _ _ c.put.ensures.few (omega (arith, c.self.invariant.grown.within)) c.self.invariant.close (omega (arith, ap length c.self.view_is)) c.put.ensures.on
+returns-clause-few g c most =
+    let inside = seen_inside _ _ c.args.leaf _ _ c.self.invariant.grown (ap leaves c.self.view_is) c.requires.there in
+    let count = leaves_count _ _ _ c.self.invariant.grown.twice c.self.invariant.grown.within in
+    few_steps _ c.args.leaf c.self.inside.count _ _ c.put.ensures.few (omega (arith, c.self.invariant.grown.within)) c.self.invariant.close (omega (arith, ap (λ t. length (leaves t)) c.self.view_is)) c.put.ensures.on
