@@ -1,5 +1,5 @@
 // The two shapes that a disk's extents come in.
-ghost use Rattle.std.specs.Prelude.{◌≡◌};
+ghost use Rattle.std.specs.Prelude.{◌≡◌, ◌∷◌, []};
 ghost use Rattle.ar_disks.specs.Geometry.{sectors_of, rows_of, block_len_of};
 
 /// The size of a sector, in bytes.
@@ -20,6 +20,13 @@ impl Geometry {
 
     /// Blocks of 2 sectors, extents of 2 rows.
     pub const SMALL: Geometry = Geometry::Small;
+
+    /// Both shapes, that of large blocks first.
+    pub fn both() -> [Geometry; 2]
+        ensures { result ≡ Geometry.Paper ∷ Geometry.Small ∷ [] }
+    {
+        [Geometry::PAPER, Geometry::SMALL]
+    }
 
     /// Sectors of a block: 128 or 2.
     pub fn sectors(self) -> u32
