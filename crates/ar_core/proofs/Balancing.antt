@@ -14,7 +14,7 @@ use Rattle.ar_balance.specs.declared.step.Balance.{Balance}
 use Rattle.ar_balance.specs.declared.step.Balance.TheVariants.{Formed, Shifted, GivenUp, NoMemory, Idle, Broken}
 use Rattle.ar_balance.specs.Balance.{Balances, KeepsUnits}
 use Rattle.ar_image.specs.Balance.{BalancesOne}
-use Rattle.ar_image.specs.Image.{ArrayState, is_broken, length_at, mark_at}
+use Rattle.ar_image.specs.Image.{ArrayState, is_broken, length_at, attention_at}
 use Rattle.ar_image.specs.Seen.{SameSeen, SameUnit}
 use Rattle.ar_core.specs.declared.event.EventOf.TheVariants.{Balance as BalanceEvent}
 use Rattle.ar_core.specs.declared.event.OutcomeOf.TheVariants.{Balance as BalanceOutcome}
@@ -27,7 +27,7 @@ unit_kept : (t u : Tables) (b : Addr) → KeepsUnits t u → SameUnit t u b
 unit_kept t u b kept = record {
   there = ap (λ units. has_unit (record t { units = units }) b) kept.units;
   sectors = ap (λ units. length_at (record t { units = units }) b) kept.units;
-  mark = ap (λ units. mark_at (record t { units = units }) b) kept.units;
+  mark = ap (λ units. attention_at (record t { units = units }) b) kept.units;
 }
 
 more_formed : (t : Tables) (m : Members) → length t.groups ≤ length (formed t m).groups

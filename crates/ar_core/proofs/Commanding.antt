@@ -33,8 +33,8 @@ use Rattle.ar_store.proofs.Changes.{units_refl}
 use Rattle.ar_store.proofs.Fills.{accessed_refl}
 use Rattle.ar_core.specs.declared.event.EventOf.TheVariants.{Cmd as CmdEvent}
 use Rattle.ar_core.specs.declared.event.OutcomeOf.TheVariants.{Cmd as CmdOutcome}
-use Rattle.ar_image.specs.Sectors.{address_of, sectors_in, blocks_of}
-use Rattle.ar_image.specs.Image.{ArrayState, is_broken, geometry_of, with_book, seen_at, length_at, mark_at, unit_sectors, image_at}
+use Rattle.ar_image.specs.Sectors.{address_of, sectors_in, unit_block}
+use Rattle.ar_image.specs.Image.{ArrayState, is_broken, geometry_of, with_book, seen_at, length_at, attention_at, unit_sectors, image_at}
 use Rattle.ar_image.specs.Laws.{reads_refl}
 use Rattle.ar_image.specs.Seen.{IsUnit, SamePlaces, SameSeen, present_at}
 use Rattle.ar_core.specs.Served.{Serves, Settles, Commands}
@@ -49,7 +49,7 @@ use Rattle.ar_core.proofs.Everywhere.{everywhere}
 
 -- the command is told of the growth first
 abbrev pub tells : ArrayState → Addr → List ℕ → Bool
-tells s addr cdb = mark_at s.store.book addr && not (operation_code cdb == 0x12)
+tells s addr cdb = attention_at s.store.book addr && not (operation_code cdb == 0x12)
 
 -- the table from the command block on is the answer where no growth is told
 answer_obeyed : (sectors : List (List ℕ)) (mark : Bool) (cdb bytes : List ℕ) → mark && not (operation_code cdb == 0x12) ≡ false
@@ -86,10 +86,10 @@ broken_told n mark cdb sent tells = ap (λ b. cond b (check capacity_data_has_ch
 
 -- the shape of a unit that is there
 shape_present : (s : ArrayState) (addr : Addr) → has_unit s.store.book addr ≡ true
-    → shape_of (image_at s addr) ≡ record { present = true; sectors = length_at s.store.book addr; attention = mark_at s.store.book addr }
+    → shape_of (image_at s addr) ≡ record { present = true; sectors = length_at s.store.book addr; attention = attention_at s.store.book addr }
 shape_present s addr there =
     shape_here s addr
-    ∙ ap (λ b. cond b (record { present = true; sectors = length_at s.store.book addr; attention = mark_at s.store.book addr }) (record { present = false; sectors = 0; attention = false })) there
+    ∙ ap (λ b. cond b (record { present = true; sectors = length_at s.store.book addr; attention = attention_at s.store.book addr }) (record { present = false; sectors = 0; attention = false })) there
 
 -- a mark that isn't told stays
 mark_stays : (mark inquiry : Bool) → mark && not inquiry ≡ false → mark && inquiry ≡ mark
@@ -130,10 +130,10 @@ moves_told old addr cdb new only =
 
 -- a command to the unit that is there
 pub commands_served : (old new : ArrayState) (addr : Addr) (n : ℕ) (cdb bytes : List ℕ) (reply : Reply) → IsUnit old addr n → tells old addr cdb ≡ false
-    → Serves old addr (obeyed (unit_sectors old addr) (mark_at old.store.book addr) (reading cdb) bytes) (broken_obeyed n (reading cdb) (length bytes)) reply new
+    → Serves old addr (obeyed (unit_sectors old addr) (attention_at old.store.book addr) (reading cdb) bytes) (broken_obeyed n (reading cdb) (length bytes)) reply new
     → Settles old addr (reading cdb) reply new → length reply.payload ≤ 65535 * 512 → Commands old addr cdb bytes reply new
 commands_served old new addr n cdb bytes reply unit quiet serves settles few =
-    let mark : Bool = mark_at old.store.book addr in
+    let mark : Bool = attention_at old.store.book addr in
     let same : SameUnit old.store.book new.store.book addr = unit_follows old.store.book new.store.book addr serves.follows.store.units in
     let before : image_at old addr ≡ present_at old addr = image_present old addr unit.there in
     let later : image_at new addr ≡ present_at new addr = image_present new addr (same.there ∙ unit.there) in
@@ -195,15 +195,15 @@ given_is reply sense is = record {
 sectors_after : (old new : ArrayState) (addr : Addr) → length_at new.store.book addr ≡ length_at old.store.book addr → geometry_of new ≡ geometry_of old → SameSeen old new
     → unit_sectors new addr ≡ unit_sectors old addr
 sectors_after old new addr len shape seen =
-    ap (λ n. sectors_in (geometry_of new) (blocks_of (seen_at new) addr) 0 n) len ∙ sectors_same old new addr (length_at old.store.book addr) shape (λ k _. seen.same k)
+    ap (λ n. sectors_in (geometry_of new) (unit_block (seen_at new) addr) 0 n) len ∙ sectors_same old new addr (length_at old.store.book addr) shape (λ k _. seen.same k)
 
 told_shape : (old new : ArrayState) (addr : Addr) (cdb bytes : List ℕ) (reply : Reply) → has_unit old.store.book addr ≡ true → has_unit new.store.book addr ≡ true
-    → length_at new.store.book addr ≡ length_at old.store.book addr → mark_at new.store.book addr ≡ false → tells old addr cdb ≡ true → reply ≡ check capacity_data_has_changed
+    → length_at new.store.book addr ≡ length_at old.store.book addr → attention_at new.store.book addr ≡ false → tells old addr cdb ≡ true → reply ≡ check capacity_data_has_changed
     → shape_of (image_at new addr) ≡ shape_of (unit_run (image_at old addr) (cond (is_busy reply.status) [] (Cmd cdb bytes ∷ [])))
 told_shape old new addr cdb bytes reply was there len gone tells is =
     shape_present new addr there
-    ∙ ap (λ n. record { present = true; sectors = n; attention = mark_at new.store.book addr }) len
-    ∙ ap (λ m. record { present = true; sectors = length_at old.store.book addr; attention = m }) (gone ∙ sym (mark_goes (mark_at old.store.book addr) (operation_code cdb == 0x12) tells))
+    ∙ ap (λ n. record { present = true; sectors = n; attention = attention_at new.store.book addr }) len
+    ∙ ap (λ m. record { present = true; sectors = length_at old.store.book addr; attention = m }) (gone ∙ sym (mark_goes (attention_at old.store.book addr) (operation_code cdb == 0x12) tells))
     ∙ ap (λ (s : Shape). shape_after s (Cmd cdb bytes)) (sym (shape_present old addr was))
     ∙ sym (after-shape (image_at old addr) (Cmd cdb bytes))
     ∙ ap (λ (r : Reply). shape_of (unit_run (image_at old addr) (cond (is_busy r.status) [] (Cmd cdb bytes ∷ [])))) (sym is)
@@ -212,14 +212,14 @@ told_shape old new addr cdb bytes reply was there len gone tells is =
 pub commands_told : (old new : ArrayState) (addr : Addr) (n : ℕ) (cdb bytes : List ℕ) (reply : Reply) → IsUnit old addr n → tells old addr cdb ≡ true
     → reply ≡ check capacity_data_has_changed → new ≡ with_book old (unmarked old.store.book addr) → SameSeen old new → Commands old addr cdb bytes reply new
 commands_told old new addr n cdb bytes reply unit tells is cleared seen =
-    let mark : Bool = mark_at old.store.book addr in
+    let mark : Bool = attention_at old.store.book addr in
     let tables : new.store.book ≡ unmarked old.store.book addr = ap (λ (s : ArrayState). s.store.book) cleared in
     let cache : new.cache ≡ old.cache = ap (λ (s : ArrayState). s.cache) cleared in
     let shape : geometry_of new ≡ geometry_of old = ap (λ (s : ArrayState). geometry_of s) cleared in
     let there : has_unit new.store.book addr ≡ true = ap (λ (t : Tables). has_unit t addr) tables ∙ unmarked_there old.store.book addr addr ∙ unit.there in
     let table : unit_in new.store.book.units addr ≡ record (unit_in old.store.book.units addr) { attention = false } =
     ap (λ (t : Tables). unit_in t.units addr) tables ∙ unit_same old.store.book.units addr (record (unit_in old.store.book.units addr) { attention = false }) unit.there in
-    let gone : mark_at new.store.book addr ≡ false = ap (λ (u : UnitTable). u.attention) table in
+    let gone : attention_at new.store.book addr ≡ false = ap (λ (u : UnitTable). u.attention) table in
     let len : length_at new.store.book addr ≡ length_at old.store.book addr = ap (λ (u : UnitTable). u.sectors) table in
     let later : image_at new addr ≡ Present (unit_sectors old addr) false =
     image_present new addr there ∙ ap (λ m. Present (unit_sectors new addr) m) gone ∙ ap (λ (l : List (List ℕ)). Present l false) (sectors_after old new addr len shape seen) in
@@ -270,7 +270,7 @@ commands_told old new addr n cdb bytes reply unit tells is cleared seen =
     }
 
 -- where no unit is there is no mark
-absent_mark : (t : Tables) (a : Addr) → has_unit t a ≡ false → mark_at t a ≡ false
+absent_mark : (t : Tables) (a : Addr) → has_unit t a ≡ false → attention_at t a ≡ false
 absent_mark t a none = by (lookup (same_addr a) t.units) none
   where
     by : (o : Option UnitTable) → is_some o ≡ false → (unwrap_or o no_unit).attention ≡ false

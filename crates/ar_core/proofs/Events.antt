@@ -29,7 +29,7 @@ use Rattle.ar_core.specs.Events.{Outcome}
 use Rattle.ar_core.specs.declared.event.OutcomeOf.TheVariants.{Make as MakeOutcome, Grow as GrowOutcome, Remove as RemoveOutcome}
 use Rattle.ar_image.specs.declared.refusal.Refusal.{Refusal}
 use Rattle.ar_image.specs.declared.refusal.Refusal.TheVariants.{Unit as UnitRefused, Broken}
-use Rattle.ar_image.specs.Sectors.{Address, address_of, same_address, sector_in, sectors_in, blocks_of, key_of}
+use Rattle.ar_image.specs.Sectors.{Address, address_of, same_address, sector_in, sectors_in, unit_block, key_of}
 use Rattle.ar_image.specs.Image.{ArrayState, is_broken, geometry_of, with_book, seen_at, length_at, unit_sectors, image_at, IsPadded}
 use Rattle.ar_core.specs.Causes.{HasCause}
 use Rattle.ar_core.specs.Quiet.{IsQuiet}
@@ -199,10 +199,10 @@ steps_made old new addr n (Ok done) padded makes seen =
     let table = unit ∙ made_unit old.store.book addr n (none_found (lookup (same_addr addr) old.store.book.units) fresh) in
     let here : image_at new addr ≡ Present (zero_sectors n) false =
     image_present new addr (ap (λ (t : Tables). has_unit t addr) tables ∙ made_there old.store.book addr n fresh)
-    ∙ ap (λ (u : UnitTable). Present (sectors_in (geometry_of new) (blocks_of (seen_at new) addr) 0 u.sectors) u.attention) table
+    ∙ ap (λ (u : UnitTable). Present (sectors_in (geometry_of new) (unit_block (seen_at new) addr) 0 u.sectors) u.attention) table
     ∙ ap (λ l. Present l false)
     (sectors_same old new addr n shape (λ k _. seen.same k)
-    ∙ map-constant (sector_in (geometry_of old) (blocks_of (seen_at old) addr)) zero_sector 0 n (λ i low. padded.zeros granted.0 addr i (omega (arith, absent_length old.store.book addr fresh)))) in
+    ∙ map-constant (sector_in (geometry_of old) (unit_block (seen_at old) addr)) zero_sector 0 n (λ i low. padded.zeros granted.0 addr i (omega (arith, absent_length old.store.book addr fresh)))) in
     steps_entry old new (MakeEvent addr n) (MakeOutcome (Ok done)) addr (Make n) makes (λ b. refl) here
     (λ b ne. image_same old new b (subst (λ (t : Tables). SameUnit old.store.book t b) (sym tables) (unit_made old.store.book addr n b ne)) shape (λ k _. seen.same k))
     (cause_same (MakeEvent addr n) old.store.disks new.store.disks disks) (ap (λ (s : ArrayState). s.cache.capacity) makes.changed) refl
@@ -223,13 +223,13 @@ steps_grown old new addr n (Ok done) padded grows seen =
     let shape : geometry_of new ≡ geometry_of old = ap (λ (s : ArrayState). geometry_of s) grows.changed in
     let table = ap (λ (t : Tables). unit_in t.units addr) tables ∙ grown_unit old.store.book addr n (there_some old.store.book addr there) in
     let more : length_at old.store.book addr ≤ n = grew n (length_at old.store.book addr) (grow_shorter old.store.book addr n granted.1) in
-    let sectors : sectors_in (geometry_of new) (blocks_of (seen_at new) addr) 0 n ≡ unit_sectors old addr ++ zero_sectors (n - length (unit_sectors old addr)) =
+    let sectors : sectors_in (geometry_of new) (unit_block (seen_at new) addr) 0 n ≡ unit_sectors old addr ++ zero_sectors (n - length (unit_sectors old addr)) =
     sectors_same old new addr n shape (λ k _. seen.same k)
     ∙ padded_sectors old addr n padded granted.0 more
     ∙ ap (λ m. unit_sectors old addr ++ zero_sectors (n - m)) (sym (length-unit_sectors old addr)) in
     let here : image_at new addr ≡ after (image_at old addr) (Grow n) =
     image_present new addr (ap (λ (t : Tables). has_unit t addr) tables ∙ grown_there old.store.book addr n addr ∙ there)
-    ∙ ap (λ (u : UnitTable). Present (sectors_in (geometry_of new) (blocks_of (seen_at new) addr) 0 u.sectors) u.attention) table
+    ∙ ap (λ (u : UnitTable). Present (sectors_in (geometry_of new) (unit_block (seen_at new) addr) 0 u.sectors) u.attention) table
     ∙ ap (λ l. Present l true) sectors
     ∙ ap (λ (u : UnitState). after u (Grow n)) (sym (image_present old addr there)) in
     steps_entry old new (GrowEvent addr n) (GrowOutcome (Ok done)) addr (Grow n) grows (λ b. refl) here
@@ -319,7 +319,7 @@ padded_removed old new addr (Ok done) padded ok removes others gone =
       zeros = λ now b i past.
           elim (addr_tells b addr) [
             | inl one ↦
-                sector_in-zeros (geometry_of new) (blocks_of (seen_at new) b) i
+                sector_in-zeros (geometry_of new) (unit_block (seen_at new) b) i
                 (gone (key_of b (i / sectors_of (geometry_of new))) one.1 ∙ ap (λ (g : Geometry). zeros (block_len_of g)) (sym shape))
             | inr two ↦
                 (let same = ap (λ (t : Tables). length_at t b) tables ∙ (unit_dropped old.store.book addr b ok two.1).sectors in

@@ -23,8 +23,8 @@ use Rattle.ar_unit.specs.Sectors.{cut, written, joined}
 use Rattle.ar_unit.specs.Unit.{Present, Answered, leaving, read_reply, write_answer, IsGiven}
 use Rattle.ar_book.specs.Tables.{unit_in, blocks_of as blocks_for}
 use Rattle.ar_cache.specs.Backing.{InTurn, stored}
-use Rattle.ar_image.specs.Sectors.{sector_in, sectors_in, blocks_of, key_of, keys_in}
-use Rattle.ar_image.specs.Image.{ArrayState, is_broken, geometry_of, seen_at, knows_in, length_at, mark_at, unit_sectors, IsPadded}
+use Rattle.ar_image.specs.Sectors.{sector_in, sectors_in, unit_block, key_of, keys_in}
+use Rattle.ar_image.specs.Image.{ArrayState, is_broken, geometry_of, seen_at, knows_in, length_at, attention_at, unit_sectors, IsPadded}
 use Rattle.ar_image.specs.Following.{Follows}
 use Rattle.ar_image.specs.Laws.{follows_refl, places_refl, places_in_turn}
 use Rattle.ar_image.specs.Seen.{IsUnit, SamePlaces, SameSeen, Writes, present_at, sectors_read}
@@ -69,7 +69,7 @@ cut-range f bytes a (suc n) is =
 pub read_range : (s : ArrayState) (addr : Addr) (lba count : ℕ) → lba + count ≤ length_at s.store.book addr
     → joined (take count (drop lba (unit_sectors s addr))) ≡ sectors_read s addr lba count
 read_range s addr lba count within =
-    let f : ℕ → List ℕ = sector_in (geometry_of s) (blocks_of (seen_at s) addr) in
+    let f : ℕ → List ℕ = sector_in (geometry_of s) (unit_block (seen_at s) addr) in
     let n : ℕ = length_at s.store.book addr in
     let whole : n ≡ lba + (n - lba) = omega arith in
     let at : 0 + lba ≡ lba = omega arith in
@@ -169,9 +169,9 @@ write_within sectors mark n lba count bytes len within right = rw (len, within, 
 pub sectors_read-some : (s : ArrayState) (addr : Addr) (lba count : ℕ) → ((k : Key) → length (seen_at s k) ≡ block_len_of (geometry_of s)) → 0 < count → sectors_read s addr lba count ≢ []
 sectors_read-some s addr lba zero whole some = absurd (omega arith)
 sectors_read-some s addr lba (suc count) whole some = λ none.
-    let first : List ℕ = sector_in (geometry_of s) (blocks_of (seen_at s) addr) lba in
-    let rest : List ℕ = concat (sectors_in (geometry_of s) (blocks_of (seen_at s) addr) (lba + 1) count) in
-    let len : length first ≡ 512 = length-sector_in (geometry_of s) (blocks_of (seen_at s) addr) lba (λ rb. whole (key_of addr rb)) in
+    let first : List ℕ = sector_in (geometry_of s) (unit_block (seen_at s) addr) lba in
+    let rest : List ℕ = concat (sectors_in (geometry_of s) (unit_block (seen_at s) addr) (lba + 1) count) in
+    let len : length first ≡ 512 = length-sector_in (geometry_of s) (unit_block (seen_at s) addr) lba (λ rb. whole (key_of addr rb)) in
     let parts : length (first ++ rest) ≡ 0 = ap length none in
     omega (arith, length-append first rest)
 
@@ -229,19 +229,19 @@ pub serves_write : (old new : ArrayState) (addr : Addr) (lba count : ℕ) (bytes
     → Follows old new → lba + count ≤ length_at old.store.book addr → answer ≡ stored (is_broken new)
     → (answer ≡ Kept → Writes old addr lba count bytes new)
     → (answer ≡ Kept → reply ≡ good []) → (answer ≡ Lost → reply ≡ check internal_target_failure)
-    → Serves old addr (leaving (Present (written (unit_sectors old addr) lba count bytes) (mark_at old.store.book addr)) (good [])) (check internal_target_failure) reply new
+    → Serves old addr (leaving (Present (written (unit_sectors old addr) lba count bytes) (attention_at old.store.book addr)) (good [])) (check internal_target_failure) reply new
 serves_write old new addr lba count bytes Kept reply follows within answer writes done lost =
     let w : Writes old addr lba count bytes new = writes refl in
     let sound : is_broken new ≡ false = kept_sound (is_broken new) answer in
     let sectors : unit_sectors new addr ≡ written (unit_sectors old addr) lba count bytes =
-    ap (λ (g : Geometry). map (sector_in g (blocks_of (seen_at new) addr)) (range_with_len 0 (length_at new.store.book addr))) follows.store.accessed.follows.geometry
-    ∙ ap (λ n. map (sector_in (geometry_of old) (blocks_of (seen_at new) addr)) (range_with_len 0 n)) (follows.store.units.sectors addr)
-    ∙ written_range (sector_in (geometry_of old) (blocks_of (seen_at old) addr)) (sector_in (geometry_of old) (blocks_of (seen_at new) addr)) (length_at old.store.book addr) lba count bytes within w.inside w.outside in
+    ap (λ (g : Geometry). map (sector_in g (unit_block (seen_at new) addr)) (range_with_len 0 (length_at new.store.book addr))) follows.store.accessed.follows.geometry
+    ∙ ap (λ n. map (sector_in (geometry_of old) (unit_block (seen_at new) addr)) (range_with_len 0 n)) (follows.store.units.sectors addr)
+    ∙ written_range (sector_in (geometry_of old) (unit_block (seen_at old) addr)) (sector_in (geometry_of old) (unit_block (seen_at new) addr)) (length_at old.store.book addr) lba count bytes within w.inside w.outside in
     record {
       follows = follows;
       sound = λ now. record {
         given = subst (λ (r : Reply). IsGiven (good []) r) (sym (done refl)) given_good;
-        left = λ _. ap (λ l. Present l (mark_at new.store.book addr)) sectors ∙ ap (λ m. Present (written (unit_sectors old addr) lba count bytes) m) (follows.store.units.attention addr);
+        left = λ _. ap (λ l. Present l (attention_at new.store.book addr)) sectors ∙ ap (λ m. Present (written (unit_sectors old addr) lba count bytes) m) (follows.store.units.attention addr);
         unchanged = λ busy. (let told = done refl in absurd (busy_good reply told busy));
       };
       others = λ now k other. w.others k other;
@@ -357,15 +357,15 @@ key_known s addr n rb unit within =
 
 -- a transfer's sectors, in the array's own geometry
 pub range_written : (old new : ArrayState) (addr : Addr) (lba count : ℕ) (bytes : List ℕ) (g : Geometry) → g ≡ geometry_of old
-    → ((i : ℕ) → lba ≤ i → i < lba + count → sector_in g (blocks_of (seen_at new) addr) i ≡ sectors_at bytes (i - lba) 1)
-    → ((i : ℕ) → (i < lba) ⊎ (lba + count ≤ i) → sector_in g (blocks_of (seen_at new) addr) i ≡ sector_in g (blocks_of (seen_at old) addr) i)
+    → ((i : ℕ) → lba ≤ i → i < lba + count → sector_in g (unit_block (seen_at new) addr) i ≡ sectors_at bytes (i - lba) 1)
+    → ((i : ℕ) → (i < lba) ⊎ (lba + count ≤ i) → sector_in g (unit_block (seen_at new) addr) i ≡ sector_in g (unit_block (seen_at old) addr) i)
     → ((k : Key) → k.addr ≢ addr → seen_at new k ≡ seen_at old k) → Writes old addr lba count bytes new
 range_written old new addr lba count bytes g shape inside outside others = record {
-  inside = λ i low high. ap (λ (h : Geometry). sector_in h (blocks_of (seen_at new) addr) i) (sym shape) ∙ inside i low high;
+  inside = λ i low high. ap (λ (h : Geometry). sector_in h (unit_block (seen_at new) addr) i) (sym shape) ∙ inside i low high;
   outside = λ i apart.
-      ap (λ (h : Geometry). sector_in h (blocks_of (seen_at new) addr) i) (sym shape)
+      ap (λ (h : Geometry). sector_in h (unit_block (seen_at new) addr) i) (sym shape)
       ∙ outside i apart
-      ∙ ap (λ (h : Geometry). sector_in h (blocks_of (seen_at old) addr) i) shape;
+      ∙ ap (λ (h : Geometry). sector_in h (unit_block (seen_at old) addr) i) shape;
   others = others;
 }
 
@@ -380,10 +380,10 @@ padded_written old new addr n lba count bytes answer padded unit within sound fo
       elim (addr_tells b addr) [
         | inl one ↦
             (let len : length_at old.store.book b ≡ n = ap (length_at old.store.book) one.1 ∙ unit.sectors_same in
-            ap (λ (g : Geometry). sector_in g (blocks_of (seen_at new) b) i) shape
-            ∙ ap (λ (x : Addr). sector_in (geometry_of old) (blocks_of (seen_at new) x) i) one.1
+            ap (λ (g : Geometry). sector_in g (unit_block (seen_at new) b) i) shape
+            ∙ ap (λ (x : Addr). sector_in (geometry_of old) (unit_block (seen_at new) x) i) one.1
             ∙ w.outside i (inr (omega arith))
-            ∙ ap (λ (x : Addr). sector_in (geometry_of old) (blocks_of (seen_at old) x) i) (sym one.1)
+            ∙ ap (λ (x : Addr). sector_in (geometry_of old) (unit_block (seen_at old) x) i) (sym one.1)
             ∙ padded.zeros sound b i (omega arith))
         | inr two ↦
             sector_same old new b i shape (λ k at. w.others k (λ e. two.1 (sym at ∙ e)))
@@ -400,7 +400,7 @@ writes_then old mid new addr lba count bytes w seen = record {
   others = λ k other. seen.same k ∙ w.others k other;
 }
   where
-    same : (i : ℕ) → sector_in (geometry_of old) (blocks_of (seen_at new) addr) i ≡ sector_in (geometry_of old) (blocks_of (seen_at mid) addr) i
+    same : (i : ℕ) → sector_in (geometry_of old) (unit_block (seen_at new) addr) i ≡ sector_in (geometry_of old) (unit_block (seen_at mid) addr) i
     same i = ap (λ b. sectors_at b (i % sectors_of (geometry_of old)) 1) (seen.same (key_of addr (i / sectors_of (geometry_of old))))
 
 -- a transfer ends broken only on a broken array

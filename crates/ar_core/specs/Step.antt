@@ -23,7 +23,7 @@ use Rattle.ar_core.specs.declared.event.EventOf.TheVariants.{Make as MakeEvent, 
 use Rattle.ar_core.specs.Events.{Outcome}
 use Rattle.ar_core.specs.declared.event.OutcomeOf.TheVariants.{Make as MakeOutcome, Grow as GrowOutcome, Remove as RemoveOutcome, Cmd as CmdOutcome, Flush as FlushOutcome, Demote as DemoteOutcome, Clean as CleanOutcome, Balance as BalanceOutcome, AddDisk as AddDiskOutcome, DiskOut as DiskOutOutcome, Replace as ReplaceOutcome, Rebuild as RebuildOutcome}
 use Rattle.ar_image.specs.Sectors.{Address, address_of, keys_in, same_address}
-use Rattle.ar_image.specs.Image.{ArrayState, geometry_of, is_broken, mark_at, image_at, image, with_book}
+use Rattle.ar_image.specs.Image.{ArrayState, geometry_of, is_broken, attention_at, image_at, image, with_book}
 use Rattle.ar_core.specs.Causes.{HasCause}
 use Rattle.ar_core.specs.Quiet.{IsQuiet}
 use Rattle.ar_store.specs.Calls.{IsAccessed}
@@ -36,7 +36,7 @@ use Rattle.ar_image.specs.Moves.{DemotesOne, CleansOne}
 use Rattle.ar_image.specs.Rebuild.{RebuildsOne}
 use Rattle.ar_image.specs.Balance.{BalancesOne}
 use Rattle.ar_image.specs.DiskIn.{AddsDisk, ReplacesDisk}
-use Rattle.ar_image.specs.DiskOut.{TakesOut}
+use Rattle.ar_image.specs.DiskOut.{TakesDiskOut}
 
 -- the address that a command is given to
 abbrev pub addr_in : Host → ℕ → Addr
@@ -88,7 +88,7 @@ moves_sectors other = false
 
 -- the tables once a command has told a unit's mark, if it has one; INQUIRY tells none
 abbrev pub told : Tables → Addr → List ℕ → Tables
-told t addr cdb = if mark_at t addr && not (operation_code cdb == 0x12) then unmarked t addr else t
+told t addr cdb = if attention_at t addr && not (operation_code cdb == 0x12) then unmarked t addr else t
 
 -- the array once a command has told a unit's mark: nothing else has changed, and no disk was asked
 abbrev pub once_told : ArrayState → Addr → List ℕ → ArrayState
@@ -145,7 +145,7 @@ Answers old DemoteEvent (DemoteOutcome answer) new = DemotesOne old answer new
 Answers old CleanEvent (CleanOutcome answer) new = CleansOne old answer new
 Answers old BalanceEvent (BalanceOutcome answer) new = BalancesOne old answer new
 Answers old (AddDiskEvent disk) (AddDiskOutcome result) new = AddsDisk old disk result new
-Answers old (DiskOutEvent disk) (DiskOutOutcome result) new = TakesOut old disk result new
+Answers old (DiskOutEvent disk) (DiskOutOutcome result) new = TakesDiskOut old disk result new
 Answers old (ReplaceEvent number disk) (ReplaceOutcome result) new = ReplacesDisk old number disk result new
 Answers old RebuildEvent (RebuildOutcome answer) new = RebuildsOne old answer new
 Answers old event outcome new = ⊥

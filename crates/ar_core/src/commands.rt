@@ -10,7 +10,7 @@ ghost use Rattle.ar_unit.specs.Unit.{obeyed, IsGiven, leaving, read_reply, write
 ghost use Rattle.ar_unit.specs.Broken.{broken_obeyed};
 ghost use Rattle.ar_cache.specs.Backing.{InTurn, stored};
 ghost use Rattle.ar_cache.specs.Cache.{cached};
-ghost use Rattle.ar_image.specs.Image.{is_broken, geometry_of, seen_at, unit_sectors, mark_at, with_book};
+ghost use Rattle.ar_image.specs.Image.{is_broken, geometry_of, seen_at, unit_sectors, attention_at, with_book};
 ghost use Rattle.ar_image.specs.Seen.{IsUnit, SameSeen, IsSpared, Writes, present_at, sectors_read};
 ghost use Rattle.ar_core.specs.Served.{Serves, Settles, Commands};
 ghost use Rattle.ar_image.specs.Following.{Follows};
@@ -41,7 +41,7 @@ impl<D: Disk> Array<D> {
         let Some(sectors) = self.blocks.sectors(addr) else {
             return absent(alloc, cdb);
         };
-        if self.blocks.mark(addr) && !is_inquiry(cdb) {
+        if self.blocks.attention(addr) && !is_inquiry(cdb) {
             return self.tell_growth(addr);
         }
         self.serve(alloc, addr, sectors, cdb, bytes)
@@ -53,7 +53,7 @@ impl<D: Disk> Array<D> {
         ensures cleared { self.new ≡ with_book self.old (unmarked self.old.store.book addr) }
         ensures seen { SameSeen self.old self.new }
     {
-        self.blocks.clear_mark(addr);
+        self.blocks.clear_attention(addr);
         Reply::check(Sense::CAPACITY_DATA_HAS_CHANGED)
     }
 
@@ -68,7 +68,7 @@ impl<D: Disk> Array<D> {
     ) -> Reply
         requires { IsUnit self.old addr sectors }
         ensures serves { Serves self.old addr
-            (obeyed (unit_sectors self.old addr) (mark_at self.old.store.book addr) (reading cdb.now) bytes.now)
+            (obeyed (unit_sectors self.old addr) (attention_at self.old.store.book addr) (reading cdb.now) bytes.now)
             (broken_obeyed sectors (reading cdb.now) (length bytes.now)) result self.new }
         ensures settles { Settles self.old addr (reading cdb.now) result self.new }
         ensures few { length result.payload ≤ 65535 * 512 }
@@ -90,7 +90,7 @@ impl<D: Disk> Array<D> {
     ) -> Reply
         requires { IsUnit self.old addr sectors }
         ensures serves { Serves self.old addr
-            (obeyed (unit_sectors self.old addr) (mark_at self.old.store.book addr) (Ok command) bytes.now)
+            (obeyed (unit_sectors self.old addr) (attention_at self.old.store.book addr) (Ok command) bytes.now)
             (broken_obeyed sectors (Ok command) (length bytes.now)) result self.new }
         ensures settles { Settles self.old addr (Ok command) result self.new }
         ensures few { length result.payload ≤ 65535 * 512 }
@@ -184,7 +184,7 @@ impl<D: Disk> Array<D> {
     ) -> Reply
         requires { IsUnit self.old addr sectors }
         ensures serves { Serves self.old addr
-            (write_answer (unit_sectors self.old addr) (mark_at self.old.store.book addr) lba count bytes.now)
+            (write_answer (unit_sectors self.old addr) (attention_at self.old.store.book addr) lba count bytes.now)
             (if nat_lt sectors (lba + count) then check logical_block_address_out_of_range
             else (if not (length bytes.now == count * 512) then check data_phase_error else check internal_target_failure))
             result self.new }

@@ -5,6 +5,8 @@ ghost use Rattle.ar_scsi.specs.declared.reply.Reply.{Reply};
 ghost use Rattle.ar_scsi.specs.Reply.{good};
 ghost use Rattle.ar_unit.specs.Sectors.{Sector, written};
 ghost use Rattle.ar_unit.specs.Unit.{Present};
+ghost use Rattle.ar_store.specs.Kept.{IsKept};
+ghost use Rattle.ar_store.specs.Slots.{SurvivesLossOf};
 ghost use Rattle.ar_image.specs.Image.{ArrayState, is_broken, image};
 ghost use Rattle.ar_core.specs.Run.{AreCalm, IsIsolated, Run, Turn};
 ghost use Rattle.ar_core.specs.Step.{Steps};
@@ -30,6 +32,13 @@ pub fn own_entries_decide_replies()
         → IsShapedAlikeAt (host.number, lun) one k other j
         → IsAnsweredBroken one k host lun cdb payload reply → IsAnsweredBroken other j host lun cdb payload answer
         → reply ≡ answer }
+{}
+
+/// Redundancy: while no disk is lost any one of them may go, and each block of each unit stands on as it does, whatever then stands
+/// on that disk. Every array keeps `IsKept` (`Array::health`, clause `kept`), so this holds between any two calls. It does nothing
+/// when it is called.
+pub fn any_disk_may_go()
+    ensures { (array : ArrayState) (disk : ℕ) → IsKept array.store → array.store.disks.health ≡ Whole → SurvivesLossOf array.store disk }
 {}
 
 /// Disks that are whole stay whole over an event in which none of them faults and which takes none out, and so over a run of such

@@ -25,6 +25,8 @@ pub use ar_moves::Move;
 pub use ar_rebuild::Rebuild;
 pub use array::Array;
 pub use event::{Event, EventOf, Outcome, OutcomeOf};
-pub use laws::{own_entries_decide_replies, whole_disks_stay_whole, writes_that_fit_are_done};
+pub use laws::{
+    any_disk_may_go, own_entries_decide_replies, whole_disks_stay_whole, writes_that_fit_are_done,
+};
 pub use map::GroupView;
 pub use views::{GroupUse, HomeOf, LevelOf, Shown};

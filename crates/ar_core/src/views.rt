@@ -3,7 +3,6 @@ ghost use Rattle.std.specs.Prelude.{◌≡◌, ◌≢◌, ◌↔◌, ℕ, ◌+�
 ghost use Rattle.ar_disks.specs.Geometry.{block_len_of, rows_of};
 ghost use Rattle.ar_disks.specs.declared.address.Addr.{Addr};
 ghost use Rattle.ar_book.specs.Tables.{room, reserved, free_groups};
-ghost use Rattle.ar_store.specs.Slots.{SurvivesLossOf};
 ghost use Rattle.ar_store.specs.Kept.{IsKept};
 ghost use Rattle.ar_image.specs.Image.{is_broken, geometry_of, image, image_at, IsPadded, IsJoined};
 ghost use Rattle.ar_image.specs.Sectors.{Address};
@@ -120,14 +119,12 @@ impl<D: Disk> Array<D> {
     pub fn health(&self) -> Health
         ensures health { result ≡ self.now.store.disks.health }
 
-        // Redundancy: while the disks are whole, any one of them may go.
-        ensures redundant { result ≡ Health.Whole → (disk : ℕ) → SurvivesLossOf self.now.store disk }
-
         // Room: until the data are lost a group is free, so that no write is ever refused for want of room.
         ensures free { result ≢ Health.Broken → 0 < free_groups self.now.store.book }
         ensures padded { IsPadded self.now }
 
-        // The tables agree with each other and with the disks, and the cache has blocks of units alone.
+        // The tables agree with each other and with the disks (so that, by the law `any_disk_may_go`, an array whose disks are whole
+        // outlives the loss of any one), and the cache has blocks of units alone.
         ensures kept { IsKept self.now.store }
         ensures joined { IsJoined self.now }
 

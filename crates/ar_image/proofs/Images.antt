@@ -17,8 +17,8 @@ use Rattle.ar_book.proofs.Keys.{same_host, make_addr, addr_tells}
 use Rattle.ar_unit.specs.Sectors.{zero_sector, zero_sectors}
 use Rattle.ar_unit.specs.Unit.{UnitState, Absent, Present, IsWhole}
 use Rattle.ar_unit.specs.Broken.{Shape, shape_of}
-use Rattle.ar_image.specs.Sectors.{Address, address_of, same_address, sector_in, sectors_in, blocks_of, key_of}
-use Rattle.ar_image.specs.Image.{ArrayState, is_broken, geometry_of, seen_at, length_at, mark_at, unit_sectors, image, image_at, at_numbers, at_address, IsPadded}
+use Rattle.ar_image.specs.Sectors.{Address, address_of, same_address, sector_in, sectors_in, unit_block, key_of}
+use Rattle.ar_image.specs.Image.{ArrayState, is_broken, geometry_of, seen_at, length_at, attention_at, unit_sectors, image, image_at, at_numbers, at_address, IsPadded}
 use Rattle.ar_image.specs.Seen.{present_at, SameUnit}
 
 -- the address of a host is found by its numbers
@@ -47,7 +47,7 @@ pub image_absent : (s : ArrayState) (addr : Addr) → has_unit s.store.book addr
 image_absent s addr none = ap (λ b. cond b (present_at s addr) Absent) none
 
 pub length-unit_sectors : (s : ArrayState) (addr : Addr) → length (unit_sectors s addr) ≡ length_at s.store.book addr
-length-unit_sectors s addr = length-map-range_with_len (sector_in (geometry_of s) (blocks_of (seen_at s) addr)) 0 (length_at s.store.book addr)
+length-unit_sectors s addr = length-map-range_with_len (sector_in (geometry_of s) (unit_block (seen_at s) addr)) 0 (length_at s.store.book addr)
 
 -- functions that agree on a range give one list
 pub map-range-same : {X : Type 0} (f h : ℕ → X) (a n : ℕ) → ((i : ℕ) → a ≤ i → i < a + n → f i ≡ h i) → map f (range_with_len a n) ≡ map h (range_with_len a n)
@@ -58,7 +58,7 @@ map-range-same f h a (suc n) same =
 
 -- a sector is given by its block
 pub sector_same : (old new : ArrayState) (addr : Addr) (i : ℕ) → geometry_of new ≡ geometry_of old → ((k : Key) → k.addr ≡ addr → seen_at new k ≡ seen_at old k)
-    → sector_in (geometry_of new) (blocks_of (seen_at new) addr) i ≡ sector_in (geometry_of old) (blocks_of (seen_at old) addr) i
+    → sector_in (geometry_of new) (unit_block (seen_at new) addr) i ≡ sector_in (geometry_of old) (unit_block (seen_at old) addr) i
 unfolding sector_in
 sector_same old new addr i shape blocks =
     ap (λ b. sectors_at b (i % sectors_of (geometry_of new)) 1) (blocks (key_of addr (i / sectors_of (geometry_of new))) refl)
@@ -67,17 +67,17 @@ sector_same old new addr i shape blocks =
 -- what the unit shows is given by its length, its mark and its blocks
 pub sectors_same : (old new : ArrayState) (addr : Addr) (n : ℕ) → geometry_of new ≡ geometry_of old
     → ((k : Key) → k.addr ≡ addr → seen_at new k ≡ seen_at old k)
-    → sectors_in (geometry_of new) (blocks_of (seen_at new) addr) 0 n ≡ sectors_in (geometry_of old) (blocks_of (seen_at old) addr) 0 n
+    → sectors_in (geometry_of new) (unit_block (seen_at new) addr) 0 n ≡ sectors_in (geometry_of old) (unit_block (seen_at old) addr) 0 n
 sectors_same old new addr n shape blocks =
-    map-range-same (sector_in (geometry_of new) (blocks_of (seen_at new) addr)) (sector_in (geometry_of old) (blocks_of (seen_at old) addr)) 0 n
+    map-range-same (sector_in (geometry_of new) (unit_block (seen_at new) addr)) (sector_in (geometry_of old) (unit_block (seen_at old) addr)) 0 n
     (λ i low high. sector_same old new addr i shape blocks)
 
-pub present_same : (old new : ArrayState) (addr : Addr) → length_at new.store.book addr ≡ length_at old.store.book addr → mark_at new.store.book addr ≡ mark_at old.store.book addr
+pub present_same : (old new : ArrayState) (addr : Addr) → length_at new.store.book addr ≡ length_at old.store.book addr → attention_at new.store.book addr ≡ attention_at old.store.book addr
     → geometry_of new ≡ geometry_of old → ((k : Key) → k.addr ≡ addr → seen_at new k ≡ seen_at old k) → present_at new addr ≡ present_at old addr
 present_same old new addr sectors mark shape blocks =
-    ap (λ n. Present (sectors_in (geometry_of new) (blocks_of (seen_at new) addr) 0 n) (mark_at new.store.book addr)) sectors
-    ∙ ap (λ m. Present (sectors_in (geometry_of new) (blocks_of (seen_at new) addr) 0 (length_at old.store.book addr)) m) mark
-    ∙ ap (λ l. Present l (mark_at old.store.book addr)) (sectors_same old new addr (length_at old.store.book addr) shape blocks)
+    ap (λ n. Present (sectors_in (geometry_of new) (unit_block (seen_at new) addr) 0 n) (attention_at new.store.book addr)) sectors
+    ∙ ap (λ m. Present (sectors_in (geometry_of new) (unit_block (seen_at new) addr) 0 (length_at old.store.book addr)) m) mark
+    ∙ ap (λ l. Present l (attention_at old.store.book addr)) (sectors_same old new addr (length_at old.store.book addr) shape blocks)
 
 pub image_same : (old new : ArrayState) (addr : Addr) → SameUnit old.store.book new.store.book addr → geometry_of new ≡ geometry_of old
     → ((k : Key) → k.addr ≡ addr → seen_at new k ≡ seen_at old k) → image_at new addr ≡ image_at old addr
@@ -88,21 +88,21 @@ image_same old new addr unit shape blocks =
 -- the shape that the tables say a unit has
 abbrev pub shape_by : Tables → Addr → Shape
 shape_by t addr =
-    cond (has_unit t addr) (record { present = true; sectors = length_at t addr; attention = mark_at t addr }) (record { present = false; sectors = 0; attention = false })
+    cond (has_unit t addr) (record { present = true; sectors = length_at t addr; attention = attention_at t addr }) (record { present = false; sectors = 0; attention = false })
 
 pub shape_here : (s : ArrayState) (addr : Addr) → shape_of (image_at s addr) ≡ shape_by s.store.book addr
 shape_here s addr = by (has_unit s.store.book addr)
   where
     by : (b : Bool) → shape_of (cond b (present_at s addr) Absent)
-        ≡ cond b (record { present = true; sectors = length_at s.store.book addr; attention = mark_at s.store.book addr }) (record { present = false; sectors = 0; attention = false })
-    by true = ap (λ n. record { present = true; sectors = n; attention = mark_at s.store.book addr }) (length-unit_sectors s addr)
+        ≡ cond b (record { present = true; sectors = length_at s.store.book addr; attention = attention_at s.store.book addr }) (record { present = false; sectors = 0; attention = false })
+    by true = ap (λ n. record { present = true; sectors = n; attention = attention_at s.store.book addr }) (length-unit_sectors s addr)
     by false = refl
 
 pub shape_same : (old new : ArrayState) (addr : Addr) → SameUnit old.store.book new.store.book addr → shape_of (image_at new addr) ≡ shape_of (image_at old addr)
 shape_same old new addr unit =
     shape_here new addr
-    ∙ ap (λ b. cond b (record { present = true; sectors = length_at new.store.book addr; attention = mark_at new.store.book addr }) (record { present = false; sectors = 0; attention = false })) unit.there
-    ∙ ap (λ n. cond (has_unit old.store.book addr) (record { present = true; sectors = n; attention = mark_at new.store.book addr }) (record { present = false; sectors = 0; attention = false })) unit.sectors
+    ∙ ap (λ b. cond b (record { present = true; sectors = length_at new.store.book addr; attention = attention_at new.store.book addr }) (record { present = false; sectors = 0; attention = false })) unit.there
+    ∙ ap (λ n. cond (has_unit old.store.book addr) (record { present = true; sectors = n; attention = attention_at new.store.book addr }) (record { present = false; sectors = 0; attention = false })) unit.sectors
     ∙ ap (λ m. cond (has_unit old.store.book addr) (record { present = true; sectors = length_at old.store.book addr; attention = m }) (record { present = false; sectors = 0; attention = false })) unit.mark
     ∙ sym (shape_here old addr)
 
@@ -142,10 +142,10 @@ map-range-add f a (suc n) m =
 
 -- what a longer unit would show of a padded array
 pub padded_sectors : (s : ArrayState) (addr : Addr) (n : ℕ) → IsPadded s → is_broken s ≡ false → length_at s.store.book addr ≤ n
-    → sectors_in (geometry_of s) (blocks_of (seen_at s) addr) 0 n ≡ unit_sectors s addr ++ zero_sectors (n - length_at s.store.book addr)
+    → sectors_in (geometry_of s) (unit_block (seen_at s) addr) 0 n ≡ unit_sectors s addr ++ zero_sectors (n - length_at s.store.book addr)
 padded_sectors s addr n padded sound more =
     let m : ℕ = length_at s.store.book addr in
-    let f : ℕ → List ℕ = sector_in (geometry_of s) (blocks_of (seen_at s) addr) in
+    let f : ℕ → List ℕ = sector_in (geometry_of s) (unit_block (seen_at s) addr) in
     let split : n ≡ m + (n - m) = omega arith in
     ap (λ k. map f (range_with_len 0 k)) split
     ∙ map-range-add f 0 m (n - m)
@@ -177,8 +177,8 @@ image_whole s whole a = at_number (cases_lt a.0 4)
     at : (addr : Addr) (there : Bool) → IsWhole (cond there (present_at s addr) Absent)
     at addr true =
         (let numbers = range_with_len 0 (length_at s.store.book addr) in
-        All-map (λ sector. length sector ≡ 512) (sector_in (geometry_of s) (blocks_of (seen_at s) addr)) numbers
-        (λ k d within. length-sector_in (geometry_of s) (blocks_of (seen_at s) addr) (get_or numbers k d) (λ rb. whole (key_of addr rb))))
+        All-map (λ sector. length sector ≡ 512) (sector_in (geometry_of s) (unit_block (seen_at s) addr)) numbers
+        (λ k d within. length-sector_in (geometry_of s) (unit_block (seen_at s) addr) (get_or numbers k d) (λ rb. whole (key_of addr rb))))
     at addr false = tt
 
     at_number : (test : (a.0 < 4) ⊎ (4 ≤ a.0)) → IsWhole (at_numbers (image_at s) a.0 a.1 test)

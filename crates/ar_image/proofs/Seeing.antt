@@ -40,7 +40,7 @@ use Rattle.ar_store.specs.Forming.{IsStarted as StoreStarted}
 use Rattle.ar_store.proofs.Changes.{units_refl}
 use Rattle.ar_store.proofs.Standing.{stands_nowhere}
 use Rattle.ar_store.proofs.Starting.{started_new}
-use Rattle.ar_image.specs.Sectors.{key_of, blocks_of as unit_blocks}
+use Rattle.ar_image.specs.Sectors.{key_of, unit_block}
 use Rattle.ar_image.proofs.Images.{sector_in-zeros}
 use Rattle.ar_image.specs.Image.{ArrayState, IsJoined, IsPadded, geometry_of, knows_in, seen_at, unit_by}
 use Rattle.ar_image.specs.Following.{StoreFollows}
@@ -326,7 +326,7 @@ begun_geometry f xs x s n taken first begins =
 pub begun_padded : (disks : List DiskState) (n : ℕ) (s : ArrayState) → IsStarted disks n s → IsPadded s
 begun_padded disks n s begins = record {
   zeros = λ now addr i past.
-      sector_in-zeros (geometry_of s) (unit_blocks (seen_at s) addr) i
+      sector_in-zeros (geometry_of s) (unit_block (seen_at s) addr) i
       (seen_empty s (ap (λ (c : CacheState). c.entries) begins.cache) (key_of addr (i / sectors_of (geometry_of s)))
       ∙ stands_nowhere s.store (key_of addr (i / sectors_of (geometry_of s))) (ap (λ (us : List (Addr × UnitState)). home_in us (key_of addr (i / sectors_of (geometry_of s)))) begins.no_unit));
 }

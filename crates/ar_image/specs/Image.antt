@@ -12,7 +12,7 @@ use Rattle.ar_store.specs.Slots.{stands}
 use Rattle.ar_cache.specs.Cache.{CacheState, KnowsAll, seen}
 use Rattle.ar_unit.specs.Sectors.{zero_sector}
 use Rattle.ar_unit.specs.Unit.{UnitState, Absent, Present}
-use Rattle.ar_image.specs.Sectors.{Address, sector_in, sectors_in, blocks_of}
+use Rattle.ar_image.specs.Sectors.{Address, sector_in, sectors_in, unit_block}
 
 -- the store, and the cache before it
 pub record ArrayState : Type 0 where
@@ -44,16 +44,16 @@ abbrev pub length_at : Tables → Addr → ℕ
 length_at t addr = (unit_in t.units addr).sectors
 
 -- whether it has to tell that it has grown
-abbrev pub mark_at : Tables → Addr → Bool
-mark_at t addr = (unit_in t.units addr).attention
+abbrev pub attention_at : Tables → Addr → Bool
+attention_at t addr = (unit_in t.units addr).attention
 
 -- its sectors, where its blocks are these
 abbrev pub sectors_by : StoreState → (Key → List ℕ) → Addr → List (List ℕ)
-sectors_by s block_at addr = sectors_in s.disks.geometry (blocks_of block_at addr) 0 (length_at s.book addr)
+sectors_by s block_at addr = sectors_in s.disks.geometry (unit_block block_at addr) 0 (length_at s.book addr)
 
 -- the unit that the tables say is there, where its blocks are these
 abbrev pub unit_by : StoreState → (Key → List ℕ) → Addr → UnitState
-unit_by s block_at addr = if has_unit s.book addr then Present (sectors_by s block_at addr) (mark_at s.book addr) else Absent
+unit_by s block_at addr = if has_unit s.book addr then Present (sectors_by s block_at addr) (attention_at s.book addr) else Absent
 
 -- the sectors of a unit as its host sees them
 abbrev pub unit_sectors : ArrayState → Addr → List (List ℕ)
@@ -88,4 +88,4 @@ pub record IsJoined (s : ArrayState) : Type 0 where
 -- is made or grows shows none of what stood there before. Of a broken array nothing is said.
 pub record IsPadded (s : ArrayState) : Type 0 where
   pub zeros : is_broken s ≡ false → (addr : Addr) (i : ℕ) → length_at s.store.book addr ≤ i
-      → sector_in (geometry_of s) (blocks_of (seen_at s) addr) i ≡ zero_sector
+      → sector_in (geometry_of s) (unit_block (seen_at s) addr) i ≡ zero_sector

@@ -22,8 +22,8 @@ abbrev pub key_of : Addr → ℕ → Key
 key_of addr rb = record { addr = addr; rb = rb }
 
 -- a unit's blocks by their number
-abbrev pub blocks_of : (Key → List ℕ) → Addr → ℕ → List ℕ
-blocks_of block_at addr rb = block_at (key_of addr rb)
+abbrev pub unit_block : (Key → List ℕ) → Addr → ℕ → List ℕ
+unit_block block_at addr rb = block_at (key_of addr rb)
 
 -- the keys of so many of a unit's blocks, in ascending order
 abbrev pub keys_from : Addr → ℕ → ℕ → List Key

@@ -8,13 +8,13 @@ use Rattle.ar_disks.specs.Block.{sectors_at}
 use Rattle.ar_cache.specs.Cache.{CacheState, cached}
 use Rattle.ar_book.specs.Tables.{has_unit, unit_in, blocks_of as blocks_for, Tables}
 use Rattle.ar_unit.specs.Unit.{UnitState, Present}
-use Rattle.ar_image.specs.Sectors.{sector_in, sectors_in, blocks_of, key_of}
-use Rattle.ar_image.specs.Image.{ArrayState, geometry_of, seen_at, length_at, mark_at, unit_sectors}
+use Rattle.ar_image.specs.Sectors.{sector_in, sectors_in, unit_block, key_of}
+use Rattle.ar_image.specs.Image.{ArrayState, geometry_of, seen_at, length_at, attention_at, unit_sectors}
 use Rattle.ar_image.specs.Following.{StoreReads}
 
 -- the bytes of sectors of a unit
 abbrev pub sectors_read : ArrayState → Addr → ℕ → ℕ → List ℕ
-sectors_read s addr lba count = concat (sectors_in (geometry_of s) (blocks_of (seen_at s) addr) lba count)
+sectors_read s addr lba count = concat (sectors_in (geometry_of s) (unit_block (seen_at s) addr) lba count)
 
 -- there is a unit at this address, with so many sectors
 pub record IsUnit (s : ArrayState) (addr : Addr) (sectors : ℕ) : Type 0 where
@@ -26,7 +26,7 @@ pub record IsUnit (s : ArrayState) (addr : Addr) (sectors : ℕ) : Type 0 where
 
 -- the unit at an address that has one
 abbrev pub present_at : ArrayState → Addr → UnitState
-present_at s addr = Present (unit_sectors s addr) (mark_at s.store.book addr)
+present_at s addr = Present (unit_sectors s addr) (attention_at s.store.book addr)
 
 -- every block is seen as it was, and stands where it stood; no row of any disk was written
 pub record SamePlaces (old new : ArrayState) : Type 0 where
@@ -35,8 +35,8 @@ pub record SamePlaces (old new : ArrayState) : Type 0 where
 
 -- sectors of a unit have these bytes in their place, all others of all units are as they were
 pub record Writes (old : ArrayState) (addr : Addr) (lba count : ℕ) (bytes : List ℕ) (new : ArrayState) : Type 0 where
-  pub inside : (i : ℕ) → lba ≤ i → i < lba + count → sector_in (geometry_of old) (blocks_of (seen_at new) addr) i ≡ sectors_at bytes (i - lba) 1
-  pub outside : (i : ℕ) → (i < lba) ⊎ (lba + count ≤ i) → sector_in (geometry_of old) (blocks_of (seen_at new) addr) i ≡ sector_in (geometry_of old) (blocks_of (seen_at old) addr) i
+  pub inside : (i : ℕ) → lba ≤ i → i < lba + count → sector_in (geometry_of old) (unit_block (seen_at new) addr) i ≡ sectors_at bytes (i - lba) 1
+  pub outside : (i : ℕ) → (i < lba) ⊎ (lba + count ≤ i) → sector_in (geometry_of old) (unit_block (seen_at new) addr) i ≡ sector_in (geometry_of old) (unit_block (seen_at old) addr) i
   pub others : (k : Key) → k.addr ≢ addr → seen_at new k ≡ seen_at old k
 
 -- no block is seen to change
@@ -55,4 +55,4 @@ pub record IsForced (s : ArrayState) (addr : Addr) (lba count : ℕ) : Type 0 wh
 pub record SameUnit (t u : Tables) (addr : Addr) : Type 0 where
   pub there : has_unit u addr ≡ has_unit t addr
   pub sectors : length_at u addr ≡ length_at t addr
-  pub mark : mark_at u addr ≡ mark_at t addr
+  pub mark : attention_at u addr ≡ attention_at t addr

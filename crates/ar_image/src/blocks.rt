@@ -8,7 +8,7 @@ ghost use Rattle.ar_extents.specs.Access.{Accesses, Gets, is_read};
 ghost use Rattle.ar_extents.specs.Follows.{Keeps, Anywhere};
 ghost use Rattle.ar_book.specs.Tables.{has_unit};
 ghost use Rattle.ar_cache.specs.Cache.{cached};
-ghost use Rattle.ar_image.specs.Image.{is_broken, geometry_of, seen_at, knows_in, mark_at};
+ghost use Rattle.ar_image.specs.Image.{is_broken, geometry_of, seen_at, knows_in, attention_at};
 ghost use Rattle.ar_image.specs.Following.{Follows};
 ghost use Rattle.ar_image.specs.Laws.{follows_refl, follows_then};
 ghost use Rattle.ar_image.specs.Storing.{PutsBlock, ReadsBlock};
@@ -160,8 +160,8 @@ impl<D: Disk> Blocks<D> {
     }
 
     /// Whether the unit at an address has to tell that it has grown.
-    pub fn mark(&self, addr: Addr) -> bool
-        ensures { result ≡ mark_at self.now.store.book addr }
+    pub fn attention(&self, addr: Addr) -> bool
+        ensures { result ≡ attention_at self.now.store.book addr }
     {
         self.book().attention(addr)
     }
@@ -213,7 +213,7 @@ impl<D: Disk> Blocks<D> {
     }
 
     /// Clears a unit's mark.
-    pub fn clear_mark(&mut self, addr: Addr)
+    pub fn clear_attention(&mut self, addr: Addr)
         ensures cleared { self.new ≡ with_book self.old (unmarked self.old.store.book addr) }
         ensures seen { SameSeen self.old self.new }
     {

@@ -1,6 +1,6 @@
 // A disk that is taken out.
 ghost use Rattle.std.specs.Prelude.{◌≡◌, false};
-ghost use Rattle.ar_image.specs.DiskOut.{TakesOut};
+ghost use Rattle.ar_image.specs.DiskOut.{TakesDiskOut};
 ghost use Rattle.ar_image.specs.Image.{is_broken};
 ghost use Rattle.ar_image.specs.Seen.{SameSeen};
 
@@ -10,7 +10,7 @@ use ar_disks::Disk;
 impl<D: Disk> Blocks<D> {
     /// Takes a disk out.
     pub fn fail(&mut self, disk: u8) -> Result<(), Refusal>
-        ensures takes_out { TakesOut self.old disk result self.new }
+        ensures takes_out { TakesDiskOut self.old disk result self.new }
         ensures seen { is_broken self.new ≡ false → SameSeen self.old self.new }
     {
         self.behind.store.fail(disk).map_err(Refusal::Disk)

@@ -5,7 +5,7 @@ ghost use Rattle.ar_disks.specs.declared.address.Key.{Key};
 ghost use Rattle.ar_disks.specs.Geometry.{sectors_of, block_len_of};
 ghost use Rattle.ar_disks.specs.Block.{sectors_at};
 ghost use Rattle.ar_cache.specs.Backing.{stored, InTurn, Keeps, SameBlocks};
-ghost use Rattle.ar_image.specs.Sectors.{sector_in, sectors_in, key_of, keys_in, blocks_of};
+ghost use Rattle.ar_image.specs.Sectors.{sector_in, sectors_in, key_of, keys_in, unit_block};
 ghost use Rattle.ar_image.specs.Storing.{Overwrites, ReadsFirst, Replaces};
 
 use ar_cache::Backing;
@@ -68,7 +68,7 @@ pub fn read_sectors<B: Backing>(
     requires known { (rb : ℕ) → rb * sectors_of geometry < lba + count → IsTrue (B.knows blocks.old (key_of addr rb)) }
     requires small { lba + count ≤ 1048576 }
     ensures done { result ≡ Transfer.Done → out.new.items ≡ out.old.items
-        ++ concat (sectors_in geometry (blocks_of (B.block_at blocks.old) addr) lba count) }
+        ++ concat (sectors_in geometry (unit_block (B.block_at blocks.old) addr) lba count) }
     ensures many { result ≡ Transfer.Done → length out.new.items ≡ length out.old.items + 512 * count }
     ensures broken { result ≡ Transfer.Broken → IsTrue (B.is_broken blocks.new) }
     ensures sound { result ≢ Transfer.Broken → B.is_broken blocks.new ≡ false }
@@ -152,9 +152,9 @@ pub fn write_sectors<B: Backing>(
     requires small { lba + count ≤ 1048576 }
     requires sectors { length bytes.now ≡ 512 * count }
     ensures inside { result ≡ Completion.Done → (i : ℕ) → lba ≤ i → i < lba + count
-        → sector_in geometry (blocks_of (B.block_at blocks.new) addr) i ≡ sectors_at bytes.now (i - lba) 1 }
+        → sector_in geometry (unit_block (B.block_at blocks.new) addr) i ≡ sectors_at bytes.now (i - lba) 1 }
     ensures outside { result ≡ Completion.Done → (i : ℕ) → (i < lba) ⊎ (lba + count ≤ i)
-        → sector_in geometry (blocks_of (B.block_at blocks.new) addr) i ≡ sector_in geometry (blocks_of (B.block_at blocks.old) addr) i }
+        → sector_in geometry (unit_block (B.block_at blocks.new) addr) i ≡ sector_in geometry (unit_block (B.block_at blocks.old) addr) i }
     ensures others { result ≡ Completion.Done → (k : Key) → k.addr ≢ addr → B.block_at blocks.new k ≡ B.block_at blocks.old k }
     ensures puts { result ≡ Completion.Done → InTurn (Overwrites B.gets B.puts geometry lba count) (keys_in geometry addr lba count) blocks.old blocks.new }
     ensures nothing { count ≡ 0 → blocks.new ≡ blocks.old }

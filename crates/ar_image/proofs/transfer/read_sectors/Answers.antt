@@ -2,7 +2,7 @@ use Rattle.std.proofs.Common.{◌≡◌, ◌⊎◌, ℕ, ◌%◌, ◌/◌, ◌+�
 use Rattle.ar_disks.specs.declared.address.Key.{Key}
 use Rattle.ar_disks.specs.Geometry.{sectors_of}
 use Rattle.ar_disks.specs.Block.{sectors_at}
-use Rattle.ar_image.specs.Sectors.{blocks_of, key_of}
+use Rattle.ar_image.specs.Sectors.{unit_block, key_of}
 use Rattle.ar_cache.proofs.Keeping.{keeps_then}
 use Rattle.ar_image.proofs.Pieces.{sectors_in-more, part-some, part-within, done_not_broken}
 use Rattle.ar_image.proofs.Putting.{turn-more, part-edge}
@@ -12,7 +12,7 @@ pub loop-at-preserved : goal.loop-at-preserved
 loop-at-preserved g c =
     let at : ℕ = c.loop-at.at in
     let part : ℕ = c.min-part.result in
-    let block_of : ℕ → List ℕ = blocks_of (g.B.Backing.block_at c.args.blocks.now) c.args.addr in
+    let block_of : ℕ → List ℕ = unit_block (g.B.Backing.block_at c.args.blocks.now) c.args.addr in
     let sectors : c.sectors-sectors.result ≡ sectors_of c.args.geometry = c.sectors-sectors.ensures in
     let within : at % sectors_of c.args.geometry + part ≤ sectors_of c.args.geometry =
     part-within c.args.geometry at (c.args.lba + c.args.count - at) part (c.min-part.ensures ∙ ap (λ (s : ℕ). min (s - at % s) (c.args.lba + c.args.count - at)) sectors) in

@@ -2,14 +2,14 @@ use Rattle.std.proofs.Common.{◌≡◌, ◌⊎◌, ◌+◌, ◌*◌, ◌-◌, �
 use Rattle.std.specs.List.{concat}
 use Rattle.ar_disks.specs.Geometry.{sectors_of}
 use Rattle.ar_cache.specs.Backing.{InTurn, Keeps, SameBlocks}
-use Rattle.ar_image.specs.Sectors.{sectors_in, keys_in, blocks_of}
+use Rattle.ar_image.specs.Sectors.{sectors_in, keys_in, unit_block}
 use Rattle.ar_image.proofs.transfer.read_sectors.Given as goal
 
 abbrev pub invariant-loop-at : goal.invariant-loop-at
 invariant-loop-at g l = record {
   from : l.lba ≤ l.at;
   until : l.at ≤ l.end;
-  bytes : l.out.items ≡ l.fn.out.items ++ concat (sectors_in l.fn.geometry (blocks_of (g.B.Backing.block_at l.fn.blocks) l.addr) l.lba (l.at - l.lba));
+  bytes : l.out.items ≡ l.fn.out.items ++ concat (sectors_in l.fn.geometry (unit_block (g.B.Backing.block_at l.fn.blocks) l.addr) l.lba (l.at - l.lba));
   many : length l.out.items ≡ length l.fn.out.items + 512 * (l.at - l.lba);
   blocks : SameBlocks (g.B.Backing.block_at l.fn.blocks) (g.B.Backing.block_at l.blocks);
   sound : g.B.Backing.is_broken l.blocks ≡ false;

@@ -1,6 +1,6 @@
 use Rattle.std.proofs.Common.{◌≡◌, ◌⊎◌, Bool, ℕ, ◌==◌, ◌%◌, ◌/◌, ◌+◌, ◌-◌, ◌*◌, ◌<◌, ◌≤◌, List, inl, inr, min, take, drop, sym, ap, subst, ◌∙◌, arith}
 use Rattle.ar_disks.specs.Geometry.{sectors_of}
-use Rattle.ar_image.specs.Sectors.{blocks_of, key_of}
+use Rattle.ar_image.specs.Sectors.{unit_block, key_of}
 use Rattle.ar_image.specs.Storing.{Overwrites, Replaces, is_whole}
 use Rattle.ar_cache.proofs.Keeping.{keeps_then}
 use Rattle.ar_disks.specs.declared.address.Key.{Key}
@@ -12,9 +12,9 @@ pub loop-at-preserved : goal.loop-at-preserved
 loop-at-preserved g c =
     let at : ℕ = c.loop-at.at in
     let part : ℕ = c.min-part.result in
-    let old : ℕ → List ℕ = blocks_of (g.B.Backing.block_at c.args.blocks.now) c.args.addr in
-    let mid : ℕ → List ℕ = blocks_of (g.B.Backing.block_at c.loop-at.blocks) c.args.addr in
-    let new : ℕ → List ℕ = blocks_of (g.B.Backing.block_at c.write_part.new.blocks) c.args.addr in
+    let old : ℕ → List ℕ = unit_block (g.B.Backing.block_at c.args.blocks.now) c.args.addr in
+    let mid : ℕ → List ℕ = unit_block (g.B.Backing.block_at c.loop-at.blocks) c.args.addr in
+    let new : ℕ → List ℕ = unit_block (g.B.Backing.block_at c.write_part.new.blocks) c.args.addr in
     let first : ℕ = at - c.args.lba in
     let piece : List ℕ = take (first * 512 + part * 512 - first * 512) (drop (first * 512) c.args.bytes.now) in
     let sectors : c.sectors-sectors.result ≡ sectors_of c.args.geometry = c.sectors-sectors.ensures in

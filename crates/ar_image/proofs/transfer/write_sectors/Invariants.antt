@@ -3,7 +3,7 @@ use Rattle.ar_disks.specs.declared.address.Key.{Key}
 use Rattle.ar_disks.specs.Geometry.{sectors_of}
 use Rattle.ar_disks.specs.Block.{sectors_at}
 use Rattle.ar_cache.specs.Backing.{InTurn, Keeps}
-use Rattle.ar_image.specs.Sectors.{sector_in, keys_in, blocks_of}
+use Rattle.ar_image.specs.Sectors.{sector_in, keys_in, unit_block}
 use Rattle.ar_image.specs.Storing.{Overwrites}
 use Rattle.ar_image.proofs.transfer.write_sectors.Given as goal
 
@@ -11,8 +11,8 @@ abbrev pub invariant-loop-at : goal.invariant-loop-at
 invariant-loop-at g l = record {
   from : l.lba ≤ l.at;
   until : l.at ≤ l.end;
-  inside : (i : ℕ) → l.lba ≤ i → i < l.at → sector_in l.geometry (blocks_of (g.B.Backing.block_at l.blocks) l.addr) i ≡ sectors_at l.bytes (i - l.lba) 1;
-  outside : (i : ℕ) → (i < l.lba) ⊎ (l.at ≤ i) → sector_in l.geometry (blocks_of (g.B.Backing.block_at l.blocks) l.addr) i ≡ sector_in l.geometry (blocks_of (g.B.Backing.block_at l.fn.blocks) l.addr) i;
+  inside : (i : ℕ) → l.lba ≤ i → i < l.at → sector_in l.geometry (unit_block (g.B.Backing.block_at l.blocks) l.addr) i ≡ sectors_at l.bytes (i - l.lba) 1;
+  outside : (i : ℕ) → (i < l.lba) ⊎ (l.at ≤ i) → sector_in l.geometry (unit_block (g.B.Backing.block_at l.blocks) l.addr) i ≡ sector_in l.geometry (unit_block (g.B.Backing.block_at l.fn.blocks) l.addr) i;
   others : (k : Key) → k.addr ≢ l.addr → g.B.Backing.block_at l.blocks k ≡ g.B.Backing.block_at l.fn.blocks k;
   put : InTurn (Overwrites g.B.Backing.gets g.B.Backing.puts l.geometry l.lba l.count) (keys_in l.geometry l.addr l.lba (l.at - l.lba)) l.fn.blocks l.blocks;
   edge : ((l.at ≡ l.lba) ⊎ (l.at % sectors_of l.geometry ≡ 0)) ⊎ (l.at ≡ l.end);

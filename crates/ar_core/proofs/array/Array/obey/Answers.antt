@@ -5,7 +5,7 @@ use Rattle.ar_scsi.specs.Data.{capacity_data}
 use Rattle.ar_scsi.specs.Reply.{good}
 use Rattle.ar_unit.specs.Unit.{obeyed, IsGiven}
 use Rattle.ar_unit.specs.Broken.{broken_obeyed}
-use Rattle.ar_image.specs.Image.{unit_sectors, mark_at}
+use Rattle.ar_image.specs.Image.{unit_sectors, attention_at}
 use Rattle.ar_core.specs.Served.{Serves, Settles}
 use Rattle.ar_image.proofs.Images.{length-unit_sectors}
 use Rattle.ar_core.proofs.Serving.{serves_quiet, settles_same}
@@ -16,7 +16,7 @@ pub returns-in-TestReady-clause-serves : goal.returns-in-TestReady-clause-serves
 unfolding obeyed broken_obeyed
 returns-in-TestReady-clause-serves g c =
     subst
-    (λ (command : Command). Serves c.args.self.now c.args.addr (obeyed (unit_sectors c.args.self.now c.args.addr) (mark_at c.args.self.now.store.book c.args.addr) (Ok command) c.args.bytes.now) (broken_obeyed c.args.sectors (Ok command) (length c.args.bytes.now)) c.test_ready.result c.args.self.now)
+    (λ (command : Command). Serves c.args.self.now c.args.addr (obeyed (unit_sectors c.args.self.now c.args.addr) (attention_at c.args.self.now.store.book c.args.addr) (Ok command) c.args.bytes.now) (broken_obeyed c.args.sectors (Ok command) (length c.args.bytes.now)) c.test_ready.result c.args.self.now)
     (sym c.in-TestReady.is)
     (c.test_ready.ensures.serves)
 
@@ -31,7 +31,7 @@ pub returns-in-Inquiry-clause-serves : goal.returns-in-Inquiry-clause-serves
 unfolding obeyed broken_obeyed
 returns-in-Inquiry-clause-serves g c =
     subst
-    (λ (command : Command). Serves c.args.self.now c.args.addr (obeyed (unit_sectors c.args.self.now c.args.addr) (mark_at c.args.self.now.store.book c.args.addr) (Ok command) c.args.bytes.now) (broken_obeyed c.args.sectors (Ok command) (length c.args.bytes.now)) c.inquiry.result c.args.self.now)
+    (λ (command : Command). Serves c.args.self.now c.args.addr (obeyed (unit_sectors c.args.self.now c.args.addr) (attention_at c.args.self.now.store.book c.args.addr) (Ok command) c.args.bytes.now) (broken_obeyed c.args.sectors (Ok command) (length c.args.bytes.now)) c.inquiry.result c.args.self.now)
     (sym c.in-Inquiry.is)
     (serves_quiet c.args.self.now c.args.addr _ _ c.inquiry.result (λ _. c.inquiry.ensures) (λ _. c.inquiry.ensures))
 
@@ -46,7 +46,7 @@ pub returns-in-Capacity-clause-serves : goal.returns-in-Capacity-clause-serves
 unfolding obeyed broken_obeyed
 returns-in-Capacity-clause-serves g c =
     subst
-    (λ (command : Command). Serves c.args.self.now c.args.addr (obeyed (unit_sectors c.args.self.now c.args.addr) (mark_at c.args.self.now.store.book c.args.addr) (Ok command) c.args.bytes.now) (broken_obeyed c.args.sectors (Ok command) (length c.args.bytes.now)) c.capacity.result c.args.self.now)
+    (λ (command : Command). Serves c.args.self.now c.args.addr (obeyed (unit_sectors c.args.self.now c.args.addr) (attention_at c.args.self.now.store.book c.args.addr) (Ok command) c.args.bytes.now) (broken_obeyed c.args.sectors (Ok command) (length c.args.bytes.now)) c.capacity.result c.args.self.now)
     (sym c.in-Capacity.is)
     (let len = length-unit_sectors c.args.self.now c.args.addr ∙ c.requires.sectors_same in
     serves_quiet c.args.self.now c.args.addr (good (capacity_data (length (unit_sectors c.args.self.now c.args.addr)))) (good (capacity_data c.args.sectors)) c.capacity.result
@@ -63,7 +63,7 @@ pub returns-in-Read-clause-serves : goal.returns-in-Read-clause-serves
 unfolding obeyed broken_obeyed
 returns-in-Read-clause-serves g c =
     subst
-    (λ (command : Command). Serves c.args.self.now c.args.addr (obeyed (unit_sectors c.args.self.now c.args.addr) (mark_at c.args.self.now.store.book c.args.addr) (Ok command) c.args.bytes.now) (broken_obeyed c.args.sectors (Ok command) (length c.args.bytes.now)) c.read.result c.read.new.self)
+    (λ (command : Command). Serves c.args.self.now c.args.addr (obeyed (unit_sectors c.args.self.now c.args.addr) (attention_at c.args.self.now.store.book c.args.addr) (Ok command) c.args.bytes.now) (broken_obeyed c.args.sectors (Ok command) (length c.args.bytes.now)) c.read.result c.read.new.self)
     (sym c.in-Read.is)
     (c.read.ensures.serves)
 
@@ -78,7 +78,7 @@ pub returns-in-Write-clause-serves : goal.returns-in-Write-clause-serves
 unfolding obeyed broken_obeyed
 returns-in-Write-clause-serves g c =
     subst
-    (λ (command : Command). Serves c.args.self.now c.args.addr (obeyed (unit_sectors c.args.self.now c.args.addr) (mark_at c.args.self.now.store.book c.args.addr) (Ok command) c.args.bytes.now) (broken_obeyed c.args.sectors (Ok command) (length c.args.bytes.now)) c.write.result c.write.new.self)
+    (λ (command : Command). Serves c.args.self.now c.args.addr (obeyed (unit_sectors c.args.self.now c.args.addr) (attention_at c.args.self.now.store.book c.args.addr) (Ok command) c.args.bytes.now) (broken_obeyed c.args.sectors (Ok command) (length c.args.bytes.now)) c.write.result c.write.new.self)
     (sym c.in-Write.is)
     (c.write.ensures.serves)
 

@@ -10,7 +10,7 @@ use Rattle.ar_unit.specs.Unit.{IsGiven, leaving}
 use Rattle.ar_image.specs.Image.{ArrayState, is_broken, geometry_of, seen_at}
 use Rattle.ar_image.specs.Following.{Follows}
 use Rattle.ar_cache.specs.Backing.{InTurn}
-use Rattle.ar_image.specs.Sectors.{sectors_in, keys_in, blocks_of}
+use Rattle.ar_image.specs.Sectors.{sectors_in, keys_in, unit_block}
 use Rattle.ar_image.specs.Storing.{ReadsBlock, ReadsFirst}
 use Rattle.ar_image.specs.Seen.{IsUnit, present_at, sectors_read}
 use Rattle.ar_core.specs.Served.{Serves}
@@ -37,8 +37,8 @@ pub reply_to_read-requires-clause-some : goal.reply_to_read-requires-clause-some
 reply_to_read-requires-clause-some g c = λ done none.
     let bytes : c.read_sectors-transfer.new.out.items ≡ sectors_read c.self.inside.blocks c.args.addr c.args.lba c.args.count =
     c.read_sectors-transfer.ensures.done done
-    ∙ ap (λ (l : List ℕ). l ++ concat (sectors_in c.geometry-geometry.result (blocks_of (seen_at c.self.inside.blocks) c.args.addr) c.args.lba c.args.count)) c.in-Ok.ensures.items
-    ∙ ap (λ (h : Geometry). concat (sectors_in h (blocks_of (seen_at c.self.inside.blocks) c.args.addr) c.args.lba c.args.count)) c.geometry-geometry.ensures in
+    ∙ ap (λ (l : List ℕ). l ++ concat (sectors_in c.geometry-geometry.result (unit_block (seen_at c.self.inside.blocks) c.args.addr) c.args.lba c.args.count)) c.in-Ok.ensures.items
+    ∙ ap (λ (h : Geometry). concat (sectors_in h (unit_block (seen_at c.self.inside.blocks) c.args.addr) c.args.lba c.args.count)) c.geometry-geometry.ensures in
     let whole = subst (λ (s : ArrayState). (k : Key) → length (seen_at s k) ≡ block_len_of (geometry_of s)) (sym c.self.view_is) c.requires.blocks in
     sectors_read-some c.self.inside.blocks c.args.addr c.args.lba c.args.count whole (omega arith) (sym bytes ∙ none)
 
@@ -63,8 +63,8 @@ returns-clause-serves g c =
     c.read_sectors-transfer.ensures.sound c.read_sectors-transfer.ensures.broken
     (λ done.
     c.read_sectors-transfer.ensures.done done
-    ∙ ap (λ (l : List ℕ). l ++ concat (sectors_in c.geometry-geometry.result (blocks_of (seen_at c.self.inside.blocks) c.args.addr) c.args.lba c.args.count)) c.in-Ok.ensures.items
-    ∙ ap (λ (h : Geometry). concat (sectors_in h (blocks_of (seen_at c.self.inside.blocks) c.args.addr) c.args.lba c.args.count)) c.geometry-geometry.ensures)
+    ∙ ap (λ (l : List ℕ). l ++ concat (sectors_in c.geometry-geometry.result (unit_block (seen_at c.self.inside.blocks) c.args.addr) c.args.lba c.args.count)) c.in-Ok.ensures.items
+    ∙ ap (λ (h : Geometry). concat (sectors_in h (unit_block (seen_at c.self.inside.blocks) c.args.addr) c.args.lba c.args.count)) c.geometry-geometry.ensures)
     c.reply_to_read.ensures.done c.reply_to_read.ensures.broken c.reply_to_read.ensures.memory)
 
 pub returns-clause-begun : goal.returns-clause-begun

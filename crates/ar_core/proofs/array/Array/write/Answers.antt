@@ -2,7 +2,7 @@ use Rattle.std.proofs.Common.{◌≡◌, true, false, ◌+◌, ◌*◌, nat_lt, 
 use Rattle.std.specs.Prelude.{◌==◌}
 use Rattle.ar_scsi.specs.declared.command.Command.TheVariants.{Write}
 use Rattle.ar_scsi.specs.Sense.{logical_block_address_out_of_range, data_phase_error}
-use Rattle.ar_image.specs.Image.{is_broken, mark_at}
+use Rattle.ar_image.specs.Image.{is_broken, attention_at}
 use Rattle.ar_image.proofs.Images.{length-unit_sectors}
 use Rattle.ar_core.proofs.Serving.{serves_check, serves_write, settles_check, settles_write, write_past, write_wrong, write_within, same_false, same_true, not_below}
 use Rattle.ar_core.proofs.array.Array.write.Goals as goal
@@ -10,7 +10,7 @@ use Rattle.ar_core.proofs.array.Array.write.Goals as goal
 pub returns-then-is_past_end-clause-serves : goal.returns-then-is_past_end-clause-serves
 returns-then-is_past_end-clause-serves g c =
     let past : nat_lt c.args.sectors (c.args.lba + c.args.count) ≡ true = sym c.is_past_end.ensures ∙ c.if-is_past_end.true in
-    rw (write_past _ (mark_at c.args.self.now.store.book c.args.addr) c.args.sectors c.args.lba c.args.count c.args.bytes.now (length-unit_sectors c.args.self.now c.args.addr ∙ c.requires.sectors_same) past, past)
+    rw (write_past _ (attention_at c.args.self.now.store.book c.args.addr) c.args.sectors c.args.lba c.args.count c.args.bytes.now (length-unit_sectors c.args.self.now c.args.addr ∙ c.requires.sectors_same) past, past)
     (serves_check c.args.self.now c.args.addr logical_block_address_out_of_range c.check.result c.check.ensures)
 
 pub returns-then-is_past_end-clause-settles : goal.returns-then-is_past_end-clause-settles
@@ -21,7 +21,7 @@ pub returns-then-bytes-from-clause-serves : goal.returns-then-bytes-from-clause-
 returns-then-bytes-from-clause-serves g c =
     let within : nat_lt c.args.sectors (c.args.lba + c.args.count) ≡ false = sym c.is_past_end.ensures ∙ c.if-is_past_end.false in
     let wrong : length c.args.bytes.now == c.args.count * 512 ≡ false = same_false (length c.args.bytes.now) (c.args.count * 512) (λ same. c.if-bytes-from.true (same ∙ ap (λ n. n * 512) (sym c.from.ensures))) in
-    rw (write_wrong _ (mark_at c.args.self.now.store.book c.args.addr) c.args.sectors c.args.lba c.args.count c.args.bytes.now (length-unit_sectors c.args.self.now c.args.addr ∙ c.requires.sectors_same) within wrong, within, wrong)
+    rw (write_wrong _ (attention_at c.args.self.now.store.book c.args.addr) c.args.sectors c.args.lba c.args.count c.args.bytes.now (length-unit_sectors c.args.self.now c.args.addr ∙ c.requires.sectors_same) within wrong, within, wrong)
     (serves_check c.args.self.now c.args.addr data_phase_error c.check-then-bytes-from.result c.check-then-bytes-from.ensures)
 
 pub returns-then-bytes-from-clause-settles : goal.returns-then-bytes-from-clause-settles
@@ -35,7 +35,7 @@ returns-clause-serves g c =
     let from : c.from-2.result ≡ c.args.count = c.from-2.ensures in
     let fits = not_below c.args.sectors (c.args.lba + c.args.count) within in
     let len = c.requires.sectors_same in
-    rw (write_within _ (mark_at c.args.self.now.store.book c.args.addr) c.args.sectors c.args.lba c.args.count c.args.bytes.now (length-unit_sectors c.args.self.now c.args.addr ∙ len) within right, within, right)
+    rw (write_within _ (attention_at c.args.self.now.store.book c.args.addr) c.args.sectors c.args.lba c.args.count c.args.bytes.now (length-unit_sectors c.args.self.now c.args.addr ∙ len) within right, within, right)
     (serves_write c.args.self.now c.write_range-stored.new.self c.args.addr c.args.lba c.args.count c.args.bytes.now c.write_range-stored.result c.reply_to_write.result
     c.write_range-stored.ensures.follows (omega (arith, len)) c.write_range-stored.ensures.answer
     (rw from at c.write_range-stored.ensures.writes) c.reply_to_write.ensures.done c.reply_to_write.ensures.broken)

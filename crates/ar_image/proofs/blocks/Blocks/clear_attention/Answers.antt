@@ -2,7 +2,7 @@ use Rattle.std.proofs.Common.{refl, subst}
 use Rattle.ar_image.specs.Image.{ArrayState}
 use Rattle.ar_image.specs.Seen.{SameSeen}
 use Rattle.ar_image.proofs.Seeing.{joined_unmarked, all_seen}
-use Rattle.ar_image.proofs.blocks.Blocks.clear_mark.Goals as goal
+use Rattle.ar_image.proofs.blocks.Blocks.clear_attention.Goals as goal
 
 pub invariant_of-self : goal.invariant_of-self
 invariant_of-self g c =
