@@ -12,7 +12,7 @@ use Rattle.ar_book.specs.Refusals as book
 use Rattle.ar_image.specs.declared.refusal.Refusal.{Refusal}
 use Rattle.ar_image.specs.declared.refusal.Refusal.TheVariants.{Unit as UnitRefused, Broken}
 use Rattle.ar_image.specs.Sectors.{Address, address_of, same_address}
-use Rattle.ar_image.specs.Image.{ArrayState, is_broken, length_at, mark_at, image, image_at}
+use Rattle.ar_image.specs.Image.{ArrayState, is_broken, length_at, attention_at, image, image_at}
 use Rattle.ar_image.specs.Changes.{Makes, Grows, Removes}
 use Rattle.ar_image.proofs.Images.{image_here, shape_by, shape_here}
 use Rattle.ar_core.specs.Events.{Event, Outcome}
@@ -104,16 +104,16 @@ there_at : (s : ArrayState) (history : List Entry) (addr : Addr) (b : Bool) → 
     → (shape_of (replay history (address_of addr))).present ≡ b
 there_at s history addr true kept there =
     sym (kept.lengths (address_of addr)).present ∙ ap (λ (x : Shape). x.present) (shape_at s addr)
-    ∙ ap (λ (b : Bool). (shape_if b (length_at s.store.book addr) (mark_at s.store.book addr)).present) there
+    ∙ ap (λ (b : Bool). (shape_if b (length_at s.store.book addr) (attention_at s.store.book addr)).present) there
 there_at s history addr false kept there =
     sym (kept.lengths (address_of addr)).present ∙ ap (λ (x : Shape). x.present) (shape_at s addr)
-    ∙ ap (λ (b : Bool). (shape_if b (length_at s.store.book addr) (mark_at s.store.book addr)).present) there
+    ∙ ap (λ (b : Bool). (shape_if b (length_at s.store.book addr) (attention_at s.store.book addr)).present) there
 
 long_at : (s : ArrayState) (history : List Entry) (addr : Addr) → IsKept s history → has_unit s.store.book addr ≡ true
     → (shape_of (replay history (address_of addr))).sectors ≡ length_at s.store.book addr
 long_at s history addr kept there =
     sym (kept.lengths (address_of addr)).sectors ∙ ap (λ (x : Shape). x.sectors) (shape_at s addr)
-    ∙ ap (λ (b : Bool). (shape_if b (length_at s.store.book addr) (mark_at s.store.book addr)).sectors) there
+    ∙ ap (λ (b : Bool). (shape_if b (length_at s.store.book addr) (attention_at s.store.book addr)).sectors) there
 
 made : (old new : ArrayState) (addr : Addr) (n : ℕ) (result : Result (Unit {0}) Refusal) (history : List Entry) → IsKept old history → Makes old addr n result new
     → Tells old (events.Make addr n) (outcomes.Make result) history (entries.Make addr n)

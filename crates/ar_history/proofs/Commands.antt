@@ -24,7 +24,7 @@ use Rattle.ar_core.proofs.Causes.{was_sound}
 use Rattle.ar_history.specs.declared.entry.Entry.{Entry}
 use Rattle.ar_history.specs.declared.entry.Entry.TheVariants.{Cmd}
 use Rattle.ar_history.specs.History.{replay, is_command}
-use Rattle.ar_history.specs.Kept.{KeptState, SameLength, IsKept, with_mark, standing, exchange_of}
+use Rattle.ar_history.specs.Kept.{KeptState, SameLength, IsKept, with_attention, standing, exchange_of}
 use Rattle.ar_history.specs.Seat.{SeatState}
 use Rattle.ar_history.specs.declared.entry.Exchange.{Exchange}
 use Rattle.ar_history.specs.Serving.{IsBusyFor, IsRecorded, IsUnrecorded, Serves, Begins}
@@ -137,7 +137,7 @@ kept_recorded old new host lun cdb payload reply history kept steps answered now
     (reply_kept old new host lun cdb payload reply history kept steps answered now)
 
 -- a unit's shape, by what is known of it
-shape_marked : (u v : UnitState) → SameLength u v → shape_of (with_mark (shape_of u).attention v) ≡ shape_of u
+shape_marked : (u v : UnitState) → SameLength u v → shape_of (with_attention (shape_of u).attention v) ≡ shape_of u
 shape_marked Absent Absent same = refl
 shape_marked Absent (Present t l) same = let p = same.present in absurd (cc)
 shape_marked (Present s m) Absent same = let p = same.present in absurd (cc)

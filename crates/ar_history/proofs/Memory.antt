@@ -22,7 +22,7 @@ use Rattle.ar_book.specs.Changes.{unmarked}
 use Rattle.ar_unit.specs.Unit.{UnitState, Absent, Present, Answered, leaving, obeyed, answer}
 use Rattle.ar_unit.specs.Broken.{Shape, shape_of, is_good, needs_blocks, where_broken, broken_answer}
 use Rattle.ar_unit.proofs.Laws.{broken_answer-is, answer-takes_no_memory}
-use Rattle.ar_image.specs.Image.{ArrayState, is_broken, length_at, mark_at, image_at}
+use Rattle.ar_image.specs.Image.{ArrayState, is_broken, length_at, attention_at, image_at}
 use Rattle.ar_image.proofs.Images.{shape_by, shape_here}
 use Rattle.ar_core.specs.Step.{Steps, Obeys, MovesNothing, is_busy, is_write, addr_in, told}
 use Rattle.ar_core.specs.declared.event.EventOf.TheVariants.{Cmd as CmdEvent}
@@ -56,7 +56,7 @@ mark_by (Some unit) = refl
 told_none : (s : ArrayState) (addr : Addr) (cdb bytes : List ℕ) → (answer (image_at s addr) cdb bytes).reply.payload ≢ []
     → told s.store.book addr cdb ≡ s.store.book
 told_none s addr cdb bytes some =
-    let mark : (shape_of (image_at s addr)).attention ≡ mark_at s.store.book addr =
+    let mark : (shape_of (image_at s addr)).attention ≡ attention_at s.store.book addr =
     ap (λ (x : Shape). x.attention) (shape_here s addr) ∙ mark_by (lookup (same_addr addr) s.store.book.units) in
     ap (λ (b : Bool). cond b (unmarked s.store.book addr) s.store.book)
     (sym (ap (λ (m : Bool). m && not (operation_code cdb == 0x12)) mark) ∙ tells_none (image_at s addr) cdb bytes some)

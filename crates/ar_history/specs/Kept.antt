@@ -33,13 +33,13 @@ pub record IsKept (s : ArrayState) (history : List Entry) : Type 0 where
   pub lengths : (a : Address) → SameLength (image s a) (replay history a)
 
 -- a unit with this mark
-abbrev pub with_mark : Bool → UnitState → UnitState
-with_mark mark Absent = Absent
-with_mark mark (Present sectors attention) = Present sectors mark
+abbrev pub with_attention : Bool → UnitState → UnitState
+with_attention mark Absent = Absent
+with_attention mark (Present sectors attention) = Present sectors mark
 
 -- the unit that a history makes, with the mark that the array has for it: of a broken array they may differ
 abbrev pub standing : KeptState → Address → UnitState
-standing k a = with_mark (shape_of (image k.array a)).attention (replay k.history a)
+standing k a = with_attention (shape_of (image k.array a)).attention (replay k.history a)
 
 -- a command and its reply
 abbrev pub exchange_of : ℕ → List ℕ → List ℕ → Reply → Exchange

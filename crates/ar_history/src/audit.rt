@@ -1,7 +1,7 @@
 // The audit: whether each host's transcript is its part of the history.
 ghost use Rattle.std.specs.Prelude.{◌≡◌, ◌≤◌, ◌∷◌, [], Some, None, All, IfOk, OnOk, IfErr, MatchOption, map, sum, count_by, length};
 ghost use Rattle.ar_history.specs.Audit.{DiffersAt, IsHostsPart, IsFirstMismatch, IsIsolated, Agrees, Departs, command_of, IsSame};
-ghost use Rattle.ar_history.specs.History.{is_command, part};
+ghost use Rattle.ar_history.specs.History.{IsLegal, is_command, part};
 ghost use Rattle.ar_history.specs.Seat.{SeatState};
 
 use crate::{Entry, Exchange, Kept, Seat};
@@ -25,15 +25,20 @@ pub struct Mismatch {
 
 impl<D: Disk, L: Ledger> Kept<D, L> {
     /// Compares each host's transcript with its part of the history: Ok exactly where all four are the same, else the first
-    /// host of which they aren't, and the first place where they differ. At Ok each reply in a transcript is the one that the
+    /// host of which they aren't, and the first place where they differ. The history is legal in any case. At Ok each reply in a transcript is the one that the
     /// unit's own makings, growths, removals and commands before it give. It takes no memory, and walks the history once for each
     /// host.
     pub fn close(&self, seats: &[Seat<L>; 4]) -> Result<Report, Mismatch>
         requires order { map (λ (s : SeatState). s.host.number) seats.now ≡ 0 ∷ 1 ∷ 2 ∷ 3 ∷ [] }
+        ensures legal { IsLegal self.now.history }
+
+        // Where all four agree.
         ensures parts { OnOk result (All (IsHostsPart self.now.history) seats.now) }
         ensures commands { IfOk result (λ report. report.commands ≡ map (λ (s : SeatState). length s.transcript) seats.now) }
         ensures isolated { OnOk result (All (IsIsolated self.now.history) seats.now) }
         ensures none_else { IfOk result (λ report. sum report.commands ≡ count_by is_command self.now.history) }
+
+        // Where they don't.
         ensures mismatch { IfErr result (λ mismatch. IsFirstMismatch self.now.history seats.now mismatch.host.number mismatch.position) }
     {
         audited(self.history.as_slice(), seats)

@@ -7,7 +7,7 @@ ghost use Rattle.ar_history.specs.Kept.{exchange_of};
 ghost use Rattle.ar_history.specs.Serving.{Serves, Begins, DoesCommand, HasPlace, LeavesBlocks, GrowsNothing, IsBusyFor, with_reply};
 
 use crate::entry::shared;
-use crate::operate::is_lost;
+use crate::operate::{is_lost, reserve_place};
 use crate::{Entry, Exchange, Kept, Seat};
 use ar_core::{Array, EventOf, OutcomeOf};
 use ar_disks::{Disk, Host};
@@ -47,6 +47,10 @@ impl<D: Disk + Drop, L: Ledger> Kept<D, L> {
         ensures begun { HasPlace self.old seat.old payload → Begins self.old.array seat.old.host lun cdb payload result.reply self.new.array }
         ensures busy { is_busy result.reply.status ≡ true → LeavesBlocks self.old.array self.new.array }
         ensures lost { is_broken self.old.array ≡ true → GrowsNothing self.old seat.old self.new seat.new }
+
+        // A list that has a place asks for no other.
+        ensures placed { length self.old.history < self.old.room → self.new.room ≡ self.old.room }
+        ensures seat_placed { length seat.old.transcript < seat.old.room → seat.new.room ≡ seat.old.room }
     {
         if is_lost(&self.array) {
             return self.unrecorded(seat.host, lun, cdb, payload);
@@ -83,14 +87,16 @@ impl<D: Disk + Drop, L: Ledger> Kept<D, L> {
         ensures room { OnOk result (length self.new.history < self.new.room) }
         ensures seat_room { OnOk result (length seat.new.transcript < seat.new.room) }
         ensures granted { HasPlace self.old seat.old payload.now → IsOk result }
+        ensures placed { length self.old.history < self.old.room → self.new.room ≡ self.old.room }
+        ensures seat_placed { length seat.old.transcript < seat.old.room → seat.new.room ≡ seat.old.room }
 
         ensures array { self.new.array ≡ self.old.array }
         ensures history { self.new.history ≡ self.old.history }
         ensures transcript { seat.new.transcript ≡ seat.old.transcript }
         ensures host { seat.new.host ≡ seat.old.host }
     {
-        self.history.reserve(1)?;
-        seat.transcript.reserve(1)?;
+        reserve_place(&mut self.history)?;
+        reserve_place(&mut seat.transcript)?;
         Draft::new(lun, cdb, payload)
     }
 
@@ -104,6 +110,8 @@ impl<D: Disk + Drop, L: Ledger> Kept<D, L> {
         ensures serves { Serves self.old seat.old draft.ours.lun draft.ours.cdb payload result.reply result.at self.new seat.new }
         ensures begun { Begins self.old.array seat.old.host draft.ours.lun draft.ours.cdb payload result.reply self.new.array }
         ensures host { seat.new.host ≡ seat.old.host }
+        ensures kept_room { self.new.room ≡ self.old.room }
+        ensures kept_seat_room { seat.new.room ≡ seat.old.room }
     {
         let reply = command(
             &mut self.array,
@@ -226,6 +234,8 @@ fn record<L: Ledger>(
     ensures total { book.new.total ≡ book.old.total + 1 }
     ensures transcript { seat.new.transcript ≡ seat.old.transcript ++ draft.theirs ∷ [] }
     ensures host { seat.new.host ≡ seat.old.host }
+    ensures kept_room { vec_capacity history.new ≡ vec_capacity history.old }
+    ensures kept_seat_room { seat.new.room ≡ seat.old.room }
 {
     let Draft { ours, theirs } = draft;
     let at = history.len() as u64;

@@ -47,6 +47,10 @@ impl<D: Disk, L: Ledger> Kept<D, L> {
         ensures history { result.0.history ≡ [] }
         ensures hosts { map (λ (s : SeatState). s.host.number) result.1 ≡ 0 ∷ 1 ∷ 2 ∷ 3 ∷ [] }
         ensures transcripts { map (λ (s : SeatState). s.transcript) result.1 ≡ [] ∷ [] ∷ [] ∷ [] ∷ [] }
+
+        // No memory is asked for: neither the history nor a transcript has a place yet.
+        ensures room { result.0.room ≡ 0 }
+        ensures rooms { map (λ (s : SeatState). s.room) result.1 ≡ 0 ∷ 0 ∷ 0 ∷ 0 ∷ [] }
     {
         let (book, mut rest) = blank.open::<L>();
         let kept = Kept {
@@ -81,6 +85,7 @@ fn seats<L: Ledger>(alloc: Global, share: &mut Share<L>) -> [Seat<L>; 4]
     requires amount { share.old.amount ≡ 0 }
     ensures hosts { map (λ (s : SeatState). s.host.number) result ≡ 0 ∷ 1 ∷ 2 ∷ 3 ∷ [] }
     ensures transcripts { map (λ (s : SeatState). s.transcript) result ≡ [] ∷ [] ∷ [] ∷ [] ∷ [] }
+    ensures rooms { map (λ (s : SeatState). s.room) result ≡ 0 ∷ 0 ∷ 0 ∷ 0 ∷ [] }
 {
     [
         seat(alloc, share, 0),
@@ -97,6 +102,7 @@ fn seat<L: Ledger>(alloc: Global, share: &mut Share<L>, number: u8) -> Seat<L>
     requires amount { share.old.amount ≡ 0 }
     ensures host { result.host.number ≡ number }
     ensures transcript { result.transcript ≡ [] }
+    ensures room { result.room ≡ 0 }
     ensures parts { share.new.parts + 1 ≡ share.old.parts }
     ensures amount { share.new.amount ≡ 0 }
 {

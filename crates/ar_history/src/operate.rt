@@ -1,5 +1,5 @@
 // Operations and work in the background.
-ghost use Rattle.std.specs.Prelude.{◌≡◌, ◌⊎◌, ◌<◌, ◌++◌, true, false, Some, IsTrue, length};
+ghost use Rattle.std.specs.Prelude.{◌≡◌, ◌⊎◌, ◌<◌, ◌++◌, true, false, Some, None, IsTrue, IsOk, OnOk, length, vec_len, vec_capacity};
 ghost use Rattle.ar_image.specs.Image.{is_broken, image};
 ghost use Rattle.ar_image.specs.Sectors.{Address};
 ghost use Rattle.ar_core.specs.Step.{Steps, is_quiet};
@@ -9,6 +9,7 @@ ghost use Rattle.ar_history.specs.Operations.{Does, event_of, event_in, entry_as
 use crate::{Entry, Kept, Operation, OperationOf, Task};
 use ar_core::{Array, Event, EventOf, Health, Outcome, OutcomeOf, Refusal, UnitRefusal};
 use ar_disks::{Addr, Disk};
+use std::alloc::AllocError;
 use std::sync::ledger::Ledger;
 
 const NO_MEMORY: Refusal = Refusal::Unit(UnitRefusal::NoMemory);
@@ -16,13 +17,16 @@ const NO_MEMORY: Refusal = Refusal::Unit(UnitRefusal::NoMemory);
 impl<D: Disk + Drop, L: Ledger> Kept<D, L> {
     /// Does one operation, and answers it as the array does. A making, a growth or a removal for which the history can't grow is
     /// refused for want of memory, and nothing has changed then; one that is done is the history's next entry. Nothing else
-    /// changes the history.
+    /// changes the history. Memory is asked for only where it is full, and never for another operation or a broken array, which
+    /// refuses each operation, so that nothing is recorded.
     pub fn operate(&mut self, operation: Operation<D>) -> Outcome<D>
         ensures does { Does self.old.array (event_of operation) result self.new.array }
         ensures recorded { self.new.history ≡ self.old.history ++ entry_of (event_of operation) result }
 
         // Want of memory is told only where the history has no place for an entry, or by the array.
         ensures begun { length self.old.history < self.old.room → Steps self.old.array (event_of operation) result self.new.array }
+        ensures placed { length self.old.history < self.old.room → self.new.room ≡ self.old.room }
+        ensures unasked { entry_asked (event_of operation) ≡ None → self.new.room ≡ self.old.room }
         ensures lost { is_broken self.old.array ≡ true → self.new.room ≡ self.old.room }
     {
         match operation {
@@ -56,6 +60,7 @@ impl<D: Disk + Drop, L: Ledger> Kept<D, L> {
         ensures does { Does self.old.array (EventOf.Make addr sectors) result self.new.array }
         ensures recorded { self.new.history ≡ self.old.history ++ entry_of (EventOf.Make addr sectors) result }
         ensures begun { length self.old.history < self.old.room → Steps self.old.array (EventOf.Make addr sectors) result self.new.array }
+        ensures placed { length self.old.history < self.old.room → self.new.room ≡ self.old.room }
         ensures lost { is_broken self.old.array ≡ true → self.new.room ≡ self.old.room }
     {
         if !self.can_record() {
@@ -68,6 +73,7 @@ impl<D: Disk + Drop, L: Ledger> Kept<D, L> {
         ensures does { Does self.old.array (EventOf.Grow addr sectors) result self.new.array }
         ensures recorded { self.new.history ≡ self.old.history ++ entry_of (EventOf.Grow addr sectors) result }
         ensures begun { length self.old.history < self.old.room → Steps self.old.array (EventOf.Grow addr sectors) result self.new.array }
+        ensures placed { length self.old.history < self.old.room → self.new.room ≡ self.old.room }
         ensures lost { is_broken self.old.array ≡ true → self.new.room ≡ self.old.room }
     {
         if !self.can_record() {
@@ -80,6 +86,7 @@ impl<D: Disk + Drop, L: Ledger> Kept<D, L> {
         ensures does { Does self.old.array (EventOf.Remove addr) result self.new.array }
         ensures recorded { self.new.history ≡ self.old.history ++ entry_of (EventOf.Remove addr) result }
         ensures begun { length self.old.history < self.old.room → Steps self.old.array (EventOf.Remove addr) result self.new.array }
+        ensures placed { length self.old.history < self.old.room → self.new.room ≡ self.old.room }
         ensures lost { is_broken self.old.array ≡ true → self.new.room ≡ self.old.room }
     {
         if !self.can_record() {
@@ -122,10 +129,23 @@ impl<D: Disk + Drop, L: Ledger> Kept<D, L> {
         ensures room { result ≡ true → is_broken self.new.array ≡ false → length self.new.history < self.new.room }
         ensures sound { result ≡ false → is_broken self.old.array ≡ false }
         ensures granted { length self.old.history < self.old.room → result ≡ true }
+        ensures placed { length self.old.history < self.old.room → self.new.room ≡ self.old.room }
         ensures lost { is_broken self.old.array ≡ true → self.new.room ≡ self.old.room }
     {
-        is_lost(&self.array) || self.history.reserve(1).is_ok()
+        is_lost(&self.array) || reserve_place(&mut self.history).is_ok()
     }
+}
+
+// Makes room for one more in a list that is full. One with a place stays as it is.
+pub(crate) fn reserve_place<T>(list: &mut Vec<T>) -> Result<(), AllocError>
+    ensures items { list.new.items ≡ list.old.items }
+    ensures place { OnOk result (vec_len list.new < vec_capacity list.new) }
+    ensures placed { vec_len list.old < vec_capacity list.old → IsOk result × (vec_capacity list.new ≡ vec_capacity list.old) }
+{
+    if list.len() < list.capacity() {
+        return Ok(());
+    }
+    list.reserve(1)
 }
 
 // Whether an array has lost its data.

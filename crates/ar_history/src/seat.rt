@@ -46,6 +46,7 @@ impl<L: Ledger> Seat<L> {
         requires { length self.old.transcript < self.old.room }
         ensures transcript { self.new.transcript ≡ self.old.transcript ++ exchange ∷ [] }
         ensures host { self.new.host ≡ self.old.host }
+        ensures room { self.new.room ≡ self.old.room }
         ensures total { book.new.total ≡ book.old.total + 1 }
     {
         self.transcript.push_reserved(exchange);
