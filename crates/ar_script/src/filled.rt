@@ -2,8 +2,9 @@
 ghost use Rattle.std.specs.Prelude.{◌≡◌, IfOk, OnOk, length, replicate};
 
 use crate::order::Data;
-use bytes::Bytes;
+use bytes::{Bytes, BytesMut};
 use std::alloc::{AllocError, Global};
+use std::mem;
 
 /// The data that a command had last. They are kept, since commands that follow one another often have the same.
 #[derive(Drop)]
@@ -35,14 +36,19 @@ impl Filled {
         self.bytes.clone()
     }
 
-    // Lets the last data go, and makes these.
+    // Makes these data of the last ones, in their memory where no one else holds them.
     fn fill(&mut self, alloc: Global, data: Data) -> Result<(), AllocError>
         ensures bytes { OnOk result (self.new.bytes ≡ replicate «data».len «data».byte) }
         ensures byte { OnOk result (self.new.byte ≡ «data».byte) }
     {
-        self.bytes = Bytes::new();
-        let bytes = vec![in alloc; data.byte; data.len as usize]?;
-        self.bytes = Bytes::from_vec(bytes)?;
+        let last = mem::replace(&mut self.bytes, Bytes::new());
+        let mut bytes = match last.reclaim() {
+            Some(bytes) => bytes,
+            None => BytesMut::new(alloc),
+        };
+        bytes.clear();
+        bytes.resize(data.len as usize, data.byte)?;
+        self.bytes = bytes.freeze()?;
         self.byte = data.byte;
         Ok(())
     }

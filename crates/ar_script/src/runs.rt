@@ -2,7 +2,7 @@
 ghost use Rattle.std.specs.Prelude.{◌+◌, ◌<◌, ◌≤◌, length};
 
 /// How many bytes are looked at one by one before whole slices are compared.
-const NEAR: usize = 16;
+const NEAR: usize = 8;
 
 /// How many bytes at the front are equal.
 pub fn run_len(bytes: &[u8]) -> usize
@@ -14,7 +14,18 @@ pub fn run_len(bytes: &[u8]) -> usize
     if near < NEAR {
         return near;
     }
+    if is_as_before(bytes, near) {
+        return bytes.len();
+    }
     far_len(bytes, near)
+}
+
+// Whether each byte from a place on is the one before it: most replies are one run, and then this is the whole search.
+fn is_as_before(bytes: &[u8], place: usize) -> bool
+    requires some { 0 < place }
+    requires within { place ≤ length bytes.now }
+{
+    bytes[place..] == bytes[place - 1..bytes.len() - 1]
 }
 
 // The same, looked for among the first few.

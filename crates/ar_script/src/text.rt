@@ -61,15 +61,15 @@ fn write_reply<W: Write>(out: &mut W, reply: &Reply, notation: Notation) -> io::
 
 // Writes `good` and the bytes that came with it.
 fn write_good<W: Write>(out: &mut W, bytes: &[u8], notation: Notation) -> io::Result<()> {
-    write!(out, "good")?;
-    if !bytes.is_empty() {
-        write!(out, " ")?;
+    if bytes.is_empty() {
+        return out.write_all(b"good\n");
     }
+    out.write_all(b"good ")?;
     match notation {
         Notation::Bytes => write_bytes(out, bytes)?,
         Notation::Runs => write_runs(out, bytes)?,
     }
-    writeln!(out)
+    out.write_all(b"\n")
 }
 
 fn write_flush<W: Write>(out: &mut W, flush: Flush) -> io::Result<()> {
@@ -228,7 +228,7 @@ fn write_runs<W: Write>(out: &mut W, bytes: &[u8]) -> io::Result<()> {
 // Writes the space that parts a word from the one before it.
 fn write_gap<W: Write>(out: &mut W, place: usize) -> io::Result<()> {
     if place > 0 {
-        write!(out, " ")?;
+        out.write_all(b" ")?;
     }
     Ok(())
 }

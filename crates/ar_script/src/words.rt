@@ -9,11 +9,18 @@ ghost use Rattle.ar_script.specs.Words.{IsNumber, IsBytePair, IsBlockWord};
 
 use std::alloc::{AllocError, Global};
 
+/// For how many words memory is asked for at once. No order has more.
+const MOST_WORDS: usize = 8;
+
 /// The words of a line. One space parts two words, so that more spaces, and those at an end, make empty words.
 pub fn split_words(alloc: Global, line: &str) -> Result<Vec<&str>, AllocError>
     ensures { IfOk result (λ words. map (λ word. word.now) words.items ≡ slice_split (λ byte. byte == 32) line.now) }
 {
-    line.split(' ').collect(alloc)
+    let mut words = Vec::with_capacity(alloc, MOST_WORDS)?;
+    for word in line.split(' ') {
+        words.push(word)?;
+    }
+    Ok(words)
 }
 
 /// The number that a word says: 1 to 10 decimal digits.
