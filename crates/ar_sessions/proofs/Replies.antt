@@ -25,7 +25,7 @@ use Rattle.ar_unit.proofs.Pieces.{length-concat}
 use Rattle.ar_image.specs.Sectors.{Address}
 use Rattle.ar_image.specs.Image.{is_broken}
 use Rattle.ar_history.specs.History.{replay, entries_at}
-use Rattle.ar_history.specs.Kept.{KeptState, standing, with_mark}
+use Rattle.ar_history.specs.Kept.{KeptState, standing, with_attention}
 use Rattle.ar_history.specs.Seat.{SeatState}
 use Rattle.ar_history.specs.Serving.{Serves, IsUnrecorded}
 use Rattle.ar_frames.specs.Frame.{IsReply}
@@ -115,7 +115,7 @@ run_whole : (state : UnitState) (entries : List Entry) → IsWhole state → IsW
 run_whole state [] whole = whole
 run_whole state (entry ∷ entries) whole = run_whole (after state entry) entries (after-whole state entry whole)
 
-marked_whole : (mark : Bool) (state : UnitState) → IsWhole state → IsWhole (with_mark mark state)
+marked_whole : (mark : Bool) (state : UnitState) → IsWhole state → IsWhole (with_attention mark state)
 marked_whole mark Absent whole = whole
 marked_whole mark (Present sectors attention) whole = whole
 

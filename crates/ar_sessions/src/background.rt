@@ -18,35 +18,64 @@ const FEW_GROUPS: u32 = 3;
 /// How many turns a round has.
 const ROUND: u32 = 5;
 
-/// For how many milliseconds the lock is left alone after a round in which nothing was done.
-const PAUSE: u64 = 1;
+/// For how many milliseconds the lock is left alone after the first round in which nothing was done.
+const SHORTEST_PAUSE: u64 = 1;
+
+/// And at most, after many of them in a row. So long may blocks of the cache wait, too, when hosts write again.
+const LONGEST_PAUSE: u64 = 16;
+
+// How long nothing was done.
+#[derive(Clone, Copy)]
+struct Idleness {
+    // For how many turns since the last pause.
+    turns: u32,
+    // For how many milliseconds the next pause is.
+    pause: u64,
+}
 
 /// Works in the background until `stop` is set: one task a turn, in the rotation Flush, Rebuild, Clean, Balance, Demote. Each
-/// turn takes the lock once. After a round in which there was nothing to do it sleeps, so that it costs the sessions little.
+/// turn takes the lock once. After a round in which there was nothing to do it sleeps, so that it costs the sessions little,
+/// and twice as long after the next such round, up to a bound.
 pub fn run_background<R: Wait + Clock, D: Disk + Drop, L: Ledger>(
     rt: &R,
     kept: &Mutex<Kept<D, L>>,
     stop: &AtomicBool,
 ) {
     let mut task = Task::Flush;
-    let mut idle: u32 = 0;
+    let mut idleness = Idleness::NONE;
     for _ in rt.forever() {
         if stop.load(Ordering::SeqCst) {
             break;
         }
         let has_worked = take_turn(&mut kept.lock(rt), task);
-        idle = if has_worked {
-            0
-        } else {
-            idle.saturating_add(1)
-        };
-        if idle >= ROUND {
-            thread::sleep(rt, Duration::from_millis(PAUSE));
-            idle = 0;
-        } else {
-            thread::yield_now();
+        match idleness.after_turn(has_worked) {
+            Some(pause) => thread::sleep(rt, Duration::from_millis(pause)),
+            None => thread::yield_now(),
         }
         task = next(task);
+    }
+}
+
+impl Idleness {
+    const NONE: Idleness = Idleness {
+        turns: 0,
+        pause: SHORTEST_PAUSE,
+    };
+
+    // Counts a turn, and says for how many milliseconds to pause before the next one, if at all.
+    fn after_turn(&mut self, has_worked: bool) -> Option<u64> {
+        if has_worked {
+            *self = Idleness::NONE;
+            return None;
+        }
+        self.turns = self.turns.saturating_add(1);
+        if self.turns < ROUND {
+            return None;
+        }
+        let pause = self.pause;
+        self.turns = 0;
+        self.pause = pause.saturating_mul(2).min(LONGEST_PAUSE);
+        Some(pause)
     }
 }
 
