@@ -6,14 +6,14 @@ use std::alloc::Global;
 use std::process::Abort;
 use std::test::Fail;
 
-const LOGIN: &[u8] = b"ARAIDHO1\x00";
+pub const LOGIN: &[u8] = b"ARAIDHO1\x00";
 
 // TEST UNIT READY of tag 1 to LUN 0, where no unit is.
-const ABSENT: &[u8] =
+pub const ABSENT: &[u8] =
     b"\x00\x00\x00\x19\x00\x00\x00\x00\x00\x00\x00\x01\x00\x00\x00\x00\x00\x00\x00\x00\x00\x00\x00\x00\x00\x00\x00\x00\x00";
 
 // Its reply: CHECK CONDITION with 05/25/00.
-const REFUSED: &[u8] =
+pub const REFUSED: &[u8] =
     b"\x00\x00\x00\x1C\x00\x00\x00\x00\x00\x00\x00\x01\x02\x12\x70\x00\x05\x00\x00\x00\x00\x0A\x00\x00\x00\x00\x25\x00\x00\x00\x00\x00";
 
 // A command of tag 2 to LUN 7 with four bytes, and its reply, which gives them back.
@@ -41,11 +41,11 @@ fn plays(
     was_left(rt, input, reader.len(), left);
 }
 
-fn ends(rt: &impl Abort, input: &[u8], end: SessionEnd, frames: u64, why: Why) {
+pub fn ends(rt: &impl Abort, input: &[u8], end: SessionEnd, frames: u64, why: Why) {
     assert!(rt; end == SessionEnd { frames, why }, "{end:?} over {input:?}");
 }
 
-fn wrote(rt: &impl Abort, input: &[u8], written: &[u8], wanted: &[u8]) {
+pub fn wrote(rt: &impl Abort, input: &[u8], written: &[u8], wanted: &[u8]) {
     assert!(rt; written == wanted, "{written:?} over {input:?}");
 }
 
@@ -54,7 +54,7 @@ fn was_left(rt: &impl Abort, input: &[u8], left: usize, wanted: usize) {
 }
 
 // These pieces one after the other.
-fn joined(rt: &impl Abort, alloc: Global, pieces: &[&[u8]]) -> Vec<u8> {
+pub fn joined(rt: &impl Abort, alloc: Global, pieces: &[&[u8]]) -> Vec<u8> {
     let mut all = Vec::new(alloc);
     for piece in pieces {
         all.extend_from_slice(piece).expect(rt, "memory");
@@ -239,29 +239,8 @@ fn the_most_frames(rt: HostRuntime) {
     counts(&rt, port.commands, 1_000_000);
 }
 
-fn counts(rt: &impl Abort, count: u64, wanted: u64) {
+pub fn counts(rt: &impl Abort, count: u64, wanted: u64) {
     assert!(rt; count == wanted, "{count} for {wanted}");
-}
-
-// 65,535 sectors are given to the port, and the next frame is answered.
-#[test]
-fn the_largest_frame(rt: HostRuntime) {
-    let alloc = rt.alloc();
-    let largest =
-        b"\x01\xFF\xFE\x19\x00\x00\x00\x00\x00\x00\x00\x01\x00\x2A\x00\x00\x00\x00\x00\x00\xFF\xFF\x00\x00\x00\x00\x00\x00\x00";
-    let front = joined(&rt, alloc, &[LOGIN, largest]);
-    let mut reader = Repeats {
-        front: &front,
-        frame: ABSENT,
-        at: 0,
-        end: 9 + 29 + 33_553_920,
-    };
-    let mut writer = Counter { bytes: 0, calls: 0 };
-    let mut port = Fake::new();
-    let end = serve(alloc, &mut reader, &mut writer, &mut port);
-    ends(&rt, largest, end, 1, Why::End);
-    counts(&rt, writer.bytes, 33);
-    counts(&rt, port.bytes, 33_553_920);
 }
 
 // The client's login and command are those bytes, and the session's output is its input.

@@ -183,10 +183,10 @@ fn operated<L: Ledger>(
     call: Call,
 ) -> Result<Answer, AllocError> {
     if let Call::Work(task) = call {
-        return Ok(answer_of(rig.background(task)));
+        return Ok(answer_of(&rig.background(task)));
     }
     match operation(alloc, shape, call)? {
-        Some(operation) => Ok(answer_of(rig.operate(operation))),
+        Some(operation) => Ok(answer_of(&rig.operate(operation))),
         None => Ok(Answer::Other),
     }
 }
@@ -312,16 +312,21 @@ fn check_answer(sense: Option<[u8; 18]>) -> Answer {
     Answer::Other
 }
 
-fn changed(outcome: Outcome<FuseDisk>) -> Answer {
+/// What a making, a growth, a removal, or a disk that came or went is answered.
+pub fn changed(outcome: &Outcome<FuseDisk>) -> Answer {
     match outcome {
-        OutcomeOf::Make(done)
-        | OutcomeOf::Grow(done)
-        | OutcomeOf::Remove(done)
-        | OutcomeOf::DiskOut(done) => done.map_or_else(refused, |_| Answer::Done),
-        OutcomeOf::AddDisk(done) | OutcomeOf::Replace(done) => match done {
-            Ok(()) => Answer::Done,
-            Err((refusal, _)) => refused(refusal),
-        },
+        OutcomeOf::Make(Ok(()))
+        | OutcomeOf::Grow(Ok(()))
+        | OutcomeOf::Remove(Ok(()))
+        | OutcomeOf::DiskOut(Ok(()))
+        | OutcomeOf::AddDisk(Ok(()))
+        | OutcomeOf::Replace(Ok(())) => Answer::Done,
+        OutcomeOf::Make(Err(refusal))
+        | OutcomeOf::Grow(Err(refusal))
+        | OutcomeOf::Remove(Err(refusal))
+        | OutcomeOf::DiskOut(Err(refusal))
+        | OutcomeOf::AddDisk(Err((refusal, _)))
+        | OutcomeOf::Replace(Err((refusal, _))) => refused(*refusal),
         _ => Answer::Other,
     }
 }
@@ -334,8 +339,8 @@ fn refused(refusal: Refusal) -> Answer {
     }
 }
 
-fn worked(outcome: Outcome<FuseDisk>) -> Answer {
-    match outcome {
+fn worked(outcome: &Outcome<FuseDisk>) -> Answer {
+    match *outcome {
         OutcomeOf::Balance(Balance::Shifted { group, from, to }) => {
             Answer::Shifted(group, from, to)
         }
@@ -349,7 +354,7 @@ fn worked(outcome: Outcome<FuseDisk>) -> Answer {
 }
 
 // Of work that moves or flushes a block.
-fn moved(outcome: Outcome<FuseDisk>) -> Answer {
+fn moved(outcome: &Outcome<FuseDisk>) -> Answer {
     match outcome {
         OutcomeOf::Flush(Flush::Flushed(_))
         | OutcomeOf::Demote(Move::Moved { .. })
@@ -373,41 +378,36 @@ fn closed<L: Ledger>(rig: &Rig<L>) -> Answer {
 
 /// Has an array run the same calls, as far as they are events, and compares its answers.
 pub fn run<R: Abort + AllocGlobal>(rt: &R, shape: Shape, rows: &[Row]) -> Result<(), Fail> {
-    let met = answers(rt.alloc(), shape, rows)?;
-    compare(rt, &met, &wanted(rt.alloc(), rows)?);
+    compare(rt, &outcomes(rt.alloc(), shape, rows)?, rows);
     Ok(())
 }
 
-fn compare(rt: &impl Abort, met: &[Answer], wanted: &[Answer]) {
-    assert!(rt; met == wanted, "{met:?} in place of {wanted:?}");
-}
-
-// What is wanted of the calls that are events.
-fn wanted(alloc: Global, rows: &[Row]) -> Result<Vec<Answer>, AllocError> {
-    let mut wanted = Vec::new(alloc);
-    for (call, answer) in rows {
-        if is_event(*call) {
-            wanted.push(*answer)?;
-        }
-    }
-    Ok(wanted)
-}
-
-fn answers(alloc: Global, shape: Shape, rows: &[Row]) -> Result<Vec<Answer>, Fail> {
+fn outcomes(alloc: Global, shape: Shape, rows: &[Row]) -> Result<Vec<Outcome<FuseDisk>>, Fail> {
     let events = events(alloc, shape, rows)?;
-    let mut array = array(alloc, shape)?;
-    match array.run(alloc, events) {
-        Ok(outcomes) => Ok(answers_of(alloc, outcomes)?),
+    match array(alloc, shape)?.run(alloc, events) {
+        Ok(outcomes) => Ok(outcomes),
         Err(_) => Err(Fail::new("no memory")),
     }
 }
 
-fn answers_of(alloc: Global, outcomes: Vec<Outcome<FuseDisk>>) -> Result<Vec<Answer>, AllocError> {
-    let mut answers = Vec::new(alloc);
-    for outcome in outcomes {
-        answers.push(answer_of(outcome))?;
+// Each event's outcome is the answer that is wanted of its call.
+fn compare(rt: &impl Abort, outcomes: &[Outcome<FuseDisk>], rows: &[Row]) {
+    let mut number: usize = 0;
+    for (call, wanted) in rows {
+        if is_event(*call) {
+            let met = outcomes.get(number).map_or(Answer::Other, answer_of);
+            assert!(rt;
+                met == *wanted,
+                "{number}, {call:?}: {met:?} for {wanted:?}"
+            );
+            number = number.saturating_add(1);
+        }
     }
-    Ok(answers)
+    assert!(rt;
+        outcomes.len() == number,
+        "{} outcomes of {number}",
+        outcomes.len()
+    );
 }
 
 fn is_event(call: Call) -> bool {
@@ -470,9 +470,9 @@ fn new_disk(alloc: Global, shape: Shape) -> Result<NewDisk<FuseDisk>, AllocError
     Ok(NewDisk::new(disk(alloc, shape.extents)?))
 }
 
-fn answer_of(outcome: Outcome<FuseDisk>) -> Answer {
+fn answer_of(outcome: &Outcome<FuseDisk>) -> Answer {
     match outcome {
-        OutcomeOf::Cmd(reply) => reply_answer(&reply),
+        OutcomeOf::Cmd(reply) => reply_answer(reply),
         OutcomeOf::Balance(_) | OutcomeOf::Rebuild(_) => worked(outcome),
         OutcomeOf::Flush(_) | OutcomeOf::Demote(_) | OutcomeOf::Clean(_) => moved(outcome),
         outcome => changed(outcome),

@@ -1,62 +1,60 @@
-// A drawn run: commands of four hosts to their units, with makings, growths, removals and work in the background between them.
-// Each reply is compared with that of a plain unit, and the audit with what was counted.
-ghost use Rattle.std.specs.Prelude.{◌≡◌};
+// A drawn run: commands of four hosts, with makings, growths, removals and work in the background between them. Each is answered
+// as plain lists say, which share no code with the array, and the audit tells what was counted.
+ghost use Rattle.std.specs.Prelude.{◌≡◌, ◌<◌, ◌^◌};
 
-use crate::calls::{block, filled, transfer, unit};
 use crate::rig::{Rig, Shape, array};
-use ar_core::{Outcome, OutcomeOf};
+use ar_agreement::{agrees, is_same, kind_of_work, unit_at};
 use ar_disks::FuseDisk;
-use ar_history::{OperationOf, Report, Task};
-use ar_scsi::{Reply, Status};
-use ar_unit::PlainUnit;
-use rand::rngs::SmallRng;
-use rand::{RngExt, SeedableRng};
-use std::alloc::{AllocError, Global};
+use ar_history::{Operation, OperationOf, Report, Served, Task};
+use ar_witness::{Answer, Ask, Command, Kind, Place, Run, Work};
+use bytes::Bytes;
 use std::marker::Brand;
 use std::process::Abort;
 use std::sync::ledger::{Blank, Ledger};
 use std::test::Fail;
 
 /// The commands of a run.
-const COMMANDS: u32 = 2_000;
+const COMMANDS: u64 = 20_000;
 
-/// The LUNs of each host that are drawn.
-const LUNS: u8 = 2;
+/// More than a run has of everything.
+const MOST: u32 = 50_000;
 
-/// The units as plain lists of sectors, and what was done so far.
-#[derive(Drop)]
-struct Plain {
-    units: Vec<PlainUnit>,
+/// Extents of each disk. All groups but one have room for six blocks each.
+const EXTENTS: u16 = 16;
+
+const ROOM: u32 = 6 * 15;
+
+/// How often each kind of answer comes at least.
+const WANTED: u32 = 100;
+
+/// How many commands each host has sent.
+#[derive(Clone, Copy)]
+struct Sent {
     commands: [u64; 4],
-    // Makings, growths and removals.
-    changes: u64,
-    good: u32,
-    with_data: u32,
 }
 
-fn no_units(alloc: Global) -> Result<Plain, AllocError> {
-    let mut units = Vec::new(alloc);
-    for _number in 0..4 * LUNS {
-        units.push(PlainUnit::new(alloc))?;
+impl Sent {
+    fn add(&mut self, host: u8) {
+        let count = &mut self.commands[usize::from(host % 4)];
+        *count = count.saturating_add(1);
     }
-    Ok(Plain {
-        units,
-        commands: [0; 4],
-        changes: 0,
-        good: 0,
-        with_data: 0,
-    })
-}
 
-// Where the unit at an address stands in the list.
-fn place(host: u8, lun: u8) -> usize {
-    usize::from(host % 4) * usize::from(LUNS) + usize::from(lun % LUNS)
+    fn total(&self) -> u64 {
+        let mut total: u64 = 0;
+        for count in self.commands {
+            total = total.saturating_add(count);
+        }
+        total
+    }
 }
 
 #[test]
-fn drawn_commands_are_answered_as_by_plain_units(rt: HostRuntime) -> Result<(), Fail> {
+fn drawn_commands_are_answered_as_by_plain_lists(rt: HostRuntime) -> Result<(), Fail> {
     for cache in [0, 2] {
-        let shape = Shape { extents: 16, cache };
+        let shape = Shape {
+            extents: EXTENTS,
+            cache,
+        };
         drawn_run::<Brand, HostRuntime>(&rt, shape, Blank::new(4))?;
     }
     Ok(())
@@ -71,183 +69,148 @@ fn drawn_run<L: Ledger, R: Abort + AllocGlobal>(
     requires parts { blank.parts ≡ L.parts }
     requires four { blank.parts ≡ 4 }
 {
-    let mut plain = no_units(rt.alloc())?;
     let mut rig: Rig<L> = Rig::start(rt.alloc(), blank, array(rt.alloc(), shape)?);
-    let mut rng = SmallRng::seed_from_u64(7);
-    for _ in 0..COMMANDS {
-        turn(rt, &mut rng, &mut plain, &mut rig)?;
-    }
-    is_audited(rt, &plain, &rig);
+    ask_all(rt, shape, &mut rig);
     Ok(())
 }
 
-// One command, and now and then a change or a piece of work before it.
-fn turn<L: Ledger, R: Abort + AllocGlobal>(
+fn ask_all<L: Ledger, R: Abort + AllocGlobal>(rt: &R, shape: Shape, rig: &mut Rig<L>) {
+    let mut run = Run::new(rt.alloc(), 7, ROOM);
+    let sent = ask_commands(rt, &mut run, rig);
+    is_audited(rt, &run, sent, rig);
+    each_kind_came(rt, shape, &run);
+}
+
+fn ask_commands<L: Ledger, R: Abort + AllocGlobal>(
     rt: &R,
-    rng: &mut SmallRng,
-    plain: &mut Plain,
+    run: &mut Run,
     rig: &mut Rig<L>,
-) -> Result<(), AllocError> {
-    let host = rng.random_range(0u8..4);
-    let lun = rng.random_range(0u8..LUNS);
-    match rng.random_range(0u8..20) {
-        0 | 1 => make_change(
-            plain,
-            rig,
-            host,
-            lun,
-            Change::Make(rng.random_range(1u32..16)),
-        )?,
-        2 => make_change(
-            plain,
-            rig,
-            host,
-            lun,
-            Change::Grow(rng.random_range(1u32..24)),
-        )?,
-        3 => make_change(plain, rig, host, lun, Change::Remove)?,
-        4..=8 => work(rt, rng, rig),
-        _ => {}
-    }
-    command(rt, rng, plain, rig, host, lun)
-}
-
-fn work<L: Ledger>(rt: &impl Abort, rng: &mut SmallRng, rig: &mut Rig<L>) {
-    let task = match rng.random_range(0u8..5) {
-        0 => Task::Flush,
-        1 => Task::Rebuild,
-        2 => Task::Clean,
-        3 => Task::Balance,
-        _ => Task::Demote,
-    };
-    let entries = rig.history().len();
-    let outcome = rig.background(task);
-    assert!(rt; rig.history().len() == entries, "{task:?} left an entry");
-    drop(outcome);
-}
-
-/// A change that is drawn.
-#[derive(Clone, Copy)]
-enum Change {
-    Make(u32),
-    Grow(u32),
-    Remove,
-}
-
-// Asks for a change, and makes it in the plain unit too where it was done.
-fn make_change<L: Ledger>(
-    plain: &mut Plain,
-    rig: &mut Rig<L>,
-    host: u8,
-    lun: u8,
-    change: Change,
-) -> Result<(), AllocError> {
-    let addr = unit(host, lun);
-    let outcome = rig.operate(match change {
-        Change::Make(sectors) => OperationOf::Make(addr, sectors),
-        Change::Grow(sectors) => OperationOf::Grow(addr, sectors),
-        Change::Remove => OperationOf::Remove(addr),
-    });
-    if is_done(&outcome) {
-        plain.changes = plain.changes.saturating_add(1);
-        if let Some(unit) = plain.units.get_mut(place(host, lun)) {
-            change_unit(unit, change)?;
+) -> Sent {
+    let mut sent = Sent { commands: [0; 4] };
+    for _ in 0..MOST {
+        if sent.total() == COMMANDS {
+            break;
         }
+        ask_next(rt, run, &mut sent, rig);
     }
-    Ok(())
+    sent
 }
 
-fn is_done(outcome: &Outcome<FuseDisk>) -> bool {
-    matches!(
-        outcome,
-        OutcomeOf::Make(Ok(())) | OutcomeOf::Grow(Ok(())) | OutcomeOf::Remove(Ok(()))
-    )
-}
-
-fn change_unit(unit: &mut PlainUnit, change: Change) -> Result<(), AllocError> {
-    match change {
-        Change::Make(sectors) => unit.make(sectors.max(1)),
-        Change::Grow(sectors) => unit.grow(sectors),
-        Change::Remove => {
-            unit.remove();
-            Ok(())
+fn ask_next<L: Ledger, R: Abort + AllocGlobal>(
+    rt: &R,
+    run: &mut Run,
+    sent: &mut Sent,
+    rig: &mut Rig<L>,
+) {
+    let (ask, wanted) = run.next(None).expect(rt, "memory");
+    match ask {
+        Ask::Make(place, sectors) => {
+            change(rt, rig, OperationOf::Make(unit_at(place), sectors), &wanted);
+        }
+        Ask::Grow(place, sectors) => {
+            change(rt, rig, OperationOf::Grow(unit_at(place), sectors), &wanted);
+        }
+        Ask::Remove(place) => change(rt, rig, OperationOf::Remove(unit_at(place)), &wanted),
+        Ask::Work(task) => run.tally.add(work(rt, task, rig)),
+        Ask::Command(command) => {
+            sent.add(command.place.host);
+            send(rt, command, &wanted, rig);
         }
     }
 }
 
-// A command, drawn and compared with what the plain unit answers.
-fn command<L: Ledger, R: Abort + AllocGlobal>(
-    rt: &R,
-    rng: &mut SmallRng,
-    plain: &mut Plain,
+// A making, growth or removal, which is an entry of the history where it is done.
+fn change<L: Ledger>(
+    rt: &impl Abort,
     rig: &mut Rig<L>,
-    host: u8,
-    lun: u8,
-) -> Result<(), AllocError> {
-    let (cdb, count) = block_of(rng);
-    let data = filled(rt.alloc(), count, rng.random_range(0u8..=255))?;
-    let Some(unit) = plain.units.get_mut(place(host, lun)) else {
-        return Ok(());
-    };
-    let wanted = unit.answer(rt.alloc(), &cdb, data.as_slice());
+    operation: Operation<FuseDisk>,
+    wanted: &Answer,
+) {
     let entries = rig.history().len();
-    let served = rig.host(host, lun, cdb, data);
-    assert!(rt;
-        served.reply == wanted,
-        "{cdb:?} to {host} {lun}: {:?} for {wanted:?}",
-        served.reply
-    );
-    assert!(rt;
-        served.at == Some(entries as u64),
-        "{:?} after {entries}",
-        served.at
-    );
-    assert!(rt;
-        rig.history().len() == entries.saturating_add(1),
-        "one entry"
-    );
-    count_command(plain, host, &wanted);
-    Ok(())
+    let outcome = rig.operate(operation);
+    assert!(rt; agrees(&outcome, wanted), "{outcome:?} for {wanted:?}");
+    grew(rt, rig.history().len(), entries, *wanted == Answer::Done);
 }
 
-fn count_command(plain: &mut Plain, host: u8, reply: &Reply) {
-    let count = &mut plain.commands[usize::from(host % 4)];
-    *count = count.saturating_add(1);
-    if reply.status == Status::Good {
-        plain.good = plain.good.saturating_add(1);
-    }
-    if reply.payload.len() >= 512 {
-        plain.with_data = plain.with_data.saturating_add(1);
+fn grew(rt: &impl Abort, entries: usize, before: usize, by_one: bool) {
+    let wanted = before.saturating_add(usize::from(by_one));
+    assert!(rt; entries == wanted, "{entries} entries for {wanted}");
+}
+
+fn work<L: Ledger>(rt: &impl Abort, work: Work, rig: &mut Rig<L>) -> Kind {
+    let entries = rig.history().len();
+    let outcome = rig.background(task_of(work));
+    assert!(rt; agrees(&outcome, &Answer::Open), "{work:?}: {outcome:?}");
+    grew(rt, rig.history().len(), entries, false);
+    kind_of_work(&outcome)
+}
+
+fn task_of(work: Work) -> Task {
+    match work {
+        Work::Flush => Task::Flush,
+        Work::Demote => Task::Demote,
+        Work::Clean => Task::Clean,
+        Work::Balance => Task::Balance,
+        Work::Rebuild => Task::Rebuild,
     }
 }
 
-// A command block, and how many sectors of data come with it.
-fn block_of(rng: &mut SmallRng) -> ([u8; 16], u8) {
-    let lba = rng.random_range(0u8..20);
-    let count = rng.random_range(0u8..5);
-    match rng.random_range(0u8..16) {
-        0 => ([0; 16], 0),
-        1 => (block([0x12, 0, 0, 0, 36, 0, 0, 0, 0, 0]), 0),
-        2 => (block([0x25, 0, 0, 0, 0, 0, 0, 0, 0, 0]), 0),
-        3 => (
-            block([rng.random_range(0u8..=255), 0, 0, 0, 0, 0, 0, 0, 0, 0]),
-            0,
-        ),
-        // Too little data.
-        4 => (transfer(0x2A, lba, count), 1),
-        5..=9 => (transfer(0x28, lba, count), 0),
-        _ => (transfer(0x2A, lba, count), count),
-    }
+fn send<L: Ledger>(rt: &impl Abort, command: Command, wanted: &Answer, rig: &mut Rig<L>) {
+    let Command { place, cdb, data } = command;
+    let payload = Bytes::from_vec(data).ok().expect(rt, "memory");
+    let entries = rig.history().len();
+    let served = rig.host(place.host, place.lun, cdb, payload);
+    is_answered(rt, place, cdb, &served, wanted);
+    is_recorded(rt, place, cdb, served.at, entries);
+    grew(rt, rig.history().len(), entries, true);
 }
 
-// What the audit tells, and that the run met replies of each kind.
-fn is_audited<L: Ledger>(rt: &impl Abort, plain: &Plain, rig: &Rig<L>) {
-    let commands = plain.commands;
+fn is_answered(rt: &impl Abort, place: Place, cdb: [u8; 16], served: &Served, wanted: &Answer) {
+    let is_wanted = match wanted {
+        Answer::Replied(reply) => is_same(&served.reply, reply),
+        _ => false,
+    };
+    assert!(rt;
+        is_wanted,
+        "{cdb:?} to {place:?}: {served:?} for {wanted:?}"
+    );
+}
+
+fn is_recorded(rt: &impl Abort, place: Place, cdb: [u8; 16], at: Option<u64>, entries: usize) {
+    assert!(rt;
+        at == Some(entries as u64),
+        "{cdb:?} to {place:?}: {at:?} after {entries} entries"
+    );
+}
+
+// Each host's commands stand in its transcript and in the history, beside what was changed.
+fn is_audited<L: Ledger>(rt: &impl Abort, run: &Run, sent: Sent, rig: &Rig<L>) {
+    let commands = sent.commands;
     let met = rig.close();
     assert!(rt; met == Ok(Report { commands }), "{met:?} of {commands:?}");
-    let entries = plain.changes.saturating_add(u64::from(COMMANDS));
-    assert!(rt; rig.history().len() as u64 == entries, "{entries} entries");
-    assert!(rt; plain.changes > 100, "{} changes", plain.changes);
-    assert!(rt; plain.good > 500, "{} times GOOD", plain.good);
-    assert!(rt; plain.with_data > 100, "{} times data", plain.with_data);
+    let changes = count(run, Kind::Made) + count(run, Kind::Grown) + count(run, Kind::Removed);
+    let entries = rig.history().len() as u64;
+    assert!(rt;
+        entries == COMMANDS + changes,
+        "{entries} entries with {changes} changes"
+    );
+}
+
+fn count(run: &Run, kind: Kind) -> u64
+    ensures { result < 2 ^ 32 }
+{
+    u64::from(run.tally.count(kind))
+}
+
+// A run that never met an answer would say nothing of it.
+fn each_kind_came(rt: &impl Abort, shape: Shape, run: &Run) {
+    let lacking = run.tally.lacks(WANTED);
+    assert!(rt; lacking.is_none(), "{lacking:?} is rare, {shape:?}");
+    let flushed = run.tally.count(Kind::Flushed);
+    assert!(rt;
+        (flushed >= WANTED) == (shape.cache > 0),
+        "{flushed} flushed, {shape:?}"
+    );
+    let other = run.tally.count(Kind::Other);
+    assert!(rt; other == 0, "{other} other answers, {shape:?}");
 }

@@ -1,12 +1,11 @@
 // Transcripts that were tampered with, beside the history of which they were a part.
 ghost use Rattle.std.specs.Prelude.{◌≡◌};
 
-use crate::calls::{Answer, Call, make_calls};
+use crate::calls::{Answer, Call, filled, make_calls};
 use crate::rig::{FOUR_GROUPS, Rig, array};
 use ar_disks::Host;
 use ar_history::{Entry, Exchange, first_difference};
 use ar_scsi::{Reply, Sense};
-use bytes::Bytes;
 use std::alloc::{AllocError, Global};
 use std::marker::Brand;
 use std::process::Abort;
@@ -166,17 +165,24 @@ fn forged_line(
     forgery: Forgery,
 ) -> Result<Exchange, AllocError> {
     let mut copy = copied(line)?;
+    forge_line(alloc, &mut copy, number, forgery)?;
+    Ok(copy)
+}
+
+fn forge_line(
+    alloc: Global,
+    copy: &mut Exchange,
+    number: usize,
+    forgery: Forgery,
+) -> Result<(), AllocError> {
     match forgery {
         Forgery::Reply(place) if place == number => {
             copy.reply = Reply::check(Sense::INTERNAL_TARGET_FAILURE);
         }
         Forgery::Lun(place) if place == number => copy.lun = 1,
         Forgery::Block(place) if place == number => copy.cdb[15] = 1,
-        Forgery::Data(place) if place == number => {
-            let bytes = vec![in alloc; 0xA3; 1024]?;
-            copy.payload = Bytes::from_vec(bytes)?;
-        }
+        Forgery::Data(place) if place == number => copy.payload = filled(alloc, 2, 0xA3)?,
         _ => {}
     }
-    Ok(copy)
+    Ok(())
 }

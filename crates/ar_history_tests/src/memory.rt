@@ -2,11 +2,11 @@
 // last test goes on after any one of them.
 ghost use Rattle.std.specs.Prelude.{◌≡◌};
 
-use crate::calls::{block, filled, unit};
+use crate::calls::{Answer, block, changed, filled, unit};
 use crate::rig::{FOUR_GROUPS, Rig, array};
-use ar_core::{NewDisk, OutcomeOf, Refusal, UnitRefusal};
+use ar_core::UnitRefusal;
 use ar_disks::FuseDisk;
-use ar_history::{OperationOf, Report, Served};
+use ar_history::{Operation, OperationOf, Report, Served};
 use ar_scsi::{Reply, Sense, Status};
 use bytes::Bytes;
 use std::alloc::{AllocError, Global};
@@ -17,21 +17,30 @@ use std::test::Fail;
 
 const TEST_UNIT_READY: [u8; 16] = [0; 16];
 
+/// More than is ever given at once.
+const MOST_MEMORY: usize = 1 << 44;
+
 // Takes the address space in pieces, the largest that are given first, down to 512 bytes.
 fn take_all_memory(alloc: Global, held: &mut Vec<Vec<u8>>) {
-    let mut size: usize = 1 << 44;
+    let mut size = MOST_MEMORY;
     for _ in 0..36 {
-        for _ in 0..20_000 {
-            match Vec::with_capacity(alloc, size) {
-                Ok(piece) => {
-                    if held.push(piece).is_err() {
-                        return;
-                    }
-                }
-                Err(_) => break,
-            }
-        }
+        take_pieces(alloc, held, size);
         size /= 2;
+    }
+}
+
+fn take_pieces(alloc: Global, held: &mut Vec<Vec<u8>>, size: usize) {
+    for _ in 0..20_000 {
+        if !is_taken(alloc, held, size) {
+            return;
+        }
+    }
+}
+
+fn is_taken(alloc: Global, held: &mut Vec<Vec<u8>>, size: usize) -> bool {
+    match Vec::with_capacity(alloc, size) {
+        Ok(piece) => held.push(piece).is_ok(),
+        Err(_) => false,
     }
 }
 
@@ -101,13 +110,8 @@ fn are_refused<L: Ledger>(rig: &mut Rig<L>) -> [bool; 4] {
     ]
 }
 
-fn is_no_memory<L: Ledger>(rig: &mut Rig<L>, operation: OperationOf<NewDisk<FuseDisk>>) -> bool {
-    let outcome = rig.operate(operation);
-    matches!(
-        outcome,
-        OutcomeOf::Make(Err(Refusal::Unit(UnitRefusal::NoMemory)))
-            | OutcomeOf::Remove(Err(Refusal::Unit(UnitRefusal::NoMemory)))
-    )
+fn is_no_memory<L: Ledger>(rig: &mut Rig<L>, operation: Operation<FuseDisk>) -> bool {
+    changed(&rig.operate(operation)) == Answer::UnitRefused(UnitRefusal::NoMemory)
 }
 
 fn is_busy<L: Ledger>(rig: &mut Rig<L>, cdb: [u8; 16]) -> bool {
@@ -199,19 +203,20 @@ fn ask_all<L: Ledger, R: Abort + AllocGlobal>(rt: &R, blank: Blank) -> Result<()
 }
 
 fn make_at_last<L: Ledger>(rt: &impl Abort, rig: &mut Rig<L>, host: u8) {
+    let addr = unit(host, 0);
     let entries = rig.history().len();
-    if !is_made(rig, host) {
+    if !is_made(rig, OperationOf::Make(addr, 4)) {
         assert!(rt;
             rig.history().len() == entries,
             "a refused making is recorded"
         );
-        assert!(rt; is_made(rig, host), "a making of host {host}");
+        let made = is_made(rig, OperationOf::Make(addr, 4));
+        assert!(rt; made, "a making of host {host}");
     }
 }
 
-fn is_made<L: Ledger>(rig: &mut Rig<L>, host: u8) -> bool {
-    let outcome = rig.operate(OperationOf::Make(unit(host, 0), 4));
-    matches!(outcome, OutcomeOf::Make(Ok(())))
+fn is_made<L: Ledger>(rig: &mut Rig<L>, operation: Operation<FuseDisk>) -> bool {
+    changed(&rig.operate(operation)) == Answer::Done
 }
 
 fn ask_at_last<L: Ledger, R: Abort + AllocGlobal>(

@@ -103,13 +103,19 @@ fn disks(alloc: Global, extents: u16) -> Result<Vec<FuseDisk>, AllocError>
     Ok(disks)
 }
 
-/// A sound disk.
+/// A sound disk. Where memory for it was refused, it is asked for once more.
 pub fn disk(alloc: Global, extents: u16) -> Result<FuseDisk, AllocError>
     ensures { IfOk result (λ disk. CanCount disk.disk) }
 {
-    let disk = match MemDisk::filled(alloc, Geometry::SMALL, extents, 0xEE) {
-        Ok(disk) => disk,
-        Err(_) => MemDisk::filled(alloc, Geometry::SMALL, extents, 0xEE)?,
-    };
+    match sound_disk(alloc, extents) {
+        Ok(disk) => Ok(disk),
+        Err(_) => sound_disk(alloc, extents),
+    }
+}
+
+fn sound_disk(alloc: Global, extents: u16) -> Result<FuseDisk, AllocError>
+    ensures { IfOk result (λ disk. CanCount disk.disk) }
+{
+    let disk = MemDisk::filled(alloc, Geometry::SMALL, extents, 0xEE)?;
     Ok(FuseDisk::new(disk, u64::MAX))
 }

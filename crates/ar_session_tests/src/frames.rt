@@ -1,4 +1,5 @@
 // Logins, requests and replies as bytes, by the table of the wire format.
+use ar_witness::PlainReply;
 use std::process::Abort;
 
 /// The login of a host.
@@ -58,4 +59,24 @@ pub fn put_check(rt: &impl Abort, to: &mut Vec<u8>, tag: u8, key: u8, asc: u8, a
             0x70, 0, key, 0, 0, 0, 0, 0x0A, 0, 0, 0, 0, asc, ascq, 0, 0, 0, 0,
         ],
     );
+}
+
+/// The reply that plain lists give.
+pub fn put_reply(rt: &impl Abort, to: &mut Vec<u8>, tag: u8, reply: &PlainReply) {
+    let sense: &[u8] = match &reply.sense {
+        Some(sense) => sense,
+        None => &[],
+    };
+    let sense_len = if reply.sense.is_some() { 18 } else { 0 };
+    put_count(
+        rt,
+        to,
+        sense
+            .len()
+            .saturating_add(reply.data.len())
+            .saturating_add(10),
+    );
+    put(rt, to, &[0, 0, 0, 0, 0, 0, 0, tag, reply.status, sense_len]);
+    put(rt, to, sense);
+    put(rt, to, &reply.data);
 }

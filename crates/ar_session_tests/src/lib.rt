@@ -5,6 +5,8 @@
 #[cfg(test)]
 mod background;
 #[cfg(test)]
+mod drawn;
+#[cfg(test)]
 mod frames;
 #[cfg(test)]
 mod gates;

@@ -28,10 +28,17 @@ pub struct Session {
 pub fn array(alloc: Global, cache: u32) -> Result<Array<MemDisk>, Fail>
     ensures { IfOk result (λ array. array.store.book.units ≡ []) }
 {
+    array_of(alloc, 4, cache)
+}
+
+/// A new array of four small disks of so many extents, with a cache of so many blocks.
+pub fn array_of(alloc: Global, extents: u16, cache: u32) -> Result<Array<MemDisk>, Fail>
+    ensures { IfOk result (λ array. array.store.book.units ≡ []) }
+{
     let setup = Setup {
         geometry: Geometry::SMALL,
         disks: 4,
-        extents: 4,
+        extents,
         cache,
     };
     start_array(alloc, setup).map_err(|_| Fail::from("an array"))

@@ -326,12 +326,23 @@ fn writes_runs<R: Abort + AllocGlobal>(rt: &R, len: usize) -> Result<(), AllocEr
     Ok(())
 }
 
+// Asserts how so many bytes are written that are all the same.
+fn writes_run<R: Abort + AllocGlobal>(rt: &R, len: usize) -> Result<(), AllocError> {
+    let bytes = padded(rt.alloc(), 0x5A, len, &[])?;
+    let text = format!(in rt.alloc(); "good {len}x5A\n")?;
+    let reply = Reply::good(Bytes::from_vec(bytes)?);
+    writes(rt, OutcomeOf::Cmd(reply), text.as_bytes());
+    Ok(())
+}
+
 #[test]
 fn runs_of_each_length(rt: HostRuntime) -> Result<(), Fail> {
     for len in 1..=200 {
+        writes_run(&rt, len)?;
         writes_runs(&rt, len)?;
     }
     for len in [511, 512, 513, 1_023, 1_024, 1_025, 65_535, 65_536] {
+        writes_run(&rt, len)?;
         writes_runs(&rt, len)?;
     }
     Ok(())
