@@ -25,3 +25,4 @@ pub mod IndexLemmas
 pub mod Searches
 pub mod Ages
 pub mod IndexAfter
+pub mod UnitPlaces
