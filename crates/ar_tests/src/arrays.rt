@@ -2,7 +2,7 @@
 ghost use Rattle.std.specs.Prelude.{All, map, IfOk};
 ghost use Rattle.ar_extents.specs.Set.{CanCount};
 
-use ar_core::Array;
+use ar_core::{Array, Event, Outcome};
 use ar_disks::{FuseDisk, Geometry, MemDisk};
 use std::alloc::{AllocError, Global};
 use std::test::Fail;
@@ -29,6 +29,19 @@ pub fn sound_array(alloc: Global, extents: u16, cache: u16) -> Result<Array<Fuse
         calls: u64::MAX,
     };
     fused_array(alloc, loss)
+}
+
+/// What an array of sound disks answers to events that it is given at once.
+pub fn done_at_once(
+    alloc: Global,
+    extents: u16,
+    cache: u16,
+    events: Vec<Event<FuseDisk>>,
+) -> Result<Vec<Outcome<FuseDisk>>, Fail> {
+    match sound_array(alloc, extents, cache)?.run(alloc, events) {
+        Ok(outcomes) => Ok(outcomes),
+        Err(_) => Err(Fail::new("the run is refused")),
+    }
 }
 
 /// An array of which one disk is lost after a number of calls.

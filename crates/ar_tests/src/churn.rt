@@ -1,12 +1,11 @@
 // Drawn events while disks fault, are taken out, replaced, rebuilt and added, one of them down at a time. In the end every block
 // is read back without each of the disks in turn.
 use crate::arrays::{Loss, fused_disk, fused_disks};
-use crate::drawn::draw;
-use crate::generated::{agrees, gain_of};
-use crate::plain::PlainArray;
-use ar_core::{Array, Balance, Event, EventOf, Health, NewDisk, OutcomeOf, Rebuild};
-use ar_disks::{Addr, FuseDisk, Host};
-use bytes::Bytes;
+use crate::generated::{gain_of, is_answered};
+use ar_agreement::event_of;
+use ar_core::{Array, Balance, EventOf, Health, NewDisk, OutcomeOf, Rebuild};
+use ar_disks::FuseDisk;
+use ar_witness::{Answer, Ask, Command, Place, Run};
 use rand::rngs::SmallRng;
 use rand::{RngExt, SeedableRng};
 use std::alloc::{AllocError, Global};
@@ -42,23 +41,24 @@ fn new_disk(alloc: Global, calls: u64) -> Result<NewDisk<FuseDisk>, AllocError> 
     Ok(NewDisk::new(fused_disk(alloc, EXTENTS, calls)?))
 }
 
-// Asserts what an event is answered, which plain lists say. Steps of balancing and rebuilds may be given up where a disk is lost.
+// Asserts what is answered to what an array is asked, which plain lists say.
 fn answers<R: Abort + AllocGlobal>(
     rt: &R,
-    plain: &mut PlainArray,
+    run: &mut Run,
     array: &mut Array<FuseDisk>,
-    event: Event<FuseDisk>,
+    ask: Ask,
+    wanted: &Answer,
 ) {
-    let wanted = plain.step(rt.alloc(), &event);
+    let event = event_of(ask).expect(rt, "memory");
     let outcome = array.step(rt.alloc(), event);
-    assert!(rt;
-        agrees(&outcome, &wanted) || is_given_up(&outcome),
-        "{outcome:?} for {wanted:?}"
-    );
+    if !is_given_up(&outcome) {
+        is_answered(rt, &outcome, wanted);
+    }
     assert!(rt; array.health() != Health::Broken, "{outcome:?}");
-    plain.gain(gain_of(&outcome));
+    run.lists.gain(gain_of(&outcome));
 }
 
+// Steps of balancing and rebuilds may be given up where a disk is lost.
 fn is_given_up<N>(outcome: &OutcomeOf<N>) -> bool {
     matches!(
         outcome,
@@ -183,46 +183,52 @@ fn settle<R: Abort + AllocGlobal>(
 }
 
 // Reads all blocks of all units that there may be.
-fn read_all<R: Abort + AllocGlobal>(rt: &R, plain: &mut PlainArray, array: &mut Array<FuseDisk>) {
-    for number in 0..4u8 {
-        for lun in 0..8u8 {
-            read_unit(rt, plain, array, unit(number, lun));
+fn read_all<R: Abort + AllocGlobal>(rt: &R, run: &mut Run, array: &mut Array<FuseDisk>) {
+    for host in 0..4 {
+        for lun in 0..8 {
+            read_unit(rt, run, array, Place { host, lun });
         }
     }
-}
-
-fn unit(number: u8, lun: u8) -> Addr {
-    let host = Host::new(number % 4).unwrap();
-    Addr { host, lun }
 }
 
 // Reads every two sectors of a unit of up to 22. A read past its end is refused by both.
 fn read_unit<R: Abort + AllocGlobal>(
     rt: &R,
-    plain: &mut PlainArray,
+    run: &mut Run,
     array: &mut Array<FuseDisk>,
-    addr: Addr,
+    place: Place,
 ) {
     for block in 0..11u8 {
-        answers(rt, plain, array, read(addr, block * 2));
+        read(rt, run, array, place, block * 2);
     }
 }
 
+fn read<R: Abort + AllocGlobal>(
+    rt: &R,
+    run: &mut Run,
+    array: &mut Array<FuseDisk>,
+    place: Place,
+    lba: u8,
+) {
+    let ask = read_of_two(rt.alloc(), place, lba);
+    let wanted = run.lists.step(&ask).expect(rt, "memory");
+    answers(rt, run, array, ask, &wanted);
+}
+
 // READ (10) of two sectors.
-fn read(addr: Addr, lba: u8) -> Event<FuseDisk> {
-    EventOf::Cmd {
-        host: addr.host,
-        lun: addr.lun,
+fn read_of_two(alloc: Global, place: Place, lba: u8) -> Ask {
+    Ask::Command(Command {
+        place,
         cdb: [0x28, 0, 0, 0, 0, lba, 0, 0, 2, 0, 0, 0, 0, 0, 0, 0],
-        payload: Bytes::new(),
-    }
+        data: Vec::new(alloc),
+    })
 }
 
 // Draws events and lets disks come and go, and then reads all blocks without each disk in turn.
 fn live<R: Abort + AllocGlobal>(
     rt: &R,
     trial: Trial,
-    plain: &mut PlainArray,
+    run: &mut Run,
     array: &mut Array<FuseDisk>,
 ) -> Result<(), AllocError> {
     let mut rng = SmallRng::seed_from_u64(trial.seed);
@@ -232,16 +238,20 @@ fn live<R: Abort + AllocGlobal>(
     };
     for _ in 0..EVENTS {
         disturb(rt, &mut rng, &mut disks, array)?;
-        let event = draw(rt.alloc(), &mut rng)?;
-        answers(rt, plain, array, event);
+        ask_next(rt, run, array);
     }
     settle(rt, disks, array)?;
     for disk in 0..disks.count {
         take_out(rt, disk, array);
-        read_all(rt, plain, array);
+        read_all(rt, run, array);
         renew(rt, disk, array)?;
     }
     Ok(())
+}
+
+fn ask_next<R: Abort + AllocGlobal>(rt: &R, run: &mut Run, array: &mut Array<FuseDisk>) {
+    let (ask, wanted) = run.next(None).expect(rt, "memory");
+    answers(rt, run, array, ask, &wanted);
 }
 
 // As many groups as the disks' extents make, of six blocks each, but for one that stays free.
@@ -270,8 +280,8 @@ fn run_on<R: Abort + AllocGlobal>(
 ) -> Result<(), AllocError> {
     let room = room_of(trial.disks);
     assert!(rt; array.free_room() == room, "{trial:?}");
-    let mut plain = PlainArray::new(rt.alloc(), room);
-    live(rt, trial, &mut plain, array)
+    let mut run = Run::new(rt.alloc(), trial.seed, room);
+    live(rt, trial, &mut run, array)
 }
 
 #[test]

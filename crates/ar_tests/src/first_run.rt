@@ -1,5 +1,5 @@
 // Events that an array does in one run.
-use crate::arrays::sound_array;
+use crate::arrays::done_at_once;
 use crate::calls::{Answer, Call, Row, event_of, is_answer};
 use ar_core::{Event, Outcome};
 use ar_disks::FuseDisk;
@@ -32,10 +32,7 @@ fn push_events(alloc: Global, events: &mut Vec<Event<FuseDisk>>) -> Result<(), A
 fn outcomes(alloc: Global, cache: u16) -> Result<Vec<Outcome<FuseDisk>>, Fail> {
     let mut events = Vec::new(alloc);
     push_events(alloc, &mut events)?;
-    match sound_array(alloc, 4, cache)?.run(alloc, events) {
-        Ok(outcomes) => Ok(outcomes),
-        Err(_) => Err(Fail::new("the run is refused")),
-    }
+    done_at_once(alloc, 4, cache, events)
 }
 
 fn answers(rt: &impl Abort, outcomes: &[Outcome<FuseDisk>], cache: u16) {

@@ -9,8 +9,6 @@ mod calls;
 #[cfg(test)]
 mod churn;
 #[cfg(test)]
-mod drawn;
-#[cfg(test)]
 mod first_run;
 #[cfg(test)]
 mod flushed;
@@ -20,8 +18,6 @@ mod fuses;
 mod generated;
 #[cfg(test)]
 mod mixed;
-#[cfg(test)]
-mod plain;
 #[cfg(test)]
 mod scarce;
 #[cfg(test)]
