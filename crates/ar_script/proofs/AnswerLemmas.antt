@@ -1,18 +1,12 @@
--- What calls answered, once their errors were replaced.
-use Rattle.std.proofs.Common.{◌≡◌, ◌∙◌, sym, subst, refl, Option, Result, Ok, Err, MatchResult, IsErrAnd, IfErr}
+-- What an order and a line leave, once what was answered is told.
+use Rattle.std.proofs.Common.{◌≡◌, sym, subst, refl, Option, Result, Ok, Err, IfErr}
 use Rattle.ar_image.specs.Image.{ArrayState}
-use Rattle.ar_script.specs.declared.fault.FaultKind.{FaultKind}
-use Rattle.ar_script.specs.declared.fault.FaultKind.TheVariants.{WriteFault}
-use Rattle.ar_script.specs.declared.order.Action.{Action}
-use Rattle.ar_script.specs.declared.order.Order.{Order}
-use Rattle.ar_script.specs.declared.order.Order.TheVariants.{Act}
+use Rattle.ar_orders.specs.declared.fault.FaultKind.{FaultKind}
+use Rattle.ar_orders.specs.declared.fault.FaultKind.TheVariants.{WriteFault}
+use Rattle.ar_orders.specs.declared.order.Action.{Action}
+use Rattle.ar_orders.specs.declared.order.Order.{Order}
+use Rattle.ar_orders.specs.declared.order.Order.TheVariants.{Act}
 use Rattle.ar_script.specs.Orders.{Acts, Leaves, Meets}
-
--- a result whose error was replaced, and that is Ok, was Ok before
-pub ok_before : {T E F : Type 0} (r : Result T E) (s : Result T F) (x : T) (Q : E → F → Type 0)
-    → MatchResult r (λ y. s ≡ Ok y) (λ e. IsErrAnd s (Q e)) → s ≡ Ok x → r ≡ Ok x
-ok_before (Ok y) s x Q h was = let same = sym h ∙ was in cc same
-ok_before (Err e) s x Q h was = absurd (rw was at h)
 
 -- an action that was done stays done where its answer could not be written
 pub acted : (action : Action) (old new : ArrayState) (r : Result (Unit {0}) FaultKind) → IfErr r (λ kind. kind ≡ WriteFault)

@@ -3,12 +3,12 @@ use Rattle.std.proofs.Common.{◌≡◌, ◌≢◌, ◌⊎◌, inl, inr, ℕ, su
 use Rattle.std.proofs.Math.Seq.{take-append_seam}
 use Rattle.std.proofs.lemmas.List.{get_or-append_right}
 use Rattle.ar_image.specs.Image.{ArrayState}
-use Rattle.ar_script.specs.declared.fault.Fault.{Fault}
-use Rattle.ar_script.specs.declared.fault.Fault.TheVariants.{Start, Line}
-use Rattle.ar_script.specs.declared.fault.FaultKind.{FaultKind}
-use Rattle.ar_script.specs.declared.fault.FaultKind.TheVariants.{TooManyLines, NoMemory, WriteFault}
-use Rattle.ar_script.specs.Forms.{ReadsLine}
-use Rattle.ar_script.specs.Lines.{Took, IsAllTaken, first_of, line_at, line_fault, IsOutside, IsToldOfNext, StopsAt, IsNumbered, IsOfLine}
+use Rattle.ar_orders.specs.declared.fault.Fault.{Fault}
+use Rattle.ar_orders.specs.declared.fault.Fault.TheVariants.{Start, Line}
+use Rattle.ar_orders.specs.declared.fault.FaultKind.{FaultKind}
+use Rattle.ar_orders.specs.declared.fault.FaultKind.TheVariants.{TooManyLines, NoMemory, WriteFault}
+use Rattle.ar_orders.specs.Forms.{ReadsLine}
+use Rattle.ar_orders.specs.Lines.{Took, IsAllTaken, first_of, line_at, line_fault, IsOutside, IsToldOfNext, StopsAt, IsNumbered, IsOfLine}
 use Rattle.ar_script.specs.Orders.{IsLost, Meets, MeetsLine}
 use Rattle.ar_script.specs.Plays.{AreFirst, AreAll, IsSo, PlaysScript, PlaysAll, PlaysTo}
 use Rattle.ar_script.proofs.Playing.{none_played, met_all, met_or_not}

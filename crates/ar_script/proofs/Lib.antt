@@ -1,9 +1,4 @@
 pub mod AnswerLemmas
-pub mod BlockLemmas
 pub mod Ending
-pub mod LineLemmas
-pub mod ParseLemmas
-pub mod Parting
 pub mod Playing
 pub mod StartLemmas
-pub mod WordLemmas

@@ -9,15 +9,15 @@ use Rattle.ar_core.specs.declared.event.EventOf.TheVariants.{AddDisk, Replace}
 use Rattle.ar_core.specs.Quiet.{LooksAt}
 use Rattle.ar_core.specs.Run.{Turn, Did, Looked, Meets as MeetsTurn}
 use Rattle.ar_core.proofs.Isolation.{no_turn, one_more}
-use Rattle.ar_script.specs.declared.fault.FaultKind.{FaultKind}
-use Rattle.ar_script.specs.declared.fault.FaultKind.TheVariants.{UnknownWord, BadArgument, LineTooLong, TooManyLines, BadCharacter, NoMemory, ReadFault, WriteFault}
-use Rattle.ar_script.specs.declared.order.Action.{Action}
-use Rattle.ar_script.specs.declared.order.Action.TheVariants as actions
-use Rattle.ar_script.specs.declared.order.Order.{Order}
-use Rattle.ar_script.specs.declared.order.Order.TheVariants.{Act, Ask}
-use Rattle.ar_script.specs.declared.order.Question.{Question}
-use Rattle.ar_script.specs.declared.order.Question.TheVariants.{Levels, Home, Groups, Room, Health, Picture, Block}
-use Rattle.ar_script.specs.Forms.{ReadsLine}
+use Rattle.ar_orders.specs.declared.fault.FaultKind.{FaultKind}
+use Rattle.ar_orders.specs.declared.fault.FaultKind.TheVariants.{UnknownWord, BadArgument, LineTooLong, TooManyLines, BadCharacter, NoMemory, ReadFault, WriteFault}
+use Rattle.ar_orders.specs.declared.order.Action.{Action}
+use Rattle.ar_orders.specs.declared.order.Action.TheVariants as actions
+use Rattle.ar_orders.specs.declared.order.Order.{Order}
+use Rattle.ar_orders.specs.declared.order.Order.TheVariants.{Act, Ask}
+use Rattle.ar_orders.specs.declared.order.Question.{Question}
+use Rattle.ar_orders.specs.declared.order.Question.TheVariants.{Levels, Home, Groups, Room, Health, Picture, Block}
+use Rattle.ar_orders.specs.Forms.{ReadsLine}
 use Rattle.ar_script.specs.Orders.{event_in, Acts, Leaves, Looks, Meets}
 use Rattle.ar_script.specs.Setups.{new_disk}
 use Rattle.ar_script.specs.Plays.{IsTurn, AsksFor, AsksNothing, AreMet, Plays}

@@ -1,10 +1,5 @@
-pub mod Blocks
-pub mod Forms
-pub mod Left
-pub mod Lines
+pub mod Ends
 pub mod Orders
-pub mod Parts
 pub mod Pictures
 pub mod Plays
 pub mod Setups
-pub mod Words

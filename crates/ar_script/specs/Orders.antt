@@ -1,4 +1,4 @@
--- What an array is asked for, how its answer is printed, and what answering leaves of it.
+-- What an array is asked for, and what answering leaves of it.
 use Rattle.std.specs.Prelude.{◌≡◌, ◌⊎◌, ℕ, false, List, Option, Some, None, Result, Ok, Err, replicate}
 use Rattle.ar_disks.specs.declared.address.Addr.{Addr}
 use Rattle.ar_disks.specs.declared.address.Place.{Place}
@@ -9,18 +9,16 @@ use Rattle.ar_core.specs.Views.{Shows}
 use Rattle.ar_image.specs.Image.{ArrayState, is_broken, image_at}
 use Rattle.ar_core.specs.Quiet.{LooksAt}
 use Rattle.ar_core.specs.Step.{Steps}
-use Rattle.ar_script.specs.declared.fault.FaultKind.{FaultKind}
-use Rattle.ar_script.specs.declared.fault.FaultKind.TheVariants.{NoMemory, WriteFault}
-use Rattle.ar_script.specs.Forms.{ReadsLine}
+use Rattle.ar_orders.specs.declared.fault.FaultKind.{FaultKind}
+use Rattle.ar_orders.specs.declared.fault.FaultKind.TheVariants.{NoMemory, WriteFault}
+use Rattle.ar_orders.specs.Forms.{ReadsLine}
+use Rattle.ar_orders.specs.declared.order.Action.{Action}
+use Rattle.ar_orders.specs.declared.order.Action.TheVariants as actions
+use Rattle.ar_orders.specs.declared.order.Order.{Order}
+use Rattle.ar_orders.specs.declared.order.Order.TheVariants.{Act, Ask}
+use Rattle.ar_orders.specs.declared.order.Question.{Question}
+use Rattle.ar_orders.specs.declared.order.Question.TheVariants.{Levels, Home, Groups, Room, Health, Picture, Block}
 use Rattle.ar_script.specs.Setups.{new_disk_for}
-use Rattle.ar_script.specs.declared.order.Action.{Action}
-use Rattle.ar_script.specs.declared.order.Action.TheVariants as actions
-use Rattle.ar_script.specs.declared.order.Notation.{Notation}
-use Rattle.ar_script.specs.declared.order.Notation.TheVariants.{Bytes}
-use Rattle.ar_script.specs.declared.order.Order.{Order}
-use Rattle.ar_script.specs.declared.order.Order.TheVariants.{Act, Ask}
-use Rattle.ar_script.specs.declared.order.Question.{Question}
-use Rattle.ar_script.specs.declared.order.Question.TheVariants.{Levels, Home, Groups, Room, Health, Picture, Block}
 
 -- the event that an action is to an array: data are copies of one byte, and a disk that is taken in is new, and of the array's
 -- shape
@@ -37,21 +35,6 @@ event_in s actions.AddDisk = AddDisk (new_disk_for s)
 event_in s (actions.DiskOut disk) = DiskOut disk
 event_in s (actions.Replace disk) = Replace disk (new_disk_for s)
 event_in s actions.Rebuild = Rebuild
-
--- how the bytes of the answer are printed
-abbrev pub notation_in : Action → Notation
-notation_in (actions.Make addr sectors) = Bytes
-notation_in (actions.Grow addr sectors) = Bytes
-notation_in (actions.Remove addr) = Bytes
-notation_in (actions.Command addr cdb d notation) = notation
-notation_in actions.Flush = Bytes
-notation_in actions.Demote = Bytes
-notation_in actions.Clean = Bytes
-notation_in actions.Balance = Bytes
-notation_in actions.AddDisk = Bytes
-notation_in (actions.DiskOut disk) = Bytes
-notation_in (actions.Replace disk) = Bytes
-notation_in actions.Rebuild = Bytes
 
 -- Reading a row shows what stands there, or why it can't, and leaves the tables, the cache and each unit as they were. It may
 -- meet a fault of the row's disk.

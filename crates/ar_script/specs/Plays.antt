@@ -4,14 +4,14 @@ use Rattle.ar_disks.specs.Disk.{DiskState}
 use Rattle.ar_image.specs.Image.{ArrayState, geometry_of}
 use Rattle.ar_image.specs.Start.{IsStarted}
 use Rattle.ar_core.specs.Run.{Turn, Did, Looked, IsRun}
-use Rattle.ar_script.specs.declared.fault.Fault.{Fault}
-use Rattle.ar_script.specs.declared.fault.Fault.TheVariants.{Start, Line}
-use Rattle.ar_script.specs.declared.fault.FaultKind.{FaultKind}
-use Rattle.ar_script.specs.declared.fault.FaultKind.TheVariants.{TooManyLines}
-use Rattle.ar_script.specs.declared.order.Order.{Order}
-use Rattle.ar_script.specs.declared.order.Order.TheVariants.{Act, Ask}
-use Rattle.ar_script.specs.Forms.{ReadsLine}
-use Rattle.ar_script.specs.Lines.{IsOutside, line_fault, line_at, Took}
+use Rattle.ar_orders.specs.declared.fault.Fault.{Fault}
+use Rattle.ar_orders.specs.declared.fault.Fault.TheVariants.{Start, Line}
+use Rattle.ar_orders.specs.declared.fault.FaultKind.{FaultKind}
+use Rattle.ar_orders.specs.declared.fault.FaultKind.TheVariants.{TooManyLines}
+use Rattle.ar_orders.specs.declared.order.Order.{Order}
+use Rattle.ar_orders.specs.declared.order.Order.TheVariants.{Act, Ask}
+use Rattle.ar_orders.specs.Forms.{ReadsLine}
+use Rattle.ar_orders.specs.Lines.{IsOutside, line_fault, line_at, Took}
 use Rattle.ar_script.specs.Orders.{event_in}
 
 -- the order is met in this turn by an array of this shape: an action is its event, and a question a look

@@ -3,9 +3,9 @@ ghost use Rattle.std.specs.Prelude.{◌≡◌, ◌≢◌, map, IfOk, IfErr};
 ghost use Rattle.ar_script.specs.Orders.{IsLost};
 ghost use Rattle.ar_script.specs.Pictures.{IsPicture, health_shown, class_shown, group_in, groups_in};
 
-use crate::FaultKind;
 use ar_core::{Array, Class, GroupView, Health, HomeOf};
 use ar_disks::{Addr, Disk, Host};
+use ar_orders::FaultKind;
 use ar_picture::{Group, Held, Picture, UNITS_MAX, Unit, write_map};
 use std::alloc::{AllocError, Global};
 use std::io::Write;

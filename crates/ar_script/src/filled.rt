@@ -1,7 +1,7 @@
 // The data of commands.
 ghost use Rattle.std.specs.Prelude.{◌≡◌, IfOk, OnOk, length, replicate};
 
-use crate::order::Data;
+use ar_orders::Data;
 use bytes::{Bytes, BytesMut};
 use std::alloc::{AllocError, Global};
 use std::mem;

@@ -1,18 +1,17 @@
 // Runs a script.
 ghost use Rattle.std.specs.Prelude.{◌≡◌, ◌≢◌, ◌≤◌, ◌⊎◌, max, true, None, Err, IfErr, OnOk};
 ghost use Rattle.ar_extents.specs.Changes.{start_fault};
-ghost use Rattle.ar_script.specs.Left.{lines_left};
-ghost use Rattle.ar_script.specs.Lines.{lines_of, IsNumbered, IsReached, Ends, is_write_fault as tells_write_fault};
+ghost use Rattle.ar_orders.specs.Left.{lines_left};
+ghost use Rattle.ar_orders.specs.Lines.{lines_of, IsNumbered, IsReached};
+ghost use Rattle.ar_orders.specs.Forms.{ReadsLine};
+ghost use Rattle.ar_script.specs.Ends.{Ends, is_write_fault as tells_write_fault};
 ghost use Rattle.ar_script.specs.Orders.{IsLost, MeetsLine};
-ghost use Rattle.ar_script.specs.Forms.{ReadsLine};
 ghost use Rattle.ar_script.specs.Plays.{PlaysScript, PlaysTo, HasPlayed};
 ghost use Rattle.ar_script.specs.Setups.{disks_of};
 
-use crate::lines::Lines;
-use crate::parse::order_in;
 use crate::runner::Runner;
-use crate::{Fault, FaultKind};
 use ar_disks::Geometry;
+use ar_orders::{Fault, FaultKind, Lines, order_in};
 use std::alloc::Global;
 use std::io::{BufWriter, Read, Write};
 

@@ -7,13 +7,13 @@ ghost use Rattle.ar_script.specs.Orders.{event_in, Looks, IsLost, Leaves};
 ghost use Rattle.ar_script.specs.Pictures.{IsPicture};
 ghost use Rattle.ar_script.specs.Setups.{disks_of, new_disk, new_disk_for};
 
+use crate::Setup;
 use crate::drawing::{picture_of, write_picture};
 use crate::filled::Filled;
-use crate::order::{Action, Order, Question};
 use crate::text::{write_groups, write_health, write_home, write_levels, write_outcome, write_row};
-use crate::{Fault, FaultKind, Setup};
 use ar_core::{Array, CAPACITY_LIMIT, Event, EventOf, NewDisk, Outcome};
 use ar_disks::{Block, Geometry, MemDisk};
+use ar_orders::{Action, Fault, FaultKind, Order, Question};
 use ar_picture::Picture;
 use std::alloc::{AllocError, Global};
 use std::io::Write;

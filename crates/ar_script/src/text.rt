@@ -1,11 +1,11 @@
 // Answers as text.
-use crate::order::Notation;
 use crate::runs::run_len;
 use ar_core::{
     Array, Balance, Class, DiskRefusal, Flush, GroupUse, Health, HomeOf, LevelOf, Move, OutcomeOf,
     Rebuild, Refusal, Shown, UnitRefusal,
 };
 use ar_disks::{Addr, Disk};
+use ar_orders::Notation;
 use ar_scsi::{Reply, Status};
 use std::io;
 use std::io::Write;

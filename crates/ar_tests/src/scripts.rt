@@ -1,7 +1,8 @@
 // Scripts whose input, output or array fails, lines and answers that are long, and texts that no script meets.
 use ar_core::{Health, OutcomeOf, Refusal, UnitRefusal};
 use ar_disks::Geometry;
-use ar_script::{Fault, FaultKind, Notation, Setup, run_script, write_health, write_outcome};
+use ar_orders::{Fault, FaultKind, Notation};
+use ar_script::{Setup, run_script, write_health, write_outcome};
 use ar_scsi::Reply;
 use bytes::Bytes;
 use std::alloc::{AllocError, Global};

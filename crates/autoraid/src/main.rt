@@ -7,7 +7,8 @@ mod drawing;
 mod serve;
 mod unit;
 
-use ar_script::{Fault, Runner, Setup, run_on, run_script};
+use ar_orders::Fault;
+use ar_script::{Runner, Setup, run_on, run_script};
 use command_line::{CommandLineFault, Order, order_in};
 use drawing::{DrawingFault, draw};
 use serve::{ServeFault, serve};

@@ -1,7 +1,7 @@
 use Rattle.std.proofs.Common.{rules, ◌≡◌, ◌∙◌, max, [], ◌∷◌, Bool, true, false, cond, ◌+◌, Ok, Err, IfErr, sym, ap, subst, arith}
-use Rattle.ar_script.specs.declared.fault.Fault.TheVariants.{Line}
-use Rattle.ar_script.specs.Left.{lines_left}
-use Rattle.ar_script.specs.Lines.{Took, StopsAt, IsOfLine, IsNumbered}
+use Rattle.ar_orders.specs.declared.fault.Fault.TheVariants.{Line}
+use Rattle.ar_orders.specs.Left.{lines_left}
+use Rattle.ar_orders.specs.Lines.{Took, StopsAt, IsOfLine, IsNumbered}
 use Rattle.ar_script.specs.Plays.{PlaysAll, PlaysTo}
 use Rattle.ar_script.proofs.Ending.{plays_none, plays_line, plays_fault, plays_ended, plays_unread, plays_unwritten, begun_more, begun_same}
 use Rattle.ar_script.proofs.run.run_lines.Goals as goal

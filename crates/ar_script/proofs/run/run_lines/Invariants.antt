@@ -1,6 +1,6 @@
 -- Each turn begins a line, and plays it.
 use Rattle.std.proofs.Common.{◌≤◌}
-use Rattle.ar_script.specs.Left.{lines_left}
+use Rattle.ar_orders.specs.Left.{lines_left}
 use Rattle.ar_script.specs.Plays.{PlaysAll}
 use Rattle.ar_script.proofs.run.run_lines.Given as goal
 

@@ -1,11 +1,11 @@
-use Rattle.std.proofs.Common.{◌≡◌, ◌∙◌, List, Ok, None, ap, sym, subst, map}
+use Rattle.std.proofs.Common.{◌≡◌, ◌∙◌, List, Ok, None, subst, map}
 use Rattle.std.proofs.lemmas.List.{map-id}
 use Rattle.std.proofs.lemmas.Result.{IfOk-at_ok}
 use Rattle.ar_disks.specs.Disk.{DiskState}
 use Rattle.ar_extents.specs.Changes.{start_fault}
 use Rattle.ar_image.specs.Start.{IsStarted}
-use Rattle.ar_script.specs.Setups.{new_disk, disks_of}
-use Rattle.ar_script.proofs.AnswerLemmas.{ok_before}
+use Rattle.ar_orders.proofs.FaultLemmas.{ok_before}
+use Rattle.ar_script.specs.Setups.{disks_of}
 use Rattle.ar_script.proofs.runner.start_array.Goals as goal
 
 -- the disks that the array was given are those of the setup

@@ -1,0 +1,7 @@
+pub mod Blocks
+pub mod Forms
+pub mod Left
+pub mod Lines
+pub mod Notations
+pub mod Parts
+pub mod Words

@@ -1,0 +1,68 @@
+// The words of a line.
+ghost use Rattle.std.specs.Prelude.{◌≡◌, ◌∷◌, [], ◌++◌, ◌-◌, ◌↔◌, ℕ, List, length, replicate, IsSome, IfSome, Ok, IfOk, map, ◌==◌};
+ghost use Rattle.std.specs.List.{list_all, slice_split};
+ghost use Rattle.std.specs.Char.{is_ascii_digit};
+ghost use Rattle.std.specs.Option.{SomeIff};
+ghost use Rattle.std.specs.Str.Parse.{digits_value};
+ghost use Rattle.hex.specs.Hex.{decode_of};
+ghost use Rattle.ar_orders.specs.Words.{IsNumber, IsBytePair, IsBlockWord};
+
+use std::alloc::{AllocError, Global};
+
+/// For how many words memory is asked for at once. No order has more.
+const MOST_WORDS: usize = 8;
+
+/// The words of a line. One space parts two words, so that more spaces, and those at an end, make empty words.
+pub fn split_words(alloc: Global, line: &str) -> Result<Vec<&str>, AllocError>
+    ensures { IfOk result (λ words. map (λ word. word.now) words.items ≡ slice_split (λ byte. byte == 32) line.now) }
+{
+    let mut words = Vec::with_capacity(alloc, MOST_WORDS)?;
+    for word in line.split(' ') {
+        words.push(word)?;
+    }
+    Ok(words)
+}
+
+/// The number that a word says: 1 to 10 decimal digits.
+pub fn number(word: &str) -> Option<u64>
+    ensures { SomeIff result (IsNumber word.now) (digits_value 10 word.now) }
+{
+    if word.is_empty() || word.len() > 10 || !is_digits(word) {
+        return None;
+    }
+    word.parse::<u64>().ok()
+}
+
+fn is_digits(word: &str) -> bool
+    ensures { result ≡ list_all is_ascii_digit word.now }
+{
+    word.bytes().all(|byte| byte.is_ascii_digit())
+}
+
+/// The byte that a word says: two hexadecimal digits of either case.
+pub fn byte(word: &str) -> Option<u8>
+    ensures valid { IsSome result ↔ IsBytePair word.now }
+    ensures value { IfSome result (λ byte. decode_of word.now ≡ Ok (byte ∷ [])) }
+{
+    let mut byte = [0];
+    if hex::decode_to_slice(word, &mut byte).is_err() {
+        return None;
+    }
+    Some(byte[0])
+}
+
+/// The command block that a word says: 1 to 16 bytes, and zeros after them.
+pub fn block(word: &str) -> Option<[u8; 16]>
+    ensures valid { IsSome result ↔ IsBlockWord word.now }
+    ensures value { IfSome result (λ cdb. (bytes : List ℕ) × (decode_of word.now ≡ Ok bytes) × (cdb ≡ bytes ++ replicate (16 - length bytes) 0)) }
+{
+    if word.is_empty() || word.len() > 32 {
+        return None;
+    }
+    let mut cdb = [0; 16];
+    let bytes = &mut cdb[..word.len() / 2];
+    if hex::decode_to_slice(word, bytes).is_err() {
+        return None;
+    }
+    Some(cdb)
+}

@@ -1,5 +1,0 @@
-use Rattle.ar_script.proofs.BlockLemmas.{says_read_capacity}
-use Rattle.ar_script.proofs.blocks.read_capacity.Goals as goal
-
-pub returns : goal.returns
-returns c = says_read_capacity

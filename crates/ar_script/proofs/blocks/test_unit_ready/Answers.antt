@@ -1,5 +1,0 @@
-use Rattle.ar_script.proofs.BlockLemmas.{says_test_unit_ready}
-use Rattle.ar_script.proofs.blocks.test_unit_ready.Goals as goal
-
-pub returns : goal.returns
-returns c = says_test_unit_ready
