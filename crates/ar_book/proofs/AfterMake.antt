@@ -15,7 +15,7 @@ use Rattle.ar_book.specs.Tables.{Tables, no_unit, unit_in, home, stamp_of, level
 use Rattle.ar_book.specs.Changes.{new_unit, longer, made, grown, unmarked}
 use Rattle.ar_book.specs.Refusals.{make_refusal, grow_refusal}
 use Rattle.ar_book.specs.Book.{TablesAgree}
-use Rattle.ar_book.proofs.Keys.{addr_laws, addr_apart, same_addr_self}
+use Rattle.ar_disks.proofs.Addresses.{addr_laws, addr_apart, same_addr_self}
 use Rattle.ar_book.proofs.Padding.{nothing, get_replicate, get_padded}
 use Rattle.ar_book.proofs.UnitLemmas.{unit_same, unit_other, unit_keeps, unit_sum}
 use Rattle.ar_book.proofs.UnitChanges.{keys_push, push_found, push_keeps, push_other, made_kept, grown_kept, unmarked_kept}

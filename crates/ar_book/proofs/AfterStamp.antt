@@ -9,7 +9,7 @@ use Rattle.ar_disks.specs.Addresses.{same_addr}
 use Rattle.ar_book.specs.Tables.{UnitState, Tables, unit_in, home, stamp_of, level, level_in, reserved, room, HasBlock}
 use Rattle.ar_book.specs.Changes.{next_stamp, stamped}
 use Rattle.ar_book.specs.Book.{TablesAgree}
-use Rattle.ar_book.proofs.Keys.{addr_tells, make_key}
+use Rattle.ar_disks.proofs.Addresses.{addr_tells, make_key}
 use Rattle.ar_book.proofs.UnitLemmas.{has_by_block, unit_same, unit_other, unit_keeps, unit_sum}
 use Rattle.ar_book.proofs.UnitChanges.{restamped_kept, stamps_long}
 

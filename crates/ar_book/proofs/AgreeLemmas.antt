@@ -7,7 +7,8 @@ use Rattle.ar_disks.specs.declared.address.Key.{Key}
 use Rattle.ar_book.specs.declared.class.Slot.{Slot}
 use Rattle.ar_book.specs.Tables.{GroupState, UnitState, key_in, home_in, used, placed}
 use Rattle.ar_book.specs.Book.{Agree}
-use Rattle.ar_book.proofs.Keys.{key_tells, slot_tells}
+use Rattle.ar_disks.proofs.Addresses.{key_tells}
+use Rattle.ar_book.proofs.Keys.{slot_tells}
 
 pub home_tells : (o : Option Slot) (s : Slot) → (o ≡ Some s) ⊎ (o ≢ Some s)
 home_tells None s = inr (λ e. none-some s e)

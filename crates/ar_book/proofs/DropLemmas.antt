@@ -19,7 +19,8 @@ use Rattle.ar_disks.specs.Addresses.{same_addr}
 use Rattle.ar_book.specs.Tables.{GroupState, UnitState, Tables, no_unit, group_in, key_in, unit_in, home_in, key_at, home, stamp_of, level_in, level, class_of, free_groups, used, placed, reserved}
 use Rattle.ar_book.specs.Changes.{vacated, dropped}
 use Rattle.ar_book.specs.Book.{GroupsStand, IsUnit, AreHomes, TablesAgree, IsKept}
-use Rattle.ar_book.proofs.Keys.{addr_laws, addr_tells, addr_apart, same_addr_of, slot_tells}
+use Rattle.ar_disks.proofs.Addresses.{addr_laws, addr_tells, addr_apart, same_addr_of}
+use Rattle.ar_book.proofs.Keys.{slot_tells}
 use Rattle.ar_book.proofs.GroupLemmas.{there_group, there_slot, KeepsClass, class_kept, level_stays, vacated_size, vacated_members, vacated_class, vacated_same, vacated_other, vacated_count, vacated_shape, vacated_stand}
 use Rattle.ar_book.proofs.FreeGroups.{free_in, vacated_free}
 use Rattle.ar_book.proofs.UnitLemmas.{found_in}

@@ -22,7 +22,7 @@ use Rattle.ar_book.specs.Tables.{GroupState, UnitState, Tables, group_in, unit_i
 use Rattle.ar_book.specs.Changes.{with_key, without_key, named, vacated, homed, restamped, grown, unmarked, opened, free_group, formed, shifted}
 use Rattle.ar_book.specs.Book.{TablesAgree}
 use Rattle.ar_book.specs.Index.{age_of, choices_in, choices_of, leaves_from, leaves_of, free_leaf}
-use Rattle.ar_book.proofs.Keys.{addr_tells, make_key}
+use Rattle.ar_disks.proofs.Addresses.{addr_tells, make_key}
 use Rattle.ar_book.proofs.UnitLemmas.{has_by_block, unit_same, unit_other}
 use Rattle.ar_book.proofs.GroupLemmas.{there_group, named_shape, vacated_size, vacated_shape}
 use Rattle.ar_book.proofs.KeptLemmas.{former_group}

@@ -13,7 +13,7 @@ use Rattle.ar_book.specs.Refusals.{make_refusal, grow_refusal}
 use Rattle.ar_book.specs.Book.{TablesAgree}
 use Rattle.ar_book.specs.declared.refusal.Refusal.{Refusal}
 use Rattle.ar_book.specs.declared.refusal.Refusal.TheVariants.{BadLun, Exists, Size, NoRoom, Absent}
-use Rattle.ar_book.proofs.Keys.{addr_laws, addr_apart, same_addr_self}
+use Rattle.ar_disks.proofs.Addresses.{addr_laws, addr_apart, same_addr_self}
 use Rattle.ar_book.proofs.UnitChanges.{push_found, push_other}
 use Rattle.ar_book.proofs.AfterMake.{grown_order, unmarked_order}
 

@@ -23,7 +23,7 @@ use Rattle.ar_book.specs.Tables.{GroupState, UnitState, Tables, no_group, group_
 use Rattle.ar_book.specs.Changes.{vacated, made, without_key}
 use Rattle.ar_book.specs.Book.{TablesAgree}
 use Rattle.ar_book.specs.Index.{age_of, choices_by, choices_in, choices_of, leaves_from, leaves_of, leaf, IsOutside, IsAmong, IsBlanked, IsLeafOrBlank}
-use Rattle.ar_book.proofs.Keys.{addr_same, addr_apart}
+use Rattle.ar_disks.proofs.Addresses.{addr_same, addr_apart}
 use Rattle.ar_book.proofs.UnitLemmas.{has_by_block}
 use Rattle.ar_book.proofs.Homes.{key_block}
 use Rattle.ar_book.proofs.Ages.{slot_age, named_key}

@@ -17,7 +17,7 @@ use Rattle.ar_disks.specs.Addresses.{same_addr}
 use Rattle.ar_book.specs.Tables.{UnitState, unit_in, no_unit, home_in, placed}
 use Rattle.ar_book.specs.Changes.{homed}
 use Rattle.ar_book.specs.Book.{UnitsStand, IsUnit}
-use Rattle.ar_book.proofs.Keys.{addr_laws, addr_tells, same_addr_self, addr_apart, make_key}
+use Rattle.ar_disks.proofs.Addresses.{addr_laws, addr_tells, same_addr_self, addr_apart, make_key}
 
 -- the look-up found this unit
 pub found_in : (us : List (Addr × UnitState)) (a : Addr) → IsSome (lookup (same_addr a) us) → lookup (same_addr a) us ≡ Some (unit_in us a)

@@ -10,7 +10,7 @@ use Rattle.std.proofs.lemmas.Map.Entries.{place_from_lookup, length-keys_of}
 use Rattle.ar_disks.specs.declared.address.Addr.{Addr}
 use Rattle.ar_disks.specs.Addresses.{same_addr}
 use Rattle.ar_book.specs.Tables.{UnitState, unit_in}
-use Rattle.ar_book.proofs.Keys.{addr_same, same_addr_self, same_addr_flips}
+use Rattle.ar_disks.proofs.Addresses.{addr_same, same_addr_self, same_addr_flips}
 use Rattle.ar_book.proofs.UnitLemmas.{found_in}
 
 -- a unit's place is the one that its entry has

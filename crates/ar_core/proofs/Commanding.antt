@@ -24,7 +24,7 @@ use Rattle.ar_disks.specs.Addresses.{same_addr}
 use Rattle.ar_book.specs.Tables.{UnitState as UnitTable, Tables, no_unit, has_unit, unit_in}
 use Rattle.ar_book.specs.Changes.{unmarked}
 use Rattle.ar_book.proofs.AfterMake.{unmarked_sectors}
-use Rattle.ar_book.proofs.Keys.{addr_tells}
+use Rattle.ar_disks.proofs.Addresses.{addr_tells}
 use Rattle.ar_book.proofs.Presence.{unmarked_there}
 use Rattle.ar_book.proofs.UnitLemmas.{unit_same, unit_other}
 use Rattle.ar_store.specs.Calls.{IsAccessed}

@@ -14,7 +14,7 @@ use Rattle.ar_disks.specs.Addresses.{same_addr}
 use Rattle.ar_book.specs.Tables.{UnitState as UnitTable, Tables, no_unit, has_unit, unit_in, reserved}
 use Rattle.ar_book.specs.Changes.{made, grown, dropped, unmarked}
 use Rattle.ar_book.specs.Refusals as book
-use Rattle.ar_book.proofs.Keys.{addr_tells}
+use Rattle.ar_disks.proofs.Addresses.{addr_tells}
 use Rattle.ar_book.proofs.AfterMake.{made_unit, made_unit_other, grown_unit, grown_unit_other, unmarked_sectors}
 use Rattle.ar_book.proofs.DropLemmas.{dropped_unit_other}
 use Rattle.ar_book.proofs.Presence.{make_fresh, grow_there, grow_shorter, made_there, made_there_other, grown_there, dropped_there, dropped_there_other}

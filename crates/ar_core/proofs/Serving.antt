@@ -35,7 +35,7 @@ use Rattle.ar_image.specs.declared.transfer.Transfer.{Transfer}
 use Rattle.ar_image.specs.declared.transfer.Transfer.TheVariants.{Done, Broken, NoMemory}
 use Rattle.ar_disks.specs.declared.completion.Completion.{Completion}
 use Rattle.ar_disks.specs.declared.completion.Completion.TheVariants.{Done as Kept, Broken as Lost}
-use Rattle.ar_book.proofs.Keys.{addr_tells}
+use Rattle.ar_disks.proofs.Addresses.{addr_tells}
 use Rattle.ar_image.proofs.Images.{length-sector_in, length-unit_sectors, map-range-same, map-range-add, present_same, sector_same}
 use Rattle.ar_image.proofs.Sparing.{kept_sound}
 

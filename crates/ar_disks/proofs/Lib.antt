@@ -1,3 +1,4 @@
+pub mod Addresses
 pub mod Fused
 pub mod Places
 pub mod Sectors

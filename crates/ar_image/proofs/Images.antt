@@ -13,7 +13,7 @@ use Rattle.ar_disks.specs.Geometry.{sectors_of, block_len_of}
 use Rattle.ar_disks.specs.Block.{zeros, sectors_at}
 use Rattle.ar_disks.proofs.Sectors.{sectors_at_is, length-sectors_at}
 use Rattle.ar_book.specs.Tables.{Tables, has_unit}
-use Rattle.ar_book.proofs.Keys.{same_host, make_addr, addr_tells}
+use Rattle.ar_disks.proofs.Addresses.{same_host, make_addr, addr_tells}
 use Rattle.ar_unit.specs.Sectors.{zero_sector, zero_sectors}
 use Rattle.ar_unit.specs.Unit.{UnitState, Absent, Present, IsWhole}
 use Rattle.ar_unit.specs.Broken.{Shape, shape_of}

@@ -22,7 +22,7 @@ use Rattle.ar_book.specs.Tables.{Tables, UnitState, no_unit, has_unit, home_in, 
 use Rattle.ar_book.specs.Changes.{made, grown, unmarked, dropped}
 use Rattle.ar_book.specs.Refusals.{make_refusal, grow_refusal}
 use Rattle.ar_book.specs.Book.{TablesAgree}
-use Rattle.ar_book.proofs.Keys.{addr_tells}
+use Rattle.ar_disks.proofs.Addresses.{addr_tells}
 use Rattle.ar_book.proofs.PlaceLemmas.{unit_whole}
 use Rattle.ar_book.proofs.Presence.{make_fresh, grow_there}
 use Rattle.ar_book.proofs.AfterMake.{made_unit_other, grown_unit, grown_unit_other, unmarked_homes}

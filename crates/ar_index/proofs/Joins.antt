@@ -15,8 +15,11 @@ or_none : {A : Type 0} (x : Option A) → option_or x None ≡ x
 or_none None = refl
 or_none (Some a) = refl
 
-same_choices : (a b : Choices) → a.mirrored ≡ b.mirrored → a.parity ≡ b.parity → a.free ≡ b.free → a.oldest ≡ b.oldest → a ≡ b
+pub same_choices : (a b : Choices) → a.mirrored ≡ b.mirrored → a.parity ≡ b.parity → a.free ≡ b.free → a.oldest ≡ b.oldest → a ≡ b
 same_choices a b m p f o = λ i. record { mirrored = m i; parity = p i; free = f i; oldest = o i }
+
+pub same_age : (a b : Age) → a.stamp ≡ b.stamp → a.key ≡ b.key → a ≡ b
+same_age a b s k = λ i. record { stamp = s i; key = k i }
 
 module _ (place : Addr → ℕ) where
   -- the order of ages is total

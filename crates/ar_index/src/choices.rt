@@ -1,5 +1,5 @@
 // The choices of a group, and of two neighbours together.
-ghost use Rattle.std.specs.Prelude.{◌≡◌};
+ghost use Rattle.std.specs.Prelude.{◌≡◌, true};
 ghost use Rattle.ar_index.specs.Choices.{place_in};
 
 use ar_disks::{Addr, Key};
@@ -52,8 +52,28 @@ impl Age {
     }
 }
 
+fn is_same_number(one: Option<u32>, other: Option<u32>) -> bool
+    ensures { result ≡ true → one ≡ other }
+{
+    match (one, other) {
+        (Some(one), Some(other)) => one == other,
+        (None, None) => true,
+        _ => false,
+    }
+}
+
+fn is_same_age(one: Option<Age>, other: Option<Age>) -> bool
+    ensures { result ≡ true → one ≡ other }
+{
+    match (one, other) {
+        (Some(one), Some(other)) => one.stamp == other.stamp && one.key == other.key,
+        (None, None) => true,
+        _ => false,
+    }
+}
+
 impl Choices {
-    ghost use Rattle.std.specs.Prelude.{◌≡◌};
+    ghost use Rattle.std.specs.Prelude.{◌≡◌, true};
     ghost use Rattle.ar_index.specs.Choices.{place_in, nothing, is_nothing, join};
 
     /// The choices among no groups.
@@ -76,6 +96,16 @@ impl Choices {
             && self.parity.is_none()
             && self.free.is_none()
             && self.oldest.is_none()
+    }
+
+    /// Whether the choices are these.
+    pub(crate) fn is_same(&self, other: &Choices) -> bool
+        ensures { result ≡ true → self.now ≡ other.now }
+    {
+        is_same_number(self.mirrored, other.mirrored)
+            && is_same_number(self.parity, other.parity)
+            && is_same_number(self.free, other.free)
+            && is_same_age(self.oldest, other.oldest)
     }
 
     /// The choices among the groups of both, of which those of `left` have the lower numbers.

@@ -1,6 +1,6 @@
 // The nodes of a tree in one list: the root is 1, the children of a node are twice it and the next, and the leaves stand behind
 // the inner nodes.
-ghost use Rattle.std.specs.Prelude.{◌≡◌, ℕ, ◌+◌, ◌-◌, ◌*◌, ◌/◌, ◌^◌, ◌<◌, ◌≤◌, length, drop, slice_set, IfOk, OnErr};
+ghost use Rattle.std.specs.Prelude.{◌≡◌, false, ℕ, ◌+◌, ◌-◌, ◌*◌, ◌/◌, ◌^◌, ◌<◌, ◌≤◌, length, drop, slice_set, IfOk, OnErr};
 ghost use Rattle.ar_index.specs.Choices.{place_in, nothing, join};
 ghost use Rattle.ar_index.specs.Tree as spec;
 ghost use Rattle.ar_index.specs.Tree.{AreJoinedBut, IsTree, IsGrown, leaves_in};
@@ -18,18 +18,22 @@ pub(crate) fn node_at(nodes: &[Choices], node: usize) -> Choices
     nodes[node]
 }
 
-// Joins the children of an inner node.
-fn join_at<V>(nodes: &mut Vec<Choices>, node: usize, units: &IndexMap<Addr, V>)
+// Joins the children of an inner node. Says whether it may be another than it was: where it is the same, so are all above it.
+fn join_at<V>(nodes: &mut Vec<Choices>, node: usize, units: &IndexMap<Addr, V>) -> bool
     requires { 2 * node + 1 < length nodes.old.items }
-    ensures { nodes.new.items
+    ensures joined { nodes.new.items
         ≡ slice_set nodes.old.items node
         (join (place_in units.now.entries) (spec.node_at nodes.old.items (2 * node)) (spec.node_at nodes.old.items (2 * node + 1))) }
+    ensures same { result ≡ false → spec.node_at nodes.new.items node ≡ spec.node_at nodes.old.items node }
 {
     let joined = Choices::join(&nodes[2 * node], &nodes[2 * node + 1], units);
+    let is_changed = !joined.is_same(&nodes[node]);
     nodes[node] = joined;
+    is_changed
 }
 
-// Joins the nodes above a leaf of a tree of so many leaves, from the lowest to the root. A step is a node.
+// Joins the nodes above a leaf of a tree of so many leaves, from the lowest up to one that stays as it was, or to the root. A
+// step is a node.
 fn climb<V>(
     nodes: &mut Vec<Choices>,
     size: usize,
@@ -46,10 +50,11 @@ fn climb<V>(
     ensures on { steps.old.count ≤ steps.new.count }
 {
     let mut node = size + leaf;
-    while node > 1 {
+    let mut is_changed = true;
+    while is_changed && node > 1 {
         steps.tick();
         node /= 2;
-        join_at(nodes, node, units);
+        is_changed = join_at(nodes, node, units);
     }
 }
 

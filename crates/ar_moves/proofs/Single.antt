@@ -12,7 +12,8 @@ use Rattle.ar_book.specs.Changes.{opened}
 use Rattle.ar_book.specs.Choices.{IsUpTo, IsNoNewer, IsLowestFree, place_of}
 use Rattle.ar_book.specs.Book.{TablesAgree}
 use Rattle.ar_book.specs.Cleaning.{IsNoFuller, IsFirstBlock, IsLowestHoleBeside}
-use Rattle.ar_book.proofs.Keys.{make_key, make_slot}
+use Rattle.ar_disks.proofs.Addresses.{make_key}
+use Rattle.ar_book.proofs.Keys.{make_slot}
 use Rattle.ar_book.proofs.UnitLemmas.{has_by_block}
 use Rattle.ar_book.proofs.UnitPlaces.{some_place}
 use Rattle.ar_store.specs.Placing.{slot_at}

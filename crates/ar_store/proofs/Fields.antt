@@ -10,7 +10,7 @@ use Rattle.ar_extents.specs.Follows.{Follows, Keeps, Anywhere}
 use Rattle.ar_book.specs.declared.class.Slot.{Slot}
 use Rattle.ar_book.specs.Tables.{Tables, home, free_groups, HasBlock}
 use Rattle.ar_book.specs.Changes.{assigned, stamped}
-use Rattle.ar_book.proofs.Keys.{key_tells}
+use Rattle.ar_disks.proofs.Addresses.{key_tells}
 use Rattle.ar_book.proofs.AfterAssign.{assigned_home}
 use Rattle.ar_book.proofs.AfterStamp.{stamped_home}
 use Rattle.ar_disks.specs.Block.{zeros}

@@ -15,7 +15,7 @@ use Rattle.ar_book.specs.Tables.{Tables, home, class_of, free_groups, HasBlock, 
 use Rattle.ar_book.specs.Changes.{assigned, stamped}
 use Rattle.ar_book.proofs.AfterAssign.{assigned_free_groups, assigned_members, assigned_class_here}
 use Rattle.ar_book.proofs.Homes.{home_key}
-use Rattle.ar_book.proofs.Keys.{key_tells}
+use Rattle.ar_disks.proofs.Addresses.{key_tells}
 use Rattle.ar_store.specs.Store.{StoreState, store_of}
 use Rattle.ar_store.specs.Slots.{SlotHolds, HoldsBlock, stands, AllStand, OthersStand, OtherSlotsHold, BesideHold}
 use Rattle.ar_store.specs.Kept.{IsSpace}

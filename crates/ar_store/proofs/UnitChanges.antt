@@ -17,7 +17,7 @@ use Rattle.ar_book.specs.Tables.{UnitState, Tables, is_free, no_unit, has_unit, 
 use Rattle.ar_book.specs.Changes.{made, grown, dropped, unmarked}
 use Rattle.ar_book.specs.Refusals.{make_refusal, grow_refusal}
 use Rattle.ar_book.specs.Book.{TablesAgree}
-use Rattle.ar_book.proofs.Keys.{addr_tells}
+use Rattle.ar_disks.proofs.Addresses.{addr_tells}
 use Rattle.ar_book.proofs.Homes.{home_key}
 use Rattle.ar_book.proofs.GroupLemmas.{KeepsClass}
 use Rattle.ar_book.proofs.AfterMake.{made_home, made_agrees, grown_home, grown_agrees, unmarked_home, unmarked_agrees}

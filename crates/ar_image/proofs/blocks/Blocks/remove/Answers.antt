@@ -3,7 +3,7 @@ use Rattle.ar_disks.specs.Geometry.{block_len_of}
 use Rattle.ar_disks.specs.Block.{zeros}
 use Rattle.ar_book.specs.Book.{TablesAgree}
 use Rattle.ar_book.specs.Changes.{dropped}
-use Rattle.ar_book.proofs.Keys.{addr_apart, same_addr_of}
+use Rattle.ar_disks.proofs.Addresses.{addr_apart, same_addr_of}
 use Rattle.ar_cache.specs.Cache.{CacheState}
 use Rattle.ar_image.specs.Image.{ArrayState, geometry_of, seen_at}
 use Rattle.ar_image.proofs.Seeing.{at_ok, joined_removed, seen_same, seen_absent}
