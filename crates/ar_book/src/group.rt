@@ -130,6 +130,7 @@ impl Group {
         ensures least { IfSome result (λ i. (j : ℕ) → j < i → IsSome (slice_index_or self.now.slots j None)) }
         ensures none { IfNone result ((j : ℕ) → j < end → IsSome (slice_index_or self.now.slots j None)) }
         ensures few { steps.new.count ≤ steps.old.count + end }
+        ensures on { steps.old.count ≤ steps.new.count }
     {
         for slot in 0..end {
             steps.tick();

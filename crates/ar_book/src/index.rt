@@ -84,6 +84,7 @@ pub(crate) fn choices_of(
 ) -> Choices
     ensures choices { result ≡ spec.choices_of geometry units.now.entries number group.now }
     ensures few { steps.new.count ≤ steps.old.count + length group.now.slots }
+    ensures on { steps.old.count ≤ steps.new.count }
 {
     match group.class() {
         Class::Free => free_leaf(number),
@@ -119,6 +120,7 @@ pub(crate) fn refresh(
     ensures right { IsRight (place_in units.now.entries) index.new }
     ensures few { length groups.now.items ≤ 4096
         → steps.new.count ≤ steps.old.count + (length (group_in groups.now.items number).slots + 14) }
+    ensures on { steps.old.count ≤ steps.new.count }
 {
     let choices = choices_of(&groups[number as usize], number, geometry, units, steps);
     index.set(number as usize, choices, units, steps);
@@ -143,6 +145,7 @@ pub(crate) fn refresh_home(
     ensures few { length groups.now.items ≤ 4096
         → MatchOption home (steps.new.count ≡ steps.old.count)
         (λ slot. steps.new.count ≤ steps.old.count + (length (group_in groups.now.items slot.group).slots + 14)) }
+    ensures on { steps.old.count ≤ steps.new.count }
 {
     if let Some(slot) = home {
         refresh(index, groups, units, geometry, slot.group, steps);

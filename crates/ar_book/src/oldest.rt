@@ -16,6 +16,7 @@ impl Book {
         ensures oldest { IfSome result (λ key. (other : Key) → IsMirrored self.now other → IsNoNewer self.now key other) }
         ensures none { IfNone result ((other : Key) → IsMirrored self.now other → ⊥) }
         ensures few { length self.now.groups ≤ 4096 → steps.new.count ≤ steps.old.count + (8 * rows_of self.now.geometry + 120) }
+        ensures on { steps.old.count ≤ steps.new.count }
     {
         match self.index.best().oldest {
             Some(age) => Some(age.key),

@@ -18,6 +18,7 @@ impl Book {
         requires empty { key_at self.old slot ≡ None }
         ensures assigned { self.new ≡ assigned self.old key slot }
         ensures few { length self.old.groups ≤ 4096 → steps.new.count ≤ steps.old.count + (8 * rows_of self.old.geometry + 120) }
+        ensures on { steps.old.count ≤ steps.new.count }
     {
         let former = home_in(&self.units, key);
         name_slot(&mut self.groups, slot, key);
@@ -46,6 +47,7 @@ impl Book {
         requires { HasBlock self.old key }
         ensures released { self.new ≡ released self.old key }
         ensures few { length self.old.groups ≤ 4096 → steps.new.count ≤ steps.old.count + (8 * rows_of self.old.geometry + 120) }
+        ensures on { steps.old.count ≤ steps.new.count }
     {
         let home = home_in(&self.units, key);
         vacate_slot(&mut self.groups, home);
@@ -65,6 +67,7 @@ impl Book {
         requires { HasBlock self.old key }
         ensures stamped { self.new ≡ stamped self.old key }
         ensures few { length self.old.groups ≤ 4096 → steps.new.count ≤ steps.old.count + (8 * rows_of self.old.geometry + 120) }
+        ensures on { steps.old.count ≤ steps.new.count }
     {
         let home = home_in(&self.units, key);
         self.puts = self.puts.saturating_add(1);

@@ -68,6 +68,7 @@ impl Book {
         ensures least { IfSome result (λ slot. (i : ℕ) → IsHoleOf self.now group i → slot ≤ i) }
         ensures none { IfNone result ((i : ℕ) → IsHoleOf self.now group i → ⊥) }
         ensures few { steps.new.count ≤ steps.old.count + 3 * rows_of self.now.geometry }
+        ensures on { steps.old.count ≤ steps.new.count }
     {
         let group = &self.groups[group as usize];
         group.lowest_hole(slots_of(self.geometry, group.class()), steps)
@@ -79,6 +80,7 @@ impl Book {
         ensures least { IfSome result (λ slot. (other : Slot) → IsHole self.now class other → IsUpTo slot other) }
         ensures none { IfNone result ((other : Slot) → IsHole self.now class other → ⊥) }
         ensures few { length self.now.groups ≤ 4096 → steps.new.count ≤ steps.old.count + (8 * rows_of self.now.geometry + 120) }
+        ensures on { steps.old.count ≤ steps.new.count }
     {
         let group = self.open(class)?;
         let slot = self.scan(group, steps)?;

@@ -112,6 +112,7 @@ impl Tree {
         ensures set { leaves self.new ≡ slice_set (leaves self.old) leaf choices }
         ensures right { IsRight (place_in units.now.entries) self.new }
         ensures few { length (leaves self.old) ≤ 4096 → steps.new.count ≤ steps.old.count + 14 }
+        ensures on { steps.old.count ≤ steps.new.count }
     {
         let former = node_at(&self.nodes, self.size + leaf);
         self.free = recount(self.free, former.free.is_some(), choices.free.is_some());
