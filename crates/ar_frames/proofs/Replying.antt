@@ -59,14 +59,14 @@ judged a b tag count head body (Err fault.NoMemory) count_len head_len count_is 
 
 -- no memory, and no more than the frame was read
 pub held_up : (count head body : List ℕ) (len : ℕ) → length count ≡ 4 → length head ≡ 10 → big_number 4 count ≡ 10 + len → len ≤ 33553920
-    → length body ≤ len → IsHeldUp ((count ++ head) ++ body)
-held_up count head body len count_len head_len count_is fits within =
+    → 0 < len → length body ≤ len → IsHeldUp ((count ++ head) ++ body)
+held_up count head body len count_len head_len count_is fits some within =
     let n = number_front count head body count_len ∙ count_is in
     let all : length ((count ++ head) ++ body) ≡ 4 + (10 + length body) =
     length-append (count ++ head) body ∙ omega (arith, length-append count head, count_len, head_len) in
     record {
       counted = omega (arith, all);
-      low = omega (arith, n);
+      low = omega (arith, n, some);
       high = omega (arith, n, fits);
       within = omega (arith, n, all, within);
     }

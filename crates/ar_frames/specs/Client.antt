@@ -58,10 +58,10 @@ abbrev pub IsBadReply : List ℕ → Type 0
 IsBadReply bytes =
     ((length bytes ≡ 4) × ((big_number 4 bytes < 10) ⊎ (10 + most_data < big_number 4 bytes))) ⊎ IsNoReply bytes
 
--- N came, that of a reply, and no more than the bytes that it counts
+-- N came, that of a reply with sense data or payload, for which alone memory is asked, and no more than the bytes that it counts
 pub record IsHeldUp (bytes : List ℕ) : Type 0 where
   pub counted : 4 ≤ length bytes
-  pub low : 10 ≤ big_number 4 bytes
+  pub low : 10 < big_number 4 bytes
   pub high : big_number 4 bytes ≤ 10 + most_data
   pub within : length bytes ≤ 4 + big_number 4 bytes
 

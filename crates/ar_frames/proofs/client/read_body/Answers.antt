@@ -11,7 +11,7 @@ returns-in-Kept g c = λ count count_len count_is.
 pub returns-in-Refused : goal.returns-in-Refused
 returns-in-Refused g c = λ count count_len count_is. record {
   bytes = [];
-  are = held_up count c.args.head.now [] c.args.len count_len c.told-head count_is c.requires (omega arith);
+  are = held_up count c.args.head.now [] c.args.len count_len c.told-head count_is c.requires c.in-Refused.ensures.0 (omega arith);
   read = Reading-unmoved _ _ c.in-Refused.ensures.1;
 }
 
@@ -20,7 +20,7 @@ returns-in-Lost g c = λ count count_len count_is.
     let came = c.in-Lost.ensures.1 in
     record {
       bytes = came.bytes;
-      are = held_up count c.args.head.now came.bytes c.args.len count_len c.told-head count_is c.requires (omega (arith, came.len));
+      are = held_up count c.args.head.now came.bytes c.args.len count_len c.told-head count_is c.requires c.in-Lost.ensures.0 (omega (arith, came.len));
       read = came.read;
     }
 
