@@ -60,11 +60,11 @@ fn input(rt: &impl Abort, alloc: Global, host: u8, count: u8) -> Vec<u8> {
     bytes
 }
 
-// A door to the sessions of these hosts, each with so many commands.
-fn door(rt: &impl Abort, alloc: Global, hosts: &[u8], count: u8) -> MemDoor<MemSource, MemSink> {
+// A door to sessions, each of a host with so many commands.
+fn door(rt: &impl Abort, alloc: Global, sessions: &[(u8, u8)]) -> MemDoor<MemSource, MemSink> {
     let mut pairs = VecDeque::new(alloc);
-    for host in hosts {
-        let reader = MemSource::new(input(rt, alloc, *host, count));
+    for (host, count) in sessions {
+        let reader = MemSource::new(input(rt, alloc, *host, *count));
         let writer = MemSink::new(vec![in alloc; 0; 256].expect(rt, "memory"));
         assert!(rt; pairs.push_back((reader, writer)).is_ok(), "memory");
     }
@@ -130,7 +130,7 @@ fn two_sessions_at_once(rt: HostRuntime) -> Result<(), Fail> {
         answered: AtomicBool::new(false),
         late: AtomicBool::new(false),
     };
-    let mut door = door(&rt, alloc, &[0, 1], 1);
+    let mut door = door(&rt, alloc, &[(0, 1), (1, 1)]);
     let wanted = [served(1, Why::End), served(1, Why::End)];
     serve(&rt, alloc, &mut door, &gate, &wanted, [1, 1, 0, 0])?;
     assert!(rt;
@@ -143,13 +143,13 @@ fn two_sessions_at_once(rt: HostRuntime) -> Result<(), Fail> {
 #[test]
 fn ends_stand_in_order(rt: HostRuntime) -> Result<(), Fail> {
     let alloc = rt.alloc();
-    let mut door = door(&rt, alloc, &[2, 1, 3], 3);
+    let mut door = door(&rt, alloc, &[(2, 3), (1, 1), (3, 2)]);
     let wanted = [
         served(3, Why::End),
-        served(3, Why::End),
-        served(3, Why::End),
+        served(1, Why::End),
+        served(2, Why::End),
     ];
-    serve(&rt, alloc, &mut door, &NoGate, &wanted, [0, 3, 3, 3])
+    serve(&rt, alloc, &mut door, &NoGate, &wanted, [0, 1, 3, 2])
 }
 
 // A door that doesn't open.
