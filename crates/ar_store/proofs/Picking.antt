@@ -1,11 +1,14 @@
 -- How the disks with most loose extents are found.
-use Rattle.std.proofs.Common.{◌≡◌, ◌≢◌, ◌⊎◌, inl, inr, ℕ, ◌+◌, ◌<◌, ◌≤◌, Bool, true, false, eqb, List, [], ◌∷◌, length, Option, None, Some, refl, sym, ap, subst, ◌∙◌, true≢false, ◌||◌, eq-eqb, arith}
-use Rattle.std.specs.Prelude.{slice_index}
+use Rattle.std.proofs.Common.{◌≡◌, ◌≢◌, ◌⊎◌, inl, inr, ℕ, ◌+◌, ◌<◌, ◌≤◌, Bool, true, false, eqb, cond, List, [], ◌∷◌, length, Option, None, Some, refl, sym, ap, subst, ◌∙◌, true≢false, ◌||◌, eq-eqb, arith}
+use Rattle.std.specs.Prelude.{slice_index, slice_index_or, sum_by}
+use Rattle.std.specs.List.Sorted.{IsPermutation}
 use Rattle.std.specs.List.{list_any}
 use Rattle.std.proofs.lemmas.Bool.{cases_lt, or_left, or_right}
-use Rattle.std.proofs.lemmas.Bool.Decides.{eqb_tells}
+use Rattle.std.proofs.lemmas.Bool.Decides.{eqb_tells, nat_tests}
+use Rattle.std.proofs.lemmas.List.Elements.{All-from_recursion, recursion_from_All}
+use Rattle.std.proofs.lemmas.List.Sorted.{All-permutation, IsPermutation-sym, sum_by-IsPermutation}
 use Rattle.ar_store.specs.declared.form.FourDisks.{FourDisks}
-use Rattle.ar_store.specs.Fullest.{IsOther, IsFullest, ArePicked, AreOrdered, AreFourFullest}
+use Rattle.ar_store.specs.Fullest.{Precedes, IsOther, IsFullest, ArePicked, AreOrdered, AreFourFullest}
 
 below_or_at : (x n : ℕ) → x < n + 1 → (x < n) ⊎ (x ≡ n)
 below_or_at x n lt = elim (cases_lt x n) [ inl h ↦ inl h | inr h ↦ inr (omega arith) ]
@@ -133,14 +136,77 @@ four_picked counts a b c d first second third fourth =
           );
     }
 
--- the first two may change places
-pub picked_flip : (counts : List ℕ) (a b c d : ℕ) → ArePicked counts a b c d → ArePicked counts b a c d
-picked_flip counts a b c d is = record {
-  apart = (λ e. is.apart.0 (sym e), is.apart.3, is.apart.4, is.apart.1, is.apart.2, is.apart.5);
-  there = (is.there.1, is.there.0, is.there.2, is.there.3);
-  some = (is.some.1, is.some.0, is.some.2, is.some.3);
-  first = λ x lt xb xa xc xd. let all = is.first x lt xa xb xc xd in (all.1, all.0, all.2, all.3);
-}
+-- 1 where two numbers are one, and 0 where they aren't
+abbrev same_count : ℕ → ℕ → ℕ
+same_count v x = cond (eqb x v) 1 0
+
+counted : (v x : ℕ) → v ≡ x → same_count v x ≡ 1
+counted v x e = ap (λ (t : Bool). cond {A = ℕ} t 1 0) (eq-eqb x v (sym e))
+
+-- a number is one of two that are apart once at most
+once : (v x y : ℕ) → x ≢ y → same_count v x + same_count v y ≤ 1
+once v x y apart = grind (arith, nat_tests)
+
+module _ (counts : List ℕ) (a b c d p q r s : ℕ) (same : IsPermutation (a ∷ b ∷ c ∷ d ∷ []) (p ∷ q ∷ r ∷ s ∷ [])) where
+  -- what holds of the four holds in any order
+  each : (P : ℕ → Type 0) → P a → P b → P c → P d → P p × P q × P r × P s
+  each P x y z w =
+      let all = recursion_from_All P (p ∷ q ∷ r ∷ s ∷ []) (All-permutation P (a ∷ b ∷ c ∷ d ∷ []) (p ∷ q ∷ r ∷ s ∷ []) same
+      (All-from_recursion P (a ∷ b ∷ c ∷ d ∷ []) (x, (y, (z, (w, tt)))))) in
+      (all.0, all.1.0, all.1.1.0, all.1.1.1.0)
+
+  back : (P : ℕ → Type 0) → P p → P q → P r → P s → P a × P b × P c × P d
+  back P x y z w =
+      let all = recursion_from_All P (a ∷ b ∷ c ∷ d ∷ []) (All-permutation P (p ∷ q ∷ r ∷ s ∷ []) (a ∷ b ∷ c ∷ d ∷ [])
+      (IsPermutation-sym (a ∷ b ∷ c ∷ d ∷ []) (p ∷ q ∷ r ∷ s ∷ []) same) (All-from_recursion P (p ∷ q ∷ r ∷ s ∷ []) (x, (y, (z, (w, tt)))))) in
+      (all.0, all.1.0, all.1.1.0, all.1.1.1.0)
+
+  -- and they are apart
+  still_apart : ArePicked counts a b c d → (p ≢ q) × (p ≢ r) × (p ≢ s) × (q ≢ r) × (q ≢ s) × (r ≢ s)
+  still_apart is =
+      let few : (v : ℕ) → sum_by (same_count v) (p ∷ q ∷ r ∷ s ∷ []) ≤ 1 = λ v.
+      let sum = sum_by-IsPermutation (same_count v) (a ∷ b ∷ c ∷ d ∷ []) (p ∷ q ∷ r ∷ s ∷ []) same in
+      let ab = once v a b is.apart.0 in
+      let ac = once v a c is.apart.1 in
+      let ad = once v a d is.apart.2 in
+      let bc = once v b c is.apart.3 in
+      let bd = once v b d is.apart.4 in
+      let cd = once v c d is.apart.5 in
+      omega arith in
+      let of_p = few p in
+      let of_q = few q in
+      let of_r = few r in
+      let pp = counted p p refl in
+      let qq = counted q q refl in
+      let rr = counted r r refl in (
+        λ e. let two = counted p q e in absurd (omega arith),
+        λ e. let two = counted p r e in absurd (omega arith),
+        λ e. let two = counted p s e in absurd (omega arith),
+        λ e. let two = counted q r e in absurd (omega arith),
+        λ e. let two = counted q s e in absurd (omega arith),
+        λ e. let two = counted r s e in absurd (omega arith),
+      )
+
+  picked_anew : ArePicked counts a b c d → ArePicked counts p q r s
+  picked_anew is = record {
+    apart = still_apart is;
+    there = each (λ x. x < length counts) is.there.0 is.there.1 is.there.2 is.there.3;
+    some = each (λ x. 0 < slice_index counts x) is.some.0 is.some.1 is.some.2 is.some.3;
+    first = λ x lt xp xq xr xs.
+        let other = back (λ y. x ≢ y) xp xq xr xs in
+        let all = is.first x lt other.0 other.1 other.2 other.3 in
+        each (λ y. Precedes counts y x) all.0 all.1 all.2 all.3;
+  }
+
+-- in any order they are such disks
+pub picked_in_order : (counts : List ℕ) (a b c d : ℕ) (ys : List ℕ) → length ys ≡ 4 → IsPermutation (a ∷ b ∷ c ∷ d ∷ []) ys → ArePicked counts a b c d
+    → ArePicked counts (slice_index_or ys 0 0) (slice_index_or ys 1 0) (slice_index_or ys 2 0) (slice_index_or ys 3 0)
+picked_in_order counts a b c d [] long same is = absurd (omega arith)
+picked_in_order counts a b c d (p ∷ []) long same is = absurd (omega arith)
+picked_in_order counts a b c d (p ∷ q ∷ []) long same is = absurd (omega arith)
+picked_in_order counts a b c d (p ∷ q ∷ r ∷ []) long same is = absurd (omega arith)
+picked_in_order counts a b c d (p ∷ q ∷ r ∷ s ∷ []) long same is = picked_anew counts a b c d p q r s same is
+picked_in_order counts a b c d (p ∷ q ∷ r ∷ s ∷ t ∷ ys) long same is = absurd (omega arith)
 
 -- in ascending order they are the fullest
 pub four_fullest_are : (counts : List ℕ) (f : FourDisks) → AreOrdered f.first f.second f.third f.fourth

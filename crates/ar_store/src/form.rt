@@ -61,53 +61,9 @@ fn in_order(first: u8, second: u8, third: u8, fourth: u8) -> FourDisks
     ensures ordered { AreOrdered result.first result.second result.third result.fourth }
     ensures picked { (counts : List ℕ) → ArePicked counts first second third fourth → AreFour counts result }
 {
-    let (first, second, third) = three_in_order(first, second, third);
-    fourth_in_order(first, second, third, fourth)
-}
-
-// Three numbers in order.
-fn three_in_order(first: u8, second: u8, third: u8) -> (u8, u8, u8)
-    ensures ordered { (result.0 ≤ result.1) × (result.1 ≤ result.2) }
-    ensures picked { (counts : List ℕ) → (x : ℕ) → ArePicked counts first second third x → ArePicked counts result.0 result.1 result.2 x }
-{
-    if second < first {
-        third_in_order(second, first, third)
-    } else {
-        third_in_order(first, second, third)
-    }
-}
-
-// The third number in its place beside two in order.
-fn third_in_order(first: u8, second: u8, third: u8) -> (u8, u8, u8)
-    requires { first ≤ second }
-    ensures ordered { (result.0 ≤ result.1) × (result.1 ≤ result.2) }
-    ensures picked { (counts : List ℕ) → (x : ℕ) → ArePicked counts first second third x → ArePicked counts result.0 result.1 result.2 x }
-{
-    if third < first {
-        (third, first, second)
-    } else if third < second {
-        (first, third, second)
-    } else {
-        (first, second, third)
-    }
-}
-
-// The fourth number in its place beside three in order.
-fn fourth_in_order(first: u8, second: u8, third: u8, fourth: u8) -> FourDisks
-    requires second { first ≤ second }
-    requires third { second ≤ third }
-    ensures ordered { AreOrdered result.first result.second result.third result.fourth }
-    ensures picked { (counts : List ℕ) → ArePicked counts first second third fourth → AreFour counts result }
-{
-    let (first, second, third, fourth) = if fourth < first {
-        (fourth, first, second, third)
-    } else if fourth < second {
-        (first, fourth, second, third)
-    } else if fourth < third {
-        (first, second, fourth, third)
-    } else {
-        (first, second, third, fourth)
-    };
+    let mut disks = [first, second, third, fourth];
+    disks.sort_unstable();
+    let [first, second, third, fourth] = disks;
     FourDisks {
         first,
         second,
