@@ -50,7 +50,7 @@ fn words_of(rt: &HostRuntime, alloc: Global) -> Result<Vec<String>, CommandLineF
 }
 
 fn print_figures(rt: &HostRuntime, alloc: Global, options: Options) -> Result<(), Failure> {
-    for geometry in [Geometry::PAPER, Geometry::SMALL] {
+    for geometry in Geometry::both() {
         for workload in Workload::ALL {
             if is_asked(options, workload, geometry) {
                 print_workload(rt, alloc, options, workload, geometry)?;
@@ -120,7 +120,7 @@ fn show_progress(rt: &HostRuntime, options: Options, shape: &str, name: &str) {
 
 fn print_digest(rt: &HostRuntime, alloc: Global, options: Options) -> Result<(), Failure> {
     let mut read_back = ReadBack::new();
-    for geometry in [Geometry::PAPER, Geometry::SMALL] {
+    for geometry in Geometry::both() {
         for workload in Workload::ALL {
             if is_asked(options, workload, geometry) {
                 check(alloc, workload, geometry, options.seed, &mut read_back)?;
