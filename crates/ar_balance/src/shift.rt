@@ -63,8 +63,10 @@ fn fill<D: Disk>(space: &mut Space<D>, shift: Shift, block: &mut Block) -> bool
     requires names { NamesShift (store_in space.old) shift.group shift.position shift.from shift.to }
     requires to { HasExtent space.old.disks shift.to }
     requires len { length block.old ≡ block_len_of space.old.disks.geometry }
+
     ensures filled { IsTrue result → IsFilled (class_of space.old.book shift.group) space.old.disks space.new.disks shift.from shift.to }
     ensures cut { result ≡ false → IsCutShort space.old.disks space.new.disks shift.from shift.to }
+
     ensures book { space.new.book ≡ space.old.book }
     ensures scratch { space.new.scratch ≡ space.old.scratch }
     ensures len { length block.new ≡ length block.old }

@@ -117,6 +117,7 @@ impl Book {
         ensures there { IsOk result ↔ IsTrue (has_unit self.old addr) }
         ensures dropped { OnOk result (self.new ≡ dropped self.old addr) }
         ensures unchanged { OnErr result (self.new ≡ self.old) }
+
         ensures others { (s : Slot) (k : Key) → k.addr ≢ addr → key_at self.old s ≡ Some k → key_at self.new s ≡ Some k }
         ensures homes { (k : Key) → k.addr ≢ addr → home self.new k ≡ home self.old k }
         ensures levels { (k : Key) → k.addr ≢ addr → level self.new k ≡ level self.old k }

@@ -85,13 +85,16 @@ impl Cache {
         requires geometry { B.geometry backing.old ≡ self.now.geometry }
         requires known { IsTrue (B.knows backing.old key) }
         requires whole { length into.old ≡ block_len_of self.now.geometry }
+
         ensures content { result ≡ Completion.Done → into.new ≡ seen self.now (B.block_at backing.old) key }
         ensures len { length into.new ≡ length into.old }
+
         ensures blocks { result ≡ Completion.Done
             → SameBlocks (B.block_at backing.old) (B.block_at backing.new) }
         ensures hit { IsSome (cached self.now key)
             → (result ≡ Completion.Done) × (backing.new ≡ backing.old) }
         ensures miss { cached self.now key ≡ None → B.gets backing.old key backing.new }
+
         ensures answer { IsHonest result (B.is_broken backing.old) (B.is_broken backing.new) }
         ensures asked { cached self.now key ≡ None → result ≡ stored (B.is_broken backing.new) }
         ensures keeps { Keeps B.geometry B.knows B.is_broken B.follows backing.old backing.new }
@@ -115,10 +118,12 @@ impl Cache {
         requires known { IsTrue (B.knows backing.old key) }
         requires all_known { KnowsAll (B.knows backing.old) self.old }
         requires whole { length block.now ≡ block_len_of self.old.geometry }
+
         ensures sees { result ≡ Completion.Done
             → Sees self.old (B.block_at backing.old) self.new (B.block_at backing.new) key block.now }
         ensures blocks { result ≡ Completion.Done
             → Spares self.old (B.block_at backing.old) self.new (B.block_at backing.new) key }
+
         ensures present { IsSome (cached self.old key)
             → (result ≡ Completion.Done) × (backing.new ≡ backing.old)
             × (self.new ≡ with_entries self.old ((key, block.now) ∷ without_key self.old.entries key)) }
@@ -127,8 +132,10 @@ impl Cache {
         ensures puts { result ≡ Completion.Done
             → InTurn B.puts (pushed_out self.old key ++ put_through self.new key) backing.old backing.new }
         ensures broken { result ≡ Completion.Broken → self.new ≡ self.old }
+
         ensures fits { length self.new.entries ≤ self.new.capacity }
         ensures all_known { KnowsAll (B.knows backing.new) self.new }
+
         ensures answer { IsHonest result (B.is_broken backing.old) (B.is_broken backing.new) }
         ensures asked { cached self.old key ≡ None
             → self.old.capacity ≤ length self.old.entries → result ≡ stored (B.is_broken backing.new) }
@@ -146,14 +153,17 @@ impl Cache {
     pub fn flush_one<B: Backing>(&mut self, backing: &mut B) -> Flush
         requires geometry { B.geometry backing.old ≡ self.old.geometry }
         requires all_known { KnowsAll (B.knows backing.old) self.old }
+
         ensures entries { Flushes result self.old self.new }
         ensures idle { (result ≡ Flush.Idle) ↔ (self.old.entries ≡ []) }
         ensures given { Gives result self.old.entries (B.block_at backing.old) (B.block_at backing.new) }
         ensures put { IsPut B.puts result backing.old backing.new }
         ensures quiet { result ≡ Flush.Idle → backing.new ≡ backing.old }
+
         ensures seen { answer_of result ≡ Completion.Done
             → SameSeen self.old (B.block_at backing.old) self.new (B.block_at backing.new) }
         ensures all_known { KnowsAll (B.knows backing.new) self.new }
+
         ensures answer { IsHonest (answer_of result) (B.is_broken backing.old) (B.is_broken backing.new) }
         ensures asked { 0 < length self.old.entries → answer_of result ≡ stored (B.is_broken backing.new) }
         ensures keeps { Keeps B.geometry B.knows B.is_broken B.follows backing.old backing.new }
@@ -169,6 +179,7 @@ impl Cache {
     pub fn flush_key<B: Backing>(&mut self, key: Key, backing: &mut B) -> Completion
         requires geometry { B.geometry backing.old ≡ self.old.geometry }
         requires all_known { KnowsAll (B.knows backing.old) self.old }
+
         ensures flushed { result ≡ Completion.Done
             → self.new ≡ with_entries self.old (without_key self.old.entries key) }
         ensures gone { result ≡ Completion.Done → cached self.new key ≡ None }
@@ -181,9 +192,11 @@ impl Cache {
         ensures broken { result ≡ Completion.Broken → self.new ≡ self.old }
         ensures absent { cached self.old key ≡ None
             → (result ≡ Completion.Done) × (backing.new ≡ backing.old) }
+
         ensures seen { result ≡ Completion.Done
             → SameSeen self.old (B.block_at backing.old) self.new (B.block_at backing.new) }
         ensures all_known { KnowsAll (B.knows backing.new) self.new }
+
         ensures answer { IsHonest result (B.is_broken backing.old) (B.is_broken backing.new) }
         ensures asked { IsSome (cached self.old key) → result ≡ stored (B.is_broken backing.new) }
         ensures keeps { Keeps B.geometry B.knows B.is_broken B.follows backing.old backing.new }
@@ -204,15 +217,18 @@ impl Cache {
     pub fn flush_all<B: Backing>(&mut self, backing: &mut B) -> Completion
         requires geometry { B.geometry backing.old ≡ self.old.geometry }
         requires all_known { KnowsAll (B.knows backing.old) self.old }
+
         ensures emptied { result ≡ Completion.Done → self.new ≡ with_entries self.old [] }
         ensures puts { result ≡ Completion.Done
             → InTurn B.puts (reverse (keys_of self.old.entries)) backing.old backing.new }
         ensures quiet { self.old.entries ≡ [] → backing.new ≡ backing.old }
         ensures broken { result ≡ Completion.Broken
             → StopsAt B.block_at B.is_broken B.follows self.old self.new backing.old backing.new }
+
         ensures seen { result ≡ Completion.Done
             → SameSeen self.old (B.block_at backing.old) self.new (B.block_at backing.new) }
         ensures all_known { KnowsAll (B.knows backing.new) self.new }
+
         ensures answer { IsHonest result (B.is_broken backing.old) (B.is_broken backing.new) }
         ensures asked { 0 < length self.old.entries → result ≡ stored (B.is_broken backing.new) }
         ensures keeps { Keeps B.geometry B.knows B.is_broken B.follows backing.old backing.new }
@@ -259,16 +275,20 @@ impl Cache {
         requires all_known { KnowsAll (B.knows backing.old) self.old }
         requires whole { length block.now ≡ block_len_of self.old.geometry }
         requires absent { cached self.old key ≡ None }
+
         ensures sees { result ≡ Completion.Done
             → Sees self.old (B.block_at backing.old) self.new (B.block_at backing.new) key block.now }
         ensures blocks { result ≡ Completion.Done
             → Spares self.old (B.block_at backing.old) self.new (B.block_at backing.new) key }
+
         ensures taken { result ≡ Completion.Done → TakesIn self.old self.new key block.now }
         ensures puts { result ≡ Completion.Done
             → InTurn B.puts (giving_way self.old ++ put_through self.new key) backing.old backing.new }
         ensures broken { result ≡ Completion.Broken → self.new ≡ self.old }
+
         ensures fits { length self.new.entries ≤ self.new.capacity }
         ensures all_known { KnowsAll (B.knows backing.new) self.new }
+
         ensures answer { IsHonest result (B.is_broken backing.old) (B.is_broken backing.new) }
         ensures asked { self.old.capacity ≤ length self.old.entries → result ≡ stored (B.is_broken backing.new) }
         ensures through { cached self.new key ≡ None → result ≡ stored (B.is_broken backing.new) }
@@ -292,15 +312,19 @@ impl Cache {
         requires whole { length block.now ≡ block_len_of self.old.geometry }
         requires absent { cached self.old key ≡ None }
         requires room { length self.old.entries < self.old.capacity }
+
         ensures sees { result ≡ Completion.Done
             → Sees self.old (B.block_at backing.old) self.new (B.block_at backing.new) key block.now }
         ensures blocks { result ≡ Completion.Done
             → Spares self.old (B.block_at backing.old) self.new (B.block_at backing.new) key }
+
         ensures taken { result ≡ Completion.Done → TakesIn self.old self.new key block.now }
         ensures puts { result ≡ Completion.Done → InTurn B.puts (put_through self.new key) backing.old backing.new }
         ensures broken { result ≡ Completion.Broken → self.new ≡ self.old }
+
         ensures fits { length self.new.entries ≤ self.new.capacity }
         ensures all_known { KnowsAll (B.knows backing.new) self.new }
+
         ensures answer { IsHonest result (B.is_broken backing.old) (B.is_broken backing.new) }
         ensures through { cached self.new key ≡ None → result ≡ stored (B.is_broken backing.new) }
         ensures keeps { Keeps B.geometry B.knows B.is_broken B.follows backing.old backing.new }
@@ -320,16 +344,20 @@ impl Cache {
         requires absent { cached self.old key ≡ None }
         requires full { self.old.capacity ≤ length self.old.entries }
         requires some { 0 < self.old.capacity }
+
         ensures sees { result ≡ Completion.Done
             → Sees self.old (B.block_at backing.old) self.new (B.block_at backing.new) key block.now }
         ensures blocks { result ≡ Completion.Done
             → Spares self.old (B.block_at backing.old) self.new (B.block_at backing.new) key }
+
         ensures taken { result ≡ Completion.Done → TakesIn self.old self.new key block.now }
         ensures puts { result ≡ Completion.Done
             → InTurn B.puts (last_keys self.old.entries ++ put_through self.new key) backing.old backing.new }
         ensures broken { result ≡ Completion.Broken → self.new ≡ self.old }
+
         ensures fits { length self.new.entries ≤ self.new.capacity }
         ensures all_known { KnowsAll (B.knows backing.new) self.new }
+
         ensures answer { IsHonest result (B.is_broken backing.old) (B.is_broken backing.new) }
         ensures asked { result ≡ stored (B.is_broken backing.new) }
         ensures keeps { Keeps B.geometry B.knows B.is_broken B.follows backing.old backing.new }
@@ -353,10 +381,12 @@ impl Cache {
     fn destage_last<B: Backing>(&self, backing: &mut B) -> Flush
         requires geometry { B.geometry backing.old ≡ self.now.geometry }
         requires all_known { KnowsAll (B.knows backing.old) self.now }
+
         ensures sound { IsSound self.now }
         ensures given { Gives result self.now.entries (B.block_at backing.old) (B.block_at backing.new) }
         ensures put { IsPut B.puts result backing.old backing.new }
         ensures quiet { result ≡ Flush.Idle → backing.new ≡ backing.old }
+
         ensures answer { IsHonest (answer_of result) (B.is_broken backing.old) (B.is_broken backing.new) }
         ensures asked { 0 < length self.now.entries → answer_of result ≡ stored (B.is_broken backing.new) }
         ensures keeps { Keeps B.geometry B.knows B.is_broken B.follows backing.old backing.new }

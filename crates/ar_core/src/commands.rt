@@ -145,11 +145,13 @@ impl<D: Disk> Array<D> {
         requires few { count < 65536 }
         requires sound { is_broken self.old ≡ false }
         requires blocks { (k : Key) → length (seen_at self.old k) ≡ block_len_of (geometry_of self.old) }
+
         ensures serves { Serves self.old addr
             (leaving (present_at self.old addr) (good (sectors_read self.old addr lba count)))
             (check internal_target_failure) result self.new }
         ensures begun { ReadsFirst ReadsBlock (geometry_of self.old) addr lba count self.old self.new }
         ensures got { result.status ≡ Good → InTurn ReadsBlock (keys_in (geometry_of self.old) addr lba count) self.old self.new }
+
         ensures failed { result.status ≡ CheckCondition → result ≡ check internal_target_failure }
         ensures few { length result.payload ≤ 65535 * 512 }
     {
@@ -219,9 +221,11 @@ impl<D: Disk> Array<D> {
         requires within { lba + count ≤ sectors }
         requires whole { length bytes.now ≡ count * 512 }
         requires sound { is_broken self.old ≡ false }
+
         ensures answer { result ≡ stored (is_broken self.new) }
         ensures writes { result ≡ Completion.Done → Writes self.old addr lba count bytes.now self.new }
         ensures forced { result ≡ Completion.Done → IsTrue fua → IsForced self.new addr lba count }
+
         ensures stored { result ≡ Completion.Done → StoresBlocks addr lba count fua self.old self.new }
         ensures nothing { count ≡ 0 → self.new ≡ self.old }
         ensures follows { Follows self.old self.new }
@@ -245,9 +249,11 @@ impl<D: Disk> Array<D> {
         requires within { lba + count ≤ sectors }
         requires whole { length bytes.now ≡ count * 512 }
         requires sound { is_broken self.old ≡ false }
+
         ensures answer { result ≡ stored (is_broken self.new) }
         ensures writes { result ≡ Completion.Done → Writes self.old addr lba count bytes.now self.new }
         ensures puts { result ≡ Completion.Done → PutsBlocks addr lba count self.old self.new }
+
         ensures nothing { count ≡ 0 → self.new ≡ self.old }
         ensures follows { Follows self.old self.new }
     {
@@ -268,9 +274,11 @@ impl<D: Disk> Array<D> {
         requires unit { IsUnit self.old addr sectors }
         requires within { lba + count ≤ sectors }
         requires sound { is_broken self.old ≡ false }
+
         ensures answer { result ≡ stored (is_broken self.new) }
         ensures forced { result ≡ Completion.Done → IsForced self.new addr lba count }
         ensures forces { result ≡ Completion.Done → InTurn ForcesBlock (keys_in (geometry_of self.old) addr lba count) self.old self.new }
+
         ensures spared { result ≡ Completion.Done → 0 < count → IsSpared self.old.cache self.new.cache addr
             (lba / sectors_of (geometry_of self.old)) ((lba + count - 1) / sectors_of (geometry_of self.old) + 1) }
         ensures seen { result ≡ Completion.Done → SameSeen self.old self.new }

@@ -107,9 +107,11 @@ impl<D: Disk + Drop, L: Ledger> Kept<D, L> {
         requires payload { draft.ours.payload ≡ payload }
         requires room { length self.old.history < self.old.room }
         requires seat_room { length seat.old.transcript < seat.old.room }
+
         ensures serves { Serves self.old seat.old draft.ours.lun draft.ours.cdb payload result.reply result.at self.new seat.new }
         ensures begun { Begins self.old.array seat.old.host draft.ours.lun draft.ours.cdb payload result.reply self.new.array }
         ensures host { seat.new.host ≡ seat.old.host }
+
         ensures kept_room { self.new.room ≡ self.old.room }
         ensures kept_seat_room { seat.new.room ≡ seat.old.room }
     {
@@ -229,11 +231,13 @@ fn record<L: Ledger>(
 ) -> u64
     requires room { vec_len history.old < vec_capacity history.old }
     requires seat_room { length seat.old.transcript < seat.old.room }
+
     ensures position { result ≡ length history.old.items }
     ensures history { history.new.items ≡ history.old.items ++ Entry.Cmd seat.old.host draft.ours ∷ [] }
     ensures total { book.new.total ≡ book.old.total + 1 }
     ensures transcript { seat.new.transcript ≡ seat.old.transcript ++ draft.theirs ∷ [] }
     ensures host { seat.new.host ≡ seat.old.host }
+
     ensures kept_room { vec_capacity history.new ≡ vec_capacity history.old }
     ensures kept_seat_room { seat.new.room ≡ seat.old.room }
 {

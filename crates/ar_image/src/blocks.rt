@@ -225,8 +225,10 @@ impl<D: Disk> Blocks<D> {
         requires place { HasExtent self.old.store.disks place }
         requires row { row < rows_of (geometry_of self.old) }
         requires whole { length into.old ≡ block_len_of (geometry_of self.old) }
+
         ensures answer { Gets self.old.store.disks self.new.store.disks place row into.new result }
         ensures access { Accesses self.old.store.disks self.new.store.disks place (is_read result) }
+
         ensures keeps { Keeps Anywhere self.old.store.disks self.new.store.disks }
         ensures places { SamePlaces self.old self.new }
         ensures seen { is_broken self.new ≡ false → SameSeen self.old self.new }

@@ -31,13 +31,16 @@ fn read_part<B: Backing>(
     requires known { IsTrue (B.knows blocks.old key) }
     requires whole { length block.old ≡ block_len_of (B.geometry blocks.old) }
     requires within { first + count ≤ sectors_of (B.geometry blocks.old) }
+
     ensures done { result ≡ Transfer.Done → out.new.items ≡ out.old.items ++ sectors_at (B.block_at blocks.old key) first count }
     ensures many { result ≡ Transfer.Done → length out.new.items ≡ length out.old.items + 512 * count }
     ensures broken { result ≡ Transfer.Broken → IsTrue (B.is_broken blocks.new) }
+
     ensures sound { result ≢ Transfer.Broken → B.is_broken blocks.new ≡ false }
     ensures blocks { result ≢ Transfer.Broken → SameBlocks (B.block_at blocks.old) (B.block_at blocks.new) }
     ensures keeps { Keeps B.geometry B.knows B.is_broken B.follows blocks.old blocks.new }
     ensures gets { B.gets blocks.old key blocks.new }
+
     ensures room { vec_len out.old + 512 * count ≤ vec_capacity out.old → result ≢ Transfer.NoMemory }
     ensures capacity { vec_capacity out.old ≤ vec_capacity out.new }
     ensures len { length block.new ≡ length block.old }
@@ -67,15 +70,18 @@ pub fn read_sectors<B: Backing>(
     requires whole { length block.old ≡ block_len_of geometry }
     requires known { (rb : ℕ) → rb * sectors_of geometry < lba + count → IsTrue (B.knows blocks.old (key_of addr rb)) }
     requires small { lba + count ≤ 1048576 }
+
     ensures done { result ≡ Transfer.Done → out.new.items ≡ out.old.items
         ++ concat (sectors_in geometry (unit_block (B.block_at blocks.old) addr) lba count) }
     ensures many { result ≡ Transfer.Done → length out.new.items ≡ length out.old.items + 512 * count }
     ensures broken { result ≡ Transfer.Broken → IsTrue (B.is_broken blocks.new) }
+
     ensures sound { result ≢ Transfer.Broken → B.is_broken blocks.new ≡ false }
     ensures blocks { result ≢ Transfer.Broken → SameBlocks (B.block_at blocks.old) (B.block_at blocks.new) }
     ensures keeps { Keeps B.geometry B.knows B.is_broken B.follows blocks.old blocks.new }
     ensures gets { ReadsFirst B.gets geometry addr lba count blocks.old blocks.new }
     ensures all { result ≡ Transfer.Done → InTurn B.gets (keys_in geometry addr lba count) blocks.old blocks.new }
+
     ensures room { vec_len out.old + 512 * count ≤ vec_capacity out.old → result ≢ Transfer.NoMemory }
     ensures len { length block.new ≡ length block.old }
 {
@@ -112,12 +118,14 @@ fn write_part<B: Backing>(
     requires whole { length block.old ≡ block_len_of geometry }
     requires sectors { length bytes.now ≡ 512 * count }
     requires within { first + count ≤ sectors_of geometry }
+
     ensures inside { result ≡ Completion.Done → (i : ℕ) → first ≤ i → i < first + count
         → sectors_at (B.block_at blocks.new key) i 1 ≡ sectors_at bytes.now (i - first) 1 }
     ensures outside { result ≡ Completion.Done → (i : ℕ) → (i < first) ⊎ (first + count ≤ i) → i < sectors_of geometry
         → sectors_at (B.block_at blocks.new key) i 1 ≡ sectors_at (B.block_at blocks.old key) i 1 }
     ensures others { result ≡ Completion.Done → (k : Key) → k ≢ key → B.block_at blocks.new k ≡ B.block_at blocks.old k }
     ensures puts { result ≡ Completion.Done → Replaces B.gets B.puts (count == sectors_of geometry) blocks.old key blocks.new }
+
     ensures answer { result ≡ stored (B.is_broken blocks.new) }
     ensures keeps { Keeps B.geometry B.knows B.is_broken B.follows blocks.old blocks.new }
     ensures len { length block.new ≡ length block.old }
@@ -151,6 +159,7 @@ pub fn write_sectors<B: Backing>(
     requires known { (rb : ℕ) → rb * sectors_of geometry < lba + count → IsTrue (B.knows blocks.old (key_of addr rb)) }
     requires small { lba + count ≤ 1048576 }
     requires sectors { length bytes.now ≡ 512 * count }
+
     ensures inside { result ≡ Completion.Done → (i : ℕ) → lba ≤ i → i < lba + count
         → sector_in geometry (unit_block (B.block_at blocks.new) addr) i ≡ sectors_at bytes.now (i - lba) 1 }
     ensures outside { result ≡ Completion.Done → (i : ℕ) → (i < lba) ⊎ (lba + count ≤ i)
@@ -158,6 +167,7 @@ pub fn write_sectors<B: Backing>(
     ensures others { result ≡ Completion.Done → (k : Key) → k.addr ≢ addr → B.block_at blocks.new k ≡ B.block_at blocks.old k }
     ensures puts { result ≡ Completion.Done → InTurn (Overwrites B.gets B.puts geometry lba count) (keys_in geometry addr lba count) blocks.old blocks.new }
     ensures nothing { count ≡ 0 → blocks.new ≡ blocks.old }
+
     ensures answer { result ≡ stored (B.is_broken blocks.new) }
     ensures keeps { Keeps B.geometry B.knows B.is_broken B.follows blocks.old blocks.new }
     ensures len { length block.new ≡ length block.old }

@@ -30,9 +30,11 @@ pub fn rebuild_row<D: Disk>(
     requires rebuilding { IsRebuilding set.old.health }
     requires next { member members.now position ≡ next_place set.old }
     requires scratch { scratch.old.geometry ≡ set.old.geometry }
+
     ensures answer { Rebuilds set.old set.new (member members.now (partner_of position)) row result }
     ensures keeps { KeepsBut (next_place set.old) row set.old set.new }
     ensures slots { AllSlotsHold set.old set.new }
+
     ensures follows { Follows set.old set.new }
     ensures touches { Spares (HasNoneOf (IsEither (member members.now (partner_of position)) (next_place set.old))) set.old set.new }
     ensures loose { set.new.loose ≡ set.old.loose }
@@ -49,8 +51,10 @@ fn copy_row<D: Disk>(set: &mut DiskSet<D>, from: Place, row: u16, block: &mut Bl
     requires row { row < rows_of set.old.geometry }
     requires rebuilding { IsRebuilding set.old.health }
     requires whole { length block.old ≡ block_len_of set.old.geometry }
+
     ensures answer { Rebuilds set.old set.new from row result }
     ensures keeps { KeepsBut (next_place set.old) row set.old set.new }
+
     ensures follows { Follows set.old set.new }
     ensures touches { Spares (HasNoneOf (IsEither from (next_place set.old))) set.old set.new }
     ensures loose { set.new.loose ≡ set.old.loose }

@@ -23,8 +23,10 @@ pub fn get<D: Disk>(
     requires group { IsGroup set.old members.now }
     requires slot { slot < slots_of set.old.geometry }
     requires whole { length into.old ≡ block_len_of set.old.geometry }
+
     ensures outcome { result ≡ outcome_of set.new.health }
     ensures gives { Gives set.old set.new members.now slot into.new result }
+
     ensures keeps { Keeps Anywhere set.old set.new }
     ensures works { WorksOn (IsInPair set.old.geometry members.now slot) set.old set.new }
     // While the first member is sound, the other isn't asked.
@@ -50,11 +52,13 @@ pub fn put<D: Disk>(set: &mut DiskSet<D>, members: &Members, slot: u16, from: &[
     requires group { IsGroup set.old members.now }
     requires slot { slot < slots_of set.old.geometry }
     requires whole { length from.now ≡ block_len_of set.old.geometry }
+
     ensures outcome { result ≡ outcome_of set.new.health }
     // On a broken set no member is sound, so this speaks of what is done.
     ensures holds { Holds set.new members.now slot from.now }
     ensures slots { OtherSlotsHold members.now slot set.old set.new }
     ensures groups { OtherGroupsHold members.now set.old set.new }
+
     ensures keeps { KeepsButSlot members.now slot set.old set.new }
     ensures works { WorksOn (IsInPair set.old.geometry members.now slot) set.old set.new }
 {

@@ -60,9 +60,11 @@ fn demote_to_new<D: Disk>(store: &mut Store<D>, key: Key) -> Move
     requires kept { IsKept store.old }
     requires oldest { IsOldestMirrored store.old.book key }
     requires none { HasNoHole store.old.book Parity }
+
     ensures moved { IfMoved result (DemotesTo store.old.book key store.new.book) }
     ensures idle { result ≡ Move.Idle → IsLeft store.old store.new (NamesNoSlot store.old.book) }
     ensures broken { (result ≡ Move.Broken) ↔ (store.new.disks.health ≡ Health.Broken) }
+
     ensures opened { result ≡ Move.Broken → MayHaveOpened store.old.book store.new.book }
     ensures zeros { IfMoved result (λ key to. HoldsZerosBeside store.new to) }
     ensures leaves { LeavesBlocks store.old store.new }

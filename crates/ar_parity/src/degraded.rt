@@ -34,12 +34,15 @@ pub fn sum_of_two<D: Disk>(
     requires row { row < rows_of set.old.geometry }
     requires whole { length into.old ≡ block_len_of set.old.geometry }
     requires spare_whole { length spare.old ≡ block_len_of set.old.geometry }
+
     ensures answer { Tells set.new result }
     ensures sum { OnDone result ((blocks : Blocks) → RowAgrees set.old members.now row blocks
         → into.new ≡ xor (block blocks beside) (block blocks lost)) }
     ensures health { OnDone result (set.new.health ≡ set.old.health) }
+
     ensures keeps { Keeps Anywhere set.old set.new }
     ensures works { WorksOn (IsMember members.now) set.old set.new }
+
     ensures len { length into.new ≡ length into.old }
     ensures spare_len { length spare.new ≡ length spare.old }
 {
@@ -66,11 +69,14 @@ pub fn sum_of_three<D: Disk>(
     requires row { row < rows_of set.old.geometry }
     requires whole { length into.old ≡ block_len_of set.old.geometry }
     requires spare_whole { length spare.old ≡ block_len_of set.old.geometry }
+
     ensures answer { Tells set.new result }
     ensures block { OnDone result ((blocks : Blocks) → RowAgrees set.old members.now row blocks → into.new ≡ block blocks lost) }
     ensures health { OnDone result (set.new.health ≡ set.old.health) }
+
     ensures keeps { Keeps Anywhere set.old set.new }
     ensures works { WorksOn (IsMember members.now) set.old set.new }
+
     ensures len { length into.new ≡ length into.old }
     ensures spare_len { length spare.new ≡ length spare.old }
 {

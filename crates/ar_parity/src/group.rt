@@ -62,13 +62,16 @@ pub fn get<D: Disk>(
     requires slot { slot < 3 * rows_of set.old.geometry }
     requires whole { length into.old ≡ block_len_of set.old.geometry }
     requires scratch { scratch.old.geometry ≡ set.old.geometry }
+
     ensures outcome { result ≡ outcome_of set.new.health }
     ensures gives { OnDone result ((b : List ℕ) → Holds set.old members.now slot b → into.new ≡ b) }
+
     ensures keeps { Keeps Anywhere set.old set.new }
     ensures works { WorksOn (IsMember members.now) set.old set.new }
     // While the slot's member is sound, no other is asked.
     ensures first { IsSound set.new (member members.now (data_position slot))
         → WorksOn (IsPlace (member members.now (data_position slot))) set.old set.new }
+
     ensures len { length into.new ≡ length into.old }
     ensures scratch { scratch.new.geometry ≡ scratch.old.geometry }
 {
@@ -96,10 +99,12 @@ pub fn put<D: Disk>(
     requires slot { slot < 3 * rows_of set.old.geometry }
     requires whole { length from.now ≡ block_len_of set.old.geometry }
     requires scratch { scratch.old.geometry ≡ set.old.geometry }
+
     ensures outcome { result ≡ outcome_of set.new.health }
     ensures row { Changes set.old set.new members.now (row_of slot) (data_position slot) from.now }
     ensures holds { (b : List ℕ) → Holds set.old members.now slot b → Holds set.new members.now slot from.now }
     ensures slots { (k : ℕ) → k ≢ slot → (b : List ℕ) → Holds set.old members.now k b → Holds set.new members.now k b }
+
     ensures keeps { KeepsButRow members.now (row_of slot) set.old set.new }
     ensures works { WorksOn (IsMember members.now) set.old set.new }
     // While the slot's member is sound, no other is asked but the one with the row's parity.

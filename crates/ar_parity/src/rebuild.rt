@@ -32,9 +32,11 @@ pub fn rebuild_row<D: Disk>(
     requires next { member members.now position ≡ next_place set.old }
     requires row { row < rows_of set.old.geometry }
     requires scratch { scratch.old.geometry ≡ set.old.geometry }
+
     ensures answer { Rebuilds set.old set.new members.now position row result }
     ensures agrees { (r : ℕ) (blocks : Blocks) → RowAgrees set.old members.now r blocks → RowAgrees set.new members.now r blocks }
     ensures keeps { KeepsBut (member members.now position) row set.old set.new }
+
     ensures follows { Follows set.old set.new }
     ensures touches { Spares (HasNoneOf (IsMember members.now)) set.old set.new }
     ensures loose { set.new.loose ≡ set.old.loose }

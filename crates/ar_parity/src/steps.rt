@@ -52,9 +52,11 @@ pub fn read_beside<D: Disk>(
     requires lost { IsLost set.old (member members.now lost) }
     requires row { row < rows_of set.old.geometry }
     requires whole { length into.old ≡ block_len_of set.old.geometry }
+
     ensures answer { Tells set.new result }
     ensures bytes { OnDone result ((b : List ℕ) → Stands set.old members.now row position b → into.new ≡ b) }
     ensures health { OnDone result (set.new.health ≡ set.old.health) }
+
     ensures keeps { Keeps Anywhere set.old set.new }
     ensures works { WorksOn (IsPlace (member members.now position)) set.old set.new }
     ensures len { length into.new ≡ length into.old }
@@ -83,11 +85,14 @@ pub fn add_beside<D: Disk>(
     requires row { row < rows_of set.old.geometry }
     requires whole { length into.old ≡ block_len_of set.old.geometry }
     requires spare_whole { length spare.old ≡ block_len_of set.old.geometry }
+
     ensures answer { Tells set.new result }
     ensures bytes { OnDone result ((b : List ℕ) → Stands set.old members.now row position b → into.new ≡ xor into.old b) }
     ensures health { OnDone result (set.new.health ≡ set.old.health) }
+
     ensures keeps { Keeps Anywhere set.old set.new }
     ensures works { WorksOn (IsPlace (member members.now position)) set.old set.new }
+
     ensures len { length into.new ≡ length into.old }
     ensures spare_len { length spare.new ≡ length spare.old }
 {

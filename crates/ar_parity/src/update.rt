@@ -32,11 +32,13 @@ fn write_both<D: Disk>(
     requires row { row < rows_of set.old.geometry }
     requires whole { length from.now ≡ block_len_of set.old.geometry }
     requires sum_whole { length sum.now ≡ block_len_of set.old.geometry }
+
     ensures answer { Tells set.new result }
     ensures block { Stands set.new members.now row position from.now }
     ensures parity { Stands set.new members.now row parity sum.now }
     ensures others { (i : ℕ) → i < 4 → i ≢ position → i ≢ parity
         → content set.new (member members.now i) row ≡ content set.old (member members.now i) row }
+
     ensures keeps { KeepsButRow members.now row set.old set.new }
     ensures works { WorksOn (IsEither (member members.now position) (member members.now parity)) set.old set.new }
 {
@@ -64,9 +66,11 @@ fn update<D: Disk>(
     requires whole { length from.now ≡ block_len_of set.old.geometry }
     requires before_whole { length before.now ≡ block_len_of set.old.geometry }
     requires sum_whole { length sum.old ≡ block_len_of set.old.geometry }
+
     ensures answer { Tells set.new result }
     ensures agrees { (blocks : Blocks) → RowAgrees set.old members.now row blocks → before.now ≡ block blocks position
         → RowAgrees set.new members.now row (changed blocks position (parity_position row) from.now) }
+
     ensures keeps { KeepsButRow members.now row set.old set.new }
     ensures works { WorksOn (IsEither (member members.now position) (member members.now (parity_position row))) set.old set.new }
     ensures sum_len { length sum.new ≡ length sum.old }
@@ -101,11 +105,14 @@ fn put_lost<D: Disk>(
     requires whole { length from.now ≡ block_len_of set.old.geometry }
     requires sum_whole { length sum.old ≡ block_len_of set.old.geometry }
     requires spare_whole { length spare.old ≡ block_len_of set.old.geometry }
+
     ensures answer { Tells set.new result }
     ensures agrees { (blocks : Blocks) → RowAgrees set.old members.now row blocks
         → RowAgrees set.new members.now row (changed blocks position (parity_position row) from.now) }
+
     ensures keeps { KeepsButRow members.now row set.old set.new }
     ensures works { WorksOn (IsMember members.now) set.old set.new }
+
     ensures sum_len { length sum.new ≡ length sum.old }
     ensures spare_len { length spare.new ≡ length spare.old }
 {
@@ -134,8 +141,10 @@ pub fn change<D: Disk>(
     requires row { row < rows_of set.old.geometry }
     requires whole { length from.now ≡ block_len_of set.old.geometry }
     requires scratch { scratch.old.geometry ≡ set.old.geometry }
+
     ensures answer { Tells set.new result }
     ensures changes { Changes set.old set.new members.now row position from.now }
+
     ensures keeps { KeepsButRow members.now row set.old set.new }
     ensures works { WorksOn (IsMember members.now) set.old set.new }
     // While the member is sound, no disk but its own and the parity's is asked.

@@ -19,14 +19,17 @@ pub(crate) fn rebuild_extent<D: Disk>(space: &mut Space<D>, place: Place) -> Reb
     requires ready { IsReady space.old }
     requires rebuilding { space.old.disks.health ≡ Health.Rebuilding place.disk place.extent }
     requires exists { place.extent < space.old.disks.extents }
+
     ensures answer { Answers space.old.disks space.new.disks result }
     ensures idle { result ≢ Rebuild.Idle }
     ensures broken { (result ≡ Rebuild.Broken) ↔ (space.new.disks.health ≡ Health.Broken) }
+
     ensures ready { IsReady space.new }
     ensures book { space.new.book ≡ space.old.book }
     ensures stand { AllStand (store_in space.old) (store_in space.new) }
     ensures slots { SlotsHold (store_in space.old) (store_in space.new) }
     ensures keeps { Keeps (IsBesideNext space.old.disks) space.old.disks space.new.disks }
+
     ensures asks { AsksNext (store_in space.old) space.new.disks }
     ensures nothing { HasNothingNext (store_in space.old) → space.new.disks ≡ with_done space.old.disks }
     ensures advances { Advances space.old.disks space.new.disks }

@@ -42,8 +42,10 @@ pub(crate) fn copy_rows<D: Disk>(
     requires rebuilding { IsRebuilding set.old.health }
     requires next { member members.now position ≡ next_place set.old }
     requires scratch { scratch.old.geometry ≡ set.old.geometry }
+
     ensures answer { WritesRows Mirrored set.old set.new members.now result }
     ensures writes { WritesNext set.old set.new }
+
     ensures touches { Spares (HasNoneOf (IsEither (member members.now (partner_of position)) (next_place set.old))) set.old set.new }
     ensures scratch { scratch.new.geometry ≡ scratch.old.geometry }
 {
@@ -69,8 +71,10 @@ pub(crate) fn sum_rows<D: Disk>(
     requires rebuilding { IsRebuilding set.old.health }
     requires next { member members.now position ≡ next_place set.old }
     requires scratch { scratch.old.geometry ≡ set.old.geometry }
+
     ensures answer { WritesRows Parity set.old set.new members.now result }
     ensures writes { WritesNext set.old set.new }
+
     ensures touches { Spares (HasNoneOf (IsMember members.now)) set.old set.new }
     ensures scratch { scratch.new.geometry ≡ scratch.old.geometry }
 {

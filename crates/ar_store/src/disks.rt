@@ -52,9 +52,11 @@ impl<D: Disk> Store<D> {
         requires place { HasExtent self.old.disks place }
         requires row { row < rows_of self.old.disks.geometry }
         requires whole { length into.old ≡ block_len_of self.old.disks.geometry }
+
         ensures answer { Gets self.old.disks self.new.disks place row into.new result }
         ensures access { Accesses self.old.disks self.new.disks place (is_read result) }
         ensures keeps { Keeps Anywhere self.old.disks self.new.disks }
+
         ensures book { self.new.book ≡ self.old.book }
         ensures stands { AllStand self.old self.new }
         ensures accessed { IsAccessed self.old.disks self.new.disks }
@@ -75,11 +77,13 @@ impl<D: Disk + Drop> Store<D> {
     /// changes then.
     pub fn replace(&mut self, number: u8, disk: D) -> Result<(), (DiskRefusal, D)>
         requires { CanCount (D.state disk) }
+
         ensures taken { OnOk result (replace_refusal self.old.disks number (D.state disk) ≡ None) }
         ensures replaced { OnOk result (self.new.disks ≡ replaced self.old.disks number (D.state disk)) }
         ensures refused { IfErr result (λ back. replace_refusal self.old.disks number (D.state disk) ≡ Some back.0) }
         ensures handed_back { IfErr result (λ back. back.1 ≡ disk) }
         ensures unchanged { OnErr result (self.new ≡ self.old) }
+
         ensures book { self.new.book ≡ self.old.book }
         ensures stands { AllStand self.old self.new }
         ensures slots { SlotsHold self.old self.new }

@@ -22,10 +22,12 @@ impl<D: Disk> Space<D> {
         requires placed { IsSome (home self.old.book key) }
         requires hole { IsVacant self.old.book to }
         requires whole { length block.old ≡ block_len_of self.old.disks.geometry }
+
         ensures outcome { result ≡ outcome_of self.new.disks.health }
         ensures moved { result ≡ Completion.Done → self.new.book ≡ assigned self.old.book key to }
         ensures unmoved { result ≡ Completion.Broken → self.new.book ≡ self.old.book }
         ensures free { free_groups self.old.book ≤ free_groups self.new.book }
+
         ensures stand { AllStand (store_in self.old) (store_in self.new) }
         ensures beside { BesideHold (store_in self.old) (store_in self.new) to }
         ensures stays { Stays self.old self.new }
@@ -46,10 +48,12 @@ impl<D: Disk> Space<D> {
         requires block { HasBlock self.old.book key }
         requires hole { IsVacant self.old.book to }
         requires whole { length from.now ≡ block_len_of self.old.disks.geometry }
+
         ensures outcome { result ≡ outcome_of self.new.disks.health }
         ensures filled { result ≡ Completion.Done → self.new.book ≡ assigned self.old.book key to }
         ensures unfilled { result ≡ Completion.Broken → self.new.book ≡ self.old.book }
         ensures free { free_groups self.old.book ≤ free_groups self.new.book }
+
         ensures here { result ≡ Completion.Done → stands (store_in self.new) key ≡ from.now }
         ensures others { OthersStand (store_in self.old) (store_in self.new) key }
         ensures beside { BesideHold (store_in self.old) (store_in self.new) to }
@@ -70,10 +74,12 @@ impl<D: Disk> Space<D> {
         requires block { HasBlock self.old.book key }
         requires way { IsReadyFor (store_in self.old) key way }
         requires whole { length from.now ≡ block_len_of self.old.disks.geometry }
+
         ensures outcome { result ≡ outcome_of self.new.disks.health }
         ensures tables { result ≡ Completion.Done → self.new.book ≡ stamped (placed_by self.old.book key way) key }
         ensures unwritten { result ≡ Completion.Broken → self.new.book ≡ self.old.book }
         ensures free { free_groups self.old.book ≤ free_groups self.new.book }
+
         ensures here { result ≡ Completion.Done → stands (store_in self.new) key ≡ from.now }
         ensures others { OthersStand (store_in self.old) (store_in self.new) key }
         ensures stays { Stays self.old self.new }
@@ -93,10 +99,12 @@ impl<D: Disk> Space<D> {
         requires block { HasBlock self.old.book key }
         requires way { IsReadyFor (store_in self.old) key way }
         requires whole { length from.now ≡ block_len_of self.old.disks.geometry }
+
         ensures outcome { result ≡ outcome_of self.new.disks.health }
         ensures tables { result ≡ Completion.Done → self.new.book ≡ placed_by self.old.book key way }
         ensures unwritten { result ≡ Completion.Broken → self.new.book ≡ self.old.book }
         ensures free { free_groups self.old.book ≤ free_groups self.new.book }
+
         ensures here { result ≡ Completion.Done → stands (store_in self.new) key ≡ from.now }
         ensures others { OthersStand (store_in self.old) (store_in self.new) key }
         ensures stays { Stays self.old self.new }

@@ -34,12 +34,15 @@ impl<D: Disk> Space<D> {
         requires ready { IsReady self.old }
         requires class { class ≢ Free }
         requires sound { self.old.disks.health ≢ Broken }
+
         ensures opens { Opens (store_in self.old) (store_in self.new) class result }
         ensures answer { (result ≡ Opening.Broken) ↔ (self.new.disks.health ≡ Broken) }
+
         ensures mirrored { class ≡ Mirrored → self.new.disks ≡ self.old.disks }
         ensures parity { class ≡ Parity → IfOpened result (HoldsZeros (store_in self.new)) }
         ensures homes { (k : Key) → home self.new.book k ≡ home self.old.book k }
         ensures free { 0 < free_groups self.old.book → 0 < free_groups self.new.book }
+
         ensures stand { AllStand (store_in self.old) (store_in self.new) }
         ensures stays { Stays self.old self.new }
     {

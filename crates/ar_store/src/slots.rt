@@ -19,8 +19,10 @@ impl<D: Disk> Space<D> {
         requires ready { IsReady self.old }
         requires slot { HasSlot self.old.book slot }
         requires whole { length into.old ≡ block_len_of self.old.disks.geometry }
+
         ensures outcome { result ≡ outcome_of self.new.disks.health }
         ensures given { OnDone result ((block : List ℕ) → SlotHolds (store_in self.old) slot block → into.new ≡ block) }
+
         ensures book { self.new.book ≡ self.old.book }
         ensures asks { AsksForSlot (store_in self.old) (store_in self.new) slot }
         ensures keeps { Keeps Anywhere self.old.disks self.new.disks }

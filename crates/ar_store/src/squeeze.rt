@@ -27,9 +27,11 @@ impl<D: Disk> Space<D> {
         requires parity { HasNoHole self.old.book Parity }
         requires free { free_groups self.old.book ≡ 1 }
         requires whole { length block.old ≡ block_len_of self.old.disks.geometry }
+
         ensures squeezed { IfSome result (IsSqueezed self.old.book self.new.book) }
         ensures free { IfSome result (λ _. 0 < free_groups self.new.book) }
         ensures none { IfNone result (self.new.disks.health ≡ Broken) }
+
         ensures unplaced { (k : Key) → home self.old.book k ≡ None → home self.new.book k ≡ None }
         ensures stand { AllStand (store_in self.old) (store_in self.new) }
         ensures stays { Stays self.old self.new }
@@ -55,10 +57,12 @@ impl<D: Disk> Space<D> {
         requires can { CanMove self.old.book from to }
         requires sound { self.old.disks.health ≢ Broken }
         requires whole { length block.old ≡ block_len_of self.old.disks.geometry }
+
         ensures outcome { result ≡ outcome_of self.new.disks.health }
         ensures moved { result ≡ Completion.Done → self.new.book ≡ moved_first self.old.book from to (slots_of self.old.book.geometry Mirrored) }
         ensures emptied { result ≡ Completion.Done → class_of self.new.book from ≡ Free }
         ensures hole { result ≡ Completion.Done → IsVacant self.new.book (slot_at to (slots_of self.old.book.geometry Mirrored)) }
+
         ensures unplaced { (k : Key) → home self.old.book k ≡ None → home self.new.book k ≡ None }
         ensures stand { AllStand (store_in self.old) (store_in self.new) }
         ensures stays { Stays self.old self.new }

@@ -76,9 +76,11 @@ impl<D: Disk> Store<D> {
     /// before nothing has changed.
     pub fn get(&mut self, key: Key, into: &mut Block) -> Completion
         requires whole { length into.old ≡ block_len_of self.old.disks.geometry }
+
         ensures outcome { result ≡ outcome_of self.new.disks.health }
         ensures given { result ≡ Completion.Done → into.new ≡ stands self.old key }
         ensures unplaced { home self.old.book key ≡ None → self.new ≡ self.old }
+
         ensures asks { (slot : Slot) → home self.old.book key ≡ Some slot → AsksForSlot self.old self.new slot }
         ensures stands { AllStand self.old self.new }
         ensures keeps { Keeps Anywhere self.old.disks self.new.disks }
@@ -105,11 +107,13 @@ impl<D: Disk> Store<D> {
     pub fn put(&mut self, key: Key, from: &[u8]) -> Completion
         requires block { HasBlock self.old.book key }
         requires whole { length from.now ≡ block_len_of self.old.disks.geometry }
+
         ensures outcome { result ≡ outcome_of self.new.disks.health }
         ensures put { result ≡ Completion.Done → stands self.new key ≡ from.now }
         ensures others { OthersStand self.old self.new key }
         ensures tables { result ≡ Completion.Done → Puts self.old.book key self.new.book }
         ensures unmoved { result ≡ Completion.Broken → home self.new.book key ≡ home self.old.book key }
+
         ensures units { SameUnits self.old.book self.new.book }
         ensures accessed { IsAccessed self.old.disks self.new.disks }
         ensures broken { self.old.disks.health ≡ Health.Broken → self.new ≡ self.old }
@@ -126,9 +130,11 @@ impl<D: Disk> Store<D> {
     pub fn place(&mut self, key: Key) -> Completion
         requires block { HasBlock self.old.book key }
         requires unplaced { home self.old.book key ≡ None }
+
         ensures outcome { result ≡ outcome_of self.new.disks.health }
         ensures placed { result ≡ Completion.Done → IsSome (home self.new.book key) }
         ensures tables { result ≡ Completion.Done → Puts self.old.book key self.new.book }
+
         ensures stands { AllStand self.old self.new }
         ensures unmoved { result ≡ Completion.Broken → home self.new.book key ≡ home self.old.book key }
         ensures units { SameUnits self.old.book self.new.book }
@@ -149,9 +155,11 @@ impl<D: Disk> Store<D> {
     pub fn move_rb(&mut self, key: Key, slot: Slot) -> Completion
         requires placed { IsSome (home self.old.book key) }
         requires hole { IsVacant self.old.book slot }
+
         ensures outcome { result ≡ outcome_of self.new.disks.health }
         ensures moved { result ≡ Completion.Done → Moved self.old.book key slot self.new.book }
         ensures unmoved { result ≡ Completion.Broken → self.new.book ≡ self.old.book }
+
         ensures stands { AllStand self.old self.new }
         ensures beside { BesideHold self.old self.new slot }
         ensures units { SameUnits self.old.book self.new.book }
@@ -169,12 +177,15 @@ impl<D: Disk> Store<D> {
     /// before nothing has changed.
     pub fn open_group(&mut self, class: Class) -> Opening
         requires { class ≢ Class.Free }
+
         ensures opens { Opens self.old self.new class result }
         ensures answer { (result ≡ Opening.Broken) ↔ (self.new.disks.health ≡ Health.Broken) }
+
         ensures mirrored { class ≡ Class.Mirrored → self.new.disks ≡ self.old.disks }
         ensures parity { class ≡ Class.Parity → IfOpened result (HoldsZeros self.new) }
         ensures homes { (k : Key) → home self.new.book k ≡ home self.old.book k }
         ensures stands { AllStand self.old self.new }
+
         ensures units { SameUnits self.old.book self.new.book }
         ensures accessed { IsAccessed self.old.disks self.new.disks }
         ensures broken { self.old.disks.health ≡ Health.Broken → self.new ≡ self.old }

@@ -32,8 +32,10 @@ impl<D: Disk> Space<D> {
         requires free { 0 < free_groups self.old.book }
         requires sound { self.old.disks.health ≢ Broken }
         requires whole { length block.old ≡ block_len_of self.old.disks.geometry }
+
         ensures leads { Leads self.old.book key self.new.book result }
         ensures way { IsReadyFor (store_in self.new) key result }
+
         ensures home { home self.new.book key ≡ home self.old.book key }
         ensures free { self.new.disks.health ≢ Broken → 0 < free_groups self.new.book }
         ensures stand { AllStand (store_in self.old) (store_in self.new) }
