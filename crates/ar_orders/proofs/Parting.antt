@@ -15,7 +15,7 @@ use Rattle.std.specs.Io.KnownBytes.{Keeps, Consumes, IsAtEnd, prepend_known}
 use Rattle.std.proofs.KnownBytes.{starts_with_rest, prepend_known-nil}
 use Rattle.ar_orders.specs.declared.fault.FaultKind.{FaultKind}
 use Rattle.ar_orders.specs.declared.fault.FaultKind.TheVariants.{LineTooLong, TooManyLines, BadCharacter, NoMemory}
-use Rattle.ar_orders.specs.Lines.{with_byte, lines_in, lines_of, first_of, bytes_left, HasBytes, HasNoEnd, IsPart, IsLineOf, Took, IsAllTaken, is_printable, IsLine, part_fault, line_fault, IsOutside, IsToldOfFirst, IsToldOfNext}
+use Rattle.ar_orders.specs.Lines.{with_byte, lines_in, lines_of, first_of, bytes_left, HasBytes, HasNoEnd, IsPart, IsLineOf, Took, IsAllTaken, is_printable, IsLine, part_fault, line_fault, IsUnread, IsToldOfFirst, IsToldOfNext}
 
 -- ---- a line is before its end
 
@@ -142,9 +142,9 @@ all_taken (Some xs) = refl
 
 -- ---- why none was
 
-pub told_outside : (left : Option (List (List ℕ))) (kind : FaultKind) → IsOutside kind → IsToldOfNext left kind
-told_outside None kind is = tt
-told_outside (Some lines) kind is = inl is
+pub told_unread : (left : Option (List (List ℕ))) (kind : FaultKind) → IsUnread kind → IsToldOfNext left kind
+told_unread None kind is = tt
+told_unread (Some lines) kind is = inl is
 
 pub told_more : (was : Bool) (old : Option (List ℕ)) → was ≡ false → HasBytes old → IsToldOfNext (lines_of (bytes_left was old)) TooManyLines
 told_more true old same some = absurd (cc)

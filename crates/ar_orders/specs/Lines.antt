@@ -2,7 +2,7 @@
 use Rattle.std.specs.Prelude.{◌≡◌, ◌≢◌, ◌⊎◌, ◌+◌, ◌-◌, ◌≤◌, ◌&&◌, ◌++◌, ◌==◌, ⊤, ℕ, Bool, true, false, IsTrue, nat_le, nat_lt, if◌then◌else◌, Option, Some, None, option_map, List, [], ◌∷◌, length, take, slice_index_or}
 use Rattle.std.specs.List.{list_all, All}
 use Rattle.ar_orders.specs.declared.fault.FaultKind.{FaultKind}
-use Rattle.ar_orders.specs.declared.fault.FaultKind.TheVariants.{LineTooLong, TooManyLines, BadCharacter, NoMemory, ReadFault, WriteFault}
+use Rattle.ar_orders.specs.declared.fault.FaultKind.TheVariants.{LineTooLong, TooManyLines, BadCharacter, NoMemory, ReadFault}
 use Rattle.ar_orders.specs.declared.fault.Fault.{Fault}
 use Rattle.ar_orders.specs.declared.fault.Fault.TheVariants.{Start, Line}
 
@@ -81,13 +81,13 @@ part_fault room part =
 abbrev pub line_fault : List ℕ → Option FaultKind
 line_fault line = part_fault 4096 line
 
--- a fault that no line has: memory was refused, or the input couldn't be read, or the answers not be written
-abbrev pub IsOutside : FaultKind → Type 0
-IsOutside kind = (kind ≡ NoMemory) ⊎ (kind ≡ ReadFault) ⊎ (kind ≡ WriteFault)
+-- why a line wasn't read, whatever it says: memory was refused, or the input couldn't be read
+abbrev pub IsUnread : FaultKind → Type 0
+IsUnread kind = (kind ≡ NoMemory) ⊎ (kind ≡ ReadFault)
 
--- why the first of these lines isn't taken: a fault that no line has, or one that it has, or it is one too many
+-- why the first of these lines isn't taken: it wasn't read, or has a fault, or is one too many
 abbrev pub IsToldOfFirst : List (List ℕ) → FaultKind → Type 0
-IsToldOfFirst lines kind = IsOutside kind ⊎ (line_fault (first_of lines) ≡ Some kind) ⊎ ((kind ≡ TooManyLines) × (lines ≢ []))
+IsToldOfFirst lines kind = IsUnread kind ⊎ (line_fault (first_of lines) ≡ Some kind) ⊎ ((kind ≡ TooManyLines) × (lines ≢ []))
 
 -- and of those that are left
 abbrev pub IsToldOfNext : Option (List (List ℕ)) → FaultKind → Type 0

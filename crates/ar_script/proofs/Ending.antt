@@ -8,9 +8,9 @@ use Rattle.ar_orders.specs.declared.fault.Fault.TheVariants.{Start, Line}
 use Rattle.ar_orders.specs.declared.fault.FaultKind.{FaultKind}
 use Rattle.ar_orders.specs.declared.fault.FaultKind.TheVariants.{TooManyLines, NoMemory, WriteFault}
 use Rattle.ar_orders.specs.Forms.{ReadsLine}
-use Rattle.ar_orders.specs.Lines.{Took, IsAllTaken, first_of, line_at, line_fault, IsOutside, IsToldOfNext, StopsAt, IsNumbered, IsOfLine}
+use Rattle.ar_orders.specs.Lines.{Took, IsAllTaken, first_of, line_at, line_fault, IsToldOfNext, StopsAt, IsNumbered, IsOfLine}
 use Rattle.ar_script.specs.Orders.{IsLost, Meets, MeetsLine}
-use Rattle.ar_script.specs.Plays.{AreFirst, AreAll, IsSo, PlaysScript, PlaysAll, PlaysTo}
+use Rattle.ar_script.specs.Plays.{IsOutside, AreFirst, AreAll, IsSo, PlaysScript, PlaysAll, PlaysTo}
 use Rattle.ar_script.proofs.Playing.{none_played, met_all, met_or_not}
 
 -- ---- lines that were taken
@@ -65,7 +65,7 @@ so_next None left lines n kind took count many told = tt
 so_next (Some all) None lines n kind took count many told = absurd took
 so_next (Some all) (Some left) lines n kind took count many told =
     elim told [
-      | inl outside ↦ inl outside
+      | inl unread ↦ inl (elim unread [ inl memory ↦ inl memory | inr read ↦ inr (inl read) ])
       | inr other ↦ elim other [
         | inl fault ↦ inr (inl (ap line_fault (next_at all lines left n took count) ∙ fault))
         | inr over ↦ inr (inr (inr (over.0, too_many over.1 (many over.0))))

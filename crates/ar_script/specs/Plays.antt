@@ -7,11 +7,11 @@ use Rattle.ar_core.specs.Run.{Turn, Did, Looked, IsRun}
 use Rattle.ar_orders.specs.declared.fault.Fault.{Fault}
 use Rattle.ar_orders.specs.declared.fault.Fault.TheVariants.{Start, Line}
 use Rattle.ar_orders.specs.declared.fault.FaultKind.{FaultKind}
-use Rattle.ar_orders.specs.declared.fault.FaultKind.TheVariants.{TooManyLines}
+use Rattle.ar_orders.specs.declared.fault.FaultKind.TheVariants.{TooManyLines, NoMemory, ReadFault, WriteFault}
 use Rattle.ar_orders.specs.declared.order.Order.{Order}
 use Rattle.ar_orders.specs.declared.order.Order.TheVariants.{Act, Ask}
 use Rattle.ar_orders.specs.Forms.{ReadsLine}
-use Rattle.ar_orders.specs.Lines.{IsOutside, line_fault, line_at, Took}
+use Rattle.ar_orders.specs.Lines.{line_fault, line_at, Took}
 use Rattle.ar_script.specs.Orders.{event_in}
 
 -- the order is met in this turn by an array of this shape: an action is its event, and a question a look
@@ -55,6 +55,10 @@ AreFirst (Some script) lines = lines ≡ take (length lines) script
 abbrev pub AreAll : Option (List (List ℕ)) → List (List ℕ) → Type 0
 AreAll None lines = ⊤
 AreAll (Some script) lines = lines ≡ script
+
+-- a fault that no line has: memory was refused, or the input couldn't be read, or the answers not be written
+abbrev pub IsOutside : FaultKind → Type 0
+IsOutside kind = (kind ≡ NoMemory) ⊎ (kind ≡ ReadFault) ⊎ (kind ≡ WriteFault)
 
 -- What may be told at a line: that memory was refused or a stream faulted, of which nothing more is said; else only a fault that
 -- the line has, by its bytes or by what it says, or that there are too many lines.
