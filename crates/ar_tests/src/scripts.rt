@@ -123,16 +123,29 @@ fn an_empty_line_after_a_million_is_too_many(rt: HostRuntime) -> Result<(), Fail
     Ok(())
 }
 
-// Gives its bytes a few at a time, and then fails.
+// Gives its bytes a few at a time, fails once, and then ends the line.
 #[derive(Clone, Copy)]
 struct FailingReader<'a> {
     bytes: &'a [u8],
     kind: io::ErrorKind,
+    has_failed: bool,
+}
+
+impl FailingReader<'_> {
+    fn new(bytes: &[u8], kind: io::ErrorKind) -> FailingReader<'_> {
+        FailingReader {
+            bytes,
+            kind,
+            has_failed: false,
+        }
+    }
 }
 
 impl Read for FailingReader<'_> {
     fn read(&mut self, buf: &mut [u8]) -> io::Result<usize> {
-        if self.bytes.is_empty() {
+        if self.bytes.is_empty() && !self.has_failed {
+            self.has_failed = true;
+            self.bytes = b"\n";
             return Err(io::Error::from(self.kind));
         }
         let few = self.bytes.len().min(5);
@@ -153,7 +166,7 @@ fn reads_that_fail(rt: HostRuntime) {
             (b"tur 0 0\n", b"check 05/25/00\n", 2),
             (b"tur 0 0\ntur 0 0", b"check 05/25/00\n", 2),
         ] {
-            let reader = FailingReader { bytes, kind };
+            let reader = FailingReader::new(bytes, kind);
             answers(
                 &rt,
                 &(bytes, kind),
@@ -218,10 +231,7 @@ fn writes_that_fail(rt: HostRuntime) {
 // The reader has given the first line alone when its answer is lost.
 #[test]
 fn answers_are_written_before_more_is_read(rt: HostRuntime) {
-    let reader = FailingReader {
-        bytes: b"tur 00 00\nbogus",
-        kind: io::ErrorKind::Other,
-    };
+    let reader = FailingReader::new(b"tur 00 00\nbogus", io::ErrorKind::Other);
     ends(
         &rt,
         &reader.bytes,
