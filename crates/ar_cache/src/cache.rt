@@ -51,7 +51,7 @@ impl Cache {
 
     /// A cache without entries, for so many of them (at most 65,536; 0 writes through). It fails where memory is refused.
     pub fn new(alloc: Global, geometry: Geometry, capacity: u32) -> Result<Cache, AllocError>
-        requires { capacity ≤ CAPACITY_LIMIT }
+        requires { capacity ≤ 65536 }
         ensures { IfOk result (λ cache.
             cache ≡ record { geometry = geometry; capacity = capacity; entries = [] }) }
     {

@@ -4,7 +4,7 @@ ghost use Rattle.ar_disks.specs.declared.address.Addr.{Addr};
 ghost use Rattle.ar_disks.specs.Geometry.{block_len_of};
 ghost use Rattle.ar_image.specs.Image.{geometry_of};
 
-use crate::{CAPACITY_LIMIT, Event, EventOf, Outcome, OutcomeOf, Refusal};
+use crate::{Event, EventOf, Outcome, OutcomeOf, Refusal};
 use ar_disks::{Addr, Block, Disk};
 use ar_extents::{StartFault, fault_of};
 use ar_image::Blocks;
@@ -41,7 +41,7 @@ impl<D: Disk> Array<D> {
     /// to be written: at most 65,536, and 0 writes through. Disks that are refused, for their number, their shapes or want of
     /// memory, are handed back.
     pub fn start(alloc: Global, disks: Vec<D>, cache: u32) -> Result<Array<D>, (StartFault, Vec<D>)>
-        requires few { cache ≤ CAPACITY_LIMIT }
+        requires few { cache ≤ 65536 }
         requires counting { All CanCount (map D.state disks.items) }
         ensures taken { OnOk result (start_fault (map D.state disks.items) ≡ None) }
         ensures started { IfOk result (IsStarted (map D.state disks.items) cache) }

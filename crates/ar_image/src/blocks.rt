@@ -16,7 +16,7 @@ ghost use Rattle.ar_image.specs.Storing.{PutsBlock, ReadsBlock};
 use crate::behind::Behind;
 use crate::{Flush, Refusal};
 use ar_book::Book;
-use ar_cache::{Backing, CAPACITY_LIMIT, Cache};
+use ar_cache::{Backing, Cache};
 use ar_disks::{Addr, Block, Completion, Disk, Geometry, Key, Place};
 use ar_extents::{DiskSet, Got, Health, StartFault, fault_of};
 use ar_store::Store;
@@ -90,7 +90,7 @@ impl<D: Disk> Blocks<D> {
         disks: Vec<D>,
         cache: u32,
     ) -> Result<Blocks<D>, (StartFault, Vec<D>)>
-        requires few { cache ≤ CAPACITY_LIMIT }
+        requires few { cache ≤ 65536 }
         requires counting { All CanCount (map D.state disks.items) }
         ensures taken { OnOk result (start_fault (map D.state disks.items) ≡ None) }
         ensures started { IfOk result (IsStarted (map D.state disks.items) cache) }

@@ -47,7 +47,7 @@ impl Runner {
     /// A runner on a new array, as `start_array` makes it.
     pub fn start(alloc: Global, setup: Setup) -> Result<Runner, Fault>
         ensures refused { IfErr result (λ fault. fault ≡ Fault.Start) }
-        ensures few { OnOk result (setup.cache ≤ CAPACITY_LIMIT) }
+        ensures few { OnOk result (setup.cache ≤ 65536) }
         ensures taken { OnOk result (start_fault (disks_of setup) ≡ None) }
         ensures started { IfOk result (IsStarted (disks_of setup) setup.cache) }
     {
@@ -168,7 +168,7 @@ impl Runner {
 /// A new array on new disks. A cache of more than 65,536 blocks is refused, as are disks of which no array can be made.
 pub fn start_array(alloc: Global, setup: Setup) -> Result<Array<MemDisk>, Fault>
     ensures refused { IfErr result (λ fault. fault ≡ Fault.Start) }
-    ensures few { OnOk result (setup.cache ≤ CAPACITY_LIMIT) }
+    ensures few { OnOk result (setup.cache ≤ 65536) }
     ensures taken { OnOk result (start_fault (disks_of setup) ≡ None) }
     ensures started { IfOk result (IsStarted (disks_of setup) setup.cache) }
 {
