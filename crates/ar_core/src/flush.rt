@@ -2,10 +2,9 @@
 ghost use Rattle.std.specs.Prelude.{◌≡◌, IsTrue, false, [], reverse};
 ghost use Rattle.ar_disks.specs.declared.address.Addr.{Addr};
 ghost use Rattle.std.specs.Map.{keys_of};
-ghost use Rattle.ar_store.specs.Placing.{Puts};
 ghost use Rattle.ar_cache.specs.Backing.{InTurn, stored};
 ghost use Rattle.ar_cache.specs.Cache.{with_entries};
-ghost use Rattle.ar_image.specs.Following.{Follows};
+ghost use Rattle.ar_image.specs.Following.{Follows, PutsStored};
 ghost use Rattle.ar_image.specs.Image.{is_broken, image_at, image_on_disks};
 ghost use Rattle.ar_image.specs.Storing.{LeavesSome};
 
@@ -22,8 +21,8 @@ impl<D: Disk> Array<D> {
         self.blocks.flush_one()
     }
 
-    /// Writes all cached blocks to the disks, the least recently used first. Broken says that the array has lost its data, before
-    /// or by this call.
+    /// Writes all cached blocks to the disks, the least recently used first. Where none is cached nothing changes. Broken says
+    /// that the array has lost its data, before or by this call.
     pub fn flush_all(&mut self) -> Completion
         ensures answer { result ≡ stored (is_broken self.new) }
         ensures lost { IsTrue (is_broken self.old) → self.new ≡ self.old }
@@ -31,7 +30,8 @@ impl<D: Disk> Array<D> {
         ensures on_disks { result ≡ Completion.Done → (addr : Addr) → image_at self.new addr ≡ image_on_disks self.new.store addr }
         ensures emptied { result ≡ Completion.Done → self.new.cache ≡ with_entries self.old.cache [] }
         ensures puts { result ≡ Completion.Done
-            → InTurn Puts (reverse (keys_of self.old.cache.entries)) self.old.store.book self.new.store.book }
+            → InTurn PutsStored (reverse (keys_of self.old.cache.entries)) self.old.store self.new.store }
+        ensures quiet { self.old.cache.entries ≡ [] → self.new ≡ self.old }
         ensures stopped { result ≡ Completion.Broken → is_broken self.old ≡ false → LeavesSome self.old.cache self.new.cache }
         ensures follows { Follows self.old self.new }
     {

@@ -10,10 +10,10 @@ use Rattle.ar_disks.specs.declared.geometry.Geometry.TheVariants.{Paper, Small}
 use Rattle.ar_disks.specs.Geometry.{sectors_of}
 use Rattle.ar_store.specs.Store.{StoreState}
 use Rattle.ar_store.specs.Slots.{stands}
-use Rattle.ar_store.specs.Placing.{Puts}
 use Rattle.ar_cache.specs.Backing.{InTurn}
 use Rattle.ar_cache.specs.Cache.{CacheState, Sees, TakesIn, cached, with_entries, without_key}
 use Rattle.ar_cache.proofs.Turns.{in_turn_one, in_turn_seen, in_turn_then}
+use Rattle.ar_image.specs.Following.{PutsStored}
 use Rattle.ar_image.specs.Image.{ArrayState, seen_at}
 use Rattle.ar_image.specs.Sectors.{key_of, keys_from, keys_in}
 use Rattle.ar_image.specs.Storing.{PutsBlock, destaged, is_whole}
@@ -24,7 +24,7 @@ pub put_stored : {S : Type 0} (store : S → StoreState) (b n : S) (before after
     → Sees before (stands (store b)) after (stands (store n)) key block
     → (IsSome (cached before key) → after ≡ with_entries before ((key, block) ∷ without_key before.entries key))
     → (cached before key ≡ None → TakesIn before after key block)
-    → InTurn (λ (o : S) (k : Key) (m : S). Puts (store o).book k (store m).book) (destaged before key after) b n
+    → InTurn (λ (o : S) (k : Key) (m : S). PutsStored (store o) k (store m)) (destaged before key after) b n
     → PutsBlock (record { store = store b; cache = before }) key (record { store = store n; cache = after })
 put_stored store b n before after key block sees present absent puts =
     let new : ArrayState = record { store = store n; cache = after } in
@@ -32,9 +32,9 @@ put_stored store b n before after key block sees present absent puts =
     record {
       present = λ some. subst (λ (x : List ℕ). after ≡ with_entries before ((key, x) ∷ without_key before.entries key)) is (present some);
       absent = λ none. subst (λ (x : List ℕ). TakesIn before after key x) is (absent none);
-      tables = in_turn_seen (λ s. (store s).book) (λ o k m. Puts (store o).book k (store m).book) Puts (λ o m k h. h) (destaged before key after) b n puts;
+      stored = in_turn_seen store (λ o k m. PutsStored (store o) k (store m)) PutsStored (λ o m k h. h) (destaged before key after) b n puts;
       kept = λ none.
-          let same = subst (λ ks. InTurn (λ o k m. Puts (store o).book k (store m).book) ks b n) none puts in
+          let same = subst (λ ks. InTurn (λ o k m. PutsStored (store o) k (store m)) ks b n) none puts in
           ap store same;
     }
 

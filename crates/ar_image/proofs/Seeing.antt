@@ -11,7 +11,8 @@ use Rattle.ar_disks.specs.Disk.{DiskState}
 use Rattle.ar_disks.specs.Geometry.{sectors_of, block_len_of}
 use Rattle.ar_extents.specs.declared.health.Health.{Health}
 use Rattle.ar_extents.specs.declared.health.Health.TheVariants.{Whole, Out, Rebuilding, Broken as AllBroken}
-use Rattle.ar_disks.specs.declared.completion.Completion.TheVariants.{Done}
+use Rattle.ar_disks.specs.declared.completion.Completion.{Completion}
+use Rattle.ar_disks.specs.declared.completion.Completion.TheVariants.{Done, Broken as NotDone}
 use Rattle.ar_extents.specs.Set.{SetState, disk_in}
 use Rattle.ar_extents.specs.Changes.{is_broken as is_broken_set, start_fault}
 use Rattle.ar_extents.specs.Groups.{outcome_of}
@@ -30,12 +31,12 @@ use Rattle.ar_book.proofs.DropLemmas.{dropped_unit_other}
 use Rattle.ar_cache.specs.declared.answers.Flush.{Flush}
 use Rattle.ar_cache.specs.declared.answers.Flush.TheVariants as flushes
 use Rattle.ar_cache.specs.Backing.{stored, IsHonest, Keeps, SameBlocks, Writes}
-use Rattle.ar_cache.specs.Cache.{CacheState, IsSound, Sees, SameSeen as CacheSeen, Flushes, Gives, IsPut, answer_of, cached, same_key, seen}
+use Rattle.ar_cache.specs.Cache.{CacheState, IsSound, Sees, SameSeen as CacheSeen, Flushes, Gives, IsPut, answer_of, cached, same_key, seen, with_entries}
 use Rattle.ar_cache.proofs.Sound.{cached_whole}
 use Rattle.ar_store.specs.Store.{StoreState}
 use Rattle.ar_store.specs.Slots.{stands}
 use Rattle.ar_store.specs.Kept.{IsSpace}
-use Rattle.ar_store.specs.Placing.{Puts, SameUnits}
+use Rattle.ar_store.specs.Placing.{SameUnits}
 use Rattle.ar_store.specs.Forming.{IsStarted as StoreStarted}
 use Rattle.ar_store.proofs.Changes.{units_refl}
 use Rattle.ar_store.proofs.Standing.{stands_nowhere}
@@ -43,7 +44,7 @@ use Rattle.ar_store.proofs.Starting.{started_new}
 use Rattle.ar_image.specs.Sectors.{key_of, unit_block}
 use Rattle.ar_image.proofs.Images.{sector_in-zeros}
 use Rattle.ar_image.specs.Image.{ArrayState, IsJoined, IsPadded, geometry_of, knows_in, seen_at, unit_by}
-use Rattle.ar_image.specs.Following.{StoreFollows}
+use Rattle.ar_image.specs.Following.{StoreFollows, PutsStored}
 use Rattle.ar_image.specs.Seen.{IsUnit, SameSeen}
 use Rattle.ar_image.specs.Start.{IsStarted}
 use Rattle.ar_image.specs.Flush.{FlushesOne}
@@ -149,8 +150,8 @@ flush_idle flushes.Idle c d h idle = h
 flush_idle flushes.Broken c d h idle = h
 
 -- one put of a store that stands within something is one of the store
-flush_put : {S : Type 0} (store : S → StoreState) (answer : Flush) (s n : S) → IsPut (λ (o : S) (key : Key) (m : S). Puts (store o).book key (store m).book) answer s n
-    → IsPut (λ (o : StoreState) (key : Key) (m : StoreState). Puts o.book key m.book) answer (store s) (store n)
+flush_put : {S : Type 0} (store : S → StoreState) (answer : Flush) (s n : S) → IsPut (λ (o : S) (key : Key) (m : S). PutsStored (store o) key (store m)) answer s n
+    → IsPut PutsStored answer (store s) (store n)
 flush_put store (flushes.Flushed key) s n put = put
 flush_put store flushes.Idle s n put = tt
 flush_put store flushes.Broken s n put = tt
@@ -158,7 +159,7 @@ flush_put store flushes.Broken s n put = tt
 -- one flush of the cache is one of the array, where that wasn't broken
 pub flushed_one : {S : Type 0} (store : S → StoreState) (answer : Flush) (s n : S) (c d : CacheState) → is_broken_set (store s).disks.health ≡ false
     → Flushes answer c d → ((answer ≡ flushes.Idle) ↔ (c.entries ≡ [])) → Gives answer c.entries (stands (store s)) (stands (store n))
-    → IsPut (λ (o : S) (key : Key) (m : S). Puts (store o).book key (store m).book) answer s n → (answer ≡ flushes.Idle → n ≡ s)
+    → IsPut (λ (o : S) (key : Key) (m : S). PutsStored (store o) key (store m)) answer s n → (answer ≡ flushes.Idle → n ≡ s)
     → IsHonest (answer_of answer) (is_broken_set (store s).disks.health) (is_broken_set (store n).disks.health)
     → StoreFollows (store s) (store n)
     → FlushesOne (record { store = store s; cache = c }) answer (record { store = store n; cache = d })
@@ -337,3 +338,9 @@ joined_begun disks n s begins = record {
   geometry = ap (λ (c : CacheState). c.geometry) begins.cache;
   known = record { known = λ k is. absurd (true≢false (sym is ∙ ap (λ (c : CacheState). is_some (cached c k)) begins.cache)) };
 }
+
+-- an empty cache is as it was once it has been emptied
+pub emptied_same : (o : Completion) (was is : Bool) (c d : CacheState) → IsHonest o was is → was ≡ false → is ≡ was → (o ≡ Done → d ≡ with_entries c [])
+    → c.entries ≡ [] → d ≡ c
+emptied_same Done was is c d honest sound same emptied none = emptied refl ∙ ap (λ es. with_entries c es) (sym none)
+emptied_same NotDone was is c d honest sound same emptied none = absurd (true≢false (sym honest ∙ same ∙ sound))

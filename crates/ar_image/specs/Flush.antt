@@ -1,14 +1,13 @@
 -- What a flush of one cached block does.
 use Rattle.std.specs.Prelude.{◌≡◌, ◌↔◌, false, IsTrue}
 use Rattle.ar_disks.specs.declared.address.Addr.{Addr}
-use Rattle.ar_disks.specs.declared.address.Key.{Key}
 use Rattle.ar_store.specs.Calls.{IsAccessed}
-use Rattle.ar_store.specs.Store.{StoreState}
 use Rattle.ar_store.specs.Slots.{stands}
-use Rattle.ar_store.specs.Placing.{Puts, SameUnits}
+use Rattle.ar_store.specs.Placing.{SameUnits}
 use Rattle.ar_cache.specs.declared.answers.Flush.{Flush}
 use Rattle.ar_cache.specs.declared.answers.Flush.TheVariants.{Idle, Broken as NotFlushed}
 use Rattle.ar_cache.specs.Cache.{Flushes, Gives, IsPut}
+use Rattle.ar_image.specs.Following.{PutsStored}
 use Rattle.ar_image.specs.Image.{ArrayState, is_broken, image_at, image_on_disks}
 
 -- The cache gave its least recently used block to the disks, in one put, or had none. Broken is answered exactly where the
@@ -16,7 +15,7 @@ use Rattle.ar_image.specs.Image.{ArrayState, is_broken, image_at, image_on_disks
 pub record FlushesOne (old : ArrayState) (answer : Flush) (new : ArrayState) : Type 0 where
   pub entries : Flushes answer old.cache new.cache
   pub given : is_broken old ≡ false → Gives answer old.cache.entries (stands old.store) (stands new.store)
-  pub put : IsPut (λ (o : StoreState) (key : Key) (n : StoreState). Puts o.book key n.book) answer old.store new.store
+  pub put : IsPut PutsStored answer old.store new.store
   pub idle : answer ≡ Idle → new ≡ old
   pub on_disks : answer ≡ Idle → (addr : Addr) → image_at new addr ≡ image_on_disks new.store addr
   -- whatever is answered, no unit has changed but for homes and stamps, nor has the room

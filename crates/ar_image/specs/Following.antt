@@ -7,7 +7,8 @@ use Rattle.ar_book.specs.declared.class.Slot.{Slot}
 use Rattle.ar_book.specs.Tables.{home}
 use Rattle.ar_store.specs.Store.{StoreState}
 use Rattle.ar_store.specs.Slots.{AsksForSlot}
-use Rattle.ar_store.specs.Placing.{SameUnits}
+use Rattle.ar_store.specs.Placing.{Puts, SameUnits}
+use Rattle.ar_store.specs.Asking.{AsksToPut}
 use Rattle.ar_store.specs.Calls.{IsAccessed}
 use Rattle.ar_image.specs.Image.{ArrayState}
 
@@ -28,6 +29,11 @@ pub record ReadsStored (old : StoreState) (key : Key) (new : StoreState) : Type 
   pub unplaced : home old.book key ≡ None → new ≡ old
   pub asks : (slot : Slot) → home old.book key ≡ Some slot → AsksForSlot old new slot
   pub lost : old.disks.health ≡ Broken → new ≡ old
+
+-- One block was put into a store: it went where a put goes, and no disk was asked that this doesn't need.
+pub record PutsStored (old : StoreState) (key : Key) (new : StoreState) : Type 0 where
+  pub tables : Puts old.book key new.book
+  pub asks : AsksToPut old key new
 
 -- what both leave of an array: the cache is as large
 pub record Follows (old new : ArrayState) : Type 0 where

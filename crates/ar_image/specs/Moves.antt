@@ -6,8 +6,8 @@ use Rattle.ar_store.specs.Placing.{HasNoHole}
 use Rattle.ar_moves.specs.declared.step.Move.{Move}
 use Rattle.ar_moves.specs.declared.step.Move.TheVariants.{Idle, Broken}
 use Rattle.ar_moves.specs.Moves.{IfMoved, LeavesBlocks, IsLeft}
-use Rattle.ar_moves.specs.Demotion.{Demotes, NamesNoDemotion, MayHaveOpened, HoldsZerosBeside}
-use Rattle.ar_moves.specs.Cleaning.{Cleans, NothingToClean, cleaning_left}
+use Rattle.ar_moves.specs.Demotion.{Demotes, NamesNoDemotion, MayHaveOpened, HoldsZerosBeside, AsksToDemote}
+use Rattle.ar_moves.specs.Cleaning.{Cleans, NothingToClean, AsksToClean, cleaning_left}
 use Rattle.ar_image.specs.Image.{ArrayState, is_broken}
 
 -- what both leave: every block as it stood, and the cache. Broken is answered exactly where the array is broken after it.
@@ -24,6 +24,7 @@ pub record DemotesOne (old : ArrayState) (answer : Move) (new : ArrayState) : Ty
   pub zeros : IfMoved answer (λ key to. HasNoHole old.store.book Parity → HoldsZerosBeside new.store to)
   pub idle : answer ≡ Idle → IsLeft old.store new.store (NamesNoDemotion old.store.book)
   pub opened : answer ≡ Broken → MayHaveOpened old.store.book new.store.book
+  pub asks : AsksToDemote old.store new.store
 
 -- The block that the rule of cleaning names went to the slot that it names, and less is left to be cleaned; or the rule names
 -- nothing, and nothing has changed. No group is opened.
@@ -34,3 +35,4 @@ pub record CleansOne (old : ArrayState) (answer : Move) (new : ArrayState) : Typ
   pub idle : answer ≡ Idle → IsLeft old.store new.store (NothingToClean old.store.book)
   pub unmoved : answer ≡ Broken → new.store.book ≡ old.store.book
   pub free : free_groups old.store.book ≤ free_groups new.store.book
+  pub asks : AsksToClean old.store new.store

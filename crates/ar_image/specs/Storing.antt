@@ -4,10 +4,9 @@ use Rattle.ar_disks.specs.declared.address.Addr.{Addr}
 use Rattle.ar_disks.specs.declared.address.Key.{Key}
 use Rattle.ar_disks.specs.declared.geometry.Geometry.{Geometry}
 use Rattle.ar_disks.specs.Geometry.{sectors_of}
-use Rattle.ar_store.specs.Placing.{Puts}
 use Rattle.ar_cache.specs.Backing.{InTurn}
 use Rattle.ar_cache.specs.Cache.{CacheState, TakesIn, cached, pushed_out, put_through, with_entries, without_key}
-use Rattle.ar_image.specs.Following.{ReadsStored}
+use Rattle.ar_image.specs.Following.{ReadsStored, PutsStored}
 use Rattle.ar_image.specs.Image.{ArrayState, geometry_of, seen_at}
 use Rattle.ar_image.specs.Sectors.{keys_in}
 
@@ -29,19 +28,19 @@ pub record ReadsFirst {S : Type 0} (gets : S → Key → S → Type 0) (g : Geom
 abbrev pub destaged : CacheState → Key → CacheState → List Key
 destaged old key new = pushed_out old key ++ put_through new key
 
--- A block was put: it is the most recently used entry, or has gone to the disks. The tables are those that the destaged
--- blocks make, in turn, and where there is none of these, no disk was asked.
+-- A block was put: it is the most recently used entry, or has gone to the disks. The store is what the destaged blocks make of
+-- it, put in turn, and where there is none of these, no disk was asked.
 pub record PutsBlock (old : ArrayState) (key : Key) (new : ArrayState) : Type 0 where
   pub present : IsSome (cached old.cache key)
       → new.cache ≡ with_entries old.cache ((key, seen_at new key) ∷ without_key old.cache.entries key)
   pub absent : cached old.cache key ≡ None → TakesIn old.cache new.cache key (seen_at new key)
-  pub tables : InTurn Puts (destaged old.cache key new.cache) old.store.book new.store.book
+  pub stored : InTurn PutsStored (destaged old.cache key new.cache) old.store new.store
   pub kept : destaged old.cache key new.cache ≡ [] → new.store ≡ old.store
 
 -- A block that was cached has gone to the disks, and where it wasn't nothing has changed.
 pub record ForcesBlock (old : ArrayState) (key : Key) (new : ArrayState) : Type 0 where
   pub entries : new.cache ≡ with_entries old.cache (without_key old.cache.entries key)
-  pub put : IsSome (cached old.cache key) → Puts old.store.book key new.store.book
+  pub put : IsSome (cached old.cache key) → PutsStored old.store key new.store
   pub absent : cached old.cache key ≡ None → new.store ≡ old.store
 
 -- whether sectors from one on, so many, are all those of a block

@@ -2,11 +2,10 @@
 ghost use Rattle.std.specs.Prelude.{◌≡◌, ◌≢◌, ◌≤◌, ◌+◌, ◌-◌, ℕ, None, false, IsTrue, [], reverse};
 ghost use Rattle.ar_disks.specs.declared.address.Key.{Key};
 ghost use Rattle.std.specs.Map.{keys_of};
-ghost use Rattle.ar_store.specs.Placing.{Puts};
 ghost use Rattle.ar_cache.specs.Backing.{InTurn, stored};
 ghost use Rattle.ar_cache.specs.Cache.{cached, with_entries};
 ghost use Rattle.ar_image.specs.Flush.{FlushesOne};
-ghost use Rattle.ar_image.specs.Following.{Follows};
+ghost use Rattle.ar_image.specs.Following.{Follows, PutsStored};
 ghost use Rattle.ar_image.specs.Image.{is_broken};
 ghost use Rattle.ar_image.specs.Sectors.{key_of, keys_from};
 ghost use Rattle.ar_image.specs.Seen.{SameSeen, IsSpared};
@@ -28,12 +27,13 @@ impl<D: Disk> Blocks<D> {
         self.cache.flush_one(&mut self.behind)
     }
 
-    /// Gives all cached blocks to the disks, the least recently used first.
+    /// Gives all cached blocks to the disks, the least recently used first. An empty cache changes nothing.
     pub fn flush_all(&mut self) -> Completion
         ensures answer { result ≡ stored (is_broken self.new) }
         ensures emptied { result ≡ Completion.Done → self.new.cache ≡ with_entries self.old.cache [] }
         ensures puts { result ≡ Completion.Done
-            → InTurn Puts (reverse (keys_of self.old.cache.entries)) self.old.store.book self.new.store.book }
+            → InTurn PutsStored (reverse (keys_of self.old.cache.entries)) self.old.store self.new.store }
+        ensures quiet { self.old.cache.entries ≡ [] → self.new ≡ self.old }
         ensures stopped { result ≡ Completion.Broken → is_broken self.old ≡ false → LeavesSome self.old.cache self.new.cache }
         ensures lost { IsTrue (is_broken self.old) → self.new ≡ self.old }
         ensures seen { result ≡ Completion.Done → SameSeen self.old self.new }

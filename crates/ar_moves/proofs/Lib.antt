@@ -3,3 +3,4 @@ pub mod Readiness
 pub mod Work
 pub mod Ending
 pub mod Single
+pub mod Asking

@@ -21,7 +21,7 @@ use Rattle.ar_moves.specs.Demotion.{IsOldestMirrored, IsSlotFor}
 use Rattle.ar_moves.specs.Cleaning.{NamesCleaningOf, NamesCleaning}
 
 -- the orders of slots, groups and stamps leave no two that are equal
-slot_single : (s r : Slot) → IsUpTo s r → IsUpTo r s → s ≡ r
+pub slot_single : (s r : Slot) → IsUpTo s r → IsUpTo r s → s ≡ r
 slot_single s r (inl a) (inl b) = absurd (omega arith)
 slot_single s r (inl a) (inr b) = absurd (omega (arith, b.0))
 slot_single s r (inr a) (inl b) = absurd (omega (arith, a.0))
@@ -58,7 +58,7 @@ pub oldest_single : (t : Tables) (k j : Key) → TablesAgree t → IsOldestMirro
 oldest_single t k j ok a b = block_single t k j ok a.mirrored.block b.mirrored.block (a.oldest j b.mirrored) (b.oldest k a.mirrored)
 
 -- two lowest free groups are one
-free_single : (t : Tables) (g h : ℕ) → IsLowestFree t g → IsLowestFree t h → g ≡ h
+pub free_single : (t : Tables) (g h : ℕ) → IsLowestFree t g → IsLowestFree t h → g ≡ h
 free_single t g h a b = elim (cases_lt g h) [
   | inl lower ↦ absurd (b.least g lower a.free)
   | inr more ↦ elim (cases_lt h g) [ inl lower ↦ absurd (a.least h lower b.free) | inr fewer ↦ omega arith ]

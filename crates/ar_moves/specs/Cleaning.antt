@@ -1,12 +1,14 @@
 -- The rule of cleaning: which block goes to which slot, and how much is left to be done.
-use Rattle.std.specs.Prelude.{◌⊎◌, ℕ, ◌-◌, ◌*◌, ◌==◌, if◌then◌else◌, sum_by}
+use Rattle.std.specs.Prelude.{◌≡◌, ◌⊎◌, ℕ, ◌-◌, ◌*◌, ◌==◌, if◌then◌else◌, Some, sum_by}
 use Rattle.ar_disks.specs.declared.address.Key.{Key}
 use Rattle.ar_book.specs.declared.class.Class.{Class}
 use Rattle.ar_book.specs.declared.class.Class.TheVariants.{Free, Mirrored, Parity}
 use Rattle.ar_book.specs.declared.class.Slot.{Slot}
-use Rattle.ar_book.specs.Tables.{GroupState, Tables, used}
+use Rattle.ar_book.specs.Tables.{GroupState, Tables, home, used}
 use Rattle.ar_book.specs.Changes.{Moved}
 use Rattle.ar_book.specs.Cleaning.{CanBeEmptied, IsEmptiest, IsFirstBlock, IsLowestHoleBeside}
+use Rattle.ar_store.specs.Store.{StoreState}
+use Rattle.ar_store.specs.Asking.{AsksSlots}
 
 -- no group of a class can be emptied into the others
 abbrev pub HasNothingIn : Tables → Class → Type 0
@@ -37,6 +39,10 @@ pub record NothingToClean (t : Tables) : Type 0 where
 pub record Cleans (t : Tables) (key : Key) (to : Slot) (new : Tables) : Type 0 where
   pub names : NamesCleaning t key to
   pub moved : Moved t key to new
+
+-- no disk was asked but those of the block's home and of the slot that the rule names
+abbrev pub AsksToClean : StoreState → StoreState → Type 0
+AsksToClean old new = (key : Key) (from to : Slot) → NamesCleaning old.book key to → home old.book key ≡ Some from → AsksSlots from to old new
 
 -- A group's part of the work that may be left, by its number of blocks: they meet as many free slots each. And most of all where
 -- it was opened and has no block yet, as a block that goes there leaves one more group with blocks.

@@ -1,17 +1,20 @@
 -- The rule of demotion: which block goes to which slot.
-use Rattle.std.specs.Prelude.{◌≡◌, ◌≢◌, ◌⊎◌, ℕ, ◌*◌, ◌<◌}
+use Rattle.std.specs.Prelude.{◌≡◌, ◌≢◌, ◌⊎◌, ℕ, ◌*◌, ◌<◌, ◌≤◌, Some}
 use Rattle.ar_disks.specs.Block.{zeros}
 use Rattle.ar_disks.specs.Geometry.{rows_of, block_len_of}
 use Rattle.ar_disks.specs.declared.address.Key.{Key}
 use Rattle.ar_book.specs.declared.class.Class.TheVariants.{Parity}
 use Rattle.ar_book.specs.declared.class.Slot.{Slot}
-use Rattle.ar_book.specs.Tables.{Tables}
+use Rattle.ar_book.specs.Tables.{Tables, home, free_groups}
 use Rattle.ar_book.specs.Changes.{Moved}
-use Rattle.ar_book.specs.Choices.{IsMirrored, IsNoNewer}
-use Rattle.ar_store.specs.Store.{StoreState}
+use Rattle.ar_book.specs.Choices.{IsMirrored, IsNoNewer, IsLowestFree}
+use Rattle.ar_extents.specs.Follows.{WorksOn}
+use Rattle.ar_extents.specs.Groups.{IsMember}
+use Rattle.ar_store.specs.Store.{StoreState, members_of}
 use Rattle.ar_store.specs.Slots.{SlotHolds}
 use Rattle.ar_store.specs.Placing.{slot_at, IsLowestHole, HasNoHole}
 use Rattle.ar_store.specs.Calls.{IsOpened}
+use Rattle.ar_store.specs.Asking.{NeedsAt, AsksSlots}
 
 -- the mirrored block that was written longest ago
 pub record IsOldestMirrored (t : Tables) (key : Key) : Type 0 where
@@ -67,3 +70,13 @@ MayHaveOpened t new = (new ≡ t) ⊎ ((group : ℕ) × IsOpened t new Parity gr
 -- each other slot of the group holds the zero block
 pub record HoldsZerosBeside (s : StoreState) (to : Slot) : Type 0 where
   pub slots : (i : ℕ) → i < 3 * rows_of s.disks.geometry → i ≢ to.slot → SlotHolds s (slot_at to.group i) (zeros (block_len_of s.disks.geometry))
+
+-- No disk was asked but those of the block's home and of the slot that the rule names; or of the whole group, where it is opened.
+pub record AsksToDemote (old new : StoreState) : Type 0 where
+  pub there :
+      (key : Key) (from to : Slot) → IsOldestMirrored old.book key → home old.book key ≡ Some from → IsLowestHole old.book Parity to
+      → AsksSlots from to old new
+  pub made :
+      (key : Key) (from : Slot) (group : ℕ) → IsOldestMirrored old.book key → home old.book key ≡ Some from → HasNoHole old.book Parity
+      → 2 ≤ free_groups old.book → IsLowestFree old.book group
+      → WorksOn (λ place. NeedsAt old from place ⊎ IsMember (members_of old group) place) old.disks new.disks

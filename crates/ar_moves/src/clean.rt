@@ -2,7 +2,7 @@
 ghost use Rattle.std.specs.Prelude.{◌≡◌, ◌↔◌, ◌≤◌, ◌<◌, IfSome, IfNone};
 ghost use Rattle.ar_book.specs.Tables.{free_groups};
 ghost use Rattle.ar_moves.specs.Moves.{IfMoved, LeavesBlocks, IsLeft};
-ghost use Rattle.ar_moves.specs.Cleaning.{Cleans, NamesCleaning, NamesCleaningOf, HasNothingIn, NothingToClean, cleaning_left};
+ghost use Rattle.ar_moves.specs.Cleaning.{AsksToClean, Cleans, NamesCleaning, NamesCleaningOf, HasNothingIn, NothingToClean, cleaning_left};
 
 use crate::Move;
 use crate::step::move_to;
@@ -15,7 +15,7 @@ use ar_store::Store;
 /// groups, the one with the fewest is taken, the lowest of several. Its block in the lowest slot goes to the lowest hole of
 /// the other mirrored groups. Where there is no such group the same is tried among the groups with parity; else nothing is
 /// done. The block keeps its stamp, and no block changes. A group is free once its last block has gone, and none is opened.
-/// No memory is taken.
+/// No disk is asked but those of the block's two slots. No memory is taken.
 ///
 /// `Broken` says that the disks are: the tables are as they were, and of a store that was broken before nothing has changed.
 pub fn clean_one<D: Disk>(store: &mut Store<D>) -> Move
@@ -25,6 +25,7 @@ pub fn clean_one<D: Disk>(store: &mut Store<D>) -> Move
     ensures unmoved { result ≡ Move.Broken → store.new.book ≡ store.old.book }
     ensures free { free_groups store.old.book ≤ free_groups store.new.book }
     ensures less { IfMoved result (λ key to. cleaning_left store.new.book < cleaning_left store.old.book) }
+    ensures asks { AsksToClean store.old store.new }
     ensures leaves { LeavesBlocks store.old store.new }
 {
     if let Health::Broken = store.health() {

@@ -5,7 +5,7 @@ ghost use Rattle.ar_store.specs.Kept.{IsKept};
 ghost use Rattle.ar_store.specs.Placing.{HasNoHole};
 ghost use Rattle.ar_moves.specs.Moves.{IfMoved, LeavesBlocks, IsLeft};
 ghost use Rattle.ar_moves.specs.Demotion.{IsOldestMirrored, Demotes, DemotesTo, NamesNoSlot, NamesNoDemotion};
-ghost use Rattle.ar_moves.specs.Demotion.{MayHaveOpened, HoldsZerosBeside};
+ghost use Rattle.ar_moves.specs.Demotion.{MayHaveOpened, HoldsZerosBeside, AsksToDemote};
 
 use crate::Move;
 use crate::step::move_to;
@@ -17,7 +17,8 @@ use ar_store::{Opening, Store};
 
 /// Demotes a block: the mirrored one with the least stamp goes to the lowest parity hole. Where there is none and two groups
 /// are free, the lowest is opened for parity with zeros, and the block goes to its first slot; else nothing is done. The block
-/// keeps its stamp, and no block changes. No memory is taken.
+/// keeps its stamp, and no block changes. No disk is asked but those of the block's two slots, and of the group that is opened.
+/// No memory is taken.
 ///
 /// `Broken` says that the disks are. The group may have been opened then, and every block has its old home; of a store that
 /// was broken before nothing has changed.
@@ -27,6 +28,7 @@ pub fn demote_one<D: Disk>(store: &mut Store<D>) -> Move
     ensures broken { (result ≡ Move.Broken) ↔ (store.new.disks.health ≡ Health.Broken) }
     ensures opened { result ≡ Move.Broken → MayHaveOpened store.old.book store.new.book }
     ensures zeros { IfMoved result (λ key to. HasNoHole store.old.book Parity → HoldsZerosBeside store.new to) }
+    ensures asks { AsksToDemote store.old store.new }
     ensures leaves { LeavesBlocks store.old store.new }
 {
     if let Health::Broken = store.health() {
@@ -47,6 +49,7 @@ fn demote<D: Disk>(store: &mut Store<D>, key: Key) -> Move
     ensures broken { (result ≡ Move.Broken) ↔ (store.new.disks.health ≡ Health.Broken) }
     ensures opened { result ≡ Move.Broken → MayHaveOpened store.old.book store.new.book }
     ensures zeros { IfMoved result (λ key to. HasNoHole store.old.book Parity → HoldsZerosBeside store.new to) }
+    ensures asks { AsksToDemote store.old store.new }
     ensures leaves { LeavesBlocks store.old store.new }
 {
     match store.book().hole(Class::Parity, &mut Steps::new()) {
@@ -67,6 +70,7 @@ fn demote_to_new<D: Disk>(store: &mut Store<D>, key: Key) -> Move
 
     ensures opened { result ≡ Move.Broken → MayHaveOpened store.old.book store.new.book }
     ensures zeros { IfMoved result (λ key to. HoldsZerosBeside store.new to) }
+    ensures asks { AsksToDemote store.old store.new }
     ensures leaves { LeavesBlocks store.old store.new }
 {
     match store.open_group(Class::Parity) {

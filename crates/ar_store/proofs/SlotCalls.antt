@@ -5,7 +5,7 @@ use Rattle.ar_disks.specs.declared.completion.Completion.{Completion}
 use Rattle.ar_disks.specs.declared.completion.Completion.TheVariants.{Done, Broken}
 use Rattle.ar_extents.specs.Set.{SetState}
 use Rattle.ar_extents.specs.Groups.{IsGroup}
-use Rattle.ar_extents.specs.Follows.{Keeps, Anywhere, IsPlace}
+use Rattle.ar_extents.specs.Follows.{Keeps, Anywhere, IsPlace, WorksOn}
 use Rattle.ar_extents.proofs.Follows.{works_refl}
 use Rattle.ar_mirror.specs.Calls.{Gives, KeepsButSlot, OtherSlotsHold as OtherMirrorSlotsHold}
 use Rattle.ar_mirror.specs.Holds.{Holds as MirrorHolds}
@@ -50,6 +50,13 @@ module _ (s : StoreState) (slot : Slot) (m : Members) (space : IsSpace s) (has :
   asked_in c b is_c asks =
       subst (λ (x : Members). AsksFor (class_in s slot.group) s.disks b x slot.slot) is_m
       (subst (λ (x : Class). AsksFor x s.disks b m slot.slot) is_c asks)
+
+  -- no disk was asked but those of the slot
+  pub wrote_in : (c : Class) (b : SetState) → c ≡ class_in s slot.group → WorksOn (NeedsIn c s.disks.geometry m slot.slot) s.disks b
+      → WorksOn (NeedsIn (class_in s slot.group) s.disks.geometry (members_of s slot.group) slot.slot) s.disks b
+  wrote_in c b is_c works =
+      subst (λ (x : Members). WorksOn (NeedsIn (class_in s slot.group) s.disks.geometry x slot.slot) s.disks b) is_m
+      (subst (λ (x : Class). WorksOn (NeedsIn x s.disks.geometry m slot.slot) s.disks b) is_c works)
 
   -- the slot was written
   written_in : (c : Class) (b : SetState) (block : List ℕ) → c ≡ class_in s slot.group → IsWritten c s.disks b m slot.slot block

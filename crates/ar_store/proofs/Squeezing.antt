@@ -219,7 +219,7 @@ can_move t from to ok full free =
     }
 
 -- the lowest mirrored group and the lowest free one are one each
-same_full : (t : Tables) (f g : ℕ) → IsFullMirrored t f → IsFullMirrored t g → f ≡ g
+pub same_full : (t : Tables) (f g : ℕ) → IsFullMirrored t f → IsFullMirrored t g → f ≡ g
 same_full t f g is_f is_g =
     elim (cases_lt f g) [
       | inl lt ↦ absurd (is_g.least f lt is_f.mirrored)

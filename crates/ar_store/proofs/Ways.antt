@@ -26,15 +26,15 @@ rank Unplaced = 0
 rank MirroredLevel = 1
 rank ParityLevel = 2
 
-parity_not_mirrored : ParityLevel ≢ MirroredLevel
+pub parity_not_mirrored : ParityLevel ≢ MirroredLevel
 unfolding rank
 parity_not_mirrored e = let ranks : rank ParityLevel ≡ rank MirroredLevel = ap rank e in absurd (omega arith)
 
-unplaced_not_mirrored : Unplaced ≢ MirroredLevel
+pub unplaced_not_mirrored : Unplaced ≢ MirroredLevel
 unfolding rank
 unplaced_not_mirrored e = let ranks : rank Unplaced ≡ rank MirroredLevel = ap rank e in absurd (omega arith)
 
-unplaced_not_parity : Unplaced ≢ ParityLevel
+pub unplaced_not_parity : Unplaced ≢ ParityLevel
 unfolding rank
 unplaced_not_parity e = let ranks : rank Unplaced ≡ rank ParityLevel = ap rank e in absurd (omega arith)
 

@@ -7,13 +7,16 @@ use ar_disks::{Block, Completion, Disk, Key};
 use ar_index::Steps;
 
 impl<D: Disk> Space<D> {
-    ghost use Rattle.std.specs.Prelude.{◌≡◌, ◌≤◌, length, IsSome};
+    ghost use Rattle.std.specs.Prelude.{◌≡◌, ◌≤◌, length, Some, IsSome};
     ghost use Rattle.ar_disks.specs.Geometry.{block_len_of};
     ghost use Rattle.ar_extents.specs.Groups.{outcome_of};
+    ghost use Rattle.ar_book.specs.declared.class.Slot.{Slot};
     ghost use Rattle.ar_book.specs.Tables.{home, free_groups, HasBlock};
     ghost use Rattle.ar_book.specs.Changes.{assigned, stamped};
     ghost use Rattle.ar_store.specs.Slots.{stands, AllStand, OthersStand, BesideHold};
     ghost use Rattle.ar_store.specs.Placing.{IsVacant, IsReadyFor, placed_by};
+    ghost use Rattle.ar_store.specs.Store.{class_in};
+    ghost use Rattle.ar_store.specs.Asking.{AsksSlot, AsksSlots, AsksWay};
     ghost use Rattle.ar_store.specs.Spaces.{store_in, IsReady, Stays};
 
     /// Moves a block to a slot that names none, by way of `block`. The new slot is written before the old one is left.
@@ -30,6 +33,7 @@ impl<D: Disk> Space<D> {
 
         ensures stand { AllStand (store_in self.old) (store_in self.new) }
         ensures beside { BesideHold (store_in self.old) (store_in self.new) to }
+        ensures asks { (from : Slot) → home self.old.book key ≡ Some from → AsksSlots from to (store_in self.old) (store_in self.new) }
         ensures stays { Stays self.old self.new }
         ensures len { length block.new ≡ length block.old }
     {
@@ -57,6 +61,7 @@ impl<D: Disk> Space<D> {
         ensures here { result ≡ Completion.Done → stands (store_in self.new) key ≡ from.now }
         ensures others { OthersStand (store_in self.old) (store_in self.new) key }
         ensures beside { BesideHold (store_in self.old) (store_in self.new) to }
+        ensures asks { AsksSlot (class_in (store_in self.old) to.group) to (store_in self.old) (store_in self.new) }
         ensures stays { Stays self.old self.new }
     {
         match self.write_at(to, from) {
@@ -82,6 +87,7 @@ impl<D: Disk> Space<D> {
 
         ensures here { result ≡ Completion.Done → stands (store_in self.new) key ≡ from.now }
         ensures others { OthersStand (store_in self.old) (store_in self.new) key }
+        ensures asks { AsksWay way (store_in self.old) (store_in self.new) }
         ensures stays { Stays self.old self.new }
     {
         match self.write_by(key, way, from) {
@@ -107,6 +113,7 @@ impl<D: Disk> Space<D> {
 
         ensures here { result ≡ Completion.Done → stands (store_in self.new) key ≡ from.now }
         ensures others { OthersStand (store_in self.old) (store_in self.new) key }
+        ensures asks { AsksWay way (store_in self.old) (store_in self.new) }
         ensures stays { Stays self.old self.new }
     {
         match way {

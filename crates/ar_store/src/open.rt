@@ -17,7 +17,7 @@ pub enum Opening {
 }
 
 impl<D: Disk> Space<D> {
-    ghost use Rattle.std.specs.Prelude.{◌≡◌, ◌≢◌, ◌↔◌, ◌<◌};
+    ghost use Rattle.std.specs.Prelude.{◌≡◌, ◌≢◌, ◌↔◌, ℕ, ◌<◌};
     ghost use Rattle.ar_extents.specs.declared.health.Health.TheVariants.{Broken};
     ghost use Rattle.ar_disks.specs.declared.address.Key.{Key};
     ghost use Rattle.ar_book.specs.declared.class.Class.TheVariants.{Free, Mirrored, Parity};
@@ -25,6 +25,7 @@ impl<D: Disk> Space<D> {
     ghost use Rattle.ar_book.specs.Changes.{opened};
     ghost use Rattle.ar_book.specs.Choices.{IsLowestFree};
     ghost use Rattle.ar_store.specs.Slots.{AllStand};
+    ghost use Rattle.ar_store.specs.Asking.{AsksGroup};
     ghost use Rattle.ar_store.specs.Calls.{Opens, IfOpened, HoldsZeros};
     ghost use Rattle.ar_store.specs.Spaces.{store_in, IsReady, Stays};
 
@@ -44,6 +45,7 @@ impl<D: Disk> Space<D> {
         ensures free { 0 < free_groups self.old.book → 0 < free_groups self.new.book }
 
         ensures stand { AllStand (store_in self.old) (store_in self.new) }
+        ensures asks { (group : ℕ) → IsLowestFree self.old.book group → AsksGroup group (store_in self.old) (store_in self.new) }
         ensures stays { Stays self.old self.new }
     {
         let Some(group) = self.book.open_group(class, &mut Steps::new()) else {
@@ -68,6 +70,7 @@ impl<D: Disk> Space<D> {
         ensures lowest { IsLowestFree self.old.book result }
         ensures opened { self.new.book ≡ opened self.old.book result Parity }
         ensures stand { AllStand (store_in self.old) (store_in self.new) }
+        ensures asks { AsksGroup result (store_in self.old) (store_in self.new) }
         ensures stays { Stays self.old self.new }
     {
         let group = self.book.open_last(Class::Parity);

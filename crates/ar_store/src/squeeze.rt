@@ -15,6 +15,7 @@ impl<D: Disk> Space<D> {
     ghost use Rattle.ar_book.specs.Tables.{home, class_of, slots_of, free_groups};
     ghost use Rattle.ar_book.specs.Choices.{IsWaiting};
     ghost use Rattle.ar_store.specs.Slots.{AllStand};
+    ghost use Rattle.ar_store.specs.Asking.{AsksGroups, AsksToSqueeze};
     ghost use Rattle.ar_store.specs.Placing.{slot_at, moved_first, IsVacant, IsSqueezed, HasNoHole, CanMove};
     ghost use Rattle.ar_store.specs.Spaces.{store_in, IsReady, Stays};
 
@@ -34,6 +35,7 @@ impl<D: Disk> Space<D> {
 
         ensures unplaced { (k : Key) → home self.old.book k ≡ None → home self.new.book k ≡ None }
         ensures stand { AllStand (store_in self.old) (store_in self.new) }
+        ensures asks { AsksToSqueeze (store_in self.old) (store_in self.new) }
         ensures stays { Stays self.old self.new }
         ensures len { length block.new ≡ length block.old }
     {
@@ -65,6 +67,7 @@ impl<D: Disk> Space<D> {
 
         ensures unplaced { (k : Key) → home self.old.book k ≡ None → home self.new.book k ≡ None }
         ensures stand { AllStand (store_in self.old) (store_in self.new) }
+        ensures asks { AsksGroups from to (store_in self.old) (store_in self.new) }
         ensures stays { Stays self.old self.new }
         ensures len { length block.new ≡ length block.old }
     {

@@ -1,10 +1,13 @@
-use Rattle.std.proofs.Common.{◌<◌, subst}
-use Rattle.ar_book.specs.Tables.{Tables}
+use Rattle.std.proofs.Common.{◌<◌, ap, subst, ◌∙◌}
+use Rattle.ar_book.specs.declared.class.Slot.{Slot}
+use Rattle.ar_book.specs.Tables.{Tables, home}
+use Rattle.ar_store.specs.Asking.{AsksSlots}
 use Rattle.ar_moves.specs.Moves.{IsMovedTo}
 use Rattle.ar_moves.specs.Cleaning.{NamesCleaning, Cleans, cleaning_left}
 use Rattle.ar_moves.proofs.Answers.{if_moved_then, named_cleaned, moved_free}
 use Rattle.ar_moves.proofs.Readiness.{cleaning_ready}
 use Rattle.ar_moves.proofs.Ending.{cleans_fall}
+use Rattle.ar_moves.proofs.Single.{cleaned_single}
 use Rattle.ar_moves.proofs.clean.clean_one.Goals as goal
 
 pub move_to-requires : goal.move_to-requires
@@ -29,5 +32,9 @@ returns-in-Some g c =
       free = moved_free c.move_to.result t new c.in-Some.key c.in-Some.to moves.moved moves.idle moves.unmoved;
       less = if_moved_then c.move_to.result (IsMovedTo t c.in-Some.key c.in-Some.to new) (λ k s. cleaning_left new < cleaning_left t) moves.moved
           (λ k s moved. cleans_fall t new k s c.health.ensures.kept.space.tables (named_cleaned t new c.in-Some.key c.in-Some.to names k s moved));
+      asks = λ key from to named placed.
+          let same = cleaned_single t c.in-Some.key key c.in-Some.to to names named in
+          (let P : Slot → Type 0 = λ x. AsksSlots from x c.args.store.now c.move_to.new.store in
+          subst P same.slots (moves.asks from (ap (λ k. home t k) same.keys ∙ placed)));
       leaves = moves.leaves;
     }

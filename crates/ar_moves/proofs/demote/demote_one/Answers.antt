@@ -19,5 +19,6 @@ returns-in-Some g c =
       broken = demoted.broken;
       opened = demoted.opened;
       zeros = demoted.zeros;
+      asks = demoted.asks;
       leaves = demoted.leaves;
     }

@@ -3,6 +3,7 @@ use Rattle.ar_store.specs.Placing.{slot_at}
 use Rattle.ar_moves.specs.Moves.{IsMovedTo}
 use Rattle.ar_moves.specs.Demotion.{DemotesTo, HoldsZerosBeside}
 use Rattle.ar_moves.proofs.Answers.{if_moved_then, leaves_then, hole_made}
+use Rattle.ar_moves.proofs.Asking.{asks_made, asks_nothing, asks_opened}
 use Rattle.ar_moves.proofs.Readiness.{opened_first, zeros_beside}
 use Rattle.ar_moves.proofs.demote.demote_to_new.Goals as goal
 
@@ -33,3 +34,18 @@ pub returns-in-Opened-clause-leaves : goal.returns-in-Opened-clause-leaves
 returns-in-Opened-clause-leaves g c =
     let opening = c.open_group.ensures in
     leaves_then c.args.store.now c.open_group.new.self c.move_to.new.store opening.stands opening.units opening.accessed opening.broken c.move_to.ensures.leaves
+
+pub returns-in-Opened-clause-asks : goal.returns-in-Opened-clause-asks
+returns-in-Opened-clause-asks g c =
+    let opening = c.open_group.ensures in
+    let opened = c.in-Opened.ensures.opens in
+    asks_made c.args.store.now c.open_group.new.self c.move_to.new.store c.args.key c.in-Opened.group c.requires.kept.space c.requires.oldest c.requires.none
+    opened opening.accessed.follows.geometry opening.homes (opening.asks c.in-Opened.group opened.lowest) c.move_to.ensures.asks
+
+pub returns-in-Idle-clause-asks : goal.returns-in-Idle-clause-asks
+returns-in-Idle-clause-asks g c =
+    let idle = c.in-Idle.ensures.opens in
+    asks_nothing c.args.store.now c.open_group.new.self c.requires.none idle.few
+
+pub returns-in-Broken-clause-asks : goal.returns-in-Broken-clause-asks
+returns-in-Broken-clause-asks g c = asks_opened c.args.store.now c.open_group.new.self c.requires.none c.open_group.ensures.asks

@@ -1,14 +1,14 @@
-use Rattle.std.proofs.Common.{reverse, subst}
+use Rattle.std.proofs.Common.{◌≡◌, [], reverse, sym, ap, subst, ◌∙◌}
 use Rattle.std.specs.Map.{keys_of}
 use Rattle.ar_disks.specs.declared.address.Key.{Key}
-use Rattle.ar_store.specs.Placing.{Puts}
 use Rattle.ar_cache.specs.Backing.{InTurn}
 use Rattle.ar_cache.proofs.Turns.{in_turn_seen}
 use Rattle.ar_image.specs.declared.behind.Behind.{Behind}
-use Rattle.ar_image.specs.Image.{ArrayState}
+use Rattle.ar_image.specs.Following.{PutsStored}
+use Rattle.ar_image.specs.Image.{ArrayState, is_broken}
 use Rattle.ar_image.specs.Storing.{LeavesSome}
 use Rattle.ar_image.specs.Seen.{SameSeen}
-use Rattle.ar_image.proofs.Seeing.{seen_kept}
+use Rattle.ar_image.proofs.Seeing.{seen_kept, emptied_same}
 use Rattle.ar_image.proofs.blocks.Blocks.flush_all.Goals as goal
 
 pub returns-clause-seen : goal.returns-clause-seen
@@ -19,8 +19,8 @@ returns-clause-seen g c = λ done.
 
 pub returns-clause-puts : goal.returns-clause-puts
 returns-clause-puts g c = λ done.
-    subst (λ (s : ArrayState). InTurn Puts (reverse (keys_of s.cache.entries)) s.store.book c.flush_all.new.backing.store.book) c.self.view_is
-    (in_turn_seen (λ (b : Behind g.row.D.Denot). b.store.book) (λ (o : Behind g.row.D.Denot) (k : Key) (n : Behind g.row.D.Denot). Puts o.store.book k n.store.book) Puts (λ o m k h. h)
+    subst (λ (s : ArrayState). InTurn PutsStored (reverse (keys_of s.cache.entries)) s.store c.flush_all.new.backing.store) c.self.view_is
+    (in_turn_seen (λ (b : Behind g.row.D.Denot). b.store) (λ (o : Behind g.row.D.Denot) (k : Key) (n : Behind g.row.D.Denot). PutsStored o.store k n.store) PutsStored (λ o m k h. h)
     (reverse (keys_of c.self.inside.cache.entries)) c.self.inside.behind c.flush_all.new.backing (c.flush_all.ensures.puts done))
 
 pub returns-clause-stopped : goal.returns-clause-stopped
@@ -28,3 +28,17 @@ returns-clause-stopped g c = λ lost _.
     let stopped = c.flush_all.ensures.broken lost in
     subst (λ (s : ArrayState). LeavesSome s.cache c.flush_all.new.self) c.self.view_is
     (record { left = stopped.left; some_left = stopped.some_left; as_many = stopped.as_many; entries = stopped.entries })
+
+pub returns-clause-quiet : goal.returns-clause-quiet
+returns-clause-quiet g c =
+    let old : ArrayState = record { store = c.self.inside.behind.store; cache = c.self.inside.cache } in
+    let new : ArrayState = record { store = c.flush_all.new.backing.store; cache = c.flush_all.new.self } in
+    let call = c.flush_all.ensures in
+    let sound = ap is_broken c.self.view_is ∙ sym c.is_broken.ensures.broken ∙ c.if-is_broken.false in
+    subst (λ (s : ArrayState). s.cache.entries ≡ [] → new ≡ s) c.self.view_is
+    (λ none.
+    let store = ap (λ (b : Behind g.row.D.Denot). b.store) (call.quiet none) in
+    let cache = emptied_same c.flush_all.result (is_broken old) (is_broken new) c.self.inside.cache c.flush_all.new.self call.answer sound
+    (ap (λ s. is_broken (record { store = s; cache = c.flush_all.new.self })) store) call.emptied none in
+    ap (λ s. (let made : ArrayState = record { store = s; cache = c.flush_all.new.self } in made)) store
+    ∙ ap (λ e. (let made : ArrayState = record { store = old.store; cache = e } in made)) cache)

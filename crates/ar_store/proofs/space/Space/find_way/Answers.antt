@@ -1,10 +1,11 @@
-use Rattle.std.proofs.Common.{sym, subst, ap, ◌∙◌, refl, arith}
-use Rattle.ar_book.specs.declared.class.Class.TheVariants.{Mirrored}
+use Rattle.std.proofs.Common.{inl, inr, sym, subst, ap, ◌∙◌, refl, arith}
+use Rattle.ar_book.specs.declared.class.Class.TheVariants.{Mirrored, Parity}
 use Rattle.ar_book.specs.Tables.{Tables, home, free_groups}
 use Rattle.ar_store.specs.Store.{store_of}
 use Rattle.ar_store.specs.Slots.{AllStand}
 use Rattle.ar_store.specs.Kept.{IsSpace}
 use Rattle.ar_store.specs.Placing.{HasNoHole, SameUnits}
+use Rattle.ar_store.specs.Asking.{AsksToSqueeze}
 use Rattle.ar_store.specs.Spaces.{store_in}
 use Rattle.ar_store.proofs.Fills.{accessed_refl}
 use Rattle.ar_store.proofs.Openings.{after_opening}
@@ -26,6 +27,7 @@ returns-in-Some g c =
       home = after.homes c.args.key;
       free = λ _. after.free c.requires.free;
       stand = after.stand;
+      asks = inl refl;
       stays = record {
         ready = record { space = after.space; scratch = c.requires.ready.scratch };
         units = after.units;
@@ -70,6 +72,15 @@ returns-in-Some-squeeze g c =
       home = still ∙ sym none.unplaced;
       free = λ _. squeezed.free;
       stand = subst (λ (x : Tables). AllStand (store_of s.disks x) (store_in new)) same squeezed.stand;
+      asks = inr (
+        record {
+          unplaced = none.unplaced;
+          mirrored = none.mirrored.none;
+          parity = subst (λ (x : Tables). HasNoHole x Parity) same none.parity;
+          few = none.mirrored.few;
+        },
+        subst (λ (x : Tables). AsksToSqueeze (store_of s.disks x) (store_in new)) same squeezed.asks,
+      );
       stays = record {
         ready = squeezed.stays.ready;
         units = subst (λ (x : Tables). SameUnits x new.book) same squeezed.stays.units;
@@ -93,6 +104,15 @@ returns-in-None-squeeze g c =
       home = still ∙ sym none.unplaced;
       free = λ sound. absurd (sound squeezed.none);
       stand = subst (λ (x : Tables). AllStand (store_of s.disks x) (store_in new)) same squeezed.stand;
+      asks = inr (
+        record {
+          unplaced = none.unplaced;
+          mirrored = none.mirrored.none;
+          parity = subst (λ (x : Tables). HasNoHole x Parity) same none.parity;
+          few = none.mirrored.few;
+        },
+        subst (λ (x : Tables). AsksToSqueeze (store_of s.disks x) (store_in new)) same squeezed.asks,
+      );
       stays = record {
         ready = squeezed.stays.ready;
         units = subst (λ (x : Tables). SameUnits x new.book) same squeezed.stays.units;

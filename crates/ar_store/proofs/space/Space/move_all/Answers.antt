@@ -7,6 +7,8 @@ use Rattle.ar_book.proofs.Homes.{key_home}
 use Rattle.ar_extents.proofs.Outcomes.{done_sound, sound_done}
 use Rattle.ar_store.specs.Placing.{slot_at, moved_first, IsVacant}
 use Rattle.ar_store.proofs.Options.{some_is, none_not_some}
+use Rattle.ar_extents.proofs.Follows.{works_refl}
+use Rattle.ar_store.proofs.Asking.{step_asks}
 use Rattle.ar_store.proofs.Fills.{done_not_broken}
 use Rattle.ar_store.proofs.Stays.{stays_then, all_then}
 use Rattle.ar_store.proofs.Squeezing.{squeezing_start, squeezing_then, move_vacant, move_next, moving_end, slots_end}
@@ -15,6 +17,7 @@ use Rattle.ar_store.proofs.space.Space.move_all.Goals as goal
 pub loop-slot-init : goal.loop-slot-init
 loop-slot-init g c = record {
   squeezing = squeezing_start c.args.self.now c.args.from c.args.to c.requires.ready c.requires.can c.requires.sound;
+  asks = works_refl _ c.args.self.now.disks;
   whole = refl;
 }
 
@@ -53,6 +56,8 @@ loop-slot-preserved g c =
       squeezing = squeezing_then c.args.self.now c.loop-slot.self new c.args.from c.args.to c.loop-slot.slot c.in-Some.key c.requires.ready c.requires.can
           so_far.squeezing (omega arith) (sym c.key_at.ensures ∙ c.in-Some.is) (moved.moved c.in-Done.is) moved.stand moved.stays
           (done_sound new.disks.health (sym c.in-Done.is ∙ moved.outcome));
+      asks = step_asks c.args.self.now c.loop-slot.self new c.args.from c.args.to c.loop-slot.slot c.in-Some.key so_far.squeezing so_far.asks
+          (sym c.key_at.ensures ∙ c.in-Some.is) moved.asks;
       whole = moved.len ∙ so_far.whole;
     }
 
@@ -68,6 +73,8 @@ returns-in-Broken g c =
       hole = λ done. absurd (done_not_broken (sym done));
       unplaced = λ k is. ap (λ (x : Tables). home x k) (moved.unmoved c.in-Broken.is) ∙ now.moving.unplaced k is;
       stand = all_then c.args.self.now c.loop-slot.self c.move_block.new.self moved.stays now.stand moved.stand;
+      asks = step_asks c.args.self.now c.loop-slot.self c.move_block.new.self c.args.from c.args.to c.loop-slot.slot c.in-Some.key now so_far.asks
+          (sym c.key_at.ensures ∙ c.in-Some.is) moved.asks;
       stays = stays_then c.args.self.now c.loop-slot.self c.move_block.new.self now.stays moved.stays;
       len = moved.len ∙ so_far.whole;
     }
@@ -88,6 +95,7 @@ returns g c =
           (moving_end t u c.args.from c.args.to c.loop-slot.slot c.requires.can now.moving all);
       unplaced = now.moving.unplaced;
       stand = now.stand;
+      asks = so_far.asks;
       stays = now.stays;
       len = so_far.whole;
     }

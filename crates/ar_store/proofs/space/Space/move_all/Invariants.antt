@@ -1,9 +1,12 @@
 use Rattle.std.proofs.Common.{◌≡◌, length}
+use Rattle.ar_store.specs.Asking.{AsksGroups}
+use Rattle.ar_store.specs.Spaces.{store_in}
 use Rattle.ar_store.proofs.Squeezing.{IsSqueezing}
 use Rattle.ar_store.proofs.space.Space.move_all.Given as goal
 
 abbrev pub invariant-loop-slot : goal.invariant-loop-slot
 invariant-loop-slot g l = record {
   squeezing : IsSqueezing l.initial.self l.self l.from l.to l.slot;
+  asks : AsksGroups l.from l.to (store_in l.initial.self) (store_in l.self);
   whole : length l.block ≡ length l.initial.block;
 }

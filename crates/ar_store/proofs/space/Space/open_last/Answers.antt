@@ -3,6 +3,7 @@ use Rattle.ar_extents.specs.Groups.{IsMember}
 use Rattle.ar_book.specs.declared.class.Class.TheVariants.{Parity}
 use Rattle.ar_store.specs.Calls.{IsAccessed}
 use Rattle.ar_store.proofs.Fills.{accessed_work}
+use Rattle.ar_store.proofs.Asking.{opened_asks}
 use Rattle.ar_store.proofs.Openings.{zeroed, opened_group, opened_there}
 use Rattle.ar_store.proofs.space.Space.open_last.Goals as goal
 
@@ -33,6 +34,8 @@ returns g c =
       lowest = opening.lowest;
       opened = opening.opened;
       stand = zeros.stand;
+      asks = opened_asks s.disks b s.book c.open_last-group.new.self c.open_last-group.result Parity c.members-members.result opening.opened
+          c.members-members.ensures zero.works;
       stays = record {
         ready = record { space = zeros.space; scratch = zero.scratch ∙ c.requires.ready.scratch ∙ sym zero.works.follows.geometry };
         units = zeros.units;

@@ -4,6 +4,7 @@ use Rattle.ar_book.specs.Changes.{stamped}
 use Rattle.ar_store.specs.Spaces.{store_in}
 use Rattle.ar_store.proofs.Changes.{block_then}
 use Rattle.ar_store.proofs.Fills.{stamped_then, done_not_broken}
+use Rattle.ar_store.proofs.Asking.{asks_stamped}
 use Rattle.ar_store.proofs.space.Space.write.Goals as goal
 
 pub write_by-requires : goal.write_by-requires
@@ -26,6 +27,7 @@ returns-in-Done g c =
       free = subst (λ (x : Tables). free_groups s.book ≤ free_groups x) (sym c.stamp.ensures.stamped) wrote.free;
       here = λ _. stamps.here;
       others = stamps.others;
+      asks = asks_stamped (store_in s) new.disks new.book c.stamp.new.self c.args.way wrote.asks;
       stays = record {
         ready = record { space = stamps.space; scratch = wrote.stays.ready.scratch };
         units = stamps.units;
@@ -43,5 +45,6 @@ returns-in-Broken g c =
       free = wrote.free;
       here = λ done. absurd (done_not_broken (sym done));
       others = wrote.others;
+      asks = wrote.asks;
       stays = wrote.stays;
     }

@@ -1,5 +1,6 @@
 use Rattle.std.proofs.Common.{IsSome, refl, sym, ap, subst, ◌∙◌}
 use Rattle.ar_extents.specs.Groups.{outcome_of}
+use Rattle.ar_extents.proofs.Follows.{works_refl}
 use Rattle.ar_book.specs.Tables.{home}
 use Rattle.ar_store.specs.Store.{StoreState}
 use Rattle.ar_store.specs.Placing.{IsVacant}
@@ -34,6 +35,7 @@ returns-in-Broken g c =
       stands = record { blocks = λ _ k. refl };
       beside = record { slots = λ slot block there same ne holds. holds };
       units = units_refl s.book;
+      asks = λ from is. works_refl _ s.disks;
       accessed = accessed_refl s.disks;
       broken = λ _. refl;
     }

@@ -1,4 +1,5 @@
 use Rattle.std.proofs.Common.{inl, sym, ap, ◌∙◌, refl}
+use Rattle.ar_extents.proofs.Follows.{works_refl}
 use Rattle.ar_store.specs.Store.{StoreState}
 use Rattle.ar_store.proofs.Standing.{was_sound}
 use Rattle.ar_store.proofs.Changes.{units_refl}
@@ -33,6 +34,7 @@ returns-in-Broken g c =
       homes = λ k. refl;
       stands = record { blocks = λ _ k. refl };
       units = units_refl s.book;
+      asks = λ group lowest. works_refl _ s.disks;
       accessed = accessed_refl s.disks;
       broken = λ _. refl;
     }

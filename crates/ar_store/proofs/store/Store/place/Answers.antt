@@ -9,6 +9,7 @@ use Rattle.ar_store.specs.Store.{StoreState}
 use Rattle.ar_store.specs.Slots.{AllStand}
 use Rattle.ar_store.specs.Placing.{Puts, SameUnits}
 use Rattle.ar_store.specs.Calls.{IsAccessed}
+use Rattle.ar_store.specs.Asking.{AsksToPut}
 use Rattle.ar_store.specs.Spaces.{store_in}
 use Rattle.ar_store.proofs.Standing.{was_sound}
 use Rattle.ar_store.proofs.Changes.{block_then, units_refl}
@@ -16,6 +17,7 @@ use Rattle.ar_store.proofs.Fills.{accessed_refl, done_not_broken}
 use Rattle.ar_store.proofs.Stays.{stays_then}
 use Rattle.ar_store.proofs.Fields.{ready_in, fields_stay, put_others, way_sound, placed_stand, written_home}
 use Rattle.ar_store.proofs.Ways.{puts_way}
+use Rattle.ar_store.proofs.Asking.{asks_way, asks_still}
 use Rattle.ar_store.proofs.store.Store.place.Goals as goal
 
 pub find_way-way-requires : goal.find_way-way-requires
@@ -81,6 +83,8 @@ returns g c =
       unmoved = λ broke.
           ap (λ (x : Tables). home x c.args.key) (wrote.unwritten broke) ∙ way.home ∙ ap (λ (s : StoreState). home s.book c.args.key) view;
       units = subst (λ (s : StoreState). SameUnits s.book d.book) view both.units;
+      asks = subst (λ (s : StoreState). AsksToPut s c.args.key (store_in d)) view
+          (asks_way (store_in a) (store_in b) (store_in d) c.args.key c.find_way-way.result way.leads way.asks wrote.asks);
       accessed = subst (λ (s : StoreState). IsAccessed s.disks d.disks) view both.accessed;
       broken = λ is. absurd (c.in_default.not-Broken (c.health.ensures.same ∙ ap (λ (s : StoreState). s.disks.health) view ∙ is));
     }
@@ -96,6 +100,7 @@ returns-in-Broken g c =
       stands = record { blocks = λ _ k. refl };
       unmoved = λ _. refl;
       units = units_refl s.book;
+      asks = asks_still s s c.args.key refl;
       accessed = accessed_refl s.disks;
       broken = λ _. refl;
     }

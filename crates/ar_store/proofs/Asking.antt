@@ -1,0 +1,281 @@
+-- Which disks are asked for a slot to be found, and at it.
+use Rattle.std.proofs.Common.{◌≡◌, ◌⊎◌, inl, inr, ℕ, zero, suc, Option, None, Some, refl, sym, ap, subst, ◌∙◌, arith}
+use Rattle.std.proofs.lemmas.Option.{none-some, same_Some}
+use Rattle.ar_disks.specs.declared.address.Key.{Key}
+use Rattle.ar_disks.specs.declared.address.Members.{Members}
+use Rattle.ar_disks.specs.declared.address.Place.{Place}
+use Rattle.ar_disks.specs.declared.geometry.Geometry.{Geometry}
+use Rattle.ar_disks.specs.Members.{member}
+use Rattle.ar_extents.specs.Set.{SetState}
+use Rattle.ar_extents.specs.Groups.{IsMember}
+use Rattle.ar_extents.specs.Follows.{WorksOn}
+use Rattle.ar_extents.proofs.Follows.{works_refl, works_then, works_more}
+use Rattle.ar_book.specs.declared.class.Class.{Class}
+use Rattle.ar_book.specs.declared.class.Class.TheVariants.{Free, Mirrored, Parity}
+use Rattle.ar_book.specs.declared.class.Level.TheVariants.{Mirrored as MirroredLevel, Parity as ParityLevel}
+use Rattle.ar_book.specs.declared.class.Slot.{Slot}
+use Rattle.ar_book.specs.Tables.{Tables, group_in, class_of, key_at, home, level_of}
+use Rattle.ar_book.specs.Changes.{opened}
+use Rattle.ar_book.specs.Choices.{IsFullMirrored, IsLowestFree}
+use Rattle.ar_book.proofs.Homes.{home_level, key_home}
+use Rattle.ar_book.proofs.AfterAssign.{assigned_members}
+use Rattle.ar_book.proofs.AfterOpen.{opened_class, opened_members}
+use Rattle.ar_store.specs.declared.space.Space.{Space}
+use Rattle.ar_store.specs.declared.way.Way.{Way}
+use Rattle.ar_store.specs.declared.way.Way.TheVariants.{Home, Hole, Broken}
+use Rattle.ar_store.specs.Store.{StoreState, store_of, members_of, class_in}
+use Rattle.ar_store.specs.Slots.{NeedsIn}
+use Rattle.ar_store.specs.Placing.{slot_at, moved_from, moved_first, squeezed, LeadsHome, LeadsToHole, Leads}
+use Rattle.ar_store.specs.Asking.{NeedsAt, IsOfEither, AsksSlot, AsksSlots, AsksGroup, AsksGroups, AsksToPut, NeedsSqueeze, AsksToSqueeze, AsksOnWay, AsksWay}
+use Rattle.ar_store.specs.Spaces.{store_in}
+use Rattle.ar_store.proofs.Squeezing.{IsSqueezing, same_full, same_free}
+use Rattle.ar_store.proofs.Ways.{nowhere, parity_not_mirrored, unplaced_not_mirrored, unplaced_not_parity}
+
+-- each position names a member
+any_member : (m : Members) (n : ℕ) → IsMember m (member m n)
+any_member m zero = record { position = 0; below = omega arith; is = refl }
+any_member m (suc zero) = record { position = 1; below = omega arith; is = refl }
+any_member m (suc (suc zero)) = record { position = 2; below = omega arith; is = refl }
+any_member m (suc (suc (suc n))) = record { position = 3; below = omega arith; is = refl }
+
+-- what a slot needs are members of its group
+pub needs_member : (c : Class) (g : Geometry) (m : Members) (i : ℕ) (place : Place) → NeedsIn c g m i place → IsMember m place
+needs_member Free g m i place needs = absurd needs
+needs_member Mirrored g m i place needs =
+    elim needs [ inl one ↦ subst (λ p. IsMember m p) (sym one) (any_member m _) | inr other ↦ subst (λ p. IsMember m p) (sym other) (any_member m _) ]
+needs_member Parity g m i place needs = needs
+
+-- the members of groups stay where blocks move, and in a squeeze
+from_members : (t : Tables) (o : Option Key) (s : Slot) (g : ℕ) → (group_in (moved_from t o s).groups g).members ≡ (group_in t.groups g).members
+from_members t None s g = refl
+from_members t (Some k) s g = assigned_members t k s g
+
+pub first_members : (t : Tables) (from to n g : ℕ) → (group_in (moved_first t from to n).groups g).members ≡ (group_in t.groups g).members
+first_members t from to zero g = refl
+first_members t from to (suc n) g = from_members (moved_first t from to n) _ (slot_at to n) g ∙ first_members t from to n g
+
+squeezed_members : (t : Tables) (from to g : ℕ) → (group_in (squeezed t from to).groups g).members ≡ (group_in t.groups g).members
+squeezed_members t from to g = first_members (opened t to Parity) from to _ g ∙ opened_members t to Parity g
+
+-- Work on a slot, on two, and on a group is work on two groups.
+pub slot_in_group : (a b : StoreState) (s : Slot) (class : Class) → AsksSlot class s a b → AsksGroup s.group a b
+slot_in_group a b s class works =
+    works_more (NeedsIn class a.disks.geometry (members_of a s.group) s.slot) (IsMember (members_of a s.group)) a.disks b.disks
+    (needs_member class a.disks.geometry (members_of a s.group) s.slot) works
+
+pub slots_in_groups : (a b : StoreState) (one other : Slot) → AsksSlots one other a b → AsksGroups one.group other.group a b
+slots_in_groups a b one other works =
+    works_more (λ place. NeedsAt a one place ⊎ NeedsAt a other place) (IsOfEither (members_of a one.group) (members_of a other.group)) a.disks b.disks
+    (λ place needs. elim needs [
+      | inl first ↦ inl (needs_member (class_in a one.group) a.disks.geometry (members_of a one.group) one.slot place first)
+      | inr second ↦ inr (needs_member (class_in a other.group) a.disks.geometry (members_of a other.group) other.slot place second)
+    ]) works
+
+pub second_group : (one other : Members) (a b : SetState) → WorksOn (IsMember other) a b → WorksOn (IsOfEither one other) a b
+second_group one other a b works = works_more (IsMember other) (IsOfEither one other) a b (λ place is. inr is) works
+
+-- The blocks move from one group to another, whose members stay.
+pub moving_asks : (t : Tables) (old now new : StoreState) (from to i : ℕ) → old.book ≡ t → now.book ≡ moved_first t from to i
+    → AsksGroups from to old now → AsksGroups from to now new → AsksGroups from to old new
+moving_asks t old now new from to i is_old is_now before step =
+    let same : (g : ℕ) → members_of now g ≡ members_of old g = λ g.
+    ap (λ (x : Tables). (group_in x.groups g).members) is_now ∙ first_members t from to i g
+    ∙ ap (λ (x : Tables). (group_in x.groups g).members) (sym is_old) in
+    let P : Members → Type 0 = λ m. WorksOn (IsOfEither m (members_of now to)) now.disks new.disks in
+    let Q : Members → Type 0 = λ m. WorksOn (IsOfEither (members_of old from) m) now.disks new.disks in
+    works_then (IsOfEither (members_of old from) (members_of old to)) old.disks now.disks new.disks before
+    (subst Q (same to) (subst P (same from) step))
+
+-- the lowest free group was opened, and then blocks moved to it, or none so far
+pub squeeze_asks : (a b c : StoreState) (from to : ℕ) → b.book ≡ opened a.book to Parity → AsksGroup to a b → AsksGroups from to b c → AsksGroups from to a c
+squeeze_asks a b c from to is opening moves =
+    let same : (g : ℕ) → members_of b g ≡ members_of a g = λ g.
+    ap (λ (x : Tables). (group_in x.groups g).members) is ∙ opened_members a.book to Parity g in
+    let P : Members → Type 0 = λ m. WorksOn (IsOfEither m (members_of b to)) b.disks c.disks in
+    let Q : Members → Type 0 = λ m. WorksOn (IsOfEither (members_of a from) m) b.disks c.disks in
+    works_then (IsOfEither (members_of a from) (members_of a to)) a.disks b.disks c.disks
+    (second_group (members_of a from) (members_of a to) a.disks b.disks opening)
+    (subst Q (same to) (subst P (same from) moves))
+
+-- there is one full mirrored group that comes first, and one free one
+pub only_squeeze : (a c : StoreState) (from to : ℕ) → IsFullMirrored a.book from → IsLowestFree a.book to → AsksGroups from to a c → AsksToSqueeze a c
+only_squeeze a c from to full free works f g is_f is_g =
+    let P : ℕ → Type 0 = λ n. AsksGroups n to a c in
+    let Q : ℕ → Type 0 = λ n. AsksGroups f n a c in
+    subst Q (same_free a.book to g free is_g) (subst P (same_full a.book from f full is_f) works)
+
+-- and one free group that is opened
+pub only_opened : (a c : StoreState) (group : ℕ) → IsLowestFree a.book group → AsksGroup group a c → (g : ℕ) → IsLowestFree a.book g → AsksGroup g a c
+only_opened a c group free works g is_g =
+    let P : ℕ → Type 0 = λ n. AsksGroup n a c in subst P (same_free a.book group g free is_g) works
+
+-- nothing was asked
+same_works : (these : Place → Type 0) (a b : SetState) → b ≡ a → WorksOn these a b
+same_works these a b same = subst (λ (x : SetState). WorksOn these a x) (sym same) (works_refl these a)
+
+pub asks_still : (a c : StoreState) (k : Key) → c.disks ≡ a.disks → AsksToPut a k c
+asks_still a c k same = record {
+  mirrored = λ s at is. same_works _ a.disks c.disks same;
+  mirrored_hole = λ s low hole. same_works _ a.disks c.disks same;
+  opened_group = λ g low none many lowest. same_works _ a.disks c.disks same;
+  parity = λ s at is none few. same_works _ a.disks c.disks same;
+  parity_hole = λ s at none few hole. same_works _ a.disks c.disks same;
+  squeezed_group = λ from to at none full few is_from is_to. same_works _ a.disks c.disks same;
+}
+
+-- all that a squeeze needs
+asks_squeezed : (a c : StoreState) (k : Key) → NeedsSqueeze a.book k → AsksToSqueeze a c → AsksToPut a k c
+asks_squeezed a c k needs asks =
+    let at = nowhere a.book k needs.unplaced in
+    record {
+      mirrored = λ s high is. absurd (unplaced_not_mirrored (sym at ∙ high));
+      mirrored_hole = λ s low hole. absurd (needs.mirrored.none s hole.hole);
+      opened_group = λ g low none many lowest. absurd (let few = needs.few in omega arith);
+      parity = λ s low is none few. absurd (unplaced_not_parity (sym at ∙ low));
+      parity_hole = λ s _ none few hole. absurd (needs.parity.none s hole.hole);
+      squeezed_group = λ from to _ none full few is_from is_to. asks from to is_from is_to;
+    }
+
+-- a block at a level stands in a group of that class
+high_class : (c : Class) → level_of c ≡ MirroredLevel → c ≡ Mirrored
+high_class Free at = absurd (unplaced_not_mirrored at)
+high_class Mirrored at = refl
+high_class Parity at = absurd (parity_not_mirrored at)
+
+low_class : (c : Class) → level_of c ≡ ParityLevel → c ≡ Parity
+low_class Free at = absurd (unplaced_not_parity at)
+low_class Mirrored at = absurd (parity_not_mirrored (sym at))
+low_class Parity at = refl
+
+module _ (a b c : StoreState) (k : Key) where
+  -- a slot was written, and no disk was asked before
+  at_slot : (class : Class) (s r : Slot) → b.disks ≡ a.disks → s ≡ r → class_in b s.group ≡ class → members_of b s.group ≡ members_of a s.group
+      → AsksSlot (class_in b s.group) s b c → AsksSlot class r a c
+  at_slot class s r disks same is members asks =
+      let P : Class → Type 0 = λ x. WorksOn (NeedsIn x b.disks.geometry (members_of b s.group) s.slot) b.disks c.disks in
+      let Q : Members → Type 0 = λ m. WorksOn (NeedsIn class b.disks.geometry m s.slot) b.disks c.disks in
+      let R : SetState → Type 0 = λ x. WorksOn (NeedsIn class x.geometry (members_of a s.group) s.slot) x c.disks in
+      let S : Slot → Type 0 = λ x. AsksSlot class x a c in
+      subst S same (subst R disks (subst Q members (subst P is asks)))
+
+  asks_home : (s : Slot) → LeadsHome a.book k b.book s → b.disks ≡ a.disks → AsksSlot (class_in b s.group) s b c → AsksToPut a k c
+  asks_home s leads disks asks =
+      let class = ap (λ (x : Tables). class_of x s.group) leads.same in
+      let members = ap (λ (x : Tables). (group_in x.groups s.group).members) leads.same in
+      let level_is = home_level a.book k s leads.home in
+      record {
+        mirrored = λ r at is.
+            at_slot Mirrored s r disks (same_Some s r (sym leads.home ∙ is)) (class ∙ high_class (class_of a.book s.group) (sym level_is ∙ at)) members asks;
+        mirrored_hole = λ r low hole. absurd (elim leads.when [ inl at ↦ low at | inr rest ↦ rest.1.none r hole.hole ]);
+        opened_group = λ g low none free lowest. absurd (elim leads.when [ inl at ↦ low at | inr rest ↦ (let few = rest.2 in omega arith) ]);
+        parity = λ r at is none few.
+            at_slot Parity s r disks (same_Some s r (sym leads.home ∙ is)) (class ∙ low_class (class_of a.book s.group) (sym level_is ∙ at)) members asks;
+        parity_hole = λ r at none few hole. absurd (elim leads.when [
+          | inl high ↦ unplaced_not_mirrored (sym at ∙ high)
+          | inr rest ↦ unplaced_not_parity (sym at ∙ rest.0)
+        ]);
+        squeezed_group = λ from to at none full few is_from is_to. absurd (elim leads.when [
+          | inl high ↦ unplaced_not_mirrored (sym at ∙ high)
+          | inr rest ↦ unplaced_not_parity (sym at ∙ rest.0)
+        ]);
+      }
+
+  -- the slot that a squeeze left was written
+  after_squeeze : (from to : ℕ) (s : Slot) → b.book ≡ squeezed a.book from to → s.group ≡ to → AsksSlot (class_in b s.group) s b c
+      → WorksOn (IsOfEither (members_of a from) (members_of a to)) b.disks c.disks
+  after_squeeze from to s is at asks =
+      let same : members_of b s.group ≡ members_of a to =
+      ap (λ (x : Tables). (group_in x.groups s.group).members) is ∙ squeezed_members a.book from to s.group ∙ ap (λ g. members_of a g) at in
+      let P : Members → Type 0 = λ m. WorksOn (IsMember m) b.disks c.disks in
+      second_group (members_of a from) (members_of a to) b.disks c.disks (subst P same (slot_in_group b c s (class_in b s.group) asks))
+
+  asks_hole : (s : Slot) → LeadsToHole a.book k b.book s → b.disks ≡ a.disks → AsksSlot (class_in b s.group) s b c → AsksToPut a k c
+  asks_hole s leads disks asks =
+      let t = a.book in
+      let class_was : (u : Tables) → b.book ≡ u → (r : Slot) → s ≡ r → class_in b s.group ≡ class_of u r.group = λ u is r same.
+      ap (λ (x : Tables). class_of x s.group) is ∙ ap (λ (x : Slot). class_of u x.group) same in
+      let members_are : (u : Tables) → b.book ≡ u → members_of b s.group ≡ (group_in u.groups s.group).members = λ u is.
+      ap (λ (x : Tables). (group_in x.groups s.group).members) is in
+      record {
+        mirrored = λ r at is. absurd (leads.when at);
+        mirrored_hole = λ r low hole.
+            let same = leads.mirrored_hole r hole in
+            at_slot Mirrored s r disks same.1 (class_was t same.0 r same.1 ∙ hole.hole.class) (members_are t same.0) asks;
+        opened_group = λ g low none many lowest.
+            let same = leads.opened_group g none many lowest in
+            at_slot Mirrored s (slot_at g 0) disks same.1 (class_was (opened t g Mirrored) same.0 (slot_at g 0) same.1 ∙ opened_class t g Mirrored lowest.there)
+            (members_are (opened t g Mirrored) same.0 ∙ opened_members t g Mirrored s.group) asks;
+        parity = λ r at is none few. absurd (unplaced_not_parity (sym (leads.unplaced none few) ∙ at));
+        parity_hole = λ r at none few hole.
+            let same = leads.parity_hole r none few hole in
+            at_slot Parity s r disks same.1 (class_was t same.0 r same.1 ∙ hole.hole.class) (members_are t same.0) asks;
+        squeezed_group = λ from to at none full few is_from is_to.
+            let same = leads.squeezed_group from to none full few is_from is_to in
+            let P : SetState → Type 0 = λ x. WorksOn (IsOfEither (members_of a from) (members_of a to)) x c.disks in
+            subst P disks (after_squeeze from to s same.0 (ap (λ (x : Slot). x.group) same.1) asks);
+      }
+
+  -- a squeeze was needed, and the slot that it left was written
+  squeeze_hole : (s : Slot) → LeadsToHole a.book k b.book s → NeedsSqueeze a.book k → AsksToSqueeze a b → AsksSlot (class_in b s.group) s b c → AsksToSqueeze a c
+  squeeze_hole s leads needs first asks from to is_from is_to =
+      let same = leads.squeezed_group from to needs.mirrored needs.parity needs.few is_from is_to in
+      works_then (IsOfEither (members_of a from) (members_of a to)) a.disks b.disks c.disks (first from to is_from is_to)
+      (after_squeeze from to s same.0 (ap (λ (x : Slot). x.group) same.1) asks)
+
+  -- What a put asks: what was asked for a slot to be found, and then that slot's disks.
+  pub asks_way : (way : Way) → Leads a.book k b.book way → AsksOnWay a k b → AsksWay way b c → AsksToPut a k c
+  asks_way (Home s) leads (inl disks) asks = asks_home s leads disks asks
+  asks_way (Home s) leads (inr squeeze) asks = absurd (none-some s (sym squeeze.0.unplaced ∙ leads.home))
+  asks_way (Hole s) leads (inl disks) asks = asks_hole s leads disks asks
+  asks_way (Hole s) leads (inr squeeze) asks = asks_squeezed a c k squeeze.0 (squeeze_hole s leads squeeze.0 squeeze.1 asks)
+  asks_way Broken leads (inl disks) asks = asks_still a c k (asks ∙ disks)
+  asks_way Broken leads (inr squeeze) asks = asks_squeezed a c k squeeze.0 (λ from to is_from is_to.
+      let P : SetState → Type 0 = λ x. WorksOn (IsOfEither (members_of a from) (members_of a to)) a.disks x in
+      subst P (sym asks) (squeeze.1 from to is_from is_to))
+
+-- A slot was read and then another written, where the tables stayed.
+pub asks_both : (a b c : StoreState) (one other : Slot) → b.book ≡ a.book → b.disks.geometry ≡ a.disks.geometry
+    → WorksOn (NeedsAt a one) a.disks b.disks → AsksSlot (class_in b other.group) other b c → AsksSlots one other a c
+asks_both a b c one other book geometry read wrote =
+    let either : Place → Type 0 = λ place. NeedsAt a one place ⊎ NeedsAt a other place in
+    let P : Tables → Type 0 = λ x. WorksOn (NeedsIn (class_of x other.group) b.disks.geometry (group_in x.groups other.group).members other.slot) b.disks c.disks in
+    let Q : Geometry → Type 0 = λ x. WorksOn (NeedsIn (class_in a other.group) x (members_of a other.group) other.slot) b.disks c.disks in
+    works_then either a.disks b.disks c.disks
+    (works_more (NeedsAt a one) either a.disks b.disks (λ place is. inl is) read)
+    (works_more (NeedsAt a other) either b.disks c.disks (λ place is. inr is) (subst Q geometry (subst P book wrote)))
+
+pub asks_one : (a b : StoreState) (one other : Slot) → WorksOn (NeedsAt a one) a.disks b.disks → AsksSlots one other a b
+asks_one a b one other read = works_more (NeedsAt a one) (λ place. NeedsAt a one place ⊎ NeedsAt a other place) a.disks b.disks (λ place is. inl is) read
+
+-- a slot stands where a block has its home
+pub asks_from : (a b : StoreState) (key : Key) (from other : Slot) → home a.book key ≡ Some from → AsksSlots from other a b
+    → (slot : Slot) → home a.book key ≡ Some slot → AsksSlots slot other a b
+asks_from a b key from other is asks slot placed =
+    let P : Slot → Type 0 = λ x. AsksSlots x other a b in subst P (same_Some from slot (sym is ∙ placed)) asks
+
+-- the tables change, and the disks that were asked are the same
+pub asks_stamped : (a : StoreState) (b : SetState) (t u : Tables) (way : Way) → AsksWay way a (store_of b t) → AsksWay way a (store_of b u)
+asks_stamped a b t u (Home s) asks = asks
+asks_stamped a b t u (Hole s) asks = asks
+asks_stamped a b t u Broken asks = asks
+
+-- a free group was opened, and no block moved so far
+pub opening_asks : (a b : StoreState) (from to : ℕ) → AsksGroup to a b → AsksGroups from to a b
+opening_asks a b from to opening = second_group (members_of a from) (members_of a to) a.disks b.disks opening
+
+-- the members of the group that was opened were written
+pub opened_asks : (a b : SetState) (t u : Tables) (g : ℕ) (c : Class) (m : Members) → u ≡ opened t g c → m ≡ (group_in u.groups g).members
+    → WorksOn (IsMember m) a b → AsksGroup g (store_of a t) (store_of b u)
+opened_asks a b t u g c m is members works =
+    let P : Members → Type 0 = λ x. WorksOn (IsMember x) a b in
+    subst P (members ∙ ap (λ (x : Tables). (group_in x.groups g).members) is ∙ opened_members t g c g) works
+
+-- One more block of a squeeze has moved.
+pub step_asks : {X : Type 0} (old now new : Space X) (from to i : ℕ) (k : Key) → IsSqueezing old now from to i
+    → AsksGroups from to (store_in old) (store_in now) → key_at now.book (slot_at from i) ≡ Some k
+    → ((slot : Slot) → home now.book k ≡ Some slot → AsksSlots slot (slot_at to i) (store_in now) (store_in new))
+    → AsksGroups from to (store_in old) (store_in new)
+step_asks old now new from to i k so_far before names moved =
+    moving_asks old.book (store_in old) (store_in now) (store_in new) from to i refl so_far.moving.tables before
+    (slots_in_groups (store_in now) (store_in new) (slot_at from i) (slot_at to i)
+    (moved (slot_at from i) (key_home now.book so_far.stays.ready.space.tables (slot_at from i) k names)))
