@@ -3,7 +3,7 @@ use crate::fault::Failure;
 use ar_core::OutcomeOf;
 use ar_disks::Host;
 use ar_frames::{AskFault, Sink, Source, ask, hello};
-use ar_orders::{Action, Data, FaultKind, Lines, Notation, Order, order_in};
+use ar_orders::{Action, Data, FaultKind, Lines, Notation, Order, next_line, order_in};
 use ar_script::write_outcome;
 use ar_scsi::Reply;
 use std::alloc::Global;
@@ -78,10 +78,7 @@ impl<S: Source + Drop, W: Sink + Drop> Client<S, W> {
         out: &mut BufWriter<O>,
     ) -> Result<(), Failure> {
         for _ in 0..u32::MAX {
-            if lines.is_drained() && out.flush().is_err() {
-                return Err(Failure::at(lines.number(), FaultKind::WriteFault));
-            }
-            if !lines.advance().map_err(Failure::Line)? {
+            if !next_line(lines, out).map_err(Failure::Line)? {
                 break;
             }
             self.answer_line(lines.number(), lines.line(), out)?;
@@ -97,7 +94,7 @@ impl<S: Source + Drop, W: Sink + Drop> Client<S, W> {
         out: &mut O,
     ) -> Result<(), Failure> {
         let fault = |kind| Failure::at(number, kind);
-        let Some(order) = order_in(self.alloc, line).map_err(fault)? else {
+        let Some(order) = order_in(line).map_err(fault)? else {
             return Ok(());
         };
         let asked = self.asked_by(order).map_err(fault)?;

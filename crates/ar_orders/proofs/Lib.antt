@@ -1,6 +1,7 @@
 pub mod BlockLemmas
-pub mod FaultLemmas
+pub mod Going
 pub mod LineLemmas
 pub mod ParseLemmas
 pub mod Parting
+pub mod Tails
 pub mod WordLemmas

@@ -11,7 +11,7 @@ use Rattle.ar_scsi.specs.Block.{Says}
 use Rattle.ar_scsi.specs.Field.{operation_code}
 use Rattle.ar_orders.specs.Words.{IsNumber, IsBytePair, IsBlockWord}
 use Rattle.ar_orders.specs.declared.fault.FaultKind.{FaultKind}
-use Rattle.ar_orders.specs.declared.fault.FaultKind.TheVariants.{BadArgument, UnknownWord, NoMemory}
+use Rattle.ar_orders.specs.declared.fault.FaultKind.TheVariants.{BadArgument, UnknownWord}
 use Rattle.ar_orders.specs.declared.order.Action.TheVariants as actions
 use Rattle.ar_orders.specs.declared.order.Data.{Data}
 use Rattle.ar_orders.specs.declared.order.Notation.{Notation}
@@ -257,21 +257,22 @@ abbrev pub asked : Result Order FaultKind → Result (Option Order) FaultKind
 asked (Ok order) = Ok (Some order)
 asked (Err kind) = Err kind
 
--- the words of a line, of which none may be empty
+-- the words of a line, the first of which names what is asked for
+abbrev pub ReadsNamed : Words → Result (Option Order) FaultKind → Type 0
+ReadsNamed [] result = result ≡ Ok None
+ReadsNamed (name ∷ words) result = (read : Result Order FaultKind) × Reads name.now words read × (result ≡ asked read)
+
+-- the same, where none may be empty
 abbrev pub ReadsWords : Words → Result (Option Order) FaultKind → Type 0
-ReadsWords [] result = result ≡ Ok None
-ReadsWords (name ∷ words) result =
-    MatchBool (list_any (λ text. length text.now == 0) (name ∷ words)) (result ≡ Err BadArgument)
-    ((read : Result Order FaultKind) × Reads name.now words read × (result ≡ asked read))
+ReadsWords words result = MatchBool (list_any (λ text. length text.now == 0) words) (result ≡ Err BadArgument) (ReadsNamed words result)
 
 -- an empty line, or one that `#` begins
 abbrev pub is_silent : List ℕ → Bool
 is_silent [] = true
 is_silent (byte ∷ bytes) = byte == 35
 
--- What a line asks for: nothing, or what its words do, which one space parts. Memory for them may be refused.
+-- What a line asks for: nothing, or what its words do, which one space parts.
 abbrev pub ReadsLine : List ℕ → Result (Option Order) FaultKind → Type 0
 ReadsLine line result =
     MatchBool (is_silent line) (result ≡ Ok None)
-    ((result ≡ Err NoMemory)
-    ⊎ ((words : Words) × (map (λ text. text.now) words ≡ slice_split (λ byte. byte == 32) line) × ReadsWords words result))
+    ((words : Words) × (map (λ text. text.now) words ≡ slice_split (λ byte. byte == 32) line) × ReadsWords words result)

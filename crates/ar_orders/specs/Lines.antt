@@ -1,8 +1,10 @@
 -- What the lines of a script are, and what a line may hold.
-use Rattle.std.specs.Prelude.{◌≡◌, ◌≢◌, ◌⊎◌, ◌+◌, ◌-◌, ◌≤◌, ◌&&◌, ◌++◌, ◌==◌, ⊤, ℕ, Bool, true, false, IsTrue, nat_le, nat_lt, if◌then◌else◌, Option, Some, None, option_map, List, [], ◌∷◌, length, take, slice_index_or}
+use Rattle.std.specs.Prelude.{◌≡◌, ◌≢◌, ◌⊎◌, ◌+◌, ◌-◌, ◌≤◌, ◌&&◌, ◌++◌, ◌==◌, ⊤, ℕ, Bool, true, false, not, IsTrue, nat_le, nat_lt, max, if◌then◌else◌, Option, Some, None, option_map, Result, Ok, Err, List, [], ◌∷◌, length, take, slice_index_or}
 use Rattle.std.specs.List.{list_all, All}
+use Rattle.std.specs.Io.Buffered.{reader_inner, reader_capacity}
+use Rattle.std.specs.declared.io.buffered.BufReader.{BufReader}
 use Rattle.ar_orders.specs.declared.fault.FaultKind.{FaultKind}
-use Rattle.ar_orders.specs.declared.fault.FaultKind.TheVariants.{LineTooLong, TooManyLines, BadCharacter, NoMemory, ReadFault}
+use Rattle.ar_orders.specs.declared.fault.FaultKind.TheVariants.{LineTooLong, TooManyLines, BadCharacter, ReadFault, WriteFault}
 use Rattle.ar_orders.specs.declared.fault.Fault.{Fault}
 use Rattle.ar_orders.specs.declared.fault.Fault.TheVariants.{Start, Line}
 
@@ -25,15 +27,15 @@ abbrev pub first_of : List (List ℕ) → List ℕ
 first_of [] = []
 first_of (line ∷ lines) = line
 
--- the bytes that are left: none where the end was met
-abbrev pub bytes_left : Bool → Option (List ℕ) → Option (List ℕ)
-bytes_left true known = option_map (λ bytes. []) known
-bytes_left false known = known
+-- the bytes that are left: those that were read, where the end was met
+abbrev pub bytes_left : Bool → List ℕ → Option (List ℕ) → Option (List ℕ)
+bytes_left true buffered known = option_map (λ bytes. buffered) known
+bytes_left false buffered known = known
 
--- known bytes are some
-abbrev pub HasBytes : Option (List ℕ) → Type 0
-HasBytes None = ⊤
-HasBytes (Some bytes) = bytes ≢ []
+-- what was taken of the next line: nothing before it is begun
+abbrev pub front_of : Bool → List ℕ → List ℕ
+front_of true line = line
+front_of false line = []
 
 -- none of these bytes ends a line
 abbrev pub HasNoEnd : List ℕ → Type 0
@@ -43,13 +45,6 @@ HasNoEnd bytes = All (λ byte. byte ≢ 10) bytes
 abbrev pub IsPart : List ℕ → List ℕ → Bool → Type 0
 IsPart bytes part true = HasNoEnd part × (take (length part + 1) bytes ≡ part ++ 10 ∷ [])
 IsPart bytes part false = HasNoEnd part × (bytes ≡ part)
-
--- The line is the first of these bytes, up to a line end, which is taken too, or up to the end of them, and the others are left.
-abbrev pub IsLineOf : Option (List ℕ) → Option (List ℕ) → List ℕ → Bool → Type 0
-IsLineOf None left line at_end = ⊤
-IsLineOf (Some bytes) None line at_end = ⊥
-IsLineOf (Some bytes) (Some left) line false = bytes ≡ line ++ 10 ∷ left
-IsLineOf (Some bytes) (Some left) line true = (bytes ≡ line) × (left ≡ [])
 
 -- These lines were taken, the first of those that were left.
 abbrev pub Took : Option (List (List ℕ)) → Option (List (List ℕ)) → List (List ℕ) → Type 0
@@ -71,6 +66,17 @@ pub record IsLine (line : List ℕ) : Type 0 where
   pub short : length line ≤ 4096
   pub printable : IsTrue (list_all is_printable line)
 
+-- A line that was given, and what is left of these bytes: it stands before the first of them that ends a line, or it is all of them,
+-- behind which the input has ended. (That it is a line, and so no byte of it ends one, the type of `Lines` says.)
+abbrev pub IsFirst : Bool → List ℕ → List ℕ → List ℕ → Type 0
+IsFirst at_end bytes line rest =
+    (bytes ≡ line ++ 10 ∷ rest) ⊎ ((at_end ≡ true) × (bytes ≡ line) × (line ≢ []) × (rest ≡ []))
+
+-- These bytes don't tell the next line: they have no fault, and so no line end. Where the input has ended, they are none.
+pub record IsLacking (at_end : Bool) (bytes : List ℕ) : Type 0 where
+  pub sound : IsLine bytes
+  pub ended : at_end ≡ true → bytes ≡ []
+
 -- what is wrong with a part that has room for so many bytes: a byte among those comes before the length
 abbrev pub part_fault : ℕ → List ℕ → Option FaultKind
 part_fault room part =
@@ -81,13 +87,32 @@ part_fault room part =
 abbrev pub line_fault : List ℕ → Option FaultKind
 line_fault line = part_fault 4096 line
 
--- why a line wasn't read, whatever it says: memory was refused, or the input couldn't be read
-abbrev pub IsUnread : FaultKind → Type 0
-IsUnread kind = (kind ≡ NoMemory) ⊎ (kind ≡ ReadFault)
+-- this is wrong with the line that begins so, whatever comes behind these bytes
+abbrev pub IsFaultFrom : List ℕ → FaultKind → Type 0
+IsFaultFrom bytes kind = (behind : List ℕ) → line_fault (first_of (lines_in (bytes ++ behind))) ≡ Some kind
 
--- why the first of these lines isn't taken: it wasn't read, or has a fault, or is one too many
+-- whether a line was given
+abbrev pub is_given : Result Bool Fault → Bool
+is_given (Ok more) = more
+is_given (Err fault) = false
+
+-- whether none was given, and none refused
+abbrev pub is_lacking : Result Bool Fault → Bool
+is_lacking (Ok more) = not more
+is_lacking (Err fault) = false
+
+-- nothing was asked of the reader behind a buffer
+pub record IsUnasked {R A : Type 0} (old new : BufReader R A) : Type 0 where
+  pub inner : reader_inner new ≡ reader_inner old
+  pub capacity : reader_capacity new ≡ reader_capacity old
+
+-- a stream faulted: the input couldn't be read, or the answers not be written
+abbrev pub IsOfStream : FaultKind → Type 0
+IsOfStream kind = (kind ≡ ReadFault) ⊎ (kind ≡ WriteFault)
+
+-- why the first of these lines isn't taken: a stream faulted, or it has a fault, or is one too many
 abbrev pub IsToldOfFirst : List (List ℕ) → FaultKind → Type 0
-IsToldOfFirst lines kind = IsUnread kind ⊎ (line_fault (first_of lines) ≡ Some kind) ⊎ ((kind ≡ TooManyLines) × (lines ≢ []))
+IsToldOfFirst lines kind = IsOfStream kind ⊎ (line_fault (first_of lines) ≡ Some kind) ⊎ ((kind ≡ TooManyLines) × (lines ≢ []))
 
 -- and of those that are left
 abbrev pub IsToldOfNext : Option (List (List ℕ)) → FaultKind → Type 0
@@ -110,12 +135,15 @@ IsNumbered Start = Unit {0}
 IsNumbered (Line n kind) =
     (1 ≤ n) × (n ≤ 1000001) × (kind ≡ TooManyLines → n ≡ 1000001) × (n ≡ 1000001 → (kind ≡ TooManyLines) ⊎ (kind ≡ ReadFault))
 
--- A fault is of the last line that was begun, or of the one after it: there the input could not be read, or it was one too many.
+-- A fault is of the last line that was begun, or of the one after it: there the input could not be read, or it was one too many, or
+-- the answers to no line could not be written.
 abbrev pub IsReached : ℕ → Fault → Type 0
 IsReached reached Start = ⊥
-IsReached reached (Line n kind) = (n ≡ reached) ⊎ ((n ≡ reached + 1) × ((kind ≡ ReadFault) ⊎ (kind ≡ TooManyLines)))
+IsReached reached (Line n kind) =
+    (n ≡ reached) ⊎ ((n ≡ reached + 1) × ((kind ≡ ReadFault) ⊎ (kind ≡ TooManyLines) ⊎ ((kind ≡ WriteFault) × (reached ≡ 0))))
 
--- a fault of this line
-abbrev pub IsOfLine : ℕ → Fault → Type 0
-IsOfLine line Start = ⊥
-IsOfLine line (Line n kind) = n ≡ line
+-- Where so many lines were given and so many begun, a fault is of the next line. That answers couldn't be written is told of the last
+-- line that was begun, or of the first.
+abbrev pub IsOfNext : ℕ → ℕ → Fault → Type 0
+IsOfNext given begun Start = ⊥
+IsOfNext given begun (Line n kind) = ((kind ≢ WriteFault) × (n ≡ given + 1)) ⊎ ((kind ≡ WriteFault) × (n ≡ max begun 1))

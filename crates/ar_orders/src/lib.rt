@@ -5,11 +5,13 @@
 mod blocks;
 mod fault;
 mod lines;
+mod next;
 mod order;
 mod parse;
 mod words;
 
 pub use fault::{Fault, FaultKind};
 pub use lines::Lines;
+pub use next::next_line;
 pub use order::{Action, Data, Notation, Order, Question};
 pub use parse::{order_in, unit_and_number};

@@ -1,13 +1,12 @@
 // The lines of a script, read in large pieces.
-ghost use Rattle.std.specs.Prelude.{◌≡◌, ◌+◌, if◌then◌else◌, IfOk, ◌≢◌, ◌==◌, ◌&&◌, not, true, false, length, ◌-◌, ◌<◌, ◌≤◌, ◌++◌, [], ◌∷◌, IsTrue, None, OnOk, IfErr, OnErr, MatchOption, unwrap_or, vec_len};
+ghost use Rattle.std.specs.Prelude.{◌≡◌, ◌+◌, if◌then◌else◌, IfOk, ◌≢◌, ◌==◌, ◌&&◌, ◌||◌, not, true, false, length, ◌-◌, ◌≤◌, ◌<◌, ◌++◌, [], ◌∷◌, None, OnOk, IfErr, OnErr, unwrap_or, vec_len, vec_capacity};
 ghost use Rattle.std.specs.List.{list_all, position};
-ghost use Rattle.std.specs.Io.Buffered.{reader_buffer, reader_remaining};
-ghost use Rattle.std.specs.Io.KnownBytes.{Keeps, IsAtEnd, prepend_known};
-ghost use Rattle.ar_orders.specs.Lines.{lines_of, bytes_left, HasBytes, IsLineOf, Took, IsAllTaken, IsPart, is_printable, IsLine, IsToldOfNext, StopsAt, IsNumbered, IsReached, IsOfLine, part_fault};
+ghost use Rattle.std.specs.Io.Buffered.{reader_buffer, reader_inner, writer_buffer};
+ghost use Rattle.ar_orders.specs.Lines.{lines_of, Took, IsPart, IsFirst, IsLacking, IsFaultFrom, IsUnasked, is_printable, IsLine, front_of, is_given, is_lacking, part_fault};
 
 use crate::{Fault, FaultKind};
 use std::alloc::Global;
-use std::io::{BufRead, BufReader, Read};
+use std::io::{BufRead, BufReader, BufWriter, Read, Write};
 use std::{io, str};
 
 /// Bytes of a line at most, without the one that ends it.
@@ -20,19 +19,24 @@ const LINES_MAX: u32 = 1_000_000;
 #[derive(Drop)]
 pub struct Lines<R: Read + Drop> {
     source: BufReader<R>,
+    /// The line that was given last, or what was taken of the next one, once that is begun.
     line: Vec<u8>,
-    number: u32,
+    given: u32,
+    is_begun: bool,
+    is_awaited: bool,
     is_at_end: bool,
-    ghost few: { number ≤ 1000000 },
+    ghost few: { given + (if is_begun then 1 else 0) ≤ 1000000 },
     ghost whole: { IsLine line.items },
+    ghost room: { 4096 ≤ vec_capacity line },
 }
 
 impl<R: Read + Drop> Lines<R> {
-    ghost use Rattle.ar_orders.specs.Left.{lines_left};
+    ghost use Rattle.ar_orders.specs.Left.{bytes_read, lines_begun, lines_left, IsRefused, IsFresh};
 
-    /// All lines of the reader, of which none is read yet. It fails where memory is refused.
+    /// All lines of the reader, of which none is read yet. It fails where memory is refused. No other call takes memory.
     pub fn new(alloc: Global, reader: R) -> io::Result<Lines<R>>
-        ensures fresh { IfOk result (λ lines. lines.number ≡ 0) }
+        ensures fresh { IfOk result IsFresh }
+        ensures unasked { IfOk result (λ lines. reader_inner lines.source ≡ reader) }
         ensures all { IfOk result (λ lines. lines_left lines ≡ lines_of (R.remaining reader)) }
     {
         let line = Vec::with_capacity(alloc, LINE_MAX)?;
@@ -40,57 +44,126 @@ impl<R: Read + Drop> Lines<R> {
         Ok(Lines {
             source,
             line,
-            number: 0,
+            given: 0,
+            is_begun: false,
+            is_awaited: false,
             is_at_end: false,
         })
     }
 
-    /// How many lines were begun.
+    /// How many lines were begun: those that were given, and one of which something was read.
     pub fn number(&self) -> u32
-        ensures number { result ≡ self.now.number }
+        ensures number { result ≡ lines_begun self.now }
         ensures few { result ≤ 1000000 }
     {
-        self.number
+        self.given + u32::from(self.is_begun)
     }
 
-    /// Nothing more of what was read is left, so that the next line has to be waited for.
-    pub fn is_drained(&self) -> bool
-        ensures { result ≡ (not self.now.is_at_end && (length (reader_buffer self.now.source) == 0)) }
+    /// Whether the next line has to be waited for: what was read of it is taken, and hasn't ended it.
+    pub fn is_awaited(&self) -> bool
+        ensures { result ≡ self.now.is_awaited }
     {
-        !self.is_at_end && self.source.buffer().is_empty()
+        self.is_awaited
     }
 
-    /// Goes on to the next line, or says that there is none. Where the reader tells its bytes, the line is the first of those
-    /// that were left, and there is none exactly where none was left.
+    /// Goes on to the next line, if what was read holds it whole, and says whether it does. The input isn't asked. Without a line, it
+    /// has to be waited for (`is_awaited`), or none is left. Where a line is refused, it stays the next one.
     pub fn advance(&mut self) -> Result<bool, Fault>
-        ensures taken { IfOk result (λ more. Took (lines_left self.old) (lines_left self.new)
-            (if more then self.new.line.items ∷ [] else [])) }
-        ensures all_taken { IfOk result (λ more. more ≡ false → IsAllTaken (lines_left self.new)) }
-        ensures stops { IfErr result (StopsAt (lines_left self.old)) }
+        ensures unasked { IsUnasked self.old.source self.new.source }
+        ensures given { is_given result ≡ true
+            → IsFirst self.old.is_at_end (bytes_read self.old) self.new.line.items (bytes_read self.new) }
+        ensures lacking { is_lacking result ≡ true → IsLacking self.old.is_at_end (bytes_read self.old) }
+        ensures refused { IfErr result (IsRefused self.old self.new.is_begun) }
 
-        ensures next { IfOk result (λ more. self.new.number ≡ self.old.number + (if more then 1 else 0)) }
-        ensures ended { IfOk result (λ more. more ≡ false → self.new.is_at_end ≡ true) }
-        ensures begun { (self.old.number ≤ self.new.number) × (self.new.number ≤ self.old.number + 1) }
-        ensures fault { IfErr result (IsOfLine (self.old.number + 1)) }
-        ensures reached { IfErr result (IsReached self.new.number) }
-        ensures numbered { IfErr result IsNumbered }
+        ensures kept { is_given result ≡ false → bytes_read self.new ≡ bytes_read self.old }
+        ensures drained { is_lacking result ≡ true → reader_buffer self.new.source ≡ [] }
+        ensures ended { self.new.is_at_end ≡ self.old.is_at_end }
+        ensures awaited { self.new.is_awaited ≡ (is_lacking result && not self.old.is_at_end) }
+        ensures count { self.new.given ≡ self.old.given + (if is_given result then 1 else 0) }
+        ensures closed { is_given result ≡ true → self.new.is_begun ≡ false }
+        ensures begun { is_lacking result ≡ true → bytes_read self.old ≡ [] → self.new.is_begun ≡ self.old.is_begun }
     {
-        let line = self.number + 1;
-        if is_at_end(&mut self.source, self.is_at_end).map_err(|kind| Fault::Line { line, kind })? {
-            self.is_at_end = true;
+        self.is_awaited = false;
+        if !self.is_begun && self.source.buffer().is_empty() {
+            self.is_awaited = !self.is_at_end;
             return Ok(false);
         }
-        if self.number >= LINES_MAX {
-            let kind = FaultKind::TooManyLines;
-            return Err(Fault::Line { line, kind });
-        }
-        self.number = line;
-        self.line.clear();
-        self.is_at_end = read_line(&mut self.source, &mut self.line).map_err(|kind| Fault::Line {
+        self.begin()?;
+        let line = self.given + 1;
+        let has_end = take_part(&mut self.source, &mut self.line).map_err(|kind| Fault::Line {
             line,
             kind,
         })?;
-        Ok(true)
+        Ok(self.close(has_end))
+    }
+
+    // Begins the next line, if it isn't.
+    fn begin(&mut self) -> Result<(), Fault>
+        ensures same { (self.new.source ≡ self.old.source) × (self.new.is_at_end ≡ self.old.is_at_end)
+            × (self.new.is_awaited ≡ self.old.is_awaited) × (self.new.given ≡ self.old.given) }
+        ensures begun { OnOk result ((self.new.is_begun ≡ true) × (self.new.line.items ≡ front_of self.old.is_begun self.old.line.items)) }
+        ensures full { IfErr result (λ fault. (fault ≡ Fault.Line 1000001 FaultKind.TooManyLines) × (self.old.given ≡ 1000000)) }
+        ensures unbegun { OnErr result ((self.old.is_begun ≡ false) × (self.new.is_begun ≡ false)) }
+    {
+        if self.is_begun {
+            return Ok(());
+        }
+        if self.given >= LINES_MAX {
+            return Err(Fault::Line {
+                line: self.given + 1,
+                kind: FaultKind::TooManyLines,
+            });
+        }
+        self.line.clear();
+        self.is_begun = true;
+        Ok(())
+    }
+
+    // Gives the line that was begun, if its end was met: the line end, or the end of the input behind some bytes.
+    fn close(&mut self, has_end: bool) -> bool
+        requires { self.old.is_begun ≡ true }
+        ensures same { (self.new.source ≡ self.old.source) × (self.new.line.items ≡ self.old.line.items)
+            × (self.new.is_at_end ≡ self.old.is_at_end) }
+        ensures given { result ≡ (has_end || (self.old.is_at_end && not (vec_len self.old.line == 0))) }
+        ensures awaited { self.new.is_awaited ≡ (not result && not self.old.is_at_end) }
+        ensures begun { self.new.is_begun ≡ not result }
+        ensures count { self.new.given ≡ self.old.given + (if result then 1 else 0) }
+    {
+        let is_whole = has_end || self.is_at_end && !self.line.is_empty();
+        self.is_awaited = !is_whole && !self.is_at_end;
+        if is_whole {
+            self.is_begun = false;
+            self.given += 1;
+        }
+        is_whole
+    }
+
+    /// Asks the input for what comes next, where `advance` said that it has to be waited for. Whoever waits for more has written
+    /// all that was answered, so that nothing is left of it in `out`.
+    pub fn ask<W: Write + Drop>(&mut self, out: &BufWriter<W>) -> Result<(), Fault>
+        requires awaited { self.old.is_awaited ≡ true }
+        requires more { self.old.is_at_end ≡ false }
+        requires drained { reader_buffer self.old.source ≡ [] }
+        requires written { writer_buffer out.now ≡ [] }
+
+        ensures kept { Took (lines_left self.old) (lines_left self.new) [] }
+        ensures fault { IfErr result (λ fault. fault ≡ Fault.Line (self.old.given + 1) FaultKind.ReadFault) }
+        ensures answered { OnOk result (self.new.is_awaited ≡ false) }
+        ensures unread { OnErr result ((self.new.is_awaited ≡ true) × (self.new.is_at_end ≡ false)) }
+        ensures ended { OnOk result (self.new.is_at_end ≡ (length (reader_buffer self.new.source) == 0)) }
+        ensures same { (self.new.line.items ≡ self.old.line.items) × (self.new.is_begun ≡ self.old.is_begun)
+            × (self.new.given ≡ self.old.given) }
+    {
+        let is_written = out.buffer().is_empty();
+        prove!(is_written);
+        if self.source.fill_buf().is_err() {
+            let line = self.given + 1;
+            let kind = FaultKind::ReadFault;
+            return Err(Fault::Line { line, kind });
+        }
+        self.is_awaited = false;
+        self.is_at_end = self.source.buffer().is_empty();
+        Ok(())
     }
 
     /// The line, without the byte that ends it.
@@ -105,69 +178,28 @@ impl<R: Read + Drop> Lines<R> {
     }
 }
 
-// Whether the input ends here.
-fn is_at_end<R: Read + Drop>(source: &mut BufReader<R>, was_at_end: bool) -> Result<bool, FaultKind>
-    ensures kept { OnOk result (Keeps (reader_remaining R.remaining source.old) (reader_remaining R.remaining source.new)) }
-    ensures end { IfOk result (λ ended. ended ≡ true → IsAtEnd (bytes_left was_at_end (reader_remaining R.remaining source.old))) }
-    ensures more { IfOk result (λ ended. ended ≡ false
-        → (was_at_end ≡ false) × HasBytes (reader_remaining R.remaining source.old)) }
-    ensures fault { IfErr result (λ kind. kind ≡ FaultKind.ReadFault) }
-{
-    if was_at_end {
-        return Ok(true);
-    }
-    match source.fill_buf() {
-        Ok(bytes) => Ok(bytes.is_empty()),
-        Err(_) => Err(FaultKind::ReadFault),
-    }
-}
-
-// Reads up to the end of a line that has begun, and says whether the input ended there.
-fn read_line<R: Read + Drop>(
+// Adds what was read of a line to it, and says whether its end is there.
+fn take_part<R: Read + Drop>(
     source: &mut BufReader<R>,
     line: &mut Vec<u8>,
 ) -> Result<bool, FaultKind>
-    requires { IsLine line.old.items }
-    ensures taken { IfOk result (IsLineOf (prepend_known line.old.items (reader_remaining R.remaining source.old))
-        (reader_remaining R.remaining source.new) line.new.items) }
-    ensures told { IfErr result (IsToldOfNext (lines_of (prepend_known line.old.items (reader_remaining R.remaining source.old)))) }
-    ensures whole { IsLine line.new.items }
-    ensures few { IfErr result (λ kind. kind ≢ FaultKind.TooManyLines) }
-{
-    for _ in 0..=LINE_MAX {
-        if let Some(is_at_end) = read_part(source, line)? {
-            return Ok(is_at_end);
-        }
-    }
-    // Each turn adds a byte to the line.
-    unreachable!()
-}
+    requires whole { IsLine line.old.items }
+    requires room { 4096 ≤ vec_capacity line.old }
+    ensures unasked { IsUnasked source.old source.new }
+    ensures taken { IfOk result (λ has_end. line.old.items ++ reader_buffer source.old
+        ≡ line.new.items ++ (if has_end then 10 ∷ reader_buffer source.new else [])) }
+    ensures drained { IfOk result (λ has_end. has_end ≡ false → reader_buffer source.new ≡ []) }
+    ensures refused { IfErr result (IsFaultFrom (line.old.items ++ reader_buffer source.old)) }
 
-// Reads what is buffered of a line. Where the line ends there, says whether the input does.
-fn read_part<R: Read + Drop>(
-    source: &mut BufReader<R>,
-    line: &mut Vec<u8>,
-) -> Result<Option<bool>, FaultKind>
-    requires { IsLine line.old.items }
-    ensures taken { IfOk result (λ end. MatchOption end
-        (Keeps (prepend_known line.old.items (reader_remaining R.remaining source.old))
-        (prepend_known line.new.items (reader_remaining R.remaining source.new)))
-        (IsLineOf (prepend_known line.old.items (reader_remaining R.remaining source.old))
-        (reader_remaining R.remaining source.new) line.new.items)) }
-    ensures longer { IfOk result (λ end. end ≡ None → vec_len line.old < vec_len line.new) }
-    ensures told { IfErr result (IsToldOfNext (lines_of (prepend_known line.old.items (reader_remaining R.remaining source.old)))) }
+    ensures unchanged { OnErr result ((line.new.items ≡ line.old.items) × (reader_buffer source.new ≡ reader_buffer source.old)) }
     ensures whole { IsLine line.new.items }
-    ensures few { IfErr result (λ kind. kind ≢ FaultKind.TooManyLines) }
+    ensures room { 4096 ≤ vec_capacity line.new }
 {
-    let bytes = source.fill_buf().map_err(|_| FaultKind::ReadFault)?;
-    if bytes.is_empty() {
-        return Ok(Some(true));
-    }
-    let (part, has_end) = part_of(bytes);
-    take_part(line, part)?;
+    let (part, has_end) = part_of(source.buffer());
+    add_part(line, part)?;
     let used = part.len() + usize::from(has_end);
     source.consume(used);
-    Ok(has_end.then_some(false))
+    Ok(has_end)
 }
 
 // The bytes before the one that ends a line, and whether there is one.
@@ -189,13 +221,15 @@ fn end_in(bytes: &[u8]) -> Option<usize>
 }
 
 // Adds a part to a line. Of what fits, each byte has to be a printable character.
-fn take_part(line: &mut Vec<u8>, part: &[u8]) -> Result<(), FaultKind>
-    requires { IsLine line.old.items }
+fn add_part(line: &mut Vec<u8>, part: &[u8]) -> Result<(), FaultKind>
+    requires whole { IsLine line.old.items }
+    requires room { 4096 ≤ vec_capacity line.old }
     ensures taken { OnOk result (line.new.items ≡ line.old.items ++ part.now) }
     ensures fits { OnOk result (part_fault (4096 - vec_len line.old) part.now ≡ None) }
-    ensures refused { IfErr result (λ kind. kind ≡ unwrap_or (part_fault (4096 - vec_len line.old) part.now) FaultKind.NoMemory) }
+    ensures refused { IfErr result (λ kind. part_fault (4096 - vec_len line.old) part.now ≡ Some kind) }
     ensures unchanged { OnErr result (line.new.items ≡ line.old.items) }
     ensures whole { IsLine line.new.items }
+    ensures room { 4096 ≤ vec_capacity line.new }
 {
     let room = LINE_MAX - line.len();
     let fitting = &part[..part.len().min(room)];
@@ -205,9 +239,10 @@ fn take_part(line: &mut Vec<u8>, part: &[u8]) -> Result<(), FaultKind>
     if part.len() > room {
         return Err(FaultKind::LineTooLong);
     }
-    if line.extend_from_slice(part).is_err() {
-        return Err(FaultKind::NoMemory);
-    }
+    let Ok(()) = line.extend_from_slice(part) else {
+        // The longest line has room.
+        unreachable!()
+    };
     Ok(())
 }
 

@@ -1,16 +1,14 @@
 // The words of a line, read as what they ask for.
-ghost use Rattle.std.specs.Prelude.{◌≡◌, ◌≢◌, ◌==◌, true, false, ℕ, ◌+◌, ◌-◌, ◌*◌, ◌<◌, codes, length, IfErr};
-ghost use Rattle.std.specs.List.{list_any};
+ghost use Rattle.std.specs.Prelude.{◌≡◌, ◌≢◌, ◌⊎◌, true, false, ℕ, ◌+◌, ◌-◌, ◌*◌, ◌<◌, codes, length, IfErr};
 ghost use Rattle.std.specs.Option.{SomeIff};
 ghost use Rattle.ar_orders.specs.Words.{IsNumber};
-ghost use Rattle.ar_orders.specs.Forms.{word, value, IsNumberOf, AreAddress, IsAddress, NamesUnit, HasUnit, HasUnitAndNumber, HasSectors, HasWritten, HasBlock, HasRow, HasDisk, Gives, Reads, ReadsCommand, ReadsArrayOrder, ReadsWords, ReadsLine, nothing};
+ghost use Rattle.ar_orders.specs.Forms.{word, value, IsNumberOf, AreAddress, IsAddress, NamesUnit, HasUnit, HasUnitAndNumber, HasSectors, HasWritten, HasBlock, HasRow, HasDisk, Gives, Reads, ReadsCommand, ReadsArrayOrder, ReadsNamed, ReadsLine, nothing};
 ghost use Rattle.ar_orders.specs.Parts.{AreSpan, IsSpan, NamesSpan, SaysWritten, AreData, IsData, AreBlock, AsksBlockWith};
 ghost use Rattle.ar_orders.specs.Forms.{AsksMake, AsksGrow, AsksDrop, AsksTur, AsksInquiry, AsksCapacity, AsksRead, AsksWrite, AsksBlock, AsksLevels, AsksHome, AsksRow, AsksOut, AsksReplace, IsDisk};
 
 use crate::order::{Action, Data, Notation, Order, Question};
 use crate::{FaultKind, blocks, words};
 use ar_disks::{Addr, Host};
-use std::alloc::Global;
 
 const NO_DATA: Data = Data { len: 0, byte: 0 };
 
@@ -30,43 +28,37 @@ struct Written {
     fua: bool,
 }
 
-/// Reads a line, of which an empty one and one that begins with `#` ask for nothing.
-pub fn order_in(alloc: Global, line: &str) -> Result<Option<Order>, FaultKind>
+/// Reads a line, of which an empty one and one that begins with `#` ask for nothing. It takes no memory.
+pub fn order_in(line: &str) -> Result<Option<Order>, FaultKind>
     ensures reads { ReadsLine line.now result }
-    ensures few { IfErr result (λ kind. kind ≢ FaultKind.TooManyLines) }
+    ensures few { IfErr result (λ kind. (kind ≡ FaultKind.UnknownWord) ⊎ (kind ≡ FaultKind.BadArgument)) }
 {
     if line.is_empty() || line.starts_with('#') {
         return Ok(None);
     }
-    let words = words::split_words(alloc, line).map_err(|_| FaultKind::NoMemory)?;
-    order_in_words(&words)
-}
-
-// Reads the words of a line, of which none may be empty.
-fn order_in_words(words: &[&str]) -> Result<Option<Order>, FaultKind>
-    ensures reads { ReadsWords words.now result }
-    ensures few { IfErr result (λ kind. kind ≢ FaultKind.TooManyLines) }
-{
-    if has_empty(words) {
+    if words::has_empty(line) {
         return Err(FaultKind::BadArgument);
     }
+    let (words, count) = words::first_words(line);
+    order_in_words(&words[..count])
+}
+
+// Reads the words of a line.
+fn order_in_words(words: &[&str]) -> Result<Option<Order>, FaultKind>
+    ensures reads { ReadsNamed words.now result }
+    ensures few { IfErr result (λ kind. (kind ≡ FaultKind.UnknownWord) ⊎ (kind ≡ FaultKind.BadArgument)) }
+{
     match words.split_first() {
         Some((name, arguments)) => order_of(name, arguments).map(Some),
         None => Ok(None),
     }
 }
 
-fn has_empty(words: &[&str]) -> bool
-    ensures { result ≡ list_any (λ text. length text.now == 0) words.now }
-{
-    words.iter().any(|word| word.is_empty())
-}
-
 // Reads the arguments as those of the order that has this name. (Three functions with a few names each, since a match costs the
 // proof more than by the number of its arms.)
 fn order_of(name: &str, arguments: &[&str]) -> Result<Order, FaultKind>
     ensures reads { Reads name.now arguments.now result }
-    ensures few { IfErr result (λ kind. kind ≢ FaultKind.TooManyLines) }
+    ensures few { IfErr result (λ kind. (kind ≡ FaultKind.UnknownWord) ⊎ (kind ≡ FaultKind.BadArgument)) }
 {
     let order = match name {
         "make" => make(arguments),
@@ -80,7 +72,7 @@ fn order_of(name: &str, arguments: &[&str]) -> Result<Order, FaultKind>
 // The same for a name of a command, or one that comes after those.
 fn command_of(name: &str, arguments: &[&str]) -> Result<Order, FaultKind>
     ensures reads { ReadsCommand name.now arguments.now result }
-    ensures few { IfErr result (λ kind. kind ≢ FaultKind.TooManyLines) }
+    ensures few { IfErr result (λ kind. (kind ≡ FaultKind.UnknownWord) ⊎ (kind ≡ FaultKind.BadArgument)) }
 {
     let order = match name {
         "tur" => test_unit_ready(arguments),
@@ -99,7 +91,7 @@ fn command_of(name: &str, arguments: &[&str]) -> Result<Order, FaultKind>
 // The same for a name that is about the whole array, or asks to see something.
 fn array_order_of(name: &str, arguments: &[&str]) -> Result<Order, FaultKind>
     ensures reads { ReadsArrayOrder name.now arguments.now result }
-    ensures few { IfErr result (λ kind. kind ≢ FaultKind.TooManyLines) }
+    ensures few { IfErr result (λ kind. (kind ≡ FaultKind.UnknownWord) ⊎ (kind ≡ FaultKind.BadArgument)) }
 {
     let order = match name {
         "flush" => alone(arguments, Order::Act(Action::Flush)),

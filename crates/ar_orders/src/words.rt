@@ -1,26 +1,35 @@
 // The words of a line.
-ghost use Rattle.std.specs.Prelude.{◌≡◌, ◌∷◌, [], ◌++◌, ◌-◌, ◌↔◌, ℕ, List, length, replicate, IsSome, IfSome, Ok, IfOk, map, ◌==◌};
-ghost use Rattle.std.specs.List.{list_all, slice_split};
+ghost use Rattle.std.specs.Prelude.{◌≡◌, ◌∷◌, [], ◌++◌, ◌-◌, ◌↔◌, ℕ, List, length, replicate, IsSome, IfSome, Ok, map, take, min, ◌==◌};
+ghost use Rattle.std.specs.List.{list_all, list_any, slice_split};
 ghost use Rattle.std.specs.Char.{is_ascii_digit};
 ghost use Rattle.std.specs.Option.{SomeIff};
 ghost use Rattle.std.specs.Str.Parse.{digits_value};
 ghost use Rattle.hex.specs.Hex.{decode_of};
 ghost use Rattle.ar_orders.specs.Words.{IsNumber, IsBytePair, IsBlockWord};
 
-use std::alloc::{AllocError, Global};
+/// Words that are looked at: no order has more than seven.
+pub const MOST_WORDS: usize = 8;
 
-/// For how many words memory is asked for at once. No order has more.
-const MOST_WORDS: usize = 8;
-
-/// The words of a line. One space parts two words, so that more spaces, and those at an end, make empty words.
-pub fn split_words(alloc: Global, line: &str) -> Result<Vec<&str>, AllocError>
-    ensures { IfOk result (λ words. map (λ word. word.now) words.items ≡ slice_split (λ byte. byte == 32) line.now) }
+/// The first words of a line, at most `MOST_WORDS`, and how many these are. One space parts two words, so that more spaces, and
+/// those at an end, make empty words.
+pub fn first_words(line: &str) -> ([&str; MOST_WORDS], usize)
+    ensures count { result.1 ≡ min 8 (length (slice_split (λ byte. byte == 32) line.now)) }
+    ensures words { take result.1 (map (λ word. word.now) result.0) ≡ take 8 (slice_split (λ byte. byte == 32) line.now) }
 {
-    let mut words = Vec::with_capacity(alloc, MOST_WORDS)?;
-    for word in line.split(' ') {
-        words.push(word)?;
+    let mut words = [""; MOST_WORDS];
+    let mut count = 0;
+    for word in line.split(' ').take(MOST_WORDS) {
+        words[count] = word;
+        count += 1;
     }
-    Ok(words)
+    (words, count)
+}
+
+/// Whether one of the words of a line is empty.
+pub fn has_empty(line: &str) -> bool
+    ensures { result ≡ list_any (λ word. length word == 0) (slice_split (λ byte. byte == 32) line.now) }
+{
+    line.split(' ').any(|word| word.is_empty())
 }
 
 /// The number that a word says: 1 to 10 decimal digits.

@@ -1,14 +1,14 @@
 -- The lines of a script, taken one after another, and how it ends.
-use Rattle.std.proofs.Common.{◌≡◌, ◌≢◌, ◌⊎◌, inl, inr, ℕ, suc, ◌+◌, ◌-◌, ◌<◌, ◌≤◌, max, Bool, true, false, cond, List, [], ◌∷◌, ◌++◌, length, take, get_or, Option, Some, None, Result, Ok, Err, IfErr, refl, sym, ap, subst, ◌∙◌, append_assoc, append-nil, length-append, le_refl, IsErr, arith}
+use Rattle.std.proofs.Common.{◌≡◌, ◌≢◌, ◌⊎◌, inl, inr, ℕ, zero, suc, ◌+◌, ◌-◌, ◌<◌, ◌≤◌, max, Bool, true, false, cond, List, [], ◌∷◌, ◌++◌, length, take, get_or, Option, Some, None, Result, Ok, Err, IfErr, refl, sym, ap, subst, ◌∙◌, append_assoc, append-nil, length-append, le_refl, IsErr, arith}
 use Rattle.std.proofs.Math.Seq.{take-append_seam}
 use Rattle.std.proofs.lemmas.List.{get_or-append_right}
 use Rattle.ar_image.specs.Image.{ArrayState}
 use Rattle.ar_orders.specs.declared.fault.Fault.{Fault}
 use Rattle.ar_orders.specs.declared.fault.Fault.TheVariants.{Start, Line}
 use Rattle.ar_orders.specs.declared.fault.FaultKind.{FaultKind}
-use Rattle.ar_orders.specs.declared.fault.FaultKind.TheVariants.{TooManyLines, NoMemory, WriteFault}
+use Rattle.ar_orders.specs.declared.fault.FaultKind.TheVariants.{TooManyLines, NoMemory}
 use Rattle.ar_orders.specs.Forms.{ReadsLine}
-use Rattle.ar_orders.specs.Lines.{Took, IsAllTaken, first_of, line_at, line_fault, IsToldOfNext, StopsAt, IsNumbered, IsOfLine}
+use Rattle.ar_orders.specs.Lines.{Took, IsAllTaken, first_of, line_at, line_fault, IsToldOfNext, StopsAt, IsNumbered, IsOfNext}
 use Rattle.ar_script.specs.Orders.{IsLost, Meets, MeetsLine}
 use Rattle.ar_script.specs.Plays.{IsOutside, AreFirst, AreAll, IsSo, PlaysScript, PlaysAll, PlaysTo}
 use Rattle.ar_script.proofs.Playing.{none_played, met_all, met_or_not}
@@ -65,7 +65,7 @@ so_next None left lines n kind took count many told = tt
 so_next (Some all) None lines n kind took count many told = absurd took
 so_next (Some all) (Some left) lines n kind took count many told =
     elim told [
-      | inl unread ↦ inl (elim unread [ inl memory ↦ inl memory | inr read ↦ inr (inl read) ])
+      | inl stream ↦ inl (inr stream)
       | inr other ↦ elim other [
         | inl fault ↦ inr (inl (ap line_fault (next_at all lines left n took count) ∙ fault))
         | inr over ↦ inr (inr (inr (over.0, too_many over.1 (many over.0))))
@@ -115,8 +115,8 @@ plays_line script left rest old mid new n line answer before next is line_met = 
 
 -- after the last line
 pub plays_ended : (script left rest : Option (List (List ℕ))) (old new : ArrayState) (n begun : ℕ) → PlaysAll script left old new n → Took left rest [] → IsAllTaken rest
-    → begun ≡ n → PlaysTo script (Ok tt) old new begun
-plays_ended script left rest old new n begun done next none same =
+    → n ≤ begun → begun ≤ n + 1 → PlaysTo script (Ok tt) old new begun
+plays_ended script left rest old new n begun done next none few most =
     let took = took_more script left rest done.lines [] done.took next in
     let took_all : Took script rest done.lines = subst (λ (l : List (List ℕ)). Took script rest l) (append-nil done.lines) took in
     record {
@@ -151,25 +151,30 @@ plays_stopped script left old new n begun m kind fault done is after so few most
       most = (let all = done.all in omega arith);
     })
 
+-- that answers couldn't be written is told of the last line that was met, or of the next
+near_begun : (n begun : ℕ) → n ≤ begun → begun ≤ n + 1 → (max begun 1 ≡ n) ⊎ (max begun 1 ≡ n + 1)
+near_begun zero begun few most = inr (omega arith)
+near_begun (suc n) begun few most = at (begun - suc n) refl
+  where
+    at : (d : ℕ) → begun - suc n ≡ d → (max begun 1 ≡ suc n) ⊎ (max begun 1 ≡ suc n + 1)
+    at zero is = inl (omega arith)
+    at (suc d) is = inr (omega arith)
+
 -- where the next line couldn't be taken
-unread : (script left : Option (List (List ℕ))) (old new : ArrayState) (n begun : ℕ) (fault : Fault) → PlaysAll script left old new n → StopsAt left fault → IsOfLine (n + 1) fault
+unread : (script left : Option (List (List ℕ))) (old new : ArrayState) (n begun : ℕ) (fault : Fault) → PlaysAll script left old new n → StopsAt left fault → IsOfNext n begun fault
     → IsNumbered fault → n ≤ begun → begun ≤ n + 1 → PlaysTo script (Err fault) old new begun
 unread script left old new n begun Start done stops next numbered few most = absurd stops
-unread script left old new n begun (Line m kind) done stops next numbered few most =
-    let so = so_next script left done.lines n kind done.took done.all (λ many. sym next ∙ numbered.2 many) stops in
-    plays_stopped script left old new n begun m kind (Line m kind) done refl (inr next) (subst (λ k. IsSo script k kind) (sym next) so) few most
+unread script left old new n begun (Line m kind) done stops (inl next) numbered few most =
+    let so = so_next script left done.lines n kind done.took done.all (λ many. sym next.1 ∙ numbered.2 many) stops in
+    plays_stopped script left old new n begun m kind (Line m kind) done refl (inr next.1) (subst (λ k. IsSo script k kind) (sym next.1) so) few most
+unread script left old new n begun (Line m kind) done stops (inr write) numbered few most =
+    plays_stopped script left old new n begun m kind (Line m kind) done refl (subst (λ k. (k ≡ n) ⊎ (k ≡ n + 1)) (sym write.1) (near_begun n begun few most))
+    (so_outside script m kind (inr (inr write.0))) few most
 
 pub plays_unread : (script left : Option (List (List ℕ))) (old new : ArrayState) (n begun : ℕ) (result : Result (Unit {0}) Fault) → PlaysAll script left old new n → IsErr result
-    → IfErr result (StopsAt left) → IfErr result (IsOfLine (n + 1)) → IfErr result IsNumbered → n ≤ begun → begun ≤ n + 1 → PlaysTo script result old new begun
+    → IfErr result (StopsAt left) → IfErr result (IsOfNext n begun) → IfErr result IsNumbered → n ≤ begun → begun ≤ n + 1 → PlaysTo script result old new begun
 plays_unread script left old new n begun (Ok done) before is stops next numbered few most = absurd (cc)
 plays_unread script left old new n begun (Err fault) before is stops next numbered few most = unread script left old new n begun fault before stops next numbered few most
-
--- where answers couldn't be written before the next line was begun
-pub plays_unwritten : (script left : Option (List (List ℕ))) (old new : ArrayState) (n number : ℕ) (fault : Fault) → PlaysAll script left old new n → number ≡ n
-    → 0 < number → fault ≡ Line (max number 1) WriteFault → PlaysTo script (Err fault) old new n
-plays_unwritten script left old new n number fault done same some is =
-    plays_stopped script left old new n n (max number 1) WriteFault fault done is (inl (omega arith)) (so_outside script (max number 1) WriteFault (inr (inr refl)))
-    (omega arith) (omega arith)
 
 -- at a line that was answered with a fault
 pub plays_fault : (script left rest : Option (List (List ℕ))) (old mid new : ArrayState) (n : ℕ) (line : List ℕ) (kind : FaultKind) (fault : Fault)
@@ -199,12 +204,13 @@ pub none_begun : (script : Option (List (List ℕ))) (s : ArrayState) (fault : F
 none_begun script s fault is =
     (plays_stopped script script s s 0 0 1 NoMemory fault (plays_none script s) is (inr refl) (so_outside script 1 NoMemory (inl refl)) (le_refl 0) (omega arith)).plays
 
--- ---- how many lines were begun, once one more was or none
+-- ---- how many lines were begun
 
-pub begun_more : (more : Bool) (old new : ℕ) → new ≡ old + cond more 1 0 → more ≡ true → new ≡ suc old
-begun_more true old new is more = omega arith
-begun_more false old new is more = absurd (cc)
+pub begun_within : (old new : ℕ) (begun : Bool) → new ≡ old → (old ≤ new + cond begun 1 0) × (new + cond begun 1 0 ≤ old + 1)
+begun_within old new true same = (omega arith, omega arith)
+begun_within old new false same = (omega arith, omega arith)
 
-pub begun_same : (more : Bool) (old new : ℕ) → new ≡ old + cond more 1 0 → more ≡ false → new ≡ old
-begun_same true old new is more = absurd (cc)
-begun_same false old new is more = omega arith
+-- once a line was given
+pub begun_as : (old new : ℕ) (begun : Bool) → new ≡ old + 1 → begun ≡ false → new + cond begun 1 0 ≡ suc old
+begun_as old new true count closed = absurd (cc)
+begun_as old new false count closed = omega arith

@@ -1,7 +1,7 @@
 // Runs a script.
 ghost use Rattle.std.specs.Prelude.{◌≡◌, ◌≢◌, ◌≤◌, ◌⊎◌, max, true, None, Err, IfErr, OnOk};
 ghost use Rattle.ar_extents.specs.Changes.{start_fault};
-ghost use Rattle.ar_orders.specs.Left.{lines_left};
+ghost use Rattle.ar_orders.specs.Left.{lines_left, lines_begun};
 ghost use Rattle.ar_orders.specs.Lines.{lines_of, IsNumbered, IsReached};
 ghost use Rattle.ar_orders.specs.Forms.{ReadsLine};
 ghost use Rattle.ar_script.specs.Ends.{Ends, is_write_fault as tells_write_fault};
@@ -11,7 +11,7 @@ ghost use Rattle.ar_script.specs.Setups.{disks_of};
 
 use crate::runner::Runner;
 use ar_disks::Geometry;
-use ar_orders::{Fault, FaultKind, Lines, order_in};
+use ar_orders::{Fault, FaultKind, Lines, next_line, order_in};
 use std::alloc::Global;
 use std::io::{BufWriter, Read, Write};
 
@@ -71,7 +71,7 @@ fn write_answers<R: Read + Drop, W: Write + Drop>(
     lines: &mut Lines<R>,
     writer: W,
 ) -> Result<(), Fault>
-    requires fresh { lines.old.number ≡ 0 }
+    requires fresh { lines.old.given ≡ 0 }
     ensures plays { PlaysScript (lines_left lines.old) result runner.old runner.new }
     ensures numbered { IfErr result IsNumbered }
 {
@@ -100,18 +100,14 @@ fn run_lines<R: Read + Drop, W: Write + Drop>(
     lines: &mut Lines<R>,
     out: &mut BufWriter<W>,
 ) -> Result<(), Fault>
-    requires fresh { lines.old.number ≡ 0 }
-    ensures plays { PlaysTo (lines_left lines.old) result runner.old runner.new lines.new.number }
+    requires fresh { lines.old.given ≡ 0 }
+    ensures plays { PlaysTo (lines_left lines.old) result runner.old runner.new (lines_begun lines.new) }
     ensures ended { OnOk result (lines.new.is_at_end ≡ true) }
-    ensures reached { IfErr result (IsReached lines.new.number) }
+    ensures reached { IfErr result (IsReached (lines_begun lines.new)) }
     ensures numbered { IfErr result IsNumbered }
 {
     for _ in 0..u32::MAX {
-        let number = lines.number();
-        if number > 0 && lines.is_drained() && out.flush().is_err() {
-            return Err(fault_at(number, FaultKind::WriteFault));
-        }
-        if !lines.advance()? {
+        if !next_line(lines, out)? {
             return Ok(());
         }
         if let Err(kind) = answer_line(alloc, runner, lines, out) {
@@ -132,7 +128,7 @@ fn answer_line<R: Read + Drop, W: Write + Drop>(
     ensures told { IfErr result (λ kind. IsLost kind ⊎ ReadsLine lines.now.line.items (Err kind)) }
     ensures few { IfErr result (λ kind. kind ≢ FaultKind.TooManyLines) }
 {
-    match order_in(alloc, lines.line())? {
+    match order_in(lines.line())? {
         Some(order) => runner.answer(alloc, order, out),
         None => Ok(()),
     }

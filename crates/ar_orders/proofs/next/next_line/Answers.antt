@@ -1,0 +1,32 @@
+use Rattle.std.proofs.Common.{rules, ◌≡◌, Err, true, false}
+use Rattle.std.specs.Io.Buffered.{reader_buffer}
+use Rattle.ar_orders.specs.Lines.{front_of, is_given}
+use Rattle.ar_orders.proofs.Going.{goes_given, goes_refused, no_end_there}
+use Rattle.ar_orders.proofs.next.next_line.Goals as goal
+
+pub returns-in_err-advance-clause-goes_on : goal.returns-in_err-advance-clause-goes_on
+returns-in_err-advance-clause-goes_on g c =
+    let old = c.args.lines.now in
+    let new = c.advance.new.self in
+    let fault = c.in_err-advance.field-0.0 in
+    let none : is_given c.advance.result ≡ false = search rules in
+    let told : c.from_residual.result ≡ Err fault = search rules in
+    goes_refused old new fault c.from_residual.result told c.advance.ensures.unasked c.advance.ensures.ended (c.advance.ensures.kept none) (search rules)
+    c.in_err-advance.ensures.refused
+
+pub returns-then-branch-clause-goes_on : goal.returns-then-branch-clause-goes_on
+returns-then-branch-clause-goes_on g c =
+    let old = c.args.lines.now in
+    let new = c.advance.new.self in
+    let one : is_given c.advance.result ≡ true = search rules in
+    goes_given old new c.advance.ensures.unasked c.advance.ensures.ended (c.advance.ensures.given one) (search rules) (c.advance.ensures.closed one)
+
+pub returns-clause-unasked : goal.returns-clause-unasked
+returns-clause-unasked g c =
+    let old = c.args.lines.now in
+    λ some. absurd (no_end_there (front_of old.is_begun old.line.items) (reader_buffer old.source) (search rules) some)
+
+pub returns-clause-buffered : goal.returns-clause-buffered
+returns-clause-buffered g c =
+    let old = c.args.lines.now in
+    λ some. absurd (no_end_there (front_of old.is_begun old.line.items) (reader_buffer old.source) (search rules) some)

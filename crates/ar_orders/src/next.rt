@@ -1,0 +1,78 @@
+// The next line, which may have to be waited for.
+ghost use Rattle.std.specs.Prelude.{◌≡◌, ◌==◌, IsSome, IfErr, OnOk, OnErr, true, [], length};
+ghost use Rattle.std.specs.List.{position};
+ghost use Rattle.std.specs.Io.Buffered.{reader_buffer};
+ghost use Rattle.ar_orders.specs.Lines.{Took, IsFirst, IsUnasked, is_given, StopsAt, IsOfNext, IsReached, IsNumbered};
+ghost use Rattle.ar_orders.specs.Left.{bytes_read, lines_begun, lines_left, IsAwaited, IsStopped, GoesOn};
+
+use crate::{Fault, FaultKind, Lines};
+use std::io::{BufWriter, Read, Write};
+
+/// Goes on to the next line, and says whether there is one. The input is asked only where what was read of it tells no line, and
+/// then `out` is written first, so that no answer is held back meanwhile. After a fault the line is still the next one.
+pub fn next_line<R: Read + Drop, W: Write + Drop>(
+    lines: &mut Lines<R>,
+    out: &mut BufWriter<W>,
+) -> Result<bool, Fault>
+    ensures goes_on { GoesOn lines.old result lines.new }
+    ensures unasked { IsSome (position (λ byte. byte == 10) (reader_buffer lines.old.source))
+        → IsUnasked lines.old.source lines.new.source }
+    ensures buffered { IsSome (position (λ byte. byte == 10) (reader_buffer lines.old.source)) → is_given result ≡ true
+        → IsFirst lines.old.is_at_end (bytes_read lines.old) lines.new.line.items (bytes_read lines.new) }
+    ensures ended { lines.old.is_at_end ≡ true → IsUnasked lines.old.source lines.new.source }
+{
+    if lines.advance()? {
+        return Ok(true);
+    }
+    if !lines.is_awaited() {
+        return Ok(false);
+    }
+    await_line(lines, out)
+}
+
+// The same, where the line has to be waited for.
+fn await_line<R: Read + Drop, W: Write + Drop>(
+    lines: &mut Lines<R>,
+    out: &mut BufWriter<W>,
+) -> Result<bool, Fault>
+    requires { IsAwaited lines.old }
+    ensures { GoesOn lines.old result lines.new }
+{
+    for _ in 0..u32::MAX {
+        wait(lines, out)?;
+        if lines.advance()? {
+            return Ok(true);
+        }
+        if !lines.is_awaited() {
+            return Ok(false);
+        }
+    }
+    // Each turn adds a byte to the line.
+    unreachable!()
+}
+
+// Writes what was answered, and asks the input once.
+fn wait<R: Read + Drop, W: Write + Drop>(
+    lines: &mut Lines<R>,
+    out: &mut BufWriter<W>,
+) -> Result<(), Fault>
+    requires { IsAwaited lines.old }
+    ensures kept { Took (lines_left lines.old) (lines_left lines.new) [] }
+    ensures same { (lines.new.line.items ≡ lines.old.line.items) × (lines.new.is_begun ≡ lines.old.is_begun)
+        × (lines.new.given ≡ lines.old.given) }
+    ensures ended { OnOk result (lines.new.is_at_end ≡ (length (reader_buffer lines.new.source) == 0)) }
+
+    ensures stopped { IfErr result (IsStopped lines.new) }
+    ensures stops { IfErr result (StopsAt (lines_left lines.old)) }
+    ensures next { IfErr result (IsOfNext lines.old.given (lines_begun lines.old)) }
+    ensures reached { IfErr result (IsReached (lines_begun lines.old)) }
+    ensures numbered { IfErr result IsNumbered }
+{
+    if out.flush().is_err() {
+        return Err(Fault::Line {
+            line: lines.number().max(1),
+            kind: FaultKind::WriteFault,
+        });
+    }
+    lines.ask(out)
+}
