@@ -30,7 +30,7 @@ pub record ReadsStored (old : StoreState) (key : Key) (new : StoreState) : Type 
   pub asks : (slot : Slot) → home old.book key ≡ Some slot → AsksForSlot old new slot
   pub lost : old.disks.health ≡ Broken → new ≡ old
 
--- One block was put into a store: it went where a put goes, and no disk was asked that this doesn't need.
+-- One block was put into a store: it went where the steps of a put lead, and no disk was asked but those that its step asks.
 pub record PutsStored (old : StoreState) (key : Key) (new : StoreState) : Type 0 where
   pub tables : Puts old.book key new.book
   pub asks : AsksToPut old key new

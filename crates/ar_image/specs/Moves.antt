@@ -17,7 +17,8 @@ pub record MovesBlock (old : ArrayState) (answer : Move) (new : ArrayState) : Ty
   pub broken : (answer ≡ Broken) ↔ IsTrue (is_broken new)
 
 -- The block that the rule of demotion names went to the slot that it names, in a group that was opened for it where the rule says
--- so; or the rule names nothing, and nothing has changed. Where the array broke, a group may have been opened.
+-- so; or the rule names nothing, and nothing has changed. Where the array broke, a group may have been opened. No disk was asked
+-- but those that this asks.
 pub record DemotesOne (old : ArrayState) (answer : Move) (new : ArrayState) : Type 0 where
   pub moves : MovesBlock old answer new
   pub moved : IfMoved answer (λ key to. Demotes old.store.book key to new.store.book)
@@ -27,7 +28,7 @@ pub record DemotesOne (old : ArrayState) (answer : Move) (new : ArrayState) : Ty
   pub asks : AsksToDemote old.store new.store
 
 -- The block that the rule of cleaning names went to the slot that it names, and less is left to be cleaned; or the rule names
--- nothing, and nothing has changed. No group is opened.
+-- nothing, and nothing has changed. No group is opened. No disk was asked but those that this move asks.
 pub record CleansOne (old : ArrayState) (answer : Move) (new : ArrayState) : Type 0 where
   pub moves : MovesBlock old answer new
   pub moved : IfMoved answer (λ key to. Cleans old.store.book key to new.store.book)

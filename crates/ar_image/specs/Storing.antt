@@ -28,8 +28,8 @@ pub record ReadsFirst {S : Type 0} (gets : S → Key → S → Type 0) (g : Geom
 abbrev pub destaged : CacheState → Key → CacheState → List Key
 destaged old key new = pushed_out old key ++ put_through new key
 
--- A block was put: it is the most recently used entry, or has gone to the disks. The store is what the destaged blocks make of
--- it, put in turn, and where there is none of these, no disk was asked.
+-- A block was put: it is the most recently used entry, or has gone to the disks. The tables are those that the destaged blocks
+-- make, put in turn; no disk was asked but for these puts, and where there is none of them, none.
 pub record PutsBlock (old : ArrayState) (key : Key) (new : ArrayState) : Type 0 where
   pub present : IsSome (cached old.cache key)
       → new.cache ≡ with_entries old.cache ((key, seen_at new key) ∷ without_key old.cache.entries key)

@@ -5,7 +5,6 @@ use Rattle.ar_disks.specs.declared.address.Place.{Place}
 use Rattle.ar_disks.specs.declared.address.Members.{Members}
 use Rattle.ar_disks.specs.declared.geometry.Geometry.{Geometry}
 use Rattle.ar_extents.specs.Groups.{IsMember}
-use Rattle.ar_extents.specs.Follows.{WorksOn}
 use Rattle.ar_extents.proofs.Follows.{works_refl, works_then, works_more}
 use Rattle.ar_book.specs.declared.class.Class.{Class}
 use Rattle.ar_book.specs.declared.class.Class.TheVariants.{Parity}
@@ -16,12 +15,12 @@ use Rattle.ar_book.specs.Choices.{IsLowestFree}
 use Rattle.ar_book.proofs.Homes.{home_key}
 use Rattle.ar_book.proofs.AfterOpen.{opened_class_other, opened_members}
 use Rattle.ar_store.specs.Store.{StoreState, members_of, class_in}
-use Rattle.ar_store.specs.Slots.{NeedsIn}
+use Rattle.ar_store.specs.Slots.{ReadsIn}
 use Rattle.ar_store.specs.Kept.{IsSpace}
 use Rattle.ar_store.specs.Placing.{slot_at, IsLowestHole, HasNoHole}
 use Rattle.ar_store.specs.Calls.{IsOpened}
-use Rattle.ar_store.specs.Asking.{NeedsAt, AsksSlots, AsksGroup}
-use Rattle.ar_store.proofs.Asking.{needs_member}
+use Rattle.ar_store.specs.Asking.{ReadsAt, MovesAt, AsksSlots, AsksOpened, AsksGroup}
+use Rattle.ar_store.proofs.Asking.{writes_member}
 use Rattle.ar_store.proofs.Changes.{named_apart}
 use Rattle.ar_moves.specs.Demotion.{IsOldestMirrored, AsksToDemote}
 use Rattle.ar_moves.proofs.Single.{oldest_single, slot_single, free_single}
@@ -46,11 +45,10 @@ asks_there a c key to ok oldest lowest asks = record {
 
 -- a group was opened, and the block moved to its first slot
 moved_asks : (a b c : StoreState) (key : Key) (from : Slot) (g : ℕ) → IsSpace a → IsOpened a.book b.book Parity g → b.disks.geometry ≡ a.disks.geometry
-    → home a.book key ≡ Some from → AsksGroup g a b → AsksSlots from (slot_at g 0) b c
-    → WorksOn (λ place. NeedsAt a from place ⊎ IsMember (members_of a g) place) a.disks c.disks
+    → home a.book key ≡ Some from → AsksGroup g a b → AsksSlots from (slot_at g 0) b c → AsksOpened from g a c
 moved_asks a b c key from g space opening geometry placed opened moved =
     let t = a.book in
-    let these : Place → Type 0 = λ place. NeedsAt a from place ⊎ IsMember (members_of a g) place in
+    let these : Place → Type 0 = λ place. ReadsAt a c from place ⊎ IsMember (members_of a g) place in
     let apart = named_apart t g from key space.tables opening.lowest.free (home_key t space.tables key from placed) in
     let class : class_in b from.group ≡ class_in a from.group =
     ap (λ (x : Tables). class_of x from.group) opening.tables ∙ opened_class_other t g Parity from.group apart in
@@ -58,15 +56,15 @@ moved_asks a b c key from g space opening geometry placed opened moved =
     ap (λ (x : Tables). (group_in x.groups n).members) opening.tables ∙ opened_members t g Parity n in
     works_then these a.disks b.disks c.disks
     (works_more (IsMember (members_of a g)) these a.disks b.disks (λ place is. inr is) opened)
-    (works_more (λ place. NeedsAt b from place ⊎ NeedsAt b (slot_at g 0) place) these b.disks c.disks
+    (works_more (MovesAt b c from (slot_at g 0)) these b.disks c.disks
     (λ place is. elim is [
       | inl first ↦
-          inl (subst (λ (x : Geometry). NeedsIn (class_in a from.group) x (members_of a from.group) from.slot place) geometry
-          (subst (λ (x : Members). NeedsIn (class_in a from.group) b.disks.geometry x from.slot place) (members from.group)
-          (subst (λ (x : Class). NeedsIn x b.disks.geometry (members_of b from.group) from.slot place) class first)))
+          inl (subst (λ (x : Geometry). ReadsIn (class_in a from.group) c.disks x (members_of a from.group) from.slot place) geometry
+          (subst (λ (x : Members). ReadsIn (class_in a from.group) c.disks b.disks.geometry x from.slot place) (members from.group)
+          (subst (λ (x : Class). ReadsIn x c.disks b.disks.geometry (members_of b from.group) from.slot place) class first)))
       | inr second ↦
           inr (subst (λ (x : Members). IsMember x place) (members g)
-          (needs_member (class_in b g) b.disks.geometry (members_of b g) 0 place second))
+          (writes_member (class_in b g) c.disks b.disks.geometry (members_of b g) 0 place second))
     ]) moved)
 
 pub asks_made : (a b c : StoreState) (key : Key) (g : ℕ) → IsSpace a → IsOldestMirrored a.book key → HasNoHole a.book Parity → IsOpened a.book b.book Parity g
@@ -77,7 +75,7 @@ asks_made a b c key g space oldest none opening geometry homes opened asks = rec
   made = λ other from group other_oldest placed other_none many free.
       let same = oldest_single a.book key other space.tables oldest other_oldest in
       let here = ap (λ k. home a.book k) same ∙ placed in
-      (let P : ℕ → Type 0 = λ n. WorksOn (λ place. NeedsAt a from place ⊎ IsMember (members_of a n) place) a.disks c.disks in
+      (let P : ℕ → Type 0 = λ n. AsksOpened from n a c in
       subst P (free_single a.book g group opening.lowest free)
       (moved_asks a b c key from g space opening geometry here opened (asks from (homes key ∙ here))));
 }
@@ -94,6 +92,6 @@ pub asks_opened : (a c : StoreState) → HasNoHole a.book Parity → ((group : �
 asks_opened a c none asks = record {
   there = λ key from to oldest placed lowest. absurd (none.none to lowest.hole);
   made = λ key from group oldest placed _ many free.
-      works_more (IsMember (members_of a group)) (λ place. NeedsAt a from place ⊎ IsMember (members_of a group) place) a.disks c.disks
+      works_more (IsMember (members_of a group)) (λ place. ReadsAt a c from place ⊎ IsMember (members_of a group) place) a.disks c.disks
       (λ place is. inr is) (asks group free);
 }

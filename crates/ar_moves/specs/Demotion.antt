@@ -8,13 +8,11 @@ use Rattle.ar_book.specs.declared.class.Slot.{Slot}
 use Rattle.ar_book.specs.Tables.{Tables, home, free_groups}
 use Rattle.ar_book.specs.Changes.{Moved}
 use Rattle.ar_book.specs.Choices.{IsMirrored, IsNoNewer, IsLowestFree}
-use Rattle.ar_extents.specs.Follows.{WorksOn}
-use Rattle.ar_extents.specs.Groups.{IsMember}
-use Rattle.ar_store.specs.Store.{StoreState, members_of}
+use Rattle.ar_store.specs.Store.{StoreState}
 use Rattle.ar_store.specs.Slots.{SlotHolds}
 use Rattle.ar_store.specs.Placing.{slot_at, IsLowestHole, HasNoHole}
 use Rattle.ar_store.specs.Calls.{IsOpened}
-use Rattle.ar_store.specs.Asking.{NeedsAt, AsksSlots}
+use Rattle.ar_store.specs.Asking.{AsksSlots, AsksOpened}
 
 -- the mirrored block that was written longest ago
 pub record IsOldestMirrored (t : Tables) (key : Key) : Type 0 where
@@ -71,7 +69,8 @@ MayHaveOpened t new = (new ≡ t) ⊎ ((group : ℕ) × IsOpened t new Parity gr
 pub record HoldsZerosBeside (s : StoreState) (to : Slot) : Type 0 where
   pub slots : (i : ℕ) → i < 3 * rows_of s.disks.geometry → i ≢ to.slot → SlotHolds s (slot_at to.group i) (zeros (block_len_of s.disks.geometry))
 
--- No disk was asked but those of the block's home and of the slot that the rule names; or of the whole group, where it is opened.
+-- No disk was asked but those that the block's move to the slot that the rule names asks; or, where a group is opened for it, that
+-- group's.
 pub record AsksToDemote (old new : StoreState) : Type 0 where
   pub there :
       (key : Key) (from to : Slot) → IsOldestMirrored old.book key → home old.book key ≡ Some from → IsLowestHole old.book Parity to
@@ -79,4 +78,4 @@ pub record AsksToDemote (old new : StoreState) : Type 0 where
   pub made :
       (key : Key) (from : Slot) (group : ℕ) → IsOldestMirrored old.book key → home old.book key ≡ Some from → HasNoHole old.book Parity
       → 2 ≤ free_groups old.book → IsLowestFree old.book group
-      → WorksOn (λ place. NeedsAt old from place ⊎ IsMember (members_of old group) place) old.disks new.disks
+      → AsksOpened from group old new

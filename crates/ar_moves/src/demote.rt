@@ -17,8 +17,8 @@ use ar_store::{Opening, Store};
 
 /// Demotes a block: the mirrored one with the least stamp goes to the lowest parity hole. Where there is none and two groups
 /// are free, the lowest is opened for parity with zeros, and the block goes to its first slot; else nothing is done. The block
-/// keeps its stamp, and no block changes. No disk is asked but those of the block's two slots, and of the group that is opened.
-/// No memory is taken.
+/// keeps its stamp, and no block changes. No disk is asked but those that the block's move asks, and those of the group that is
+/// opened. No memory is taken.
 ///
 /// `Broken` says that the disks are. The group may have been opened then, and every block has its old home; of a store that
 /// was broken before nothing has changed.

@@ -1,20 +1,22 @@
 -- Which disks are asked for a slot to be found, and at it.
-use Rattle.std.proofs.Common.{◌≡◌, ◌⊎◌, inl, inr, ℕ, zero, suc, Option, None, Some, refl, sym, ap, subst, ◌∙◌, arith}
+use Rattle.std.proofs.Common.{◌≡◌, ◌⊎◌, inl, inr, ℕ, ◌<◌, zero, suc, Bool, true, false, true≢false, Option, None, Some, refl, sym, ap, subst, ◌∙◌, arith}
 use Rattle.std.proofs.lemmas.Option.{none-some, same_Some}
 use Rattle.ar_disks.specs.declared.address.Key.{Key}
 use Rattle.ar_disks.specs.declared.address.Members.{Members}
 use Rattle.ar_disks.specs.declared.address.Place.{Place}
 use Rattle.ar_disks.specs.declared.geometry.Geometry.{Geometry}
 use Rattle.ar_disks.specs.Members.{member}
-use Rattle.ar_extents.specs.Set.{SetState}
+use Rattle.ar_extents.specs.Health.{is_lost}
+use Rattle.ar_extents.specs.Set.{SetState, IsSound}
 use Rattle.ar_extents.specs.Groups.{IsMember}
-use Rattle.ar_extents.specs.Follows.{WorksOn}
+use Rattle.ar_extents.specs.Follows.{Follows, IsPlace, IsEither, WorksOn}
 use Rattle.ar_extents.proofs.Follows.{works_refl, works_then, works_more}
 use Rattle.ar_book.specs.declared.class.Class.{Class}
 use Rattle.ar_book.specs.declared.class.Class.TheVariants.{Free, Mirrored, Parity}
 use Rattle.ar_book.specs.declared.class.Level.TheVariants.{Mirrored as MirroredLevel, Parity as ParityLevel}
 use Rattle.ar_book.specs.declared.class.Slot.{Slot}
-use Rattle.ar_book.specs.Tables.{Tables, group_in, class_of, key_at, home, level_of}
+use Rattle.ar_parity.specs.Row.{data_position, parity_position, row_of as parity_row_of}
+use Rattle.ar_book.specs.Tables.{Tables, group_in, class_of, key_at, home, level_of, slots_of}
 use Rattle.ar_book.specs.Changes.{opened}
 use Rattle.ar_book.specs.Choices.{IsFullMirrored, IsLowestFree}
 use Rattle.ar_book.proofs.Homes.{home_level, key_home}
@@ -24,9 +26,9 @@ use Rattle.ar_store.specs.declared.space.Space.{Space}
 use Rattle.ar_store.specs.declared.way.Way.{Way}
 use Rattle.ar_store.specs.declared.way.Way.TheVariants.{Home, Hole, Broken}
 use Rattle.ar_store.specs.Store.{StoreState, store_of, members_of, class_in}
-use Rattle.ar_store.specs.Slots.{NeedsIn}
-use Rattle.ar_store.specs.Placing.{slot_at, moved_from, moved_first, squeezed, LeadsHome, LeadsToHole, Leads}
-use Rattle.ar_store.specs.Asking.{NeedsAt, IsOfEither, AsksSlot, AsksSlots, AsksGroup, AsksGroups, AsksToPut, NeedsSqueeze, AsksToSqueeze, AsksOnWay, AsksWay}
+use Rattle.ar_store.specs.Slots.{NeedsIn, ReadsIn, WritesIn, first_in, AsksFor, AsksForSlot}
+use Rattle.ar_store.specs.Placing.{slot_at, moved_from, moved_first, squeezed, LeadsHome, LeadsToHole, Leads, HasNoWay}
+use Rattle.ar_store.specs.Asking.{ReadsAt, WritesAt, MovesAt, MovesAll, ReadsPairs, AsksSlot, AsksSlots, AsksGroup, AsksGroups, AsksToPut, AsksToSqueeze, AsksOnWay, AsksWay}
 use Rattle.ar_store.specs.Spaces.{store_in}
 use Rattle.ar_store.proofs.Squeezing.{IsSqueezing, same_full, same_free}
 use Rattle.ar_store.proofs.Ways.{nowhere, parity_not_mirrored, unplaced_not_mirrored, unplaced_not_parity}
@@ -38,12 +40,65 @@ any_member m (suc zero) = record { position = 1; below = omega arith; is = refl 
 any_member m (suc (suc zero)) = record { position = 2; below = omega arith; is = refl }
 any_member m (suc (suc (suc n))) = record { position = 3; below = omega arith; is = refl }
 
--- what a slot needs are members of its group
-pub needs_member : (c : Class) (g : Geometry) (m : Members) (i : ℕ) (place : Place) → NeedsIn c g m i place → IsMember m place
-needs_member Free g m i place needs = absurd needs
-needs_member Mirrored g m i place needs =
+-- the extents of a mirrored slot's pair are members
+in_pair : (g : Geometry) (m : Members) (i : ℕ) (place : Place) → NeedsIn Mirrored g m i place → IsMember m place
+in_pair g m i place needs =
     elim needs [ inl one ↦ subst (λ p. IsMember m p) (sym one) (any_member m _) | inr other ↦ subst (λ p. IsMember m p) (sym other) (any_member m _) ]
-needs_member Parity g m i place needs = needs
+
+-- what a write of a slot asks are members of its group
+pub writes_member : (c : Class) (new : SetState) (g : Geometry) (m : Members) (i : ℕ) (place : Place) → WritesIn c new g m i place → IsMember m place
+writes_member Free new g m i place writes = absurd writes
+writes_member Mirrored new g m i place writes = in_pair g m i place writes
+writes_member Parity new g m i place writes = writes.0
+
+-- an extent is used or missing
+used_or_lost : (b : Bool) → (b ≡ false) ⊎ (b ≡ true)
+used_or_lost true = inr refl
+used_or_lost false = inl refl
+
+-- What a read asked, and what a write asked, in one word each.
+reads_first : (c : Class) (a b : SetState) (m : Members) (i : ℕ) → NeedsIn c a.geometry m i (first_in c a.geometry m i) → AsksFor c a b m i
+    → WorksOn (ReadsIn c b a.geometry m i) a b
+reads_first c a b m i needed asks =
+    let first : Place = first_in c a.geometry m i in
+    elim (used_or_lost (is_lost b.health first.disk first.extent)) [
+      | inl used ↦
+          works_more (IsPlace first) (ReadsIn c b a.geometry m i) a b
+          (λ place is. (subst (λ p. NeedsIn c a.geometry m i p) (sym is) needed, λ sound. is)) (asks.first used)
+      | inr lost ↦
+          works_more (NeedsIn c a.geometry m i) (ReadsIn c b a.geometry m i) a b
+          (λ place needs. (needs, λ sound. absurd (true≢false (sym lost ∙ sound)))) asks.works
+    ]
+
+pub reads_in : (c : Class) (a b : SetState) (m : Members) (i : ℕ) → AsksFor c a b m i → WorksOn (ReadsIn c b a.geometry m i) a b
+reads_in Free a b m i asks = works_more (NeedsIn Free a.geometry m i) (ReadsIn Free b a.geometry m i) a b (λ place needs. absurd needs) asks.works
+reads_in Mirrored a b m i asks = reads_first Mirrored a b m i (inl refl) asks
+reads_in Parity a b m i asks = reads_first Parity a b m i (any_member m _) asks
+
+pub writes_parity : (a b : SetState) (m : Members) (i : ℕ) → WorksOn (IsMember m) a b
+    → (IsSound b (member m (data_position i)) → WorksOn (IsEither (member m (data_position i)) (member m (parity_position (parity_row_of i)))) a b)
+    → WorksOn (WritesIn Parity b a.geometry m i) a b
+writes_parity a b m i works known =
+    let own : Place = member m (data_position i) in
+    let parity : Place = member m (parity_position (parity_row_of i)) in
+    elim (used_or_lost (is_lost b.health own.disk own.extent)) [
+      | inl used ↦
+          works_more (IsEither own parity) (WritesIn Parity b a.geometry m i) a b
+          (λ place is. (
+            elim is [ inl one ↦ subst (λ p. IsMember m p) (sym one) (any_member m _) | inr other ↦ subst (λ p. IsMember m p) (sym other) (any_member m _) ],
+            λ sound. is,
+          )) (known used)
+      | inr lost ↦
+          works_more (IsMember m) (WritesIn Parity b a.geometry m i) a b (λ place is. (is, λ sound. absurd (true≢false (sym lost ∙ sound)))) works
+    ]
+
+-- What was asked is asked still once more was done: what can be used at the end could be used before.
+reads_later : (c : Class) (b d : SetState) (g : Geometry) (m : Members) (i : ℕ) (place : Place) → Follows b d → ReadsIn c b g m i place → ReadsIn c d g m i place
+reads_later c b d g m i place bd reads = (reads.0, λ sound. reads.1 (bd.usable (first_in c g m i) sound))
+
+pairs_later : (b d : SetState) (g : Geometry) (m : Members) (place : Place) → Follows b d → ReadsPairs b g m place → ReadsPairs d g m place
+pairs_later b d g m place bd reads =
+    record { slot = reads.slot; below = reads.below; reads = reads_later Mirrored b d g m reads.slot place bd reads.reads }
 
 -- the members of groups stay where blocks move, and in a squeeze
 from_members : (t : Tables) (o : Option Key) (s : Slot) (g : ℕ) → (group_in (moved_from t o s).groups g).members ≡ (group_in t.groups g).members
@@ -57,45 +112,65 @@ first_members t from to (suc n) g = from_members (moved_first t from to n) _ (sl
 squeezed_members : (t : Tables) (from to g : ℕ) → (group_in (squeezed t from to).groups g).members ≡ (group_in t.groups g).members
 squeezed_members t from to g = first_members (opened t to Parity) from to _ g ∙ opened_members t to Parity g
 
--- Work on a slot, on two, and on a group is work on two groups.
+-- a write of a slot is work on its group
 pub slot_in_group : (a b : StoreState) (s : Slot) (class : Class) → AsksSlot class s a b → AsksGroup s.group a b
 slot_in_group a b s class works =
-    works_more (NeedsIn class a.disks.geometry (members_of a s.group) s.slot) (IsMember (members_of a s.group)) a.disks b.disks
-    (needs_member class a.disks.geometry (members_of a s.group) s.slot) works
+    works_more (WritesIn class b.disks a.disks.geometry (members_of a s.group) s.slot) (IsMember (members_of a s.group)) a.disks b.disks
+    (writes_member class b.disks a.disks.geometry (members_of a s.group) s.slot) works
 
-pub slots_in_groups : (a b : StoreState) (one other : Slot) → AsksSlots one other a b → AsksGroups one.group other.group a b
-slots_in_groups a b one other works =
-    works_more (λ place. NeedsAt a one place ⊎ NeedsAt a other place) (IsOfEither (members_of a one.group) (members_of a other.group)) a.disks b.disks
-    (λ place needs. elim needs [
-      | inl first ↦ inl (needs_member (class_in a one.group) a.disks.geometry (members_of a one.group) one.slot place first)
-      | inr second ↦ inr (needs_member (class_in a other.group) a.disks.geometry (members_of a other.group) other.slot place second)
+-- What is asked where the blocks of a mirrored group move to another, over the members of both.
+abbrev MovesFrom : SetState → Geometry → Members → Members → Place → Type 0
+MovesFrom new g from to place = ReadsPairs new g from place ⊎ IsMember to place
+
+second_group : (new : SetState) (g : Geometry) (from to : Members) (a b : SetState) → WorksOn (IsMember to) a b → WorksOn (MovesFrom new g from to) a b
+second_group new g from to a b works = works_more (IsMember to) (MovesFrom new g from to) a b (λ place is. inr is) works
+
+groups_later : (b d : SetState) (g : Geometry) (from to : Members) (a c : SetState) → Follows b d → WorksOn (MovesFrom b g from to) a c → WorksOn (MovesFrom d g from to) a c
+groups_later b d g from to a c bd works =
+    works_more (MovesFrom b g from to) (MovesFrom d g from to) a c
+    (λ place is. elim is [ inl reads ↦ inl (pairs_later b d g from place bd reads) | inr member ↦ inr member ]) works
+
+-- A block's move from one group to the other is part of it.
+slots_in_groups : (a b : StoreState) (one other : Slot) → class_in a one.group ≡ Mirrored → one.slot < slots_of a.disks.geometry Mirrored
+    → AsksSlots one other a b → AsksGroups one.group other.group a b
+slots_in_groups a b one other mirrored below works =
+    works_more (MovesAt a b one other) (MovesAll a b one.group other.group) a.disks b.disks
+    (λ place moves. elim moves [
+      | inl reads ↦ inl (record {
+        slot = one.slot;
+        below = below;
+        reads = subst (λ (c : Class). ReadsIn c b.disks a.disks.geometry (members_of a one.group) one.slot place) mirrored reads;
+      })
+      | inr writes ↦ inr (writes_member (class_in a other.group) b.disks a.disks.geometry (members_of a other.group) other.slot place writes)
     ]) works
 
-pub second_group : (one other : Members) (a b : SetState) → WorksOn (IsMember other) a b → WorksOn (IsOfEither one other) a b
-second_group one other a b works = works_more (IsMember other) (IsOfEither one other) a b (λ place is. inr is) works
+-- The blocks move from one group to another, whose members and geometry stay.
+groups_same : (a b c : StoreState) (from to : ℕ) → ((g : ℕ) → members_of b g ≡ members_of a g) → b.disks.geometry ≡ a.disks.geometry
+    → AsksGroups from to b c → WorksOn (MovesFrom c.disks a.disks.geometry (members_of a from) (members_of a to)) b.disks c.disks
+groups_same a b c from to same geometry works =
+    let P : Members → Type 0 = λ m. WorksOn (MovesFrom c.disks b.disks.geometry m (members_of b to)) b.disks c.disks in
+    let Q : Members → Type 0 = λ m. WorksOn (MovesFrom c.disks b.disks.geometry (members_of a from) m) b.disks c.disks in
+    let R : Geometry → Type 0 = λ g. WorksOn (MovesFrom c.disks g (members_of a from) (members_of a to)) b.disks c.disks in
+    subst R geometry (subst Q (same to) (subst P (same from) works))
 
--- The blocks move from one group to another, whose members stay.
-pub moving_asks : (t : Tables) (old now new : StoreState) (from to i : ℕ) → old.book ≡ t → now.book ≡ moved_first t from to i
+moving_asks : (t : Tables) (old now new : StoreState) (from to i : ℕ) → old.book ≡ t → now.book ≡ moved_first t from to i
     → AsksGroups from to old now → AsksGroups from to now new → AsksGroups from to old new
 moving_asks t old now new from to i is_old is_now before step =
     let same : (g : ℕ) → members_of now g ≡ members_of old g = λ g.
     ap (λ (x : Tables). (group_in x.groups g).members) is_now ∙ first_members t from to i g
     ∙ ap (λ (x : Tables). (group_in x.groups g).members) (sym is_old) in
-    let P : Members → Type 0 = λ m. WorksOn (IsOfEither m (members_of now to)) now.disks new.disks in
-    let Q : Members → Type 0 = λ m. WorksOn (IsOfEither (members_of old from) m) now.disks new.disks in
-    works_then (IsOfEither (members_of old from) (members_of old to)) old.disks now.disks new.disks before
-    (subst Q (same to) (subst P (same from) step))
+    works_then (MovesAll old new from to) old.disks now.disks new.disks
+    (groups_later now.disks new.disks old.disks.geometry (members_of old from) (members_of old to) old.disks now.disks step.follows before)
+    (groups_same old now new from to same before.follows.geometry step)
 
 -- the lowest free group was opened, and then blocks moved to it, or none so far
 pub squeeze_asks : (a b c : StoreState) (from to : ℕ) → b.book ≡ opened a.book to Parity → AsksGroup to a b → AsksGroups from to b c → AsksGroups from to a c
 squeeze_asks a b c from to is opening moves =
     let same : (g : ℕ) → members_of b g ≡ members_of a g = λ g.
     ap (λ (x : Tables). (group_in x.groups g).members) is ∙ opened_members a.book to Parity g in
-    let P : Members → Type 0 = λ m. WorksOn (IsOfEither m (members_of b to)) b.disks c.disks in
-    let Q : Members → Type 0 = λ m. WorksOn (IsOfEither (members_of a from) m) b.disks c.disks in
-    works_then (IsOfEither (members_of a from) (members_of a to)) a.disks b.disks c.disks
-    (second_group (members_of a from) (members_of a to) a.disks b.disks opening)
-    (subst Q (same to) (subst P (same from) moves))
+    works_then (MovesAll a c from to) a.disks b.disks c.disks
+    (second_group c.disks a.disks.geometry (members_of a from) (members_of a to) a.disks b.disks opening)
+    (groups_same a b c from to same opening.follows.geometry moves)
 
 -- there is one full mirrored group that comes first, and one free one
 pub only_squeeze : (a c : StoreState) (from to : ℕ) → IsFullMirrored a.book from → IsLowestFree a.book to → AsksGroups from to a c → AsksToSqueeze a c
@@ -124,13 +199,13 @@ asks_still a c k same = record {
 }
 
 -- all that a squeeze needs
-asks_squeezed : (a c : StoreState) (k : Key) → NeedsSqueeze a.book k → AsksToSqueeze a c → AsksToPut a k c
+asks_squeezed : (a c : StoreState) (k : Key) → HasNoWay a.book k a.book → AsksToSqueeze a c → AsksToPut a k c
 asks_squeezed a c k needs asks =
     let at = nowhere a.book k needs.unplaced in
     record {
       mirrored = λ s high is. absurd (unplaced_not_mirrored (sym at ∙ high));
-      mirrored_hole = λ s low hole. absurd (needs.mirrored.none s hole.hole);
-      opened_group = λ g low none many lowest. absurd (let few = needs.few in omega arith);
+      mirrored_hole = λ s low hole. absurd (needs.mirrored.none.none s hole.hole);
+      opened_group = λ g low none many lowest. absurd (let few = needs.mirrored.few in omega arith);
       parity = λ s low is none few. absurd (unplaced_not_parity (sym at ∙ low));
       parity_hole = λ s _ none few hole. absurd (needs.parity.none s hole.hole);
       squeezed_group = λ from to _ none full few is_from is_to. asks from to is_from is_to;
@@ -152,9 +227,9 @@ module _ (a b c : StoreState) (k : Key) where
   at_slot : (class : Class) (s r : Slot) → b.disks ≡ a.disks → s ≡ r → class_in b s.group ≡ class → members_of b s.group ≡ members_of a s.group
       → AsksSlot (class_in b s.group) s b c → AsksSlot class r a c
   at_slot class s r disks same is members asks =
-      let P : Class → Type 0 = λ x. WorksOn (NeedsIn x b.disks.geometry (members_of b s.group) s.slot) b.disks c.disks in
-      let Q : Members → Type 0 = λ m. WorksOn (NeedsIn class b.disks.geometry m s.slot) b.disks c.disks in
-      let R : SetState → Type 0 = λ x. WorksOn (NeedsIn class x.geometry (members_of a s.group) s.slot) x c.disks in
+      let P : Class → Type 0 = λ x. WorksOn (WritesIn x c.disks b.disks.geometry (members_of b s.group) s.slot) b.disks c.disks in
+      let Q : Members → Type 0 = λ m. WorksOn (WritesIn class c.disks b.disks.geometry m s.slot) b.disks c.disks in
+      let R : SetState → Type 0 = λ x. WorksOn (WritesIn class c.disks x.geometry (members_of a s.group) s.slot) x c.disks in
       let S : Slot → Type 0 = λ x. AsksSlot class x a c in
       subst S same (subst R disks (subst Q members (subst P is asks)))
 
@@ -182,12 +257,12 @@ module _ (a b c : StoreState) (k : Key) where
 
   -- the slot that a squeeze left was written
   after_squeeze : (from to : ℕ) (s : Slot) → b.book ≡ squeezed a.book from to → s.group ≡ to → AsksSlot (class_in b s.group) s b c
-      → WorksOn (IsOfEither (members_of a from) (members_of a to)) b.disks c.disks
+      → WorksOn (MovesAll a c from to) b.disks c.disks
   after_squeeze from to s is at asks =
       let same : members_of b s.group ≡ members_of a to =
       ap (λ (x : Tables). (group_in x.groups s.group).members) is ∙ squeezed_members a.book from to s.group ∙ ap (λ g. members_of a g) at in
       let P : Members → Type 0 = λ m. WorksOn (IsMember m) b.disks c.disks in
-      second_group (members_of a from) (members_of a to) b.disks c.disks (subst P same (slot_in_group b c s (class_in b s.group) asks))
+      second_group c.disks a.disks.geometry (members_of a from) (members_of a to) b.disks c.disks (subst P same (slot_in_group b c s (class_in b s.group) asks))
 
   asks_hole : (s : Slot) → LeadsToHole a.book k b.book s → b.disks ≡ a.disks → AsksSlot (class_in b s.group) s b c → AsksToPut a k c
   asks_hole s leads disks asks =
@@ -211,15 +286,16 @@ module _ (a b c : StoreState) (k : Key) where
             at_slot Parity s r disks same.1 (class_was t same.0 r same.1 ∙ hole.hole.class) (members_are t same.0) asks;
         squeezed_group = λ from to at none full few is_from is_to.
             let same = leads.squeezed_group from to none full few is_from is_to in
-            let P : SetState → Type 0 = λ x. WorksOn (IsOfEither (members_of a from) (members_of a to)) x c.disks in
+            let P : SetState → Type 0 = λ x. WorksOn (MovesAll a c from to) x c.disks in
             subst P disks (after_squeeze from to s same.0 (ap (λ (x : Slot). x.group) same.1) asks);
       }
 
   -- a squeeze was needed, and the slot that it left was written
-  squeeze_hole : (s : Slot) → LeadsToHole a.book k b.book s → NeedsSqueeze a.book k → AsksToSqueeze a b → AsksSlot (class_in b s.group) s b c → AsksToSqueeze a c
+  squeeze_hole : (s : Slot) → LeadsToHole a.book k b.book s → HasNoWay a.book k a.book → AsksToSqueeze a b → AsksSlot (class_in b s.group) s b c → AsksToSqueeze a c
   squeeze_hole s leads needs first asks from to is_from is_to =
-      let same = leads.squeezed_group from to needs.mirrored needs.parity needs.few is_from is_to in
-      works_then (IsOfEither (members_of a from) (members_of a to)) a.disks b.disks c.disks (first from to is_from is_to)
+      let same = leads.squeezed_group from to needs.mirrored.none needs.parity needs.mirrored.few is_from is_to in
+      works_then (MovesAll a c from to) a.disks b.disks c.disks
+      (groups_later b.disks c.disks a.disks.geometry (members_of a from) (members_of a to) a.disks b.disks asks.follows (first from to is_from is_to))
       (after_squeeze from to s same.0 (ap (λ (x : Slot). x.group) same.1) asks)
 
   -- What a put asks: what was asked for a slot to be found, and then that slot's disks.
@@ -230,22 +306,25 @@ module _ (a b c : StoreState) (k : Key) where
   asks_way (Hole s) leads (inr squeeze) asks = asks_squeezed a c k squeeze.0 (squeeze_hole s leads squeeze.0 squeeze.1 asks)
   asks_way Broken leads (inl disks) asks = asks_still a c k (asks ∙ disks)
   asks_way Broken leads (inr squeeze) asks = asks_squeezed a c k squeeze.0 (λ from to is_from is_to.
-      let P : SetState → Type 0 = λ x. WorksOn (IsOfEither (members_of a from) (members_of a to)) a.disks x in
+      let P : SetState → Type 0 = λ x. WorksOn (MovesFrom x a.disks.geometry (members_of a from) (members_of a to)) a.disks x in
       subst P (sym asks) (squeeze.1 from to is_from is_to))
 
 -- A slot was read and then another written, where the tables stayed.
 pub asks_both : (a b c : StoreState) (one other : Slot) → b.book ≡ a.book → b.disks.geometry ≡ a.disks.geometry
-    → WorksOn (NeedsAt a one) a.disks b.disks → AsksSlot (class_in b other.group) other b c → AsksSlots one other a c
+    → AsksForSlot a b one → AsksSlot (class_in b other.group) other b c → AsksSlots one other a c
 asks_both a b c one other book geometry read wrote =
-    let either : Place → Type 0 = λ place. NeedsAt a one place ⊎ NeedsAt a other place in
-    let P : Tables → Type 0 = λ x. WorksOn (NeedsIn (class_of x other.group) b.disks.geometry (group_in x.groups other.group).members other.slot) b.disks c.disks in
-    let Q : Geometry → Type 0 = λ x. WorksOn (NeedsIn (class_in a other.group) x (members_of a other.group) other.slot) b.disks c.disks in
-    works_then either a.disks b.disks c.disks
-    (works_more (NeedsAt a one) either a.disks b.disks (λ place is. inl is) read)
-    (works_more (NeedsAt a other) either b.disks c.disks (λ place is. inr is) (subst Q geometry (subst P book wrote)))
+    let P : Tables → Type 0 = λ x. WorksOn (WritesIn (class_of x other.group) c.disks b.disks.geometry (group_in x.groups other.group).members other.slot) b.disks c.disks in
+    let Q : Geometry → Type 0 = λ x. WorksOn (WritesIn (class_in a other.group) c.disks x (members_of a other.group) other.slot) b.disks c.disks in
+    works_then (MovesAt a c one other) a.disks b.disks c.disks
+    (works_more (ReadsAt a b one) (MovesAt a c one other) a.disks b.disks
+    (λ place reads. inl (reads_later (class_in a one.group) b.disks c.disks a.disks.geometry (members_of a one.group) one.slot place wrote.follows reads))
+    (reads_in (class_in a one.group) a.disks b.disks (members_of a one.group) one.slot read))
+    (works_more (WritesAt a c other) (MovesAt a c one other) b.disks c.disks (λ place is. inr is) (subst Q geometry (subst P book wrote)))
 
-pub asks_one : (a b : StoreState) (one other : Slot) → WorksOn (NeedsAt a one) a.disks b.disks → AsksSlots one other a b
-asks_one a b one other read = works_more (NeedsAt a one) (λ place. NeedsAt a one place ⊎ NeedsAt a other place) a.disks b.disks (λ place is. inl is) read
+pub asks_one : (a b : StoreState) (one other : Slot) → AsksForSlot a b one → AsksSlots one other a b
+asks_one a b one other read =
+    works_more (ReadsAt a b one) (MovesAt a b one other) a.disks b.disks (λ place is. inl is)
+    (reads_in (class_in a one.group) a.disks b.disks (members_of a one.group) one.slot read)
 
 -- a slot stands where a block has its home
 pub asks_from : (a b : StoreState) (key : Key) (from other : Slot) → home a.book key ≡ Some from → AsksSlots from other a b
@@ -261,7 +340,7 @@ asks_stamped a b t u Broken asks = asks
 
 -- a free group was opened, and no block moved so far
 pub opening_asks : (a b : StoreState) (from to : ℕ) → AsksGroup to a b → AsksGroups from to a b
-opening_asks a b from to opening = second_group (members_of a from) (members_of a to) a.disks b.disks opening
+opening_asks a b from to opening = second_group b.disks a.disks.geometry (members_of a from) (members_of a to) a.disks b.disks opening
 
 -- the members of the group that was opened were written
 pub opened_asks : (a b : SetState) (t u : Tables) (g : ℕ) (c : Class) (m : Members) → u ≡ opened t g c → m ≡ (group_in u.groups g).members
@@ -271,11 +350,14 @@ opened_asks a b t u g c m is members works =
     subst P (members ∙ ap (λ (x : Tables). (group_in x.groups g).members) is ∙ opened_members t g c g) works
 
 -- One more block of a squeeze has moved.
-pub step_asks : {X : Type 0} (old now new : Space X) (from to i : ℕ) (k : Key) → IsSqueezing old now from to i
+pub step_asks : {X : Type 0} (old now new : Space X) (from to i : ℕ) (k : Key) → IsSqueezing old now from to i → i < slots_of old.book.geometry Mirrored
     → AsksGroups from to (store_in old) (store_in now) → key_at now.book (slot_at from i) ≡ Some k
     → ((slot : Slot) → home now.book k ≡ Some slot → AsksSlots slot (slot_at to i) (store_in now) (store_in new))
     → AsksGroups from to (store_in old) (store_in new)
-step_asks old now new from to i k so_far before names moved =
+step_asks old now new from to i k so_far inside before names moved =
+    let space = so_far.stays.ready.space in
+    let geometry : now.disks.geometry ≡ old.book.geometry = sym space.geometry ∙ so_far.moving.geometry in
     moving_asks old.book (store_in old) (store_in now) (store_in new) from to i refl so_far.moving.tables before
-    (slots_in_groups (store_in now) (store_in new) (slot_at from i) (slot_at to i)
-    (moved (slot_at from i) (key_home now.book so_far.stays.ready.space.tables (slot_at from i) k names)))
+    (slots_in_groups (store_in now) (store_in new) (slot_at from i) (slot_at to i) (so_far.moving.open_from inside)
+    (subst (λ (g : Geometry). i < slots_of g Mirrored) (sym geometry) inside)
+    (moved (slot_at from i) (key_home now.book space.tables (slot_at from i) k names)))

@@ -11,11 +11,11 @@ use Rattle.ar_disks.specs.declared.address.Members.{Members}
 use Rattle.ar_extents.specs.declared.health.Health.TheVariants.{Broken}
 use Rattle.ar_extents.specs.Set.{SetState, IsSound}
 use Rattle.ar_extents.specs.Groups.{IsMember, IsOutside, without_disk}
-use Rattle.ar_extents.specs.Follows.{Keeps, IsPlace, WorksOn}
+use Rattle.ar_extents.specs.Follows.{Keeps, IsPlace, IsEither, WorksOn}
 use Rattle.ar_mirror.specs.Slots.{one_of}
 use Rattle.ar_mirror.specs.Calls.{IsInPair}
 use Rattle.ar_mirror.specs.Holds.{Holds as MirrorHolds, standing as mirror_standing}
-use Rattle.ar_parity.specs.Row.{data_position}
+use Rattle.ar_parity.specs.Row.{data_position, parity_position, row_of as parity_row_of}
 use Rattle.ar_parity.specs.Group.{Holds as ParityHolds, standing as parity_standing}
 use Rattle.ar_book.specs.declared.class.Class.{Class}
 use Rattle.ar_book.specs.declared.class.Class.TheVariants.{Free, Mirrored, Parity}
@@ -79,7 +79,7 @@ pub record IsWritten (class : Class) (old new : SetState) (m : Members) (i : ℕ
   pub beside : (k : ℕ) (other : List ℕ) → k < slots_of old.geometry class → k ≢ i → ClassHolds class old m k other → ClassHolds class new m k other
   pub outside : Keeps (IsOutside m) old new
 
--- the extents that a read of a slot may need: its pair, or its group where a lost one is added up
+-- the extents that a read of a slot may need: its pair, or its whole group with parity, where a lost one is added up
 abbrev pub NeedsIn : Class → Geometry → Members → ℕ → Place → Type 0
 NeedsIn Free g m i place = ⊥
 NeedsIn Mirrored g m i place = IsInPair g m i place
@@ -90,6 +90,18 @@ abbrev pub first_in : Class → Geometry → Members → ℕ → Place
 first_in Free g m i = m.first
 first_in Mirrored g m i = one_of g m i
 first_in Parity g m i = member m (data_position i)
+
+-- the extents that a read of a slot asks, by how it leaves the disks: while the one that it asks first can be used, that alone
+abbrev pub ReadsIn : Class → SetState → Geometry → Members → ℕ → Place → Type 0
+ReadsIn class new g m i place = NeedsIn class g m i place × (IsSound new (first_in class g m i) → place ≡ first_in class g m i)
+
+-- the extents that a write of a slot asks: its pair; with parity, while the slot's own can be used, that and its row's parity
+abbrev pub WritesIn : Class → SetState → Geometry → Members → ℕ → Place → Type 0
+WritesIn Free new g m i place = ⊥
+WritesIn Mirrored new g m i place = IsInPair g m i place
+WritesIn Parity new g m i place =
+    IsMember m place
+    × (IsSound new (member m (data_position i)) → IsEither (member m (data_position i)) (member m (parity_position (parity_row_of i))) place)
 
 -- One slot of four extents was read: no disk was asked that the read doesn't need, and no other while the first can be used.
 pub record AsksFor (class : Class) (old new : SetState) (m : Members) (i : ℕ) : Type 0 where

@@ -154,8 +154,9 @@ impl<D: Disk> Store<D> {
     }
 
     /// Moves a block from its home to a slot that names none. The new slot is written before the old one is left; the stamp
-    /// stays, and so does what the other slots of the new one's group hold. No disk is asked but those of the two slots. After
-    /// `Broken` the block has its old home; of a store that was broken before nothing has changed.
+    /// stays, and so does what the other slots of the new one's group hold. No disk is asked but those that a read of the one slot
+    /// and a write of the other ask. After `Broken` the block has its old home; of a store that was broken before nothing has
+    /// changed.
     pub fn move_rb(&mut self, key: Key, slot: Slot) -> Completion
         requires placed { IsSome (home self.old.book key) }
         requires hole { IsVacant self.old.book slot }

@@ -75,9 +75,8 @@ returns-in-Some-squeeze g c =
       asks = inr (
         record {
           unplaced = none.unplaced;
-          mirrored = none.mirrored.none;
+          mirrored = record { same = refl; none = none.mirrored.none; few = none.mirrored.few };
           parity = subst (λ (x : Tables). HasNoHole x Parity) same none.parity;
-          few = none.mirrored.few;
         },
         subst (λ (x : Tables). AsksToSqueeze (store_of s.disks x) (store_in new)) same squeezed.asks,
       );
@@ -107,9 +106,8 @@ returns-in-None-squeeze g c =
       asks = inr (
         record {
           unplaced = none.unplaced;
-          mirrored = none.mirrored.none;
+          mirrored = record { same = refl; none = none.mirrored.none; few = none.mirrored.few };
           parity = subst (λ (x : Tables). HasNoHole x Parity) same none.parity;
-          few = none.mirrored.few;
         },
         subst (λ (x : Tables). AsksToSqueeze (store_of s.disks x) (store_in new)) same squeezed.asks,
       );

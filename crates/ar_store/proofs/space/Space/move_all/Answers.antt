@@ -56,7 +56,7 @@ loop-slot-preserved g c =
       squeezing = squeezing_then c.args.self.now c.loop-slot.self new c.args.from c.args.to c.loop-slot.slot c.in-Some.key c.requires.ready c.requires.can
           so_far.squeezing (omega arith) (sym c.key_at.ensures ∙ c.in-Some.is) (moved.moved c.in-Done.is) moved.stand moved.stays
           (done_sound new.disks.health (sym c.in-Done.is ∙ moved.outcome));
-      asks = step_asks c.args.self.now c.loop-slot.self new c.args.from c.args.to c.loop-slot.slot c.in-Some.key so_far.squeezing so_far.asks
+      asks = step_asks c.args.self.now c.loop-slot.self new c.args.from c.args.to c.loop-slot.slot c.in-Some.key so_far.squeezing (omega arith) so_far.asks
           (sym c.key_at.ensures ∙ c.in-Some.is) moved.asks;
       whole = moved.len ∙ so_far.whole;
     }
@@ -66,6 +66,8 @@ returns-in-Broken g c =
     let so_far = c.loop-slot.invariant in
     let now = so_far.squeezing in
     let moved = c.move_block.ensures in
+    let t = c.args.self.now.book in
+    let end = slots_end c.rows-slot-end.result c.geometry.result t.geometry c.rows-slot-end.ensures (c.geometry.ensures ∙ sym c.requires.ready.space.geometry) in
     record {
       outcome = sym c.in-Broken.is ∙ moved.outcome;
       moved = λ done. absurd (done_not_broken (sym done));
@@ -73,7 +75,7 @@ returns-in-Broken g c =
       hole = λ done. absurd (done_not_broken (sym done));
       unplaced = λ k is. ap (λ (x : Tables). home x k) (moved.unmoved c.in-Broken.is) ∙ now.moving.unplaced k is;
       stand = all_then c.args.self.now c.loop-slot.self c.move_block.new.self moved.stays now.stand moved.stand;
-      asks = step_asks c.args.self.now c.loop-slot.self c.move_block.new.self c.args.from c.args.to c.loop-slot.slot c.in-Some.key now so_far.asks
+      asks = step_asks c.args.self.now c.loop-slot.self c.move_block.new.self c.args.from c.args.to c.loop-slot.slot c.in-Some.key now (omega arith) so_far.asks
           (sym c.key_at.ensures ∙ c.in-Some.is) moved.asks;
       stays = stays_then c.args.self.now c.loop-slot.self c.move_block.new.self now.stays moved.stays;
       len = moved.len ∙ so_far.whole;
