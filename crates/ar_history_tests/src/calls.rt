@@ -1,23 +1,19 @@
 // Calls of a kept array, and what they are answered with.
-ghost use Rattle.std.specs.Prelude.{◌≡◌};
+ghost use Rattle.std.specs.Prelude.{◌≡◌, []};
 
 use crate::rig::{Rig, Shape, array, disk};
-use ar_core::{
-    Balance, DiskRefusal, Event, EventOf, Flush, Move, NewDisk, Outcome, OutcomeOf, Rebuild,
-    Refusal, UnitRefusal,
-};
+use ar_core::{Array, Balance, Event, EventOf, NewDisk, Outcome, OutcomeOf, Rebuild, Refusal};
 use ar_disks::{Addr, FuseDisk, Host};
-use ar_history::{Operation, OperationOf, Task};
+use ar_history::Task;
 use ar_scsi::{Reply, Sense, Status, sense18};
 use bytes::Bytes;
 use std::alloc::{AllocError, Global};
 use std::marker::Brand;
 use std::process::Abort;
 use std::sync::ledger::{Blank, Ledger};
-use std::test::Fail;
 
 /// What is asked. The first two numbers are a host's and a LUN.
-#[derive(Clone, Copy, Debug)]
+#[derive(Clone, Copy)]
 pub enum Call {
     /// A unit of so many sectors is made.
     Make(u8, u8, u32),
@@ -50,10 +46,7 @@ pub enum Call {
 pub enum Answer {
     /// A unit or a disk was changed.
     Done,
-    UnitRefused(UnitRefusal),
-    DiskRefused(DiskRefusal),
-    /// The data are lost.
-    Broken,
+    Refused(Refusal),
     /// GOOD, without bytes.
     Good,
     /// GOOD, with one byte, five or eight.
@@ -64,15 +57,8 @@ pub enum Answer {
     Sectors(u8, u8),
     /// CHECK CONDITION.
     Check(Sense),
-    Idle,
-    /// A block was flushed, or moved.
-    Moved,
-    Rebuilt(u16, u16),
-    Finished,
-    /// A group's extent went from one disk to another.
-    Shifted(u32, u8, u8),
-    /// A group was formed.
-    Formed(u32),
+    Balance(Balance),
+    Rebuild(Rebuild),
     Count(u64),
     /// Each transcript is its host's part of the history, with so many commands of each.
     Closed([u64; 4]),
@@ -108,22 +94,25 @@ pub fn filled(alloc: Global, count: u8, byte: u8) -> Result<Bytes, AllocError> {
 }
 
 /// Starts an array, and makes calls one after another; each answer is compared with the one that is wanted.
-pub fn play<R: Abort + AllocGlobal>(rt: &R, shape: Shape, rows: &[Row]) -> Result<(), Fail> {
-    play_as::<Brand, R>(rt, shape, Blank::new(4), rows)
+pub fn play<R: Abort + AllocGlobal>(rt: &R, shape: Shape, rows: &[Row]) {
+    play_as::<Brand, R>(rt, Blank::new(4), array(rt, shape), shape, rows);
 }
 
 fn play_as<L: Ledger, R: Abort + AllocGlobal>(
     rt: &R,
-    shape: Shape,
     blank: Blank,
+    array: Array<FuseDisk>,
+    shape: Shape,
     rows: &[Row],
-) -> Result<(), Fail>
+)
     requires name { blank.name ≡ L.name }
     requires parts { blank.parts ≡ L.parts }
     requires four { blank.parts ≡ 4 }
+    requires no_unit { array.store.book.units ≡ [] }
 {
-    let mut rig: Rig<L> = Rig::start(rt.alloc(), blank, array(rt.alloc(), shape)?);
-    Ok(make_calls(rt, shape, &mut rig, rows)?)
+    let mut rig: Rig<L> = Rig::start(rt.alloc(), blank, array);
+    make_calls(rt, shape, &mut rig, rows);
+    drop(rig);
 }
 
 /// Makes calls one after another.
@@ -132,37 +121,35 @@ pub fn make_calls<L: Ledger, R: Abort + AllocGlobal>(
     shape: Shape,
     rig: &mut Rig<L>,
     rows: &[Row],
-) -> Result<(), AllocError> {
+) {
     for (number, (call, wanted)) in rows.iter().enumerate() {
-        let met = make_call(rig, rt.alloc(), shape, *call)?;
-        assert!(rt;
-            met == *wanted,
-            "{number}, {call:?}: {met:?} in place of {wanted:?}"
-        );
+        let met = make_call(rt, rig, shape, *call);
+        is_wanted(rt, number, met, *wanted);
     }
-    Ok(())
 }
 
-fn make_call<L: Ledger>(
+// Compares the answer to a row of a table, which is told by its number.
+fn is_wanted(rt: &impl Abort, row: usize, met: Answer, wanted: Answer) {
+    assert!(rt; met == wanted, "{row}: {met:?} in place of {wanted:?}");
+}
+
+fn make_call<L: Ledger, R: Abort + AllocGlobal>(
+    rt: &R,
     rig: &mut Rig<L>,
-    alloc: Global,
     shape: Shape,
     call: Call,
-) -> Result<Answer, AllocError> {
-    if is_command(call) {
-        return replied(rig, alloc, call);
+) -> Answer {
+    match event(rt, shape, call) {
+        Some(event) => step(rig, event),
+        None => shown(rig, call),
     }
-    if is_event(call) {
-        return operated(rig, alloc, shape, call);
-    }
-    Ok(shown(rig, call))
 }
 
-fn is_command(call: Call) -> bool {
-    matches!(
-        call,
-        Call::Write(..) | Call::Read(..) | Call::Ready(..) | Call::Command(..)
-    )
+fn step<L: Ledger>(rig: &mut Rig<L>, event: Event<FuseDisk>) -> Answer {
+    let outcome = rig.step(event);
+    let answer = answer_of(&outcome);
+    drop(outcome);
+    answer
 }
 
 fn shown<L: Ledger>(rig: &Rig<L>, call: Call) -> Answer {
@@ -175,94 +162,8 @@ fn shown<L: Ledger>(rig: &Rig<L>, call: Call) -> Answer {
     }
 }
 
-// An operation, or work in the background.
-fn operated<L: Ledger>(
-    rig: &mut Rig<L>,
-    alloc: Global,
-    shape: Shape,
-    call: Call,
-) -> Result<Answer, AllocError> {
-    if let Call::Work(task) = call {
-        return Ok(answer_of(&rig.background(task)));
-    }
-    match operation(alloc, shape, call)? {
-        Some(operation) => Ok(answer_of(&rig.operate(operation))),
-        None => Ok(Answer::Other),
-    }
-}
-
-// The operation that a call is, if it is one.
-fn operation(
-    alloc: Global,
-    shape: Shape,
-    call: Call,
-) -> Result<Option<Operation<FuseDisk>>, AllocError> {
-    Ok(match call {
-        Call::Make(host, lun, sectors) => Some(OperationOf::Make(unit(host, lun), sectors)),
-        Call::Grow(host, lun, sectors) => Some(OperationOf::Grow(unit(host, lun), sectors)),
-        Call::Remove(host, lun) => Some(OperationOf::Remove(unit(host, lun))),
-        Call::AddDisk => Some(OperationOf::AddDisk(new_disk(alloc, shape)?)),
-        Call::Replace(number) => Some(OperationOf::Replace(number, new_disk(alloc, shape)?)),
-        Call::DiskOut(number) => Some(OperationOf::DiskOut(number)),
-        _ => None,
-    })
-}
-
-/// A command.
-#[derive(Drop)]
-struct Sent {
-    host: u8,
-    lun: u8,
-    cdb: [u8; 16],
-    payload: Bytes,
-}
-
-// The command that a call is, if it is one.
-fn command(alloc: Global, call: Call) -> Result<Option<Sent>, AllocError> {
-    Ok(match call {
-        Call::Write(host, lun, lba, count, byte) => {
-            let payload = filled(alloc, count, byte)?;
-            Some(command_of(host, lun, transfer(0x2A, lba, count), payload))
-        }
-        Call::Read(host, lun, lba) => {
-            Some(command_of(host, lun, transfer(0x28, lba, 2), Bytes::new()))
-        }
-        Call::Ready(host, lun) => Some(command_of(host, lun, [0; 16], Bytes::new())),
-        Call::Command(host, lun, bytes) => {
-            Some(command_of(host, lun, block(bytes), Bytes::new()))
-        }
-        _ => None,
-    })
-}
-
-fn command_of(host: u8, lun: u8, cdb: [u8; 16], payload: Bytes) -> Sent {
-    Sent {
-        host,
-        lun,
-        cdb,
-        payload,
-    }
-}
-
-fn replied<L: Ledger>(rig: &mut Rig<L>, alloc: Global, call: Call) -> Result<Answer, AllocError> {
-    match command(alloc, call)? {
-        Some(command) => Ok(serve(rig, command)),
-        None => Ok(Answer::Other),
-    }
-}
-
-fn serve<L: Ledger>(rig: &mut Rig<L>, command: Sent) -> Answer {
-    let Sent {
-        host,
-        lun,
-        cdb,
-        payload,
-    } = command;
-    let served = rig.host(host, lun, cdb, payload);
-    reply_answer(&served.reply)
-}
-
-fn reply_answer(reply: &Reply) -> Answer {
+/// What a host is answered.
+pub fn reply_answer(reply: &Reply) -> Answer {
     match reply.status {
         Status::Good if reply.sense.is_none() => data_answer(reply.payload.as_slice()),
         Status::CheckCondition if reply.payload.is_empty() => check_answer(reply.sense),
@@ -289,8 +190,14 @@ fn sectors_answer(bytes: &[u8]) -> Answer {
     }
 }
 
-fn is_filled(bytes: &[u8]) -> bool {
-    bytes.iter().all(|byte| Some(byte) == bytes.first())
+/// Whether bytes are all the same.
+pub fn is_filled(bytes: &[u8]) -> bool {
+    for byte in bytes {
+        if *byte != bytes[0] {
+            return false;
+        }
+    }
+    true
 }
 
 /// The senses that the rows meet.
@@ -312,63 +219,6 @@ fn check_answer(sense: Option<[u8; 18]>) -> Answer {
     Answer::Other
 }
 
-/// What a making, a growth, a removal, or a disk that came or went is answered.
-pub fn changed(outcome: &Outcome<FuseDisk>) -> Answer {
-    match outcome {
-        OutcomeOf::Make(Ok(()))
-        | OutcomeOf::Grow(Ok(()))
-        | OutcomeOf::Remove(Ok(()))
-        | OutcomeOf::DiskOut(Ok(()))
-        | OutcomeOf::AddDisk(Ok(()))
-        | OutcomeOf::Replace(Ok(())) => Answer::Done,
-        OutcomeOf::Make(Err(refusal))
-        | OutcomeOf::Grow(Err(refusal))
-        | OutcomeOf::Remove(Err(refusal))
-        | OutcomeOf::DiskOut(Err(refusal))
-        | OutcomeOf::AddDisk(Err((refusal, _)))
-        | OutcomeOf::Replace(Err((refusal, _))) => refused(*refusal),
-        _ => Answer::Other,
-    }
-}
-
-fn refused(refusal: Refusal) -> Answer {
-    match refusal {
-        Refusal::Unit(refusal) => Answer::UnitRefused(refusal),
-        Refusal::Disk(refusal) => Answer::DiskRefused(refusal),
-        Refusal::Broken => Answer::Broken,
-    }
-}
-
-fn worked(outcome: &Outcome<FuseDisk>) -> Answer {
-    match *outcome {
-        OutcomeOf::Balance(Balance::Shifted { group, from, to }) => {
-            Answer::Shifted(group, from, to)
-        }
-        OutcomeOf::Balance(Balance::Formed(group)) => Answer::Formed(group),
-        OutcomeOf::Balance(Balance::Idle) => Answer::Idle,
-        OutcomeOf::Rebuild(Rebuild::Rebuilt(extent, left)) => Answer::Rebuilt(extent, left),
-        OutcomeOf::Rebuild(Rebuild::Finished) => Answer::Finished,
-        OutcomeOf::Rebuild(Rebuild::Idle) => Answer::Idle,
-        _ => Answer::Other,
-    }
-}
-
-// Of work that moves or flushes a block.
-fn moved(outcome: &Outcome<FuseDisk>) -> Answer {
-    match outcome {
-        OutcomeOf::Flush(Flush::Flushed(_))
-        | OutcomeOf::Demote(Move::Moved { .. })
-        | OutcomeOf::Clean(Move::Moved { .. }) => Answer::Moved,
-        OutcomeOf::Flush(Flush::Idle)
-        | OutcomeOf::Demote(Move::Idle)
-        | OutcomeOf::Clean(Move::Idle) => Answer::Idle,
-        OutcomeOf::Flush(Flush::Broken)
-        | OutcomeOf::Demote(Move::Broken)
-        | OutcomeOf::Clean(Move::Broken) => Answer::Broken,
-        _ => Answer::Other,
-    }
-}
-
 fn closed<L: Ledger>(rig: &Rig<L>) -> Answer {
     match rig.close() {
         Ok(report) => Answer::Closed(report.commands),
@@ -376,38 +226,69 @@ fn closed<L: Ledger>(rig: &Rig<L>) -> Answer {
     }
 }
 
-/// Has an array run the same calls, as far as they are events, and compares its answers.
-pub fn run<R: Abort + AllocGlobal>(rt: &R, shape: Shape, rows: &[Row]) -> Result<(), Fail> {
-    compare(rt, &outcomes(rt.alloc(), shape, rows)?, rows);
-    Ok(())
+/// What an array answers.
+pub fn answer_of(outcome: &Outcome<FuseDisk>) -> Answer {
+    match outcome {
+        OutcomeOf::Cmd(reply) => reply_answer(reply),
+        OutcomeOf::Make(done)
+        | OutcomeOf::Grow(done)
+        | OutcomeOf::Remove(done)
+        | OutcomeOf::DiskOut(done) => changed(*done),
+        OutcomeOf::AddDisk(Ok(())) | OutcomeOf::Replace(Ok(())) => Answer::Done,
+        OutcomeOf::AddDisk(Err((refusal, _))) | OutcomeOf::Replace(Err((refusal, _))) => {
+            Answer::Refused(*refusal)
+        }
+        OutcomeOf::Balance(balance) => Answer::Balance(*balance),
+        OutcomeOf::Rebuild(rebuild) => Answer::Rebuild(*rebuild),
+        _ => Answer::Other,
+    }
 }
 
-fn outcomes(alloc: Global, shape: Shape, rows: &[Row]) -> Result<Vec<Outcome<FuseDisk>>, Fail> {
-    let events = events(alloc, shape, rows)?;
-    match array(alloc, shape)?.run(alloc, events) {
-        Ok(outcomes) => Ok(outcomes),
-        Err(_) => Err(Fail::new("no memory")),
+fn changed(done: Result<(), Refusal>) -> Answer {
+    match done {
+        Ok(()) => Answer::Done,
+        Err(refusal) => Answer::Refused(refusal),
     }
+}
+
+/// Has an array run the same calls, as far as they are events, and compares its answers.
+pub fn run<R: Abort + AllocGlobal>(rt: &R, shape: Shape, rows: &[Row]) {
+    let mut array = array(rt, shape);
+    run_on(rt, &mut array, shape, rows);
+    drop(array);
+}
+
+fn run_on<R: Abort + AllocGlobal>(rt: &R, array: &mut Array<FuseDisk>, shape: Shape, rows: &[Row]) {
+    let events = events(rt, shape, rows);
+    let outcomes = array.run(rt.alloc(), events).ok().expect(rt, "memory");
+    compare(rt, &outcomes, rows);
+    drop(outcomes);
 }
 
 // Each event's outcome is the answer that is wanted of its call.
 fn compare(rt: &impl Abort, outcomes: &[Outcome<FuseDisk>], rows: &[Row]) {
     let mut number: usize = 0;
-    for (call, wanted) in rows {
+    for (row, (call, wanted)) in rows.iter().enumerate() {
         if is_event(*call) {
-            let met = outcomes.get(number).map_or(Answer::Other, answer_of);
-            assert!(rt;
-                met == *wanted,
-                "{number}, {call:?}: {met:?} for {wanted:?}"
-            );
+            is_wanted(rt, row, answer_at(outcomes, number), *wanted);
             number = number.saturating_add(1);
         }
     }
+    are_all(rt, outcomes.len(), number);
+}
+
+fn are_all(rt: &impl Abort, outcomes: usize, events: usize) {
     assert!(rt;
-        outcomes.len() == number,
-        "{} outcomes of {number}",
-        outcomes.len()
+        outcomes == events,
+        "{outcomes} outcomes of {events} events"
     );
+}
+
+fn answer_at(outcomes: &[Outcome<FuseDisk>], number: usize) -> Answer {
+    match outcomes.get(number) {
+        Some(outcome) => answer_of(outcome),
+        None => Answer::Other,
+    }
 }
 
 fn is_event(call: Call) -> bool {
@@ -417,37 +298,54 @@ fn is_event(call: Call) -> bool {
     )
 }
 
-fn events(alloc: Global, shape: Shape, rows: &[Row]) -> Result<Vec<Event<FuseDisk>>, AllocError> {
-    let mut events = Vec::new(alloc);
+fn events<R: Abort + AllocGlobal>(rt: &R, shape: Shape, rows: &[Row]) -> Vec<Event<FuseDisk>> {
+    let mut events = Vec::new(rt.alloc());
     for (call, _) in rows {
-        if let Some(event) = event(alloc, shape, *call)? {
-            events.push(event)?;
-        }
+        push_event(rt, &mut events, shape, *call);
     }
-    Ok(events)
+    events
+}
+
+fn push_event<R: Abort + AllocGlobal>(
+    rt: &R,
+    events: &mut Vec<Event<FuseDisk>>,
+    shape: Shape,
+    call: Call,
+) {
+    if let Some(event) = event(rt, shape, call) {
+        events.push(event).ok().expect(rt, "memory");
+    }
 }
 
 // The event that a call is, if it is one.
-fn event(alloc: Global, shape: Shape, call: Call) -> Result<Option<Event<FuseDisk>>, AllocError> {
-    Ok(match call {
-        Call::Make(host, lun, sectors) => Some(EventOf::Make(unit(host, lun), sectors)),
-        Call::Grow(host, lun, sectors) => Some(EventOf::Grow(unit(host, lun), sectors)),
-        Call::Remove(host, lun) => Some(EventOf::Remove(unit(host, lun))),
-        Call::AddDisk => Some(EventOf::AddDisk(new_disk(alloc, shape)?)),
-        Call::Replace(number) => Some(EventOf::Replace(number, new_disk(alloc, shape)?)),
-        Call::DiskOut(number) => Some(EventOf::DiskOut(number)),
-        Call::Work(task) => Some(work(task)),
-        call => command(alloc, call)?.map(command_event),
+fn event<R: Abort + AllocGlobal>(rt: &R, shape: Shape, call: Call) -> Option<Event<FuseDisk>> {
+    Some(match call {
+        Call::Make(host, lun, sectors) => EventOf::Make(unit(host, lun), sectors),
+        Call::Grow(host, lun, sectors) => EventOf::Grow(unit(host, lun), sectors),
+        Call::Remove(host, lun) => EventOf::Remove(unit(host, lun)),
+        Call::AddDisk => EventOf::AddDisk(new_disk(rt, shape)),
+        Call::Replace(number) => EventOf::Replace(number, new_disk(rt, shape)),
+        Call::DiskOut(number) => EventOf::DiskOut(number),
+        Call::Work(task) => work(task),
+        Call::FreeGroups | Call::History | Call::Transcript(_) | Call::Close => return None,
+        command => command_event(rt, command),
     })
 }
 
-fn command_event(command: Sent) -> Event<FuseDisk> {
-    let Sent {
-        host,
-        lun,
-        cdb,
-        payload,
-    } = command;
+fn command_event<R: Abort + AllocGlobal>(rt: &R, call: Call) -> Event<FuseDisk> {
+    match call {
+        Call::Write(host, lun, lba, count, byte) => {
+            let payload = filled(rt.alloc(), count, byte).expect(rt, "memory");
+            command(host, lun, transfer(0x2A, lba, count), payload)
+        }
+        Call::Read(host, lun, lba) => command(host, lun, transfer(0x28, lba, 2), Bytes::new()),
+        Call::Command(host, lun, bytes) => command(host, lun, block(bytes), Bytes::new()),
+        Call::Ready(host, lun) => command(host, lun, [0; 16], Bytes::new()),
+        _ => EventOf::Flush,
+    }
+}
+
+fn command(host: u8, lun: u8, cdb: [u8; 16], payload: Bytes) -> Event<FuseDisk> {
     EventOf::Cmd {
         host: unit(host, lun).host,
         lun,
@@ -466,15 +364,6 @@ fn work(task: Task) -> Event<FuseDisk> {
     }
 }
 
-fn new_disk(alloc: Global, shape: Shape) -> Result<NewDisk<FuseDisk>, AllocError> {
-    Ok(NewDisk::new(disk(alloc, shape.extents)?))
-}
-
-fn answer_of(outcome: &Outcome<FuseDisk>) -> Answer {
-    match outcome {
-        OutcomeOf::Cmd(reply) => reply_answer(reply),
-        OutcomeOf::Balance(_) | OutcomeOf::Rebuild(_) => worked(outcome),
-        OutcomeOf::Flush(_) | OutcomeOf::Demote(_) | OutcomeOf::Clean(_) => moved(outcome),
-        outcome => changed(outcome),
-    }
+fn new_disk<R: Abort + AllocGlobal>(rt: &R, shape: Shape) -> NewDisk<FuseDisk> {
+    NewDisk::new(disk(rt, shape.extents))
 }

@@ -1,68 +1,78 @@
 // Transcripts that were tampered with, beside the history of which they were a part.
-ghost use Rattle.std.specs.Prelude.{◌≡◌};
+ghost use Rattle.std.specs.Prelude.{◌≡◌, []};
 
 use crate::calls::{Answer, Call, filled, make_calls};
 use crate::rig::{FOUR_GROUPS, Rig, array};
-use ar_disks::Host;
+use ar_core::Array;
+use ar_disks::{FuseDisk, Host};
 use ar_history::{Entry, Exchange, first_difference};
 use ar_scsi::{Reply, Sense};
-use std::alloc::{AllocError, Global};
 use std::marker::Brand;
 use std::process::Abort;
 use std::sync::ledger::{Blank, Ledger};
-use std::test::Fail;
 
-/// What is done to a transcript, at a place in it.
+/// What is done to a line of a transcript.
 #[derive(Clone, Copy, Debug)]
 enum Forgery {
-    Nothing,
     /// Another reply stands there.
-    Reply(usize),
+    Reply,
     /// Another LUN.
-    Lun(usize),
+    Lun,
     /// Another command block.
-    Block(usize),
+    Block,
     /// Other data came with the command.
-    Data(usize),
-    LeftOut(usize),
-    Doubled(usize),
+    Data,
+    LeftOut,
+    Doubled,
 }
 
+/// What is done to one line, by its number, or nothing.
+type Forged = Option<(Forgery, usize)>;
+
 /// What is done to host 1's transcript of three commands, and where it differs then from the host's part of the history.
-const FORGERIES: [(Forgery, Option<u64>); 12] = [
-    (Forgery::Nothing, None),
-    (Forgery::Reply(0), Some(0)),
-    (Forgery::Reply(2), Some(2)),
-    (Forgery::Lun(1), Some(1)),
-    (Forgery::Block(2), Some(2)),
-    (Forgery::Data(0), Some(0)),
-    (Forgery::LeftOut(0), Some(0)),
-    (Forgery::LeftOut(1), Some(1)),
+const FORGERIES: [(Forged, Option<u64>); 12] = [
+    (None, None),
+    (Some((Forgery::Reply, 0)), Some(0)),
+    (Some((Forgery::Reply, 2)), Some(2)),
+    (Some((Forgery::Lun, 1)), Some(1)),
+    (Some((Forgery::Block, 2)), Some(2)),
+    (Some((Forgery::Data, 0)), Some(0)),
+    (Some((Forgery::LeftOut, 0)), Some(0)),
+    (Some((Forgery::LeftOut, 1)), Some(1)),
     // The transcript begins the part, or the part the transcript: the shorter one's length.
-    (Forgery::LeftOut(2), Some(2)),
-    (Forgery::Doubled(0), Some(1)),
-    (Forgery::Doubled(1), Some(2)),
-    (Forgery::Doubled(2), Some(3)),
+    (Some((Forgery::LeftOut, 2)), Some(2)),
+    (Some((Forgery::Doubled, 0)), Some(1)),
+    (Some((Forgery::Doubled, 1)), Some(2)),
+    (Some((Forgery::Doubled, 2)), Some(3)),
+];
+
+/// Whose transcript is compared with whose part of the history, and where they differ: another host's, or one of a host that did
+/// nothing.
+const OTHERS: [(u8, u8, Option<u64>); 4] = [
+    (1, 2, Some(0)),
+    (1, 3, Some(0)),
+    (3, 1, Some(0)),
+    (3, 3, None),
 ];
 
 #[test]
-fn forged_transcripts_are_told(rt: HostRuntime) -> Result<(), Fail> {
-    forge::<Brand, HostRuntime>(&rt, Blank::new(4))
+fn forged_transcripts_are_told(rt: HostRuntime) {
+    forge::<Brand, HostRuntime>(&rt, Blank::new(4), array(&rt, FOUR_GROUPS));
 }
 
-fn forge<L: Ledger, R: Abort + AllocGlobal>(rt: &R, blank: Blank) -> Result<(), Fail>
+fn forge<L: Ledger, R: Abort + AllocGlobal>(rt: &R, blank: Blank, array: Array<FuseDisk>)
     requires name { blank.name ≡ L.name }
     requires parts { blank.parts ≡ L.parts }
     requires four { blank.parts ≡ 4 }
+    requires no_unit { array.store.book.units ≡ [] }
 {
-    let mut rig: Rig<L> = Rig::start(rt.alloc(), blank, array(rt.alloc(), FOUR_GROUPS)?);
-    Ok(try_forgeries(rt, &mut rig)?)
+    let mut rig: Rig<L> = Rig::start(rt.alloc(), blank, array);
+    fill(rt, &mut rig);
+    try_forgeries(rt, &rig);
+    drop(rig);
 }
 
-fn try_forgeries<L: Ledger, R: Abort + AllocGlobal>(
-    rt: &R,
-    rig: &mut Rig<L>,
-) -> Result<(), AllocError> {
+fn fill<L: Ledger, R: Abort + AllocGlobal>(rt: &R, rig: &mut Rig<L>) {
     make_calls(
         rt,
         FOUR_GROUPS,
@@ -77,45 +87,34 @@ fn try_forgeries<L: Ledger, R: Abort + AllocGlobal>(
             (Call::Read(1, 0, 0), Answer::Sectors(0xA1, 0xA1)),
             (Call::Close, Answer::Closed([0, 3, 2, 0])),
         ],
-    )?;
-    for (forgery, wanted) in FORGERIES {
-        let forged = forged(rt.alloc(), rig.transcript(1), forgery)?;
-        differs(rt, rig.history(), 1, &forged, wanted, forgery);
+    );
+}
+
+fn try_forgeries<L: Ledger, R: Abort + AllocGlobal>(rt: &R, rig: &Rig<L>) {
+    for (forgery, wanted) in &FORGERIES {
+        try_forgery(rt, rig, *forgery, *wanted);
     }
-    // Another host's transcript, and one where the host did nothing.
-    differs(
-        rt,
-        rig.history(),
-        2,
-        rig.transcript(1),
-        Some(0),
-        Forgery::Nothing,
-    );
-    differs(
-        rt,
-        rig.history(),
-        3,
-        rig.transcript(1),
-        Some(0),
-        Forgery::Nothing,
-    );
-    differs(
-        rt,
-        rig.history(),
-        1,
-        rig.transcript(3),
-        Some(0),
-        Forgery::Nothing,
-    );
-    differs(
-        rt,
-        rig.history(),
-        3,
-        rig.transcript(3),
-        None,
-        Forgery::Nothing,
-    );
-    Ok(())
+    for (owner, host, wanted) in &OTHERS {
+        differs(
+            rt,
+            rig.history(),
+            *host,
+            rig.transcript(*owner),
+            *wanted,
+            None,
+        );
+    }
+}
+
+fn try_forgery<L: Ledger, R: Abort + AllocGlobal>(
+    rt: &R,
+    rig: &Rig<L>,
+    forgery: Forged,
+    wanted: Option<u64>,
+) {
+    let forged = forged(rt, rig.transcript(1), forgery);
+    differs(rt, rig.history(), 1, &forged, wanted, forgery);
+    drop(forged);
 }
 
 fn differs(
@@ -124,7 +123,7 @@ fn differs(
     host: u8,
     transcript: &[Exchange],
     wanted: Option<u64>,
-    forgery: Forgery,
+    forgery: Forged,
 ) {
     let host = Host::new(host % 4).unwrap();
     let met = first_difference(history, host, transcript);
@@ -132,57 +131,60 @@ fn differs(
 }
 
 // A transcript that was tampered with.
-fn forged(
-    alloc: Global,
+fn forged<R: Abort + AllocGlobal>(
+    rt: &R,
     transcript: &[Exchange],
-    forgery: Forgery,
-) -> Result<Vec<Exchange>, AllocError> {
-    let mut forged = Vec::new(alloc);
+    forgery: Forged,
+) -> Vec<Exchange> {
+    let mut forged = Vec::new(rt.alloc());
     for (number, line) in transcript.iter().enumerate() {
-        if !matches!(forgery, Forgery::LeftOut(place) if place == number) {
-            forged.push(forged_line(alloc, line, number, forgery)?)?;
-        }
-        if matches!(forgery, Forgery::Doubled(place) if place == number) {
-            forged.push(copied(line)?)?;
+        match forgery {
+            Some((forgery, place)) if place == number => put_forged(rt, &mut forged, line, forgery),
+            _ => put(rt, &mut forged, line),
         }
     }
-    Ok(forged)
+    forged
 }
 
-fn copied(line: &Exchange) -> Result<Exchange, AllocError> {
-    Ok(Exchange {
+fn put_forged<R: Abort + AllocGlobal>(
+    rt: &R,
+    forged: &mut Vec<Exchange>,
+    line: &Exchange,
+    forgery: Forgery,
+) {
+    if matches!(forgery, Forgery::LeftOut) {
+        return;
+    }
+    put(rt, forged, line);
+    match forged.last_mut() {
+        Some(copy) => forge_line(rt, copy, forgery),
+        None => {}
+    }
+    if matches!(forgery, Forgery::Doubled) {
+        put(rt, forged, line);
+    }
+}
+
+fn put(rt: &impl Abort, forged: &mut Vec<Exchange>, line: &Exchange) {
+    forged.push(copied(rt, line)).ok().expect(rt, "memory");
+}
+
+fn copied(rt: &impl Abort, line: &Exchange) -> Exchange {
+    let payload = line.payload.slice(0..line.payload.len());
+    Exchange {
         lun: line.lun,
         cdb: line.cdb,
-        payload: line.payload.slice(0..line.payload.len())?,
-        reply: line.reply.clone()?,
-    })
+        payload: payload.expect(rt, "memory"),
+        reply: line.reply.clone().expect(rt, "memory"),
+    }
 }
 
-fn forged_line(
-    alloc: Global,
-    line: &Exchange,
-    number: usize,
-    forgery: Forgery,
-) -> Result<Exchange, AllocError> {
-    let mut copy = copied(line)?;
-    forge_line(alloc, &mut copy, number, forgery)?;
-    Ok(copy)
-}
-
-fn forge_line(
-    alloc: Global,
-    copy: &mut Exchange,
-    number: usize,
-    forgery: Forgery,
-) -> Result<(), AllocError> {
+fn forge_line<R: Abort + AllocGlobal>(rt: &R, copy: &mut Exchange, forgery: Forgery) {
     match forgery {
-        Forgery::Reply(place) if place == number => {
-            copy.reply = Reply::check(Sense::INTERNAL_TARGET_FAILURE);
-        }
-        Forgery::Lun(place) if place == number => copy.lun = 1,
-        Forgery::Block(place) if place == number => copy.cdb[15] = 1,
-        Forgery::Data(place) if place == number => copy.payload = filled(alloc, 2, 0xA3)?,
+        Forgery::Reply => copy.reply = Reply::check(Sense::INTERNAL_TARGET_FAILURE),
+        Forgery::Lun => copy.lun = 1,
+        Forgery::Block => copy.cdb[15] = 1,
+        Forgery::Data => copy.payload = filled(rt.alloc(), 2, 0xA3).expect(rt, "memory"),
         _ => {}
     }
-    Ok(())
 }

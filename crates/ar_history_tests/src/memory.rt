@@ -1,19 +1,18 @@
 // Memory that is refused. Here none is left at all; single allocations are refused in turn by the gate (`.ci/scarce`), and the
 // last test goes on after any one of them.
-ghost use Rattle.std.specs.Prelude.{◌≡◌};
+ghost use Rattle.std.specs.Prelude.{◌≡◌, []};
 
-use crate::calls::{Answer, block, changed, filled, unit};
+use crate::calls::{Answer, answer_of, block, filled, is_filled, reply_answer, unit};
 use crate::rig::{FOUR_GROUPS, Rig, array};
-use ar_core::UnitRefusal;
+use ar_core::{Array, Refusal, UnitRefusal};
 use ar_disks::FuseDisk;
 use ar_history::{Operation, OperationOf, Report, Served};
-use ar_scsi::{Reply, Sense, Status};
+use ar_scsi::{Sense, Status};
 use bytes::Bytes;
-use std::alloc::{AllocError, Global};
+use std::alloc::Global;
 use std::marker::Brand;
 use std::process::Abort;
 use std::sync::ledger::{Blank, Ledger};
-use std::test::Fail;
 
 const TEST_UNIT_READY: [u8; 16] = [0; 16];
 
@@ -51,42 +50,73 @@ const FILLED: u32 = 1_000;
 const UNGROWN: u32 = 10_000;
 
 #[test]
-fn without_memory_commands_are_busy(rt: HostRuntime) -> Result<(), Fail> {
-    starve::<Brand, HostRuntime>(&rt, Blank::new(4))
+fn without_memory_commands_are_busy(rt: HostRuntime) {
+    starve::<Brand, HostRuntime>(&rt, Blank::new(4), array(&rt, FOUR_GROUPS));
 }
 
-fn starve<L: Ledger, R: Abort + AllocGlobal>(rt: &R, blank: Blank) -> Result<(), Fail>
+fn starve<L: Ledger, R: Abort + AllocGlobal>(rt: &R, blank: Blank, array: Array<FuseDisk>)
     requires name { blank.name ≡ L.name }
     requires parts { blank.parts ≡ L.parts }
     requires four { blank.parts ≡ 4 }
+    requires no_unit { array.store.book.units ≡ [] }
 {
-    let mut rig: Rig<L> = Rig::start(rt.alloc(), blank, array(rt.alloc(), FOUR_GROUPS)?);
-    let mut held = Vec::with_capacity(rt.alloc(), 100_000)?;
-    starve_rig(rt, &mut rig, &mut held);
-    Ok(())
+    let mut rig: Rig<L> = Rig::start(rt.alloc(), blank, array);
+    starve_rig(rt, &mut rig);
+    drop(rig);
 }
 
 // Takes all memory once the history is long, so that its next growth is refused, and gives it back.
-fn starve_rig<L: Ledger, R: Abort + AllocGlobal>(
-    rt: &R,
-    rig: &mut Rig<L>,
-    held: &mut Vec<Vec<u8>>,
-) {
+fn starve_rig<L: Ledger, R: Abort + AllocGlobal>(rt: &R, rig: &mut Rig<L>) {
     let busy = ask_until_busy(rig, FILLED);
-    assert!(rt; !busy, "BUSY with ample memory");
-    take_all_memory(rt.alloc(), held);
+    holds(rt, !busy, "BUSY with ample memory");
+    let starved = see_starved(rt, rig);
+    is_starved(rt, starved);
+    is_served(rt, rig, starved.entries);
+}
+
+/// What was seen while there was no memory.
+#[derive(Clone, Copy)]
+struct Starved {
+    busy: bool,
+    /// Whether a making, a removal and two commands were refused.
+    refused: [bool; 4],
+    /// The entries of the history, and whether a refused command left it and the transcript as they were.
+    entries: u64,
+    kept: bool,
+}
+
+fn see_starved<L: Ledger, R: Abort + AllocGlobal>(rt: &R, rig: &mut Rig<L>) -> Starved {
+    let mut held = Vec::with_capacity(rt.alloc(), 100_000).expect(rt, "memory");
+    take_all_memory(rt.alloc(), &mut held);
+    let starved = ask_starved(rig);
+    drop(held);
+    starved
+}
+
+fn ask_starved<L: Ledger>(rig: &mut Rig<L>) -> Starved {
     let busy = ask_until_busy(rig, UNGROWN);
     let entries = rig.history().len();
     let refused = are_refused(rig);
-    let kept = rig.history().len() == entries && rig.transcript(0).len() == entries;
-    held.clear();
-    assert!(rt; busy, "never BUSY");
+    Starved {
+        busy,
+        refused,
+        entries: entries as u64,
+        kept: rig.history().len() == entries && rig.transcript(0).len() == entries,
+    }
+}
+
+fn is_starved(rt: &impl Abort, starved: Starved) {
+    let refused = starved.refused;
+    holds(rt, starved.busy, "never BUSY");
     assert!(rt;
         refused == [true; 4],
         "a making, a removal and two commands: {refused:?}"
     );
-    assert!(rt; kept, "a refused command is recorded");
-    is_served(rt, rig, entries as u64);
+    holds(rt, starved.kept, "a refused command is recorded");
+}
+
+fn holds(rt: &impl Abort, holds: bool, told: &str) {
+    assert!(rt; holds, "{told}");
 }
 
 // Asks for TEST UNIT READY so often, or until it is BUSY.
@@ -110,24 +140,47 @@ fn are_refused<L: Ledger>(rig: &mut Rig<L>) -> [bool; 4] {
     ]
 }
 
+fn operated<L: Ledger>(rig: &mut Rig<L>, operation: Operation<FuseDisk>) -> Answer {
+    let outcome = rig.operate(operation);
+    let answer = answer_of(&outcome);
+    drop(outcome);
+    answer
+}
+
 fn is_no_memory<L: Ledger>(rig: &mut Rig<L>, operation: Operation<FuseDisk>) -> bool {
-    changed(&rig.operate(operation)) == Answer::UnitRefused(UnitRefusal::NoMemory)
+    operated(rig, operation) == Answer::Refused(Refusal::Unit(UnitRefusal::NoMemory))
 }
 
 fn is_busy<L: Ledger>(rig: &mut Rig<L>, cdb: [u8; 16]) -> bool {
     let served = rig.host(0, 0, cdb, Bytes::new());
-    served.reply == Reply::busy() && served.at.is_none()
+    let is_busy = is_told_busy(&served);
+    drop(served);
+    is_busy
+}
+
+fn is_told_busy(served: &Served) -> bool {
+    let reply = &served.reply;
+    reply.status == Status::Busy
+        && reply.sense.is_none()
+        && reply.payload.is_empty()
+        && served.at.is_none()
 }
 
 // With memory again the same command is answered.
 fn is_served<L: Ledger>(rt: &impl Abort, rig: &mut Rig<L>, entries: u64) {
     let served = rig.host(0, 0, TEST_UNIT_READY, Bytes::new());
-    let wanted = Served {
-        reply: Reply::check(Sense::LOGICAL_UNIT_NOT_SUPPORTED),
-        at: Some(entries),
-    };
-    assert!(rt; served == wanted, "{served:?}");
-    let commands = [entries.saturating_add(1), 0, 0, 0];
+    is_absent(rt, &served, entries);
+    drop(served);
+    closes(rt, rig, [entries.saturating_add(1), 0, 0, 0]);
+}
+
+fn is_absent(rt: &impl Abort, served: &Served, entries: u64) {
+    let answer = reply_answer(&served.reply);
+    let is_told = answer == Answer::Check(Sense::LOGICAL_UNIT_NOT_SUPPORTED);
+    assert!(rt; is_told && served.at == Some(entries), "{served:?}");
+}
+
+fn closes<L: Ledger>(rt: &impl Abort, rig: &Rig<L>, commands: [u64; 4]) {
     let met = rig.close();
     assert!(rt; met == Ok(Report { commands }), "{met:?}");
 }
@@ -178,84 +231,95 @@ const ASKS: [(Ask, Option<u8>); 4] = [
 ];
 
 #[test]
-fn a_refused_command_is_asked_again(rt: HostRuntime) -> Result<(), Fail> {
-    ask_all::<Brand, HostRuntime>(&rt, Blank::new(4))
+fn a_refused_command_is_asked_again(rt: HostRuntime) {
+    ask_all::<Brand, HostRuntime>(&rt, Blank::new(4), array(&rt, FOUR_GROUPS));
 }
 
-fn ask_all<L: Ledger, R: Abort + AllocGlobal>(rt: &R, blank: Blank) -> Result<(), Fail>
+fn ask_all<L: Ledger, R: Abort + AllocGlobal>(rt: &R, blank: Blank, array: Array<FuseDisk>)
     requires name { blank.name ≡ L.name }
     requires parts { blank.parts ≡ L.parts }
     requires four { blank.parts ≡ 4 }
+    requires no_unit { array.store.book.units ≡ [] }
 {
-    let mut rig: Rig<L> = Rig::start(rt.alloc(), blank, array(rt.alloc(), FOUR_GROUPS)?);
-    make_at_last(rt, &mut rig, 0);
-    make_at_last(rt, &mut rig, 1);
-    for (ask, byte) in ASKS {
-        let served = ask_at_last(rt, &mut rig, ask)?;
-        is_given(rt, ask, byte, &served);
+    let mut rig: Rig<L> = Rig::start(rt.alloc(), blank, array);
+    ask_rig(rt, &mut rig);
+    drop(rig);
+}
+
+fn ask_rig<L: Ledger, R: Abort + AllocGlobal>(rt: &R, rig: &mut Rig<L>) {
+    make_at_last(rt, rig, 0);
+    make_at_last(rt, rig, 1);
+    for (ask, byte) in &ASKS {
+        let served = ask_at_last(rt, rig, *ask);
+        is_given(rt, *ask, *byte, &served);
+        drop(served);
     }
-    let met = rig.close();
-    let wanted = Report {
-        commands: [2, 2, 0, 0],
-    };
-    assert!(rt; met == Ok(wanted), "{met:?}");
-    Ok(())
+    closes(rt, rig, [2, 2, 0, 0]);
 }
 
 fn make_at_last<L: Ledger>(rt: &impl Abort, rig: &mut Rig<L>, host: u8) {
-    let addr = unit(host, 0);
     let entries = rig.history().len();
-    if !is_made(rig, OperationOf::Make(addr, 4)) {
-        assert!(rt;
-            rig.history().len() == entries,
-            "a refused making is recorded"
-        );
-        let made = is_made(rig, OperationOf::Make(addr, 4));
-        assert!(rt; made, "a making of host {host}");
+    if is_made(rig, host) {
+        return;
     }
+    holds(
+        rt,
+        rig.history().len() == entries,
+        "a refused making is recorded",
+    );
+    let is_made = is_made(rig, host);
+    assert!(rt; is_made, "a making of host {host}");
 }
 
-fn is_made<L: Ledger>(rig: &mut Rig<L>, operation: Operation<FuseDisk>) -> bool {
-    changed(&rig.operate(operation)) == Answer::Done
+fn is_made<L: Ledger>(rig: &mut Rig<L>, host: u8) -> bool {
+    operated(rig, OperationOf::Make(unit(host, 0), 4)) == Answer::Done
 }
 
-fn ask_at_last<L: Ledger, R: Abort + AllocGlobal>(
-    rt: &R,
-    rig: &mut Rig<L>,
-    ask: Ask,
-) -> Result<Served, AllocError> {
+fn ask_at_last<L: Ledger, R: Abort + AllocGlobal>(rt: &R, rig: &mut Rig<L>, ask: Ask) -> Served {
     let entries = rig.history().len();
     let lines = rig.transcript(ask.host).len();
-    let served = ask_once(rt.alloc(), rig, ask)?;
+    let served = ask_once(rt, rig, ask);
     if served.reply.status != Status::Busy {
-        return Ok(served);
+        return served;
     }
-    assert!(rt; served.at.is_none(), "{ask:?}: an entry of a BUSY command");
-    assert!(rt; rig.history().len() == entries, "{ask:?}: the history grew");
-    assert!(rt;
+    is_unrecorded(rt, ask, "an entry of a BUSY command", served.at.is_none());
+    drop(served);
+    is_unrecorded(rt, ask, "the history grew", rig.history().len() == entries);
+    is_unrecorded(
+        rt,
+        ask,
+        "the transcript grew",
         rig.transcript(ask.host).len() == lines,
-        "{ask:?}: the transcript grew"
     );
-    ask_once(rt.alloc(), rig, ask)
+    ask_once(rt, rig, ask)
 }
 
-fn ask_once<L: Ledger>(alloc: Global, rig: &mut Rig<L>, ask: Ask) -> Result<Served, AllocError> {
-    let data = match filled(alloc, ask.sectors, 0xCC) {
+fn is_unrecorded(rt: &impl Abort, ask: Ask, told: &str, holds: bool) {
+    assert!(rt; holds, "{ask:?}: {told}");
+}
+
+fn ask_once<L: Ledger, R: Abort + AllocGlobal>(rt: &R, rig: &mut Rig<L>, ask: Ask) -> Served {
+    let data = filled_at_last(rt, ask.sectors);
+    rig.host(ask.host, 0, ask.cdb, data)
+}
+
+fn filled_at_last<R: Abort + AllocGlobal>(rt: &R, sectors: u8) -> Bytes {
+    match filled(rt.alloc(), sectors, 0xCC) {
         Ok(data) => data,
-        Err(_) => filled(alloc, ask.sectors, 0xCC)?,
-    };
-    Ok(rig.host(ask.host, 0, ask.cdb, data))
+        Err(_) => filled(rt.alloc(), sectors, 0xCC).expect(rt, "memory"),
+    }
 }
 
 fn is_given(rt: &impl Abort, ask: Ask, byte: Option<u8>, served: &Served) {
-    let bytes = served.reply.payload.as_slice();
-    let is_shown = match byte {
-        Some(byte) => bytes.len() == 1024 && bytes.iter().all(|other| *other == byte),
-        None => bytes.is_empty(),
-    };
-    assert!(rt;
-        served.reply.status == Status::Good && is_shown,
-        "{ask:?}: {served:?}"
-    );
+    let is_good = served.reply.status == Status::Good;
+    let is_shown = is_shown(served.reply.payload.as_slice(), byte);
+    assert!(rt; is_good && is_shown, "{ask:?}: {served:?}");
     assert!(rt; served.at.is_some(), "{ask:?}: no entry");
+}
+
+fn is_shown(bytes: &[u8], byte: Option<u8>) -> bool {
+    match byte {
+        Some(byte) => bytes.len() == 1024 && is_filled(bytes) && bytes[0] == byte,
+        None => bytes.is_empty(),
+    }
 }

@@ -3,13 +3,15 @@ ghost use Rattle.std.specs.Prelude.{◌≡◌, ◌∷◌, [], All, map, IfOk};
 ghost use Rattle.ar_extents.specs.Set.{CanCount};
 ghost use Rattle.ar_history.specs.Seat.{SeatState};
 
-use ar_core::{Array, Outcome};
+use ar_core::{Array, Event, EventOf, Outcome, OutcomeOf};
 use ar_disks::{FuseDisk, Geometry, MemDisk};
-use ar_history::{Entry, Exchange, Kept, Mismatch, Operation, Report, Seat, Served, Task};
+use ar_history::{
+    Entry, Exchange, Kept, Mismatch, Operation, OperationOf, Report, Seat, Served, Task,
+};
 use bytes::Bytes;
 use std::alloc::{AllocError, Global};
+use std::process::Abort;
 use std::sync::ledger::{Blank, Ledger};
-use std::test::Fail;
 
 /// What an array begins with: four disks of so many extents, and a cache of so many blocks.
 #[derive(Clone, Copy, Debug)]
@@ -58,6 +60,29 @@ impl<L: Ledger> Rig<L> {
         self.kept.background(task)
     }
 
+    /// Does an event: a host's command, an operation, or work in the background.
+    pub fn step(&mut self, event: Event<FuseDisk>) -> Outcome<FuseDisk> {
+        match event {
+            EventOf::Cmd {
+                host,
+                lun,
+                cdb,
+                payload,
+            } => OutcomeOf::Cmd(self.host(host.number(), lun, cdb, payload).reply),
+            EventOf::Make(unit, sectors) => self.operate(OperationOf::Make(unit, sectors)),
+            EventOf::Grow(unit, sectors) => self.operate(OperationOf::Grow(unit, sectors)),
+            EventOf::Remove(unit) => self.operate(OperationOf::Remove(unit)),
+            EventOf::AddDisk(disk) => self.operate(OperationOf::AddDisk(disk)),
+            EventOf::Replace(number, disk) => self.operate(OperationOf::Replace(number, disk)),
+            EventOf::DiskOut(number) => self.operate(OperationOf::DiskOut(number)),
+            EventOf::Flush => self.background(Task::Flush),
+            EventOf::Rebuild => self.background(Task::Rebuild),
+            EventOf::Clean => self.background(Task::Clean),
+            EventOf::Balance => self.background(Task::Balance),
+            EventOf::Demote => self.background(Task::Demote),
+        }
+    }
+
     pub fn free_groups(&self) -> u32 {
         self.kept.free_groups()
     }
@@ -77,39 +102,42 @@ impl<L: Ledger> Rig<L> {
 }
 
 /// An array of sound disks, without a unit. Where one allocation for it was refused, it is asked for once more.
-pub fn array(alloc: Global, shape: Shape) -> Result<Array<FuseDisk>, Fail>
-    ensures { IfOk result (λ array. array.store.book.units ≡ []) }
+pub fn array<R: Abort + AllocGlobal>(rt: &R, shape: Shape) -> Array<FuseDisk>
+    ensures { result.store.book.units ≡ [] }
 {
     let cache = u32::from(shape.cache);
-    match Array::start(alloc, disks(alloc, shape.extents)?, cache) {
-        Ok(array) => Ok(array),
-        Err((_, disks)) => match Array::start(alloc, disks, cache) {
-            Ok(array) => Ok(array),
-            Err((fault, _)) => Err(Fail::new(fault)),
-        },
+    match Array::start(rt.alloc(), disks(rt, shape.extents), cache) {
+        Ok(array) => array,
+        Err((_, disks)) => Array::start(rt.alloc(), disks, cache)
+            .ok()
+            .expect(rt, "an array"),
     }
 }
 
-fn disks(alloc: Global, extents: u16) -> Result<Vec<FuseDisk>, AllocError>
-    ensures { IfOk result (λ disks. All CanCount (map (λ disk. disk.disk) disks.items)) }
+fn disks<R: Abort + AllocGlobal>(rt: &R, extents: u16) -> Vec<FuseDisk>
+    ensures { All CanCount (map (λ disk. disk.disk) result.items) }
 {
-    let mut disks = Vec::new(alloc);
-    for _number in 0..4 {
-        let disk = disk(alloc, extents)?;
-        if let Err(back) = disks.push(disk) {
-            disks.push(back.value)?;
-        }
+    let four = [
+        disk(rt, extents),
+        disk(rt, extents),
+        disk(rt, extents),
+        disk(rt, extents),
+    ];
+    match Vec::from_array(rt.alloc(), four) {
+        Ok(disks) => disks,
+        Err(back) => Vec::from_array(rt.alloc(), back.value)
+            .ok()
+            .expect(rt, "memory"),
     }
-    Ok(disks)
 }
 
 /// A sound disk. Where memory for it was refused, it is asked for once more.
-pub fn disk(alloc: Global, extents: u16) -> Result<FuseDisk, AllocError>
-    ensures { IfOk result (λ disk. CanCount disk.disk) }
+pub fn disk<R: Abort + AllocGlobal>(rt: &R, extents: u16) -> FuseDisk
+    ensures { CanCount result.disk }
 {
-    match sound_disk(alloc, extents) {
-        Ok(disk) => Ok(disk),
-        Err(_) => sound_disk(alloc, extents),
+    match sound_disk(rt.alloc(), extents) {
+        Ok(disk) => disk,
+        Err(_) => sound_disk(rt.alloc(), extents).expect(rt, "memory"),
     }
 }
 
