@@ -2,13 +2,13 @@
 ghost use Rattle.std.specs.Prelude.{◌≡◌, []};
 ghost use Rattle.ar_extents.specs.Set.{CanCount};
 
-use crate::rig::{array, closes, make};
-use ar_core::{Array, NewDisk, OutcomeOf};
+use crate::rig::{Rig, array, closes, is_done};
+use ar_core::{Array, NewDisk};
 use ar_disks::{Geometry, MemDisk};
 use ar_frames::{Login, Port};
 use ar_history::{Kept, OperationOf};
-use ar_scsi::Status;
-use ar_sessions::{Desk, LockPort, run_background};
+use ar_scsi::{Reply, Status};
+use ar_sessions::{LockPort, run_background};
 use bytes::Bytes;
 use std::alloc::Global;
 use std::marker::Brand;
@@ -16,7 +16,6 @@ use std::process::Abort;
 use std::sync::atomic::{AtomicBool, Ordering};
 use std::sync::ledger::{Blank, Ledger};
 use std::sync::{Mutex, Wait};
-use std::test::Fail;
 use std::thread;
 use std::thread::Threads;
 use std::time::Clock;
@@ -28,11 +27,10 @@ const LOOKS: u32 = 10_000_000;
 const WRITE: [u8; 16] = [0x2A, 0, 0, 0, 0, 0, 0, 0, 2, 0, 0, 0, 0, 0, 0, 0];
 
 #[test]
-fn a_block_is_flushed_and_a_new_disk_is_used(rt: HostRuntime) -> Result<(), Fail> {
+fn a_block_is_flushed_and_a_new_disk_is_used(rt: HostRuntime) {
     let alloc = rt.alloc();
-    let array = array(alloc, 4)?;
+    let array = array(&rt, alloc, 4, 4);
     works_on::<Brand, _>(&rt, alloc, Blank::new(4), array);
-    Ok(())
 }
 
 fn works_on<L: Ledger + Send + Sync, R: Threads + Wait + Clock + Abort + Sync>(
@@ -46,30 +44,29 @@ fn works_on<L: Ledger + Send + Sync, R: Threads + Wait + Clock + Abort + Sync>(
     requires four { blank.parts ≡ 4 }
     requires no_unit { array.store.book.units ≡ [] }
 {
-    let (mut kept, seats) = Kept::<MemDisk, L>::start(alloc, blank, array);
-    make(rt, &mut kept, 0);
-    let kept = Mutex::new(kept);
-    let desk = Mutex::new(Desk::new(seats));
-    write(rt, alloc, &kept, &desk);
-    works(rt, alloc, &kept);
-    closes(rt, kept.into_inner(), desk.into_inner(), &[1, 0, 0, 0]);
+    let rig: Rig<L> = Rig::start(alloc, blank, array);
+    rig.make(rt, 0);
+    write(rt, alloc, &rig);
+    works(rt, alloc, &rig.kept);
+    closes(rt, rig, &[1, 0, 0, 0]);
 }
 
 // A host writes a block, which the cache takes.
-fn write<L: Ledger, R: Wait + Abort>(
-    rt: &R,
-    alloc: Global,
-    kept: &Mutex<Kept<MemDisk, L>>,
-    desk: &Mutex<Desk<L>>,
-) {
+fn write<L: Ledger, R: Wait + Abort>(rt: &R, alloc: Global, rig: &Rig<L>) {
     let bytes = vec![in alloc; 0xAA; 1024].expect(rt, "memory");
     let payload = Bytes::from_vec(bytes).ok().expect(rt, "memory");
-    let mut port = LockPort::new(rt, kept, desk);
+    let mut port = LockPort::new(rt, &rig.kept, &rig.desk);
     if let Login::Taken = port.login(0) {
         let reply = port.command(0, &WRITE, payload);
-        assert!(rt; reply.status == Status::Good, "{reply:?}");
+        was_good(rt, &reply);
+        drop(reply);
     }
     port.finish();
+    drop(port);
+}
+
+fn was_good(rt: &impl Abort, reply: &Reply) {
+    assert!(rt; reply.status == Status::Good, "{reply:?}");
 }
 
 // The block reaches the disks, where a group is taken for it. Of a disk that is added a group is formed.
@@ -102,14 +99,9 @@ fn comes_to<L: Ledger, R: Wait + Abort>(rt: &R, kept: &Mutex<Kept<MemDisk, L>>, 
 }
 
 fn add<L: Ledger, R: Wait + Abort>(rt: &R, alloc: Global, kept: &Mutex<Kept<MemDisk, L>>) {
-    let disk = disk(rt, alloc);
-    let added = kept
-        .lock(rt)
-        .operate(OperationOf::AddDisk(NewDisk::new(disk)));
-    assert!(rt;
-        matches!(added, OutcomeOf::AddDisk(Ok(()))),
-        "the disk is added"
-    );
+    let disk = NewDisk::new(disk(rt, alloc));
+    let is_added = is_done(rt, kept, OperationOf::AddDisk(disk));
+    assert!(rt; is_added, "the disk is added");
 }
 
 fn disk(rt: &impl Abort, alloc: Global) -> MemDisk

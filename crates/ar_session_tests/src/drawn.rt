@@ -2,21 +2,18 @@
 // reply is, byte by byte, that of plain lists, which share no code with the array.
 ghost use Rattle.std.specs.Prelude.{◌≡◌, [], None};
 
-use crate::frames::{LOGINS, put, put_reply, put_request};
-use crate::rig::{array_of, closes};
+use crate::frames::{LOGINS, put_reply, put_request};
+use crate::rig::{Rig, array, closes, copy_rest, serves, sink};
 use ar_agreement::{agrees, kind_of_work, unit_at};
-use ar_core::Array;
+use ar_core::{Array, Outcome};
 use ar_disks::MemDisk;
-use ar_frames::{MemSink, SessionEnd, Source, Why, serve};
-use ar_history::{Kept, Operation, OperationOf, Task};
-use ar_sessions::{Desk, LockPort};
-use ar_witness::{Answer, Ask, Command, Kind, Run, Work};
-use std::alloc::Global;
+use ar_frames::{SessionEnd, Source, Why};
+use ar_history::{Operation, OperationOf, Task};
+use ar_witness::{Answer, Ask, Command, Kind, Run, Tally, Work};
 use std::marker::Brand;
 use std::process::Abort;
+use std::sync::Wait;
 use std::sync::ledger::{Blank, Ledger};
-use std::sync::{Mutex, Wait};
-use std::test::Fail;
 
 /// The frames of a host's session.
 const FRAMES: u64 = 5_000;
@@ -36,12 +33,11 @@ const ROOM: u32 = 6 * 15;
 const WANTED: u32 = 100;
 
 #[test]
-fn drawn_sessions_are_answered_as_by_plain_lists(rt: HostRuntime) -> Result<(), Fail> {
+fn drawn_sessions_are_answered_as_by_plain_lists(rt: HostRuntime) {
     for cache in [0, 2] {
-        let array = array_of(rt.alloc(), EXTENTS, cache)?;
+        let array = array(&rt, rt.alloc(), EXTENTS, cache);
         sessions_on::<Brand, HostRuntime>(&rt, Blank::new(4), array, cache);
     }
-    Ok(())
 }
 
 fn sessions_on<L: Ledger, R: Wait + Abort + AllocGlobal>(
@@ -55,41 +51,53 @@ fn sessions_on<L: Ledger, R: Wait + Abort + AllocGlobal>(
     requires four { blank.parts ≡ 4 }
     requires no_unit { array.store.book.units ≡ [] }
 {
-    let (kept, seats) = Kept::<MemDisk, L>::start(rt.alloc(), blank, array);
-    let kept = Mutex::new(kept);
-    let desk = Mutex::new(Desk::new(seats));
-    in_turn(rt, &kept, &desk, cache);
-    closes(rt, kept.into_inner(), desk.into_inner(), &[FRAMES; 4]);
+    let rig: Rig<L> = Rig::start(rt.alloc(), blank, array);
+    in_turn(rt, &rig, cache);
+    closes(rt, rig, &[FRAMES; 4]);
 }
 
 // The four hosts, one after another.
-fn in_turn<L: Ledger, R: Wait + Abort + AllocGlobal>(
-    rt: &R,
-    kept: &Mutex<Kept<MemDisk, L>>,
-    desk: &Mutex<Desk<L>>,
-    cache: u32,
-) {
+fn in_turn<L: Ledger, R: Wait + Abort + AllocGlobal>(rt: &R, rig: &Rig<L>, cache: u32) {
     let mut run = Run::new(rt.alloc(), 8, ROOM);
     for host in 0..4 {
-        session(rt, kept, desk, host, &mut run);
+        session(rt, rig, host, &mut run);
     }
     each_kind_came(rt, cache, &run);
+    drop(run);
 }
 
 fn session<L: Ledger, R: Wait + Abort + AllocGlobal>(
     rt: &R,
-    kept: &Mutex<Kept<MemDisk, L>>,
-    desk: &Mutex<Desk<L>>,
+    rig: &Rig<L>,
     host: u8,
     run: &mut Run,
 ) {
-    let mut reader = Asking::new(rt, kept, host, run);
-    let mut writer = MemSink::new(vec![in rt.alloc(); 0; MOST_BYTES].expect(rt, "memory"));
-    let mut port = LockPort::new(rt, kept, desk);
-    let end = serve(rt.alloc(), &mut reader, &mut writer, &mut port);
-    port.finish();
-    ends(rt, host, end);
-    replies(rt, host, writer.written(), &reader.wanted);
+    let mut reader = Asking {
+        rt,
+        rig,
+        host,
+        run,
+        left: FRAMES,
+        at: 0,
+        frames: Frames {
+            request: bytes(rt, LOGINS[usize::from(host % 4)]),
+            replies: bytes(rt, &[0x00]),
+        },
+    };
+    is_served(rt, rig, &mut reader);
+    drop(reader);
+}
+
+fn is_served<L: Ledger, R: Wait + Abort + AllocGlobal>(
+    rt: &R,
+    rig: &Rig<L>,
+    reader: &mut Asking<'_, R, L>,
+) {
+    let mut writer = sink(rt, rt.alloc(), MOST_BYTES);
+    let end = serves(rt, rt.alloc(), rig, reader, &mut writer);
+    ends(rt, reader.host, end);
+    replies(rt, reader.host, writer.written(), &reader.frames.replies);
+    drop(writer);
 }
 
 fn ends(rt: &impl Abort, host: u8, end: SessionEnd) {
@@ -163,67 +171,57 @@ fn each_kind_came(rt: &impl Abort, cache: u32, run: &Run) {
     assert!(rt; other == 0, "{other} other answers, cache {cache}");
 }
 
-// A host that logs in and sends commands of a run, and has done what stands between them when its next frame is read.
+/// The frame that is sent next, and what the session has to write to all that were.
 #[derive(Drop)]
-struct Asking<'a, R: Wait + Abort, L: Ledger> {
-    rt: &'a R,
-    kept: &'a Mutex<Kept<MemDisk, L>>,
-    host: u8,
-    run: &'a mut Run,
-    // How many frames come after this one, and how much of it was read.
-    left: u64,
-    frame: Vec<u8>,
-    at: usize,
-    // What the session has to write.
-    wanted: Vec<u8>,
-}
-
-impl<'a, R: Wait + Abort + AllocGlobal, L: Ledger> Asking<'a, R, L> {
-    fn new(
-        rt: &'a R,
-        kept: &'a Mutex<Kept<MemDisk, L>>,
-        host: u8,
-        run: &'a mut Run,
-    ) -> Asking<'a, R, L> {
-        Asking {
-            rt,
-            kept,
-            host,
-            run,
-            left: FRAMES,
-            frame: bytes(rt, LOGINS[usize::from(host % 4)]),
-            at: 0,
-            wanted: bytes(rt, &[0x00]),
-        }
-    }
+struct Frames {
+    request: Vec<u8>,
+    replies: Vec<u8>,
 }
 
 fn bytes<R: Abort + AllocGlobal>(rt: &R, bytes: &[u8]) -> Vec<u8> {
     bytes.to_vec(rt.alloc()).expect(rt, "memory")
 }
 
+// A host that logs in and sends commands of a run, and has done what stands between them when its next frame is read.
+#[derive(Drop)]
+struct Asking<'a, R: Wait + Abort, L: Ledger> {
+    rt: &'a R,
+    rig: &'a Rig<L>,
+    host: u8,
+    run: &'a mut Run,
+    // How many frames come after this one, and how much of it was read.
+    left: u64,
+    at: usize,
+    frames: Frames,
+}
+
+impl<R: Wait + Abort, L: Ledger> Asking<'_, R, L> {
+    // Makes the next frame, where this one was read.
+    fn go_on(&mut self) {
+        if self.at < self.frames.request.len() || self.left == 0 {
+            return;
+        }
+        self.left -= 1;
+        self.at = 0;
+        self.frames.request.clear();
+        let tag = (self.left % 256) as u8;
+        ask_next(
+            self.rt,
+            self.rig,
+            self.host,
+            tag,
+            self.run,
+            &mut self.frames,
+        );
+    }
+}
+
 impl<R: Wait + Abort, L: Ledger> Source for Asking<'_, R, L> {
     ghost state = { λ source. record { left = None; faults = 0 } };
 
     fn read(&mut self, into: &mut [u8]) -> Option<usize> {
-        if self.at >= self.frame.len() && self.left > 0 {
-            self.left -= 1;
-            self.at = 0;
-            self.frame.clear();
-            let tag = (self.left % 256) as u8;
-            ask_next(
-                self.rt,
-                self.kept,
-                self.host,
-                tag,
-                self.run,
-                &mut self.frame,
-                &mut self.wanted,
-            );
-        }
-        let rest = &self.frame[self.at.min(self.frame.len())..];
-        let count = rest.len().min(into.len());
-        into[..count].copy_from_slice(&rest[..count]);
+        self.go_on();
+        let count = copy_rest(&self.frames.request, self.at, into);
         self.at = self.at.saturating_add(count);
         Some(count)
     }
@@ -236,51 +234,77 @@ impl<R: Wait + Abort, L: Ledger> Source for Asking<'_, R, L> {
 // Does what comes before the host's next command, and puts this one into a frame.
 fn ask_next<R: Wait + Abort, L: Ledger>(
     rt: &R,
-    kept: &Mutex<Kept<MemDisk, L>>,
+    rig: &Rig<L>,
     host: u8,
     tag: u8,
     run: &mut Run,
-    frame: &mut Vec<u8>,
-    replies: &mut Vec<u8>,
+    frames: &mut Frames,
 ) {
     for _ in 0..MOST_BETWEEN {
-        let (ask, wanted) = run.next(Some(host)).expect(rt, "memory");
-        match ask {
-            Ask::Command(command) => {
-                put_frames(rt, tag, &command, &wanted, frame, replies);
-                return;
-            }
-            Ask::Work(task) => run.tally.add(work(rt, kept, task)),
-            change => operate(rt, kept, change, &wanted),
+        if ask_once(rt, rig, host, tag, run, frames) {
+            return;
         }
     }
 }
 
-fn put_frames(
-    rt: &impl Abort,
+fn ask_once<R: Wait + Abort, L: Ledger>(
+    rt: &R,
+    rig: &Rig<L>,
+    host: u8,
     tag: u8,
-    command: &Command,
+    run: &mut Run,
+    frames: &mut Frames,
+) -> bool {
+    let (ask, wanted) = run.next(Some(host)).expect(rt, "memory");
+    let is_command = ask_this(rt, rig, tag, &ask, &wanted, &mut run.tally, frames);
+    drop(ask);
+    drop(wanted);
+    is_command
+}
+
+// Does what is asked, or puts a command into a frame and says so.
+fn ask_this<R: Wait + Abort, L: Ledger>(
+    rt: &R,
+    rig: &Rig<L>,
+    tag: u8,
+    ask: &Ask,
     wanted: &Answer,
-    frame: &mut Vec<u8>,
-    replies: &mut Vec<u8>,
-) {
+    tally: &mut Tally,
+    frames: &mut Frames,
+) -> bool {
+    match ask {
+        Ask::Command(command) => put_frames(rt, tag, command, wanted, frames),
+        Ask::Work(task) => tally.add(work(rt, rig, *task)),
+        change => operate(rt, rig, change, wanted),
+    }
+    matches!(ask, Ask::Command(_))
+}
+
+fn put_frames(rt: &impl Abort, tag: u8, command: &Command, wanted: &Answer, frames: &mut Frames) {
+    let lun = command.place.lun;
     put_request(
         rt,
-        frame,
+        &mut frames.request,
         tag,
-        command.place.lun,
+        lun,
         &command.cdb,
         &command.data,
     );
     if let Answer::Replied(reply) = wanted {
-        put_reply(rt, replies, tag, reply);
+        put_reply(rt, &mut frames.replies, tag, reply);
     }
 }
 
-fn work<L: Ledger>(rt: &(impl Wait + Abort), kept: &Mutex<Kept<MemDisk, L>>, work: Work) -> Kind {
-    let outcome = kept.lock(rt).background(task_of(work));
-    assert!(rt; agrees(&outcome, &Answer::Open), "{work:?}: {outcome:?}");
-    kind_of_work(&outcome)
+fn work<L: Ledger>(rt: &(impl Wait + Abort), rig: &Rig<L>, work: Work) -> Kind {
+    let outcome = rig.kept.lock(rt).background(task_of(work));
+    does_agree(rt, &outcome, &Answer::Open);
+    let kind = kind_of_work(&outcome);
+    drop(outcome);
+    kind
+}
+
+fn does_agree(rt: &impl Abort, outcome: &Outcome<MemDisk>, wanted: &Answer) {
+    assert!(rt; agrees(outcome, wanted), "{outcome:?} for {wanted:?}");
 }
 
 fn task_of(work: Work) -> Task {
@@ -294,18 +318,11 @@ fn task_of(work: Work) -> Task {
 }
 
 // A making, growth or removal.
-fn operate<L: Ledger>(
-    rt: &(impl Wait + Abort),
-    kept: &Mutex<Kept<MemDisk, L>>,
-    ask: Ask,
-    wanted: &Answer,
-) {
-    if let Some(operation) = operation_of(&ask) {
-        let outcome = kept.lock(rt).operate(operation);
-        assert!(rt;
-            agrees(&outcome, wanted),
-            "{ask:?}: {outcome:?} for {wanted:?}"
-        );
+fn operate<L: Ledger>(rt: &(impl Wait + Abort), rig: &Rig<L>, ask: &Ask, wanted: &Answer) {
+    if let Some(operation) = operation_of(ask) {
+        let outcome = rig.kept.lock(rt).operate(operation);
+        does_agree(rt, &outcome, wanted);
+        drop(outcome);
     }
 }
 

@@ -48,8 +48,9 @@ pub fn put_good(rt: &impl Abort, to: &mut Vec<u8>, tag: u8, bytes: &[u8]) {
     put(rt, to, bytes);
 }
 
-/// A reply CHECK CONDITION, with sense data of this key and code.
-pub fn put_check(rt: &impl Abort, to: &mut Vec<u8>, tag: u8, key: u8, asc: u8, ascq: u8) {
+/// A reply CHECK CONDITION, with sense data of this key, code and qualifier.
+pub fn put_check(rt: &impl Abort, to: &mut Vec<u8>, tag: u8, sense: [u8; 3]) {
+    let [key, asc, ascq] = sense;
     put_count(rt, to, 28);
     put(rt, to, &[0, 0, 0, 0, 0, 0, 0, tag, 0x02, 0x12]);
     put(

@@ -2,20 +2,18 @@
 ghost use Rattle.std.specs.Prelude.{◌≡◌, []};
 
 use crate::frames::{LOGINS, TUR, put, put_request};
-use crate::rig::{array, closes, make};
+use crate::rig::{Rig, array, closes, sink};
 use ar_core::Array;
 use ar_disks::{Host, MemDisk};
 use ar_frames::{Gate, MemSink, MemSource, NoGate, SessionEnd, Why};
-use ar_history::Kept;
-use ar_sessions::{ConnectionEnd, Desk, Door, MemDoor, run_sessions};
+use ar_sessions::{ConnectionEnd, Door, MemDoor, run_sessions};
 use std::alloc::Global;
 use std::collections::VecDeque;
 use std::marker::Brand;
 use std::process::Abort;
+use std::sync::Wait;
 use std::sync::atomic::{AtomicBool, Ordering};
 use std::sync::ledger::{Blank, Ledger};
-use std::sync::{Mutex, Wait};
-use std::test::Fail;
 use std::thread;
 use std::thread::Threads;
 
@@ -64,11 +62,23 @@ fn input(rt: &impl Abort, alloc: Global, host: u8, count: u8) -> Vec<u8> {
 fn door(rt: &impl Abort, alloc: Global, sessions: &[(u8, u8)]) -> MemDoor<MemSource, MemSink> {
     let mut pairs = VecDeque::new(alloc);
     for (host, count) in sessions {
-        let reader = MemSource::new(input(rt, alloc, *host, *count));
-        let writer = MemSink::new(vec![in alloc; 0; 256].expect(rt, "memory"));
-        assert!(rt; pairs.push_back((reader, writer)).is_ok(), "memory");
+        push(rt, alloc, &mut pairs, *host, *count);
     }
     MemDoor::new(pairs)
+}
+
+fn push(
+    rt: &impl Abort,
+    alloc: Global,
+    pairs: &mut VecDeque<(MemSource, MemSink)>,
+    host: u8,
+    count: u8,
+) {
+    let reader = MemSource::new(input(rt, alloc, host, count));
+    pairs
+        .push_back((reader, sink(rt, alloc, 256)))
+        .ok()
+        .expect(rt, "memory");
 }
 
 // Serves a door on a new array where hosts 0 and 1 have units, and closes it.
@@ -79,8 +89,8 @@ fn serve<O: Door, G: Gate + Sync, R: Threads + Wait + Abort + Sync>(
     gate: &G,
     wanted: &[ConnectionEnd],
     commands: [u64; 4],
-) -> Result<(), Fail> {
-    let array = array(alloc, 0)?;
+) {
+    let array = array(rt, alloc, 4, 0);
     serve_on::<Brand, O, G, R>(
         rt,
         alloc,
@@ -91,7 +101,6 @@ fn serve<O: Door, G: Gate + Sync, R: Threads + Wait + Abort + Sync>(
         wanted,
         commands,
     );
-    Ok(())
 }
 
 fn serve_on<L: Ledger + Send + Sync, O: Door, G: Gate + Sync, R: Threads + Wait + Abort + Sync>(
@@ -109,14 +118,28 @@ fn serve_on<L: Ledger + Send + Sync, O: Door, G: Gate + Sync, R: Threads + Wait 
     requires four { blank.parts ≡ 4 }
     requires no_unit { array.store.book.units ≡ [] }
 {
-    let (mut kept, seats) = Kept::<MemDisk, L>::start(alloc, blank, array);
-    make(rt, &mut kept, 0);
-    make(rt, &mut kept, 1);
-    let kept = Mutex::new(kept);
-    let desk = Mutex::new(Desk::new(seats));
-    let ends = run_sessions(rt, alloc, door, &kept, &desk, gate).expect(rt, "memory");
-    assert!(rt; ends.as_slice() == wanted, "{ends:?}");
-    closes(rt, kept.into_inner(), desk.into_inner(), &commands);
+    let rig: Rig<L> = Rig::start(alloc, blank, array);
+    run_on(rt, alloc, &rig, door, gate, wanted);
+    closes(rt, rig, &commands);
+}
+
+fn run_on<L: Ledger + Send + Sync, O: Door, G: Gate + Sync, R: Threads + Wait + Abort + Sync>(
+    rt: &R,
+    alloc: Global,
+    rig: &Rig<L>,
+    door: &mut O,
+    gate: &G,
+    wanted: &[ConnectionEnd],
+) {
+    rig.make(rt, 0);
+    rig.make(rt, 1);
+    let ends = run_sessions(rt, alloc, door, &rig.kept, &rig.desk, gate).expect(rt, "memory");
+    are_wanted(rt, ends.as_slice(), wanted);
+    drop(ends);
+}
+
+fn are_wanted(rt: &impl Abort, ends: &[ConnectionEnd], wanted: &[ConnectionEnd]) {
+    assert!(rt; ends == wanted, "{ends:?}");
 }
 
 const fn served(frames: u64, why: Why) -> ConnectionEnd {
@@ -124,32 +147,47 @@ const fn served(frames: u64, why: Why) -> ConnectionEnd {
 }
 
 #[test]
-fn two_sessions_at_once(rt: HostRuntime) -> Result<(), Fail> {
-    let alloc = rt.alloc();
+fn two_sessions_at_once(rt: HostRuntime) {
     let gate = Held {
         answered: AtomicBool::new(false),
         late: AtomicBool::new(false),
     };
-    let mut door = door(&rt, alloc, &[(0, 1), (1, 1)]);
+    let sessions = [(0, 1), (1, 1)];
     let wanted = [served(1, Why::End), served(1, Why::End)];
-    serve(&rt, alloc, &mut door, &gate, &wanted, [1, 1, 0, 0])?;
+    meet(&rt, rt.alloc(), &sessions, &gate, &wanted, [1, 1, 0, 0]);
+    is_answered_meanwhile(&rt, &gate);
+}
+
+fn is_answered_meanwhile(rt: &impl Abort, gate: &Held) {
     assert!(rt;
         !gate.late.load(Ordering::SeqCst),
         "host 1 is answered while host 0 is held"
     );
-    Ok(())
+}
+
+// Serves sessions of hosts, each with so many commands.
+fn meet<G: Gate + Sync, R: Threads + Wait + Abort + Sync>(
+    rt: &R,
+    alloc: Global,
+    sessions: &[(u8, u8)],
+    gate: &G,
+    wanted: &[ConnectionEnd],
+    commands: [u64; 4],
+) {
+    let mut door = door(rt, alloc, sessions);
+    serve(rt, alloc, &mut door, gate, wanted, commands);
+    drop(door);
 }
 
 #[test]
-fn ends_stand_in_order(rt: HostRuntime) -> Result<(), Fail> {
-    let alloc = rt.alloc();
-    let mut door = door(&rt, alloc, &[(2, 3), (1, 1), (3, 2)]);
+fn ends_stand_in_order(rt: HostRuntime) {
+    let sessions = [(2, 3), (1, 1), (3, 2)];
     let wanted = [
         served(3, Why::End),
         served(1, Why::End),
         served(2, Why::End),
     ];
-    serve(&rt, alloc, &mut door, &NoGate, &wanted, [0, 1, 3, 2])
+    meet(&rt, rt.alloc(), &sessions, &NoGate, &wanted, [0, 1, 3, 2]);
 }
 
 // A door that doesn't open.
@@ -176,14 +214,8 @@ impl Door for Jammed {
 }
 
 #[test]
-fn a_connection_that_does_not_open(rt: HostRuntime) -> Result<(), Fail> {
+fn a_connection_that_does_not_open(rt: HostRuntime) {
     let wanted = [served(0, Why::Read), served(0, Why::Read)];
-    serve(
-        &rt,
-        rt.alloc(),
-        &mut Jammed { left: 2 },
-        &NoGate,
-        &wanted,
-        [0, 0, 0, 0],
-    )
+    let mut door = Jammed { left: 2 };
+    serve(&rt, rt.alloc(), &mut door, &NoGate, &wanted, [0, 0, 0, 0]);
 }

@@ -1,39 +1,70 @@
 // A kept array of small disks and its desk, and sessions on it one after another.
-ghost use Rattle.std.specs.Prelude.{◌≡◌, [], IfOk, None};
+ghost use Rattle.std.specs.Prelude.{◌≡◌, ◌≤◌, [], length};
 
 use ar_core::{Array, OutcomeOf};
 use ar_disks::{Addr, Geometry, Host, MemDisk};
 use ar_frames::{MemSink, SessionEnd, Source, serve};
-use ar_history::{Kept, OperationOf};
+use ar_history::{Kept, Operation, OperationOf};
 use ar_script::{Setup, start_array};
 use ar_sessions::{Desk, LockPort};
 use std::alloc::Global;
-use std::marker::Brand;
 use std::process::Abort;
 use std::sync::ledger::{Blank, Ledger};
 use std::sync::{Mutex, Wait};
-use std::test::Fail;
 
-/// A session on the array, its input and what is wanted of it.
+/// A kept array under a lock, and its desk.
 #[derive(Drop)]
-pub struct Session {
-    pub input: Vec<u8>,
-    /// Where in the input unit 0 of host 0 grows to six sectors, if it does.
-    pub grows_at: Option<usize>,
-    pub output: Vec<u8>,
-    pub end: SessionEnd,
+pub struct Rig<L: Ledger> {
+    pub kept: Mutex<Kept<MemDisk, L>>,
+    pub desk: Mutex<Desk<L>>,
 }
 
-/// A new array of four small disks of four extents, with a cache of so many blocks.
-pub fn array(alloc: Global, cache: u32) -> Result<Array<MemDisk>, Fail>
-    ensures { IfOk result (λ array. array.store.book.units ≡ []) }
-{
-    array_of(alloc, 4, cache)
+impl<L: Ledger> Rig<L> {
+    /// The kept array of a new one, and a desk with all seats.
+    pub fn start(alloc: Global, blank: Blank, array: Array<MemDisk>) -> Rig<L>
+        requires name { blank.name ≡ L.name }
+        requires parts { blank.parts ≡ L.parts }
+        requires four { blank.parts ≡ 4 }
+        requires no_unit { array.store.book.units ≡ [] }
+    {
+        let (kept, seats) = Kept::<MemDisk, L>::start(alloc, blank, array);
+        Rig {
+            kept: Mutex::new(kept),
+            desk: Mutex::new(Desk::new(seats)),
+        }
+    }
+
+    /// Makes unit 0 of a host with four sectors.
+    pub fn make(&self, rt: &(impl Wait + Abort), host: u8) {
+        let is_made = is_done(rt, &self.kept, OperationOf::Make(unit(rt, host), 4));
+        assert!(rt; is_made, "unit 0 of host {host} is made");
+    }
+
+    /// Unit 0 of host 0 grows to six sectors.
+    pub fn grow(&self, rt: &(impl Wait + Abort)) {
+        let has_grown = is_done(rt, &self.kept, OperationOf::Grow(unit(rt, 0), 6));
+        assert!(rt; has_grown, "the unit grows");
+    }
+}
+
+/// Whether a making, a growth, or a disk that is added is done.
+pub fn is_done<L: Ledger>(
+    rt: &impl Wait,
+    kept: &Mutex<Kept<MemDisk, L>>,
+    operation: Operation<MemDisk>,
+) -> bool {
+    let outcome = kept.lock(rt).operate(operation);
+    let is_done = matches!(
+        outcome,
+        OutcomeOf::Make(Ok(())) | OutcomeOf::Grow(Ok(())) | OutcomeOf::AddDisk(Ok(()))
+    );
+    drop(outcome);
+    is_done
 }
 
 /// A new array of four small disks of so many extents, with a cache of so many blocks.
-pub fn array_of(alloc: Global, extents: u16, cache: u32) -> Result<Array<MemDisk>, Fail>
-    ensures { IfOk result (λ array. array.store.book.units ≡ []) }
+pub fn array(rt: &impl Abort, alloc: Global, extents: u16, cache: u32) -> Array<MemDisk>
+    ensures { result.store.book.units ≡ [] }
 {
     let setup = Setup {
         geometry: Geometry::SMALL,
@@ -41,7 +72,7 @@ pub fn array_of(alloc: Global, extents: u16, cache: u32) -> Result<Array<MemDisk
         extents,
         cache,
     };
-    start_array(alloc, setup).map_err(|_| Fail::from("an array"))
+    start_array(alloc, setup).ok().expect(rt, "an array")
 }
 
 /// Unit 0 of a host.
@@ -50,135 +81,51 @@ pub fn unit(rt: &impl Abort, host: u8) -> Addr {
     Addr { host, lun: 0 }
 }
 
-/// Makes unit 0 of a host with four sectors.
-pub fn make<L: Ledger>(rt: &impl Abort, kept: &mut Kept<MemDisk, L>, host: u8) {
-    let made = kept.operate(OperationOf::Make(unit(rt, host), 4));
-    assert!(rt;
-        matches!(made, OutcomeOf::Make(Ok(()))),
-        "unit 0 of host {host} is made"
-    );
+/// Closes the array after all sessions: the first hosts have so many commands.
+pub fn closes<L: Ledger>(rt: &impl Abort, rig: Rig<L>, commands: &[u64]) {
+    let Rig { kept, desk } = rig;
+    let met = audited(rt, kept.into_inner(), desk.into_inner());
+    let first = &met[..commands.len().min(4)];
+    assert!(rt; first == commands, "{met:?}");
 }
 
-/// Closes the array after all sessions: the first hosts have so many commands.
-pub fn closes<L: Ledger>(rt: &impl Abort, kept: Kept<MemDisk, L>, desk: Desk<L>, commands: &[u64]) {
+// How many commands each host has, by the audit.
+fn audited<L: Ledger>(rt: &impl Abort, kept: Kept<MemDisk, L>, desk: Desk<L>) -> [u64; 4] {
     let seats = desk.seats().ok().expect(rt, "all seats on the desk");
     let report = kept
         .close(&seats)
         .expect(rt, "transcripts as the history has them");
-    let first = &report.commands[..commands.len().min(4)];
-    assert!(rt; first == commands, "{report:?}");
+    drop(seats);
+    drop(kept);
+    report.commands
 }
 
-/// Plays sessions one after another on a new array, where host 0 has a unit if that is asked.
-pub fn plays<R: Wait + Abort>(
+/// Serves a session on the array, with a port of its own.
+pub fn serves<R: Wait + Abort, L: Ledger, S: Source>(
     rt: &R,
     alloc: Global,
-    with_unit: bool,
-    sessions: &[Session],
-    commands: [u64; 4],
-) -> Result<(), Fail> {
-    let array = array(alloc, 0)?;
-    plays_on::<Brand, R>(
-        rt,
-        alloc,
-        Blank::new(4),
-        array,
-        with_unit,
-        sessions,
-        commands,
-    );
-    Ok(())
-}
-
-fn plays_on<L: Ledger, R: Wait + Abort>(
-    rt: &R,
-    alloc: Global,
-    blank: Blank,
-    array: Array<MemDisk>,
-    with_unit: bool,
-    sessions: &[Session],
-    commands: [u64; 4],
-)
-    requires name { blank.name ≡ L.name }
-    requires parts { blank.parts ≡ L.parts }
-    requires four { blank.parts ≡ 4 }
-    requires no_unit { array.store.book.units ≡ [] }
-{
-    let (mut kept, seats) = Kept::<MemDisk, L>::start(alloc, blank, array);
-    if with_unit {
-        make(rt, &mut kept, 0);
-    }
-    let kept = Mutex::new(kept);
-    let desk = Mutex::new(Desk::new(seats));
-    for session in sessions {
-        play(rt, alloc, &kept, &desk, session);
-    }
-    closes(rt, kept.into_inner(), desk.into_inner(), &commands);
-}
-
-// Plays one session, and compares what it wrote and how it ended.
-fn play<L: Ledger, R: Wait + Abort>(
-    rt: &R,
-    alloc: Global,
-    kept: &Mutex<Kept<MemDisk, L>>,
-    desk: &Mutex<Desk<L>>,
-    session: &Session,
-) {
-    let mut reader = Growing {
-        rt,
-        kept,
-        bytes: session.input.as_slice(),
-        at: 0,
-        grows_at: session.grows_at,
-    };
-    let mut writer = MemSink::new(vec![in alloc; 0; 8192].expect(rt, "memory"));
-    let mut port = LockPort::new(rt, kept, desk);
-    let end = serve(alloc, &mut reader, &mut writer, &mut port);
+    rig: &Rig<L>,
+    reader: &mut S,
+    writer: &mut MemSink,
+) -> SessionEnd {
+    let mut port = LockPort::new(rt, &rig.kept, &rig.desk);
+    let end = serve(alloc, reader, writer, &mut port);
     port.finish();
-    compare(rt, session, end, writer.written());
+    drop(port);
+    end
 }
 
-fn compare(rt: &impl Abort, session: &Session, end: SessionEnd, written: &[u8]) {
-    let input = session.input.as_slice();
-    assert!(rt; end == session.end, "{end:?} over {input:?}");
-    assert!(rt;
-        written == session.output.as_slice(),
-        "{written:?} over {input:?}"
-    );
+/// Room for what a session writes.
+pub fn sink(rt: &impl Abort, alloc: Global, len: usize) -> MemSink {
+    MemSink::new(vec![in alloc; 0; len].expect(rt, "memory"))
 }
 
-// Gives bytes, and before the one at some place a unit grows.
-#[derive(Drop)]
-struct Growing<'a, R: Wait + Abort, L: Ledger> {
-    rt: &'a R,
-    kept: &'a Mutex<Kept<MemDisk, L>>,
-    bytes: &'a [u8],
-    at: usize,
-    grows_at: Option<usize>,
-}
-
-impl<R: Wait + Abort, L: Ledger> Source for Growing<'_, R, L> {
-    ghost state = { λ source. record { left = None; faults = 0 } };
-
-    fn read(&mut self, into: &mut [u8]) -> Option<usize> {
-        if self.grows_at == Some(self.at) {
-            self.grows_at = None;
-            grow(self.rt, self.kept);
-        }
-        let rest = &self.bytes[self.at.min(self.bytes.len())..];
-        let count = rest.len().min(into.len());
-        into[..count].copy_from_slice(&rest[..count]);
-        self.at = self.at.saturating_add(count);
-        Some(count)
-    }
-
-    fn faults(&self) -> u64 {
-        0
-    }
-}
-
-fn grow<L: Ledger>(rt: &(impl Wait + Abort), kept: &Mutex<Kept<MemDisk, L>>) {
-    let unit = unit(rt, 0);
-    let grown = kept.lock(rt).operate(OperationOf::Grow(unit, 6));
-    assert!(rt; matches!(grown, OutcomeOf::Grow(Ok(()))), "the unit grows");
+/// Copies what fits of some bytes from a place on, and says how many that are.
+pub fn copy_rest(bytes: &[u8], at: usize, into: &mut [u8]) -> usize
+    ensures { result ≤ length into.new }
+{
+    let rest = &bytes[at.min(bytes.len())..];
+    let count = rest.len().min(into.len());
+    into[..count].copy_from_slice(&rest[..count]);
+    count
 }

@@ -1,22 +1,21 @@
 // Sessions over sockets of this machine, with work in the background beside them.
-ghost use Rattle.std.specs.Prelude.{◌≡◌, []};
+ghost use Rattle.std.specs.Prelude.{◌≡◌, ◌≤◌, [], length};
+ghost use Rattle.ar_frames.specs.Frame.{most_data};
 
 use crate::frames::{LOGINS, TUR};
-use crate::rig::{array, closes, make};
+use crate::rig::{Rig, array, closes};
 use ar_core::Array;
 use ar_disks::MemDisk;
 use ar_frames::{Linked, NoGate, SessionEnd, Why, ask, hello};
-use ar_history::Kept;
 use ar_scsi::{Reply, Status};
-use ar_sessions::{ConnectionEnd, Desk, ListenFault, TcpDoor, run_beside_background};
+use ar_sessions::{ConnectionEnd, ListenFault, TcpDoor, run_beside_background};
 use std::alloc::Global;
 use std::io::{Read, Write};
 use std::marker::Brand;
 use std::net::{Net, Shutdown, TcpListener, TcpStream};
 use std::process::Abort;
+use std::sync::Wait;
 use std::sync::ledger::{Blank, Ledger};
-use std::sync::{Mutex, Wait};
-use std::test::Fail;
 use std::thread;
 use std::thread::{Scope, Threads};
 use std::time::Clock;
@@ -35,8 +34,8 @@ enum Guests {
 // Serves guests on a new array, and compares how many commands each host has in the end.
 fn serves<
     R: Threads + Wait + Clock + Abort + Net<Listener = TcpListener, Stream = TcpStream> + Sync,
->(rt: &R, alloc: Global, guests: Guests, connections: usize, commands: &[u64]) -> Result<(), Fail> {
-    let array = array(alloc, 4)?;
+>(rt: &R, alloc: Global, guests: Guests, connections: usize, commands: &[u64]) {
+    let array = array(rt, alloc, 4, 4);
     serves_on::<Brand, R>(
         rt,
         alloc,
@@ -46,7 +45,6 @@ fn serves<
         connections,
         commands,
     );
-    Ok(())
 }
 
 fn serves_on<
@@ -66,35 +64,31 @@ fn serves_on<
     requires four { blank.parts ≡ 4 }
     requires no_unit { array.store.book.units ≡ [] }
 {
-    let (mut kept, seats) = Kept::<MemDisk, L>::start(alloc, blank, array);
+    let rig: Rig<L> = Rig::start(alloc, blank, array);
     for host in 0..4 {
-        make(rt, &mut kept, host);
+        rig.make(rt, host);
     }
-    let kept = Mutex::new(kept);
-    let desk = Mutex::new(Desk::new(seats));
-    let ends = meets(rt, alloc, &kept, &desk, guests, connections);
+    let ends = meets(rt, alloc, &rig, guests, connections);
     compare(rt, guests, ends.as_slice());
-    closes(rt, kept.into_inner(), desk.into_inner(), commands);
+    drop(ends);
+    closes(rt, rig, commands);
 }
 
 // Opens a door for guests, and answers how their connections ended.
 fn meets<
     L: Ledger + Send + Sync,
     R: Threads + Wait + Clock + Abort + Net<Listener = TcpListener, Stream = TcpStream> + Sync,
->(
-    rt: &R,
-    alloc: Global,
-    kept: &Mutex<Kept<MemDisk, L>>,
-    desk: &Mutex<Desk<L>>,
-    guests: Guests,
-    connections: usize,
-) -> Vec<ConnectionEnd> {
+>(rt: &R, alloc: Global, rig: &Rig<L>, guests: Guests, connections: usize) -> Vec<ConnectionEnd> {
     let mut door = TcpDoor::listen(rt, alloc, 0, connections).expect(rt, "a port");
     let port = door.port().expect(rt, "its number");
-    thread::scope(thread::scope_env(), rt, |scope| {
+    let ends = thread::scope(thread::scope_env(), rt, |scope| {
         welcome(scope, rt, alloc, guests, port);
-        run_beside_background(rt, alloc, &mut door, kept, desk, &NoGate).expect(rt, "memory")
-    })
+        run_beside_background(rt, alloc, &mut door, &rig.kept, &rig.desk, &NoGate).expect(
+            rt, "memory",
+        )
+    });
+    drop(door);
+    ends
 }
 
 // Starts the guests' thread.
@@ -146,25 +140,47 @@ fn talk<R: Abort + Net<Listener = TcpListener, Stream = TcpStream>>(
     count: u8,
 ) {
     let stream = TcpStream::connect(rt, ("127.0.0.1", port)).expect(rt, "a connection");
-    let mut reader = Linked::new(&stream);
-    let mut writer = Linked::new(&stream);
-    assert!(rt;
-        hello(&mut reader, &mut writer, host) == Ok(true),
-        "host {host} is logged in"
-    );
+    talk_over(rt, alloc, &stream, host, count);
+    leave(rt, &stream);
+    drop(stream);
+}
+
+fn talk_over(rt: &impl Abort, alloc: Global, stream: &TcpStream, host: u8, count: u8) {
+    log_in(rt, stream, host);
     if count == 0 {
-        let reply = ask(alloc, &mut reader, &mut writer, 0, 0, &[0; 16], &[]);
-        was_good(rt, reply.ok(), &[]);
+        asks(rt, alloc, stream, 0, &[0; 16], &[], &[]);
     }
     for byte in 0..count {
         let sector = [byte; 512];
-        let write = block(0x2A);
-        let reply = ask(alloc, &mut reader, &mut writer, 1, 0, &write, &sector);
-        was_good(rt, reply.ok(), &[]);
-        let reply = ask(alloc, &mut reader, &mut writer, 2, 0, &block(0x28), &[]);
-        was_good(rt, reply.ok(), &sector);
+        asks(rt, alloc, stream, 1, &block(0x2A), &sector, &[]);
+        asks(rt, alloc, stream, 2, &block(0x28), &[], &sector);
     }
-    leave(rt, &stream);
+}
+
+fn log_in(rt: &impl Abort, stream: &TcpStream, host: u8) {
+    let met = hello(&mut Linked::new(stream), &mut Linked::new(stream), host);
+    assert!(rt; met == Ok(true), "host {host} is logged in");
+}
+
+// Sends a command to unit 0, which is GOOD and gives these bytes.
+fn asks(
+    rt: &impl Abort,
+    alloc: Global,
+    stream: &TcpStream,
+    tag: u64,
+    cdb: &[u8; 16],
+    sent: &[u8],
+    wanted: &[u8],
+)
+    requires { length sent.now ≤ most_data }
+{
+    let mut reader = Linked::new(stream);
+    let mut writer = Linked::new(stream);
+    let reply = ask(alloc, &mut reader, &mut writer, tag, 0, cdb, sent)
+        .ok()
+        .expect(rt, "a reply");
+    was_good(rt, &reply, wanted);
+    drop(reply);
 }
 
 // READ (10) or WRITE (10) of the first sector.
@@ -172,8 +188,7 @@ fn block(code: u8) -> [u8; 16] {
     [code, 0, 0, 0, 0, 0, 0, 0, 1, 0, 0, 0, 0, 0, 0, 0]
 }
 
-fn was_good(rt: &impl Abort, reply: Option<Reply>, bytes: &[u8]) {
-    let reply = reply.expect(rt, "a reply");
+fn was_good(rt: &impl Abort, reply: &Reply, bytes: &[u8]) {
     assert!(rt; reply.status == Status::Good, "{reply:?}");
     assert!(rt;
         reply.payload.as_slice() == bytes,
@@ -243,18 +258,18 @@ fn all_ended(rt: &impl Abort, ends: &[ConnectionEnd], frames: u64) {
 }
 
 #[test]
-fn two_hosts_at_once(rt: HostRuntime) -> Result<(), Fail> {
-    serves(&rt, rt.alloc(), Guests::Two(50), 2, &[100, 100, 0, 0])
+fn two_hosts_at_once(rt: HostRuntime) {
+    serves(&rt, rt.alloc(), Guests::Two(50), 2, &[100, 100, 0, 0]);
 }
 
 #[test]
-fn a_hundred_connections(rt: HostRuntime) -> Result<(), Fail> {
-    serves(&rt, rt.alloc(), Guests::InTurn(100), 100, &[25, 25, 25, 25])
+fn a_hundred_connections(rt: HostRuntime) {
+    serves(&rt, rt.alloc(), Guests::InTurn(100), 100, &[25, 25, 25, 25]);
 }
 
 #[test]
-fn rude_guests(rt: HostRuntime) -> Result<(), Fail> {
-    serves(&rt, rt.alloc(), Guests::Rude, 4, &[0, 0, 2])
+fn rude_guests(rt: HostRuntime) {
+    serves(&rt, rt.alloc(), Guests::Rude, 4, &[0, 0, 2]);
 }
 
 #[test]
@@ -267,4 +282,6 @@ fn one_door_at_a_port(rt: HostRuntime) {
         matches!(second, Err(ListenFault)),
         "a port that is listened at"
     );
+    drop(second);
+    drop(first);
 }

@@ -1,105 +1,291 @@
 // Sessions one after another.
+ghost use Rattle.std.specs.Prelude.{◌≡◌, [], None};
+
 use crate::frames::{
     LOGINS, READ, READ_16, TUR, WRITE, WRITE_16, put, put_check, put_good, put_request,
 };
-use crate::rig::{Session, plays};
-use ar_frames::{SessionEnd, Why};
+use crate::rig::{Rig, array, closes, copy_rest, serves, sink};
+use ar_core::Array;
+use ar_disks::MemDisk;
+use ar_frames::{SessionEnd, Source, Why};
 use std::alloc::Global;
+use std::marker::Brand;
 use std::process::Abort;
 use std::sync::Wait;
-use std::test::Fail;
+use std::sync::ledger::{Blank, Ledger};
 
-const AA: [u8; 1024] = [0xAA; 1024];
+/// A part of a session.
+#[derive(Clone, Copy)]
+enum Part {
+    /// A host logs in.
+    LogIn(u8),
+    /// A command that is GOOD: its tag and its block, what is sent with it and what comes back.
+    Good(u8, &'static [u8], &'static [u8], &'static [u8]),
+    /// One that is refused with a sense.
+    Check(u8, &'static [u8], [u8; 3]),
+    /// Bytes that are sent, and bytes that come back.
+    Sent(&'static [u8]),
+    Got(&'static [u8]),
+    /// Unit 0 of host 0 grows to six sectors.
+    Grown,
+}
 
-// A session that has nothing yet and ends with this.
-fn session(alloc: Global, frames: u64, why: Why) -> Session {
-    Session {
-        input: Vec::new(alloc),
-        grows_at: None,
-        output: Vec::new(alloc),
+/// A session: its parts, of whose bytes at most so many are sent and so many come back, and how it ends.
+#[derive(Clone, Copy)]
+struct Turn {
+    parts: &'static [Part],
+    sent: usize,
+    got: usize,
+    end: SessionEnd,
+}
+
+// A session of which all is sent.
+fn sends_all(parts: &'static [Part], frames: u64, why: Why) -> Turn {
+    Turn {
+        parts,
+        sent: usize::MAX,
+        got: usize::MAX,
         end: SessionEnd { frames, why },
     }
 }
 
-// Logs a host in.
-fn log_in(rt: &impl Abort, session: &mut Session, host: u8) {
-    put(rt, &mut session.input, LOGINS[usize::from(host % 4)]);
-    put(rt, &mut session.output, &[0x00]);
+/// The bytes of a session.
+#[derive(Drop)]
+struct Session {
+    input: Vec<u8>,
+    /// Where in the input the unit grows, if it does.
+    grows_at: Option<usize>,
+    output: Vec<u8>,
 }
 
-// A command that is GOOD.
-fn good(rt: &impl Abort, session: &mut Session, tag: u8, cdb: &[u8], sent: &[u8], got: &[u8]) {
-    put_request(rt, &mut session.input, tag, 0, cdb, sent);
-    put_good(rt, &mut session.output, tag, got);
+impl Session {
+    fn add(&mut self, rt: &impl Abort, part: Part) {
+        match part {
+            Part::LogIn(host) => {
+                put(rt, &mut self.input, LOGINS[usize::from(host % 4)]);
+                put(rt, &mut self.output, &[0x00]);
+            }
+            Part::Good(tag, cdb, sent, got) => {
+                put_request(rt, &mut self.input, tag, 0, cdb, sent);
+                put_good(rt, &mut self.output, tag, got);
+            }
+            Part::Check(tag, cdb, sense) => {
+                put_request(rt, &mut self.input, tag, 0, cdb, &[]);
+                put_check(rt, &mut self.output, tag, sense);
+            }
+            Part::Sent(bytes) => put(rt, &mut self.input, bytes),
+            Part::Got(bytes) => put(rt, &mut self.output, bytes),
+            Part::Grown => self.grows_at = Some(self.input.len()),
+        }
+    }
+
+    fn fill(&mut self, rt: &impl Abort, turn: &Turn) {
+        for part in turn.parts {
+            self.add(rt, *part);
+        }
+        self.input.truncate(turn.sent);
+        self.output.truncate(turn.got);
+    }
 }
 
-// A command that is refused with a sense.
-fn check(rt: &impl Abort, session: &mut Session, tag: u8, cdb: &[u8], sense: [u8; 3]) {
-    put_request(rt, &mut session.input, tag, 0, cdb, &[]);
-    put_check(rt, &mut session.output, tag, sense[0], sense[1], sense[2]);
+// Plays sessions one after another on a new array, where host 0 has a unit if that is asked.
+fn plays<R: Wait + Abort>(
+    rt: &R,
+    alloc: Global,
+    with_unit: bool,
+    turns: &[Turn],
+    commands: [u64; 4],
+) {
+    let array = array(rt, alloc, 4, 0);
+    plays_on::<Brand, R>(rt, alloc, Blank::new(4), array, with_unit, turns, commands);
 }
+
+fn plays_on<L: Ledger, R: Wait + Abort>(
+    rt: &R,
+    alloc: Global,
+    blank: Blank,
+    array: Array<MemDisk>,
+    with_unit: bool,
+    turns: &[Turn],
+    commands: [u64; 4],
+)
+    requires name { blank.name ≡ L.name }
+    requires parts { blank.parts ≡ L.parts }
+    requires four { blank.parts ≡ 4 }
+    requires no_unit { array.store.book.units ≡ [] }
+{
+    let rig: Rig<L> = Rig::start(alloc, blank, array);
+    play_all(rt, alloc, &rig, with_unit, turns);
+    closes(rt, rig, &commands);
+}
+
+fn play_all<L: Ledger, R: Wait + Abort>(
+    rt: &R,
+    alloc: Global,
+    rig: &Rig<L>,
+    with_unit: bool,
+    turns: &[Turn],
+) {
+    if with_unit {
+        rig.make(rt, 0);
+    }
+    for turn in turns {
+        play(rt, alloc, rig, turn);
+    }
+}
+
+// Plays one session, and compares what it wrote and how it ended.
+fn play<L: Ledger, R: Wait + Abort>(rt: &R, alloc: Global, rig: &Rig<L>, turn: &Turn) {
+    let mut session = Session {
+        input: Vec::new(alloc),
+        grows_at: None,
+        output: Vec::new(alloc),
+    };
+    session.fill(rt, turn);
+    play_session(rt, alloc, rig, &session, turn.end);
+    drop(session);
+}
+
+fn play_session<L: Ledger, R: Wait + Abort>(
+    rt: &R,
+    alloc: Global,
+    rig: &Rig<L>,
+    session: &Session,
+    end: SessionEnd,
+) {
+    let mut reader = Growing {
+        rt,
+        rig,
+        bytes: session.input.as_slice(),
+        at: 0,
+        grows_at: session.grows_at,
+    };
+    let mut writer = sink(rt, alloc, 8192);
+    let met = serves(rt, alloc, rig, &mut reader, &mut writer);
+    compare(rt, session, met, end, writer.written());
+    drop(writer);
+}
+
+fn compare(
+    rt: &impl Abort,
+    session: &Session,
+    end: SessionEnd,
+    wanted: SessionEnd,
+    written: &[u8],
+) {
+    let input = session.input.as_slice();
+    assert!(rt; end == wanted, "{end:?} over {input:?}");
+    assert!(rt;
+        written == session.output.as_slice(),
+        "{written:?} over {input:?}"
+    );
+}
+
+// Gives bytes, and before the one at some place the unit grows.
+#[derive(Drop)]
+struct Growing<'a, R: Wait + Abort, L: Ledger> {
+    rt: &'a R,
+    rig: &'a Rig<L>,
+    bytes: &'a [u8],
+    at: usize,
+    grows_at: Option<usize>,
+}
+
+impl<R: Wait + Abort, L: Ledger> Source for Growing<'_, R, L> {
+    ghost state = { λ source. record { left = None; faults = 0 } };
+
+    fn read(&mut self, into: &mut [u8]) -> Option<usize> {
+        if self.grows_at == Some(self.at) {
+            self.grows_at = None;
+            self.rig.grow(self.rt);
+        }
+        let count = copy_rest(self.bytes, self.at, into);
+        self.at = self.at.saturating_add(count);
+        Some(count)
+    }
+
+    fn faults(&self) -> u64 {
+        0
+    }
+}
+
+const AA: &[u8] = &[0xAA; 1024];
+
+const ZEROS: &[u8] = &[0x00; 1024];
+
+/// No unit is there.
+const NO_UNIT: [u8; 3] = [0x05, 0x25, 0x00];
 
 #[test]
-fn a_short_length_ends_the_session(rt: HostRuntime) -> Result<(), Fail> {
-    let alloc = rt.alloc();
-    let mut one = session(alloc, 1, Why::TooShort(24));
-    log_in(&rt, &mut one, 0);
-    check(&rt, &mut one, 1, TUR, [0x05, 0x25, 0x00]);
-    put(&rt, &mut one.input, &[0, 0, 0, 0x18]);
-    plays(&rt, alloc, false, &[one], [1, 0, 0, 0])
+fn a_short_length_ends_the_session(rt: HostRuntime) {
+    let turns = [sends_all(&SHORT, 1, Why::TooShort(24))];
+    plays(&rt, rt.alloc(), false, &turns, [1, 0, 0, 0]);
 }
 
-#[test]
-fn a_seat_is_back_after_each_end(rt: HostRuntime) -> Result<(), Fail> {
-    let alloc = rt.alloc();
-    let mut cut = session(alloc, 0, Why::Cut);
-    log_in(&rt, &mut cut, 2);
-    put(&rt, &mut cut.input, &[0]);
-    let mut long = session(alloc, 0, Why::TooLong(33_553_946));
-    log_in(&rt, &mut long, 2);
-    put(&rt, &mut long.input, &[0x01, 0xFF, 0xFE, 0x1A]);
-    let mut ended = session(alloc, 1, Why::End);
-    log_in(&rt, &mut ended, 2);
-    check(&rt, &mut ended, 1, TUR, [0x05, 0x25, 0x00]);
-    plays(&rt, alloc, false, &[cut, long, ended], [0, 0, 1, 0])
-}
+const SHORT: [Part; 3] = [
+    Part::LogIn(0),
+    Part::Check(1, TUR, NO_UNIT),
+    Part::Sent(&[0, 0, 0, 0x18]),
+];
 
 #[test]
-fn other_logins_take_no_seat(rt: HostRuntime) -> Result<(), Fail> {
-    let alloc = rt.alloc();
-    let mut other = session(alloc, 0, Why::BadLogin);
-    put(&rt, &mut other.input, b"ARAIDHO1\x04");
-    put(&rt, &mut other.output, &[0x01]);
-    let mut cut = session(alloc, 0, Why::Cut);
-    put(&rt, &mut cut.input, b"ARAIDHO1");
-    plays(&rt, alloc, false, &[other, cut], [0, 0, 0, 0])
+fn a_seat_is_back_after_each_end(rt: HostRuntime) {
+    let turns = [
+        sends_all(&CUT, 0, Why::Cut),
+        sends_all(&LONG, 0, Why::TooLong(33_553_946)),
+        sends_all(&ENDED, 1, Why::End),
+    ];
+    plays(&rt, rt.alloc(), false, &turns, [0, 0, 1, 0]);
 }
 
-#[test]
-fn blocks_of_sixteen_bytes(rt: HostRuntime) -> Result<(), Fail> {
-    let alloc = rt.alloc();
-    let mut one = session(alloc, 4, Why::End);
-    log_in(&rt, &mut one, 0);
-    good(&rt, &mut one, 1, WRITE_16, &AA, &[]);
-    good(&rt, &mut one, 2, READ_16, &[], &AA);
-    good(&rt, &mut one, 3, READ, &[], &AA);
-    check(&rt, &mut one, 4, &[0x9E], [0x05, 0x20, 0x00]);
-    plays(&rt, alloc, true, &[one], [4, 0, 0, 0])
-}
+const CUT: [Part; 2] = [Part::LogIn(2), Part::Sent(&[0])];
+
+const LONG: [Part; 2] = [Part::LogIn(2), Part::Sent(&[0x01, 0xFF, 0xFE, 0x1A])];
+
+const ENDED: [Part; 2] = [Part::LogIn(2), Part::Check(1, TUR, NO_UNIT)];
 
 #[test]
-fn a_unit_grows_between_two_frames(rt: HostRuntime) -> Result<(), Fail> {
-    let alloc = rt.alloc();
-    let mut one = session(alloc, 5, Why::End);
-    log_in(&rt, &mut one, 0);
-    good(&rt, &mut one, 1, WRITE, &AA, &[]);
-    one.grows_at = Some(one.input.len());
-    good(&rt, &mut one, 2, &[0x12, 0, 0, 0, 1], &[], &[0x00]);
-    check(&rt, &mut one, 3, READ, [0x06, 0x2A, 0x09]);
-    good(&rt, &mut one, 4, READ, &[], &AA);
-    good(&rt, &mut one, 5, &[0x25], &[], &[0, 0, 0, 5, 0, 0, 2, 0]);
-    plays(&rt, alloc, true, &[one], [5, 0, 0, 0])
+fn other_logins_take_no_seat(rt: HostRuntime) {
+    let turns = [
+        sends_all(&OTHER_LOGIN, 0, Why::BadLogin),
+        sends_all(&CUT_LOGIN, 0, Why::Cut),
+    ];
+    plays(&rt, rt.alloc(), false, &turns, [0, 0, 0, 0]);
 }
+
+const OTHER_LOGIN: [Part; 2] = [Part::Sent(b"ARAIDHO1\x04"), Part::Got(&[0x01])];
+
+const CUT_LOGIN: [Part; 1] = [Part::Sent(b"ARAIDHO1")];
+
+#[test]
+fn blocks_of_sixteen_bytes(rt: HostRuntime) {
+    let turns = [sends_all(&SIXTEEN, 4, Why::End)];
+    plays(&rt, rt.alloc(), true, &turns, [4, 0, 0, 0]);
+}
+
+const SIXTEEN: [Part; 5] = [
+    Part::LogIn(0),
+    Part::Good(1, WRITE_16, AA, &[]),
+    Part::Good(2, READ_16, &[], AA),
+    Part::Good(3, READ, &[], AA),
+    Part::Check(4, &[0x9E], [0x05, 0x20, 0x00]),
+];
+
+#[test]
+fn a_unit_grows_between_two_frames(rt: HostRuntime) {
+    let turns = [sends_all(&GROWING, 5, Why::End)];
+    plays(&rt, rt.alloc(), true, &turns, [5, 0, 0, 0]);
+}
+
+const GROWING: [Part; 7] = [
+    Part::LogIn(0),
+    Part::Good(1, WRITE, AA, &[]),
+    Part::Grown,
+    Part::Good(2, &[0x12, 0, 0, 0, 1], &[], &[0x00]),
+    Part::Check(3, READ, [0x06, 0x2A, 0x09]),
+    Part::Good(4, READ, &[], AA),
+    Part::Good(5, &[0x25], &[], &[0, 0, 0, 5, 0, 0, 2, 0]),
+];
 
 // How a session ends whose input, a login, a WRITE of 1,024 bytes and a READ, is cut after so many bytes.
 fn end_of(cut: usize) -> SessionEnd {
@@ -124,46 +310,37 @@ fn written_of(cut: usize) -> usize {
     }
 }
 
-// The first bytes.
-fn first(rt: &impl Abort, alloc: Global, bytes: &[u8], count: usize) -> Vec<u8> {
-    bytes[..count.min(bytes.len())]
-        .to_vec(alloc)
-        .expect(rt, "memory")
+#[test]
+fn input_cut_at_each_byte(rt: HostRuntime) {
+    for cut in 0..=1091 {
+        plays_cut(&rt, rt.alloc(), cut);
+    }
 }
 
-#[test]
-fn input_cut_at_each_byte(rt: HostRuntime) -> Result<(), Fail> {
-    let alloc = rt.alloc();
-    let mut whole = session(alloc, 2, Why::End);
-    log_in(&rt, &mut whole, 0);
-    good(&rt, &mut whole, 1, WRITE, &AA, &[]);
-    good(&rt, &mut whole, 2, READ, &[], &AA);
-    for cut in 0..=1091 {
-        plays_cut(&rt, alloc, &whole, cut)?;
-    }
-    Ok(())
-}
+const WHOLE: [Part; 3] = [
+    Part::LogIn(0),
+    Part::Good(1, WRITE, AA, &[]),
+    Part::Good(2, READ, &[], AA),
+];
+
+const READS_ZEROS: [Part; 2] = [Part::LogIn(0), Part::Good(1, READ, &[], ZEROS)];
+
+const READS_AA: [Part; 2] = [Part::LogIn(0), Part::Good(1, READ, &[], AA)];
 
 // After a session that was cut a whole one reads what stands: the WRITE was done if its frame had come.
-fn plays_cut<R: Wait + Abort>(
-    rt: &R,
-    alloc: Global,
-    whole: &Session,
-    cut: usize,
-) -> Result<(), Fail> {
+fn plays_cut<R: Wait + Abort>(rt: &R, alloc: Global, cut: usize) {
     let end = end_of(cut);
-    let mut part = session(alloc, end.frames, end.why);
-    part.input = first(rt, alloc, &whole.input, cut);
-    part.output = first(rt, alloc, &whole.output, written_of(cut));
-    let mut after = session(alloc, 1, Why::End);
-    log_in(rt, &mut after, 0);
-    let stands = if end.frames == 0 { 0x00 } else { 0xAA };
-    good(rt, &mut after, 1, READ, &[], &[stands; 1024]);
-    plays(
-        rt,
-        alloc,
-        true,
-        &[part, after],
-        [end.frames.saturating_add(1), 0, 0, 0],
-    )
+    let part = Turn {
+        parts: &WHOLE,
+        sent: cut,
+        got: written_of(cut),
+        end,
+    };
+    let after = sends_all(read_after(end.frames), 1, Why::End);
+    let commands = [end.frames.saturating_add(1), 0, 0, 0];
+    plays(rt, alloc, true, &[part, after], commands);
+}
+
+fn read_after(frames: u64) -> &'static [Part] {
+    if frames == 0 { &READS_ZEROS } else { &READS_AA }
 }
