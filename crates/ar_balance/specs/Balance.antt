@@ -1,5 +1,5 @@
 -- What balancing answers, and what it leaves.
-use Rattle.std.specs.Prelude.{◌≡◌, ℕ, ◌*◌, length, Some}
+use Rattle.std.specs.Prelude.{◌≡◌, ◌≢◌, ℕ, ◌*◌, length, Some}
 use Rattle.ar_disks.specs.declared.address.Members.{Members}
 use Rattle.ar_disks.specs.declared.address.Place.{Place}
 use Rattle.ar_disks.specs.declared.geometry.Geometry.{Geometry}
@@ -8,6 +8,7 @@ use Rattle.ar_extents.specs.declared.health.Health.TheVariants.{Broken as AllBro
 use Rattle.ar_extents.specs.Set.{SetState}
 use Rattle.ar_extents.specs.Loose.{taken, given}
 use Rattle.ar_extents.specs.Follows.{Follows}
+use Rattle.ar_book.specs.declared.class.Class.TheVariants.{Free}
 use Rattle.ar_book.specs.Tables.{Tables}
 use Rattle.ar_book.specs.Changes.{shifted}
 use Rattle.ar_store.specs.Store.{StoreState, store_of, class_in}
@@ -56,6 +57,8 @@ pub record IsGivenUp (old new : StoreState) : Type 0 where
   pub from : Place
   pub to : Place
   pub names : NamesShift old group position from to
+  -- of a free group nothing is copied
+  pub used : class_in old group ≢ Free
   pub cut : IsCutShort old.disks new.disks from to
   pub book : new.book ≡ old.book
 

@@ -5,6 +5,7 @@ ghost use Rattle.ar_disks.specs.Geometry.{block_len_of};
 ghost use Rattle.ar_extents.specs.declared.health.Health.TheVariants.{Broken};
 ghost use Rattle.ar_extents.specs.Set.{HasExtent};
 ghost use Rattle.ar_extents.specs.Loose.{is_loose, lowest_loose};
+ghost use Rattle.ar_book.specs.declared.class.Class.TheVariants.{Free};
 ghost use Rattle.ar_book.specs.Tables.{room, free_groups, class_of, group_in};
 ghost use Rattle.ar_book.specs.Changes.{shifted};
 ghost use Rattle.ar_book.specs.Choices.{IsUnused};
@@ -66,6 +67,7 @@ fn fill<D: Disk>(space: &mut Space<D>, shift: Shift, block: &mut Block) -> bool
 
     ensures filled { IsTrue result → IsFilled (class_of space.old.book shift.group) space.old.disks space.new.disks shift.from shift.to }
     ensures cut { result ≡ false → IsCutShort space.old.disks space.new.disks shift.from shift.to }
+    ensures used { result ≡ false → class_of space.old.book shift.group ≢ Free }
 
     ensures book { space.new.book ≡ space.old.book }
     ensures scratch { space.new.scratch ≡ space.old.scratch }

@@ -1,5 +1,5 @@
 -- What the helpers answer, in the words of the calls.
-use Rattle.std.proofs.Common.{◌≡◌, ◌≢◌, ◌≤◌, ℕ, refl, sym, ap, subst, ◌∙◌, inl, inr, arith}
+use Rattle.std.proofs.Common.{◌≡◌, ◌≢◌, ◌≤◌, ◌⊎◌, ℕ, refl, sym, ap, subst, ◌∙◌, inl, inr, arith}
 use Rattle.ar_disks.specs.declared.address.Key.{Key}
 use Rattle.ar_book.specs.declared.class.Slot.{Slot}
 use Rattle.ar_book.specs.Tables.{Tables, free_groups}
@@ -16,7 +16,7 @@ use Rattle.ar_store.proofs.Fills.{accessed_then, stand_then}
 use Rattle.ar_moves.specs.declared.step.Move.{Move}
 use Rattle.ar_moves.specs.declared.step.Move.TheVariants.{Moved, Idle, Broken}
 use Rattle.ar_moves.specs.Moves.{IfMoved, IsMovedTo, LeavesBlocks}
-use Rattle.ar_moves.specs.Demotion.{IsOldestMirrored, IsSlotFor, Demotes, DemotesTo}
+use Rattle.ar_moves.specs.Demotion.{IsOldestMirrored, IsSlotFor, Demotes, DemotesTo, MayHaveOpened}
 use Rattle.ar_moves.specs.Cleaning.{Cleans, NamesCleaning}
 
 -- what follows of each block that moved follows of the one that did
@@ -73,3 +73,9 @@ hole_made t mid new key g none opening k s moved = record {
   slot = subst (λ x. IsSlotFor t x mid) (sym moved.slot_is) (inr (record { none = none; group = g; opened = opening; first = refl }));
   moved = subst (λ x. TablesMoved mid key x new) (sym moved.slot_is) moved.tables;
 }
+
+-- a group that was opened is ready for the oldest block
+pub ready_for : (t new : Tables) (key : Key) → IsOldestMirrored t key → HasNoHole t Parity → (new ≡ t) ⊎ ((group : ℕ) × IsOpened t new Parity group) → MayHaveOpened t new
+ready_for t new key oldest none (inl same) = inl same
+ready_for t new key oldest none (inr opening) =
+    inr (key, slot_at opening.0 0, record { oldest = oldest; slot = inr (record { none = none; group = opening.0; opened = opening.1; first = refl }) })

@@ -61,9 +61,9 @@ pub record DemotesTo (t : Tables) (key : Key) (new : Tables) (moved_key : Key) (
   pub slot : IsSlotFor t to ready
   pub moved : Moved ready key to new
 
--- the tables are as they were, or a group was opened for parity, as the rule says
+-- the tables are as they were, or ready for what the rule names
 abbrev pub MayHaveOpened : Tables → Tables → Type 0
-MayHaveOpened t new = (new ≡ t) ⊎ ((group : ℕ) × IsOpened t new Parity group)
+MayHaveOpened t new = (new ≡ t) ⊎ ((key : Key) × (to : Slot) × NamesDemotion t key to new)
 
 -- each other slot of the group holds the zero block
 pub record HoldsZerosBeside (s : StoreState) (to : Slot) : Type 0 where

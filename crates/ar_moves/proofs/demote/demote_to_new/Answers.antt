@@ -1,8 +1,9 @@
-use Rattle.std.proofs.Common.{refl, sym, subst}
+use Rattle.std.proofs.Common.{inr, refl, sym, subst}
 use Rattle.ar_store.specs.Placing.{slot_at}
 use Rattle.ar_moves.specs.Moves.{IsMovedTo}
-use Rattle.ar_moves.specs.Demotion.{DemotesTo, HoldsZerosBeside}
-use Rattle.ar_moves.proofs.Answers.{if_moved_then, leaves_then, hole_made}
+use Rattle.ar_book.specs.Tables.{Tables}
+use Rattle.ar_moves.specs.Demotion.{DemotesTo, HoldsZerosBeside, MayHaveOpened}
+use Rattle.ar_moves.proofs.Answers.{if_moved_then, leaves_then, hole_made, ready_for}
 use Rattle.ar_moves.proofs.Asking.{asks_made, asks_nothing, asks_opened}
 use Rattle.ar_moves.proofs.Readiness.{opened_first, zeros_beside}
 use Rattle.ar_moves.proofs.demote.demote_to_new.Goals as goal
@@ -49,3 +50,13 @@ returns-in-Idle-clause-asks g c =
 
 pub returns-in-Broken-clause-asks : goal.returns-in-Broken-clause-asks
 returns-in-Broken-clause-asks g c = asks_opened c.args.store.now c.open_group.new.self c.requires.none c.open_group.ensures.asks
+
+pub returns-in-Opened-clause-opened : goal.returns-in-Opened-clause-opened
+returns-in-Opened-clause-opened g c = λ broke.
+    let t = c.args.store.now.book in
+    subst (λ (x : Tables). MayHaveOpened t x) (sym (c.move_to.ensures.unmoved broke))
+    (ready_for t c.open_group.new.self.book c.args.key c.requires.oldest c.requires.none (inr (c.in-Opened.group, c.in-Opened.ensures.opens)))
+
+pub returns-in-Broken-clause-opened : goal.returns-in-Broken-clause-opened
+returns-in-Broken-clause-opened g c = λ _.
+    ready_for c.args.store.now.book c.open_group.new.self.book c.args.key c.requires.oldest c.requires.none c.in-Broken.ensures.opens.tables
