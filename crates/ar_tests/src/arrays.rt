@@ -5,7 +5,7 @@ ghost use Rattle.ar_extents.specs.Set.{CanCount};
 use ar_core::{Array, Event, Outcome};
 use ar_disks::{FuseDisk, Geometry, MemDisk};
 use std::alloc::{AllocError, Global};
-use std::test::Fail;
+use std::process::Abort;
 
 /// How an array of four disks is made, of which one is lost.
 #[derive(Clone, Copy, Debug)]
@@ -21,36 +21,41 @@ pub struct Loss {
 }
 
 /// An array of sound disks.
-pub fn sound_array(alloc: Global, extents: u16, cache: u16) -> Result<Array<FuseDisk>, Fail> {
+pub fn sound_array<R: Abort + AllocGlobal>(rt: &R, extents: u16, cache: u16) -> Array<FuseDisk> {
     let loss = Loss {
         extents,
         cache,
         disk: 0,
         calls: u64::MAX,
     };
-    fused_array(alloc, loss)
+    fused_array(rt, loss)
 }
 
-/// What an array of sound disks answers to events that it is given at once.
-pub fn done_at_once(
-    alloc: Global,
-    extents: u16,
-    cache: u16,
+/// What an array answers to events that it is given at once.
+pub fn done_at_once<R: Abort + AllocGlobal>(
+    rt: &R,
+    array: &mut Array<FuseDisk>,
     events: Vec<Event<FuseDisk>>,
-) -> Result<Vec<Outcome<FuseDisk>>, Fail> {
-    match sound_array(alloc, extents, cache)?.run(alloc, events) {
-        Ok(outcomes) => Ok(outcomes),
-        Err(_) => Err(Fail::new("the run is refused")),
-    }
+) -> Vec<Outcome<FuseDisk>> {
+    array
+        .run(rt.alloc(), events)
+        .ok()
+        .expect(rt, "memory for the run")
 }
 
 /// An array of which one disk is lost after a number of calls.
-pub fn fused_array(alloc: Global, loss: Loss) -> Result<Array<FuseDisk>, Fail> {
-    let disks = fused_disks(alloc, 4, loss)?;
-    match Array::start(alloc, disks, u32::from(loss.cache)) {
-        Ok(array) => Ok(array),
-        Err((fault, _)) => Err(Fail::new(fault)),
-    }
+pub fn fused_array<R: Abort + AllocGlobal>(rt: &R, loss: Loss) -> Array<FuseDisk> {
+    let disks = fused_disks(rt.alloc(), 4, loss).expect(rt, "memory");
+    start(rt, disks, loss.cache)
+}
+
+/// An array of these disks.
+pub fn start<R: Abort + AllocGlobal>(rt: &R, disks: Vec<FuseDisk>, cache: u16) -> Array<FuseDisk>
+    requires { All CanCount (map (λ disk. disk.disk) disks.items) }
+{
+    Array::start(rt.alloc(), disks, u32::from(cache))
+        .ok()
+        .expect(rt, "an array")
 }
 
 /// So many disks, of which one is lost after a number of calls.

@@ -1,6 +1,6 @@
 // Calls of an array, and what a sound one answers to each.
-use ar_core::{Array, EventOf, Flush, Health, Move, OutcomeOf, Slot};
-use ar_disks::{Addr, Disk, Host, Key};
+use ar_core::{Array, Event, EventOf, Flush, Health, Move, Outcome, OutcomeOf, Slot};
+use ar_disks::{Addr, Disk, FuseDisk, Host, Key};
 use ar_scsi::{Reply, Sense, Status, sense18};
 use bytes::Bytes;
 use std::alloc::{AllocError, Global};
@@ -182,7 +182,12 @@ fn is_two_sectors(bytes: &[u8], first: u8, second: u8) -> bool {
 
 /// Whether bytes are all the same.
 pub fn is_filled(bytes: &[u8], byte: u8) -> bool {
-    bytes.iter().all(|other| *other == byte)
+    for other in bytes {
+        if *other != byte {
+            return false;
+        }
+    }
+    true
 }
 
 // What an array answers that has lost its data. GOOD of a TEST UNIT READY, a READ or a WRITE needs them.
@@ -202,19 +207,50 @@ fn is_lost_after<R: Abort + AllocGlobal, D: Disk + Drop>(
     name: &impl Debug,
     array: &mut Array<D>,
     (call, answer): Row,
-) -> Result<bool, AllocError> {
-    let outcome = array.step(rt.alloc(), event_of(rt.alloc(), call)?);
+) -> bool {
+    let outcome = array.step(rt.alloc(), event_of(rt.alloc(), call).expect(rt, "memory"));
     let is_lost = array.health() == Health::Broken;
     let wanted = if is_lost {
         where_lost(call, answer)
     } else {
         answer
     };
+    is_met(rt, name, call, &outcome, wanted);
+    drop(outcome);
+    is_lost
+}
+
+/// Asserts that a call was answered so.
+pub fn is_met<N: Debug>(
+    rt: &impl Abort,
+    name: &impl Debug,
+    call: Call,
+    outcome: &OutcomeOf<N>,
+    wanted: Answer,
+) {
     assert!(rt;
-        is_answer(&outcome, wanted),
+        is_answer(outcome, wanted),
         "{name:?}: {call:?} is answered with {outcome:?}"
     );
-    Ok(is_lost)
+}
+
+/// Has a disk taken out, put into another's place or added.
+pub fn changes<R: Abort + AllocGlobal>(
+    rt: &R,
+    array: &mut Array<FuseDisk>,
+    event: Event<FuseDisk>,
+) {
+    let outcome = array.step(rt.alloc(), event);
+    is_done(rt, &outcome);
+    drop(outcome);
+}
+
+fn is_done(rt: &impl Abort, outcome: &Outcome<FuseDisk>) {
+    let is_done = matches!(
+        outcome,
+        OutcomeOf::DiskOut(Ok(())) | OutcomeOf::Replace(Ok(())) | OutcomeOf::AddDisk(Ok(()))
+    );
+    assert!(rt; is_done, "{outcome:?}");
 }
 
 /// Makes calls one after another, and asserts each answer.
@@ -223,14 +259,15 @@ pub fn play<R: Abort + AllocGlobal, D: Disk + Drop>(
     name: &impl Debug,
     array: &mut Array<D>,
     rows: &[Row],
-) -> Result<Ending, AllocError> {
+) -> Ending {
     let mut lost_after = None;
     for (number, row) in rows.iter().enumerate() {
-        let is_lost = is_lost_after(rt, name, array, *row)?;
-        lost_after = lost_after.or(is_lost.then_some(number));
+        if is_lost_after(rt, name, array, *row) && lost_after.is_none() {
+            lost_after = Some(number);
+        }
     }
-    Ok(Ending {
+    Ending {
         health: array.health(),
         lost_after,
-    })
+    }
 }

@@ -1,16 +1,16 @@
 // Drawn events while disks fault, are taken out, replaced, rebuilt and added, one of them down at a time. In the end every block
 // is read back without each of the disks in turn.
-use crate::arrays::{Loss, fused_disk, fused_disks};
+use crate::arrays::{Loss, fused_disk, fused_disks, start};
+use crate::calls::changes;
 use crate::generated::{gain_of, is_answered};
 use ar_agreement::event_of;
-use ar_core::{Array, Balance, EventOf, Health, NewDisk, OutcomeOf, Rebuild};
+use ar_core::{Array, Balance, EventOf, Health, NewDisk, Outcome, OutcomeOf, Rebuild};
 use ar_disks::FuseDisk;
 use ar_witness::{Answer, Ask, Command, Place, Run};
 use rand::rngs::SmallRng;
 use rand::{RngExt, SeedableRng};
-use std::alloc::{AllocError, Global};
+use std::alloc::Global;
 use std::process::Abort;
-use std::test::Fail;
 
 /// The events of a run.
 const EVENTS: u32 = 5_000;
@@ -37,8 +37,8 @@ struct Trial {
 }
 
 // A disk for the array, lost after a number of calls.
-fn new_disk(alloc: Global, calls: u64) -> Result<NewDisk<FuseDisk>, AllocError> {
-    Ok(NewDisk::new(fused_disk(alloc, EXTENTS, calls)?))
+fn new_disk<R: Abort + AllocGlobal>(rt: &R, calls: u64) -> NewDisk<FuseDisk> {
+    NewDisk::new(fused_disk(rt.alloc(), EXTENTS, calls).expect(rt, "memory"))
 }
 
 // Asserts what is answered to what an array is asked, which plain lists say.
@@ -51,53 +51,31 @@ fn answers<R: Abort + AllocGlobal>(
 ) {
     let event = event_of(ask).expect(rt, "memory");
     let outcome = array.step(rt.alloc(), event);
-    if !is_given_up(&outcome) {
-        is_answered(rt, &outcome, wanted);
-    }
-    assert!(rt; array.health() != Health::Broken, "{outcome:?}");
+    is_met(rt, &outcome, wanted, array.health());
     run.lists.gain(gain_of(&outcome));
+    drop(outcome);
 }
 
 // Steps of balancing and rebuilds may be given up where a disk is lost.
-fn is_given_up<N>(outcome: &OutcomeOf<N>) -> bool {
-    matches!(
-        outcome,
-        OutcomeOf::Balance(Balance::GivenUp) | OutcomeOf::Rebuild(Rebuild::GivenUp)
-    )
+fn is_met(rt: &impl Abort, outcome: &Outcome<FuseDisk>, wanted: &Answer, health: Health) {
+    match outcome {
+        OutcomeOf::Balance(Balance::GivenUp) | OutcomeOf::Rebuild(Rebuild::GivenUp) => {}
+        _ => is_answered(rt, outcome, wanted),
+    }
+    assert!(rt; health != Health::Broken, "{outcome:?}");
 }
 
 // Takes a disk out: the one with a fuse, where there is one.
 fn take_out<R: Abort + AllocGlobal>(rt: &R, disk: u8, array: &mut Array<FuseDisk>) {
-    let outcome = array.step(rt.alloc(), EventOf::DiskOut(disk));
-    assert!(rt;
-        matches!(outcome, OutcomeOf::DiskOut(Ok(()))),
-        "{outcome:?}"
-    );
+    changes(rt, array, EventOf::DiskOut(disk));
 }
 
-fn replace<R: Abort + AllocGlobal>(
-    rt: &R,
-    disk: u8,
-    calls: u64,
-    array: &mut Array<FuseDisk>,
-) -> Result<(), AllocError> {
-    let event = EventOf::Replace(disk, new_disk(rt.alloc(), calls)?);
-    let outcome = array.step(rt.alloc(), event);
-    assert!(rt;
-        matches!(outcome, OutcomeOf::Replace(Ok(()))),
-        "{outcome:?}"
-    );
-    Ok(())
+fn replace<R: Abort + AllocGlobal>(rt: &R, disk: u8, calls: u64, array: &mut Array<FuseDisk>) {
+    changes(rt, array, EventOf::Replace(disk, new_disk(rt, calls)));
 }
 
-fn add<R: Abort + AllocGlobal>(rt: &R, array: &mut Array<FuseDisk>) -> Result<(), AllocError> {
-    let event = EventOf::AddDisk(new_disk(rt.alloc(), u64::MAX)?);
-    let outcome = array.step(rt.alloc(), event);
-    assert!(rt;
-        matches!(outcome, OutcomeOf::AddDisk(Ok(()))),
-        "{outcome:?}"
-    );
-    Ok(())
+fn add<R: Abort + AllocGlobal>(rt: &R, array: &mut Array<FuseDisk>) {
+    changes(rt, array, EventOf::AddDisk(new_disk(rt, u64::MAX)));
 }
 
 // Lets a disk go, come or be replaced, now and then.
@@ -106,11 +84,11 @@ fn disturb<R: Abort + AllocGlobal>(
     rng: &mut SmallRng,
     disks: &mut Disks,
     array: &mut Array<FuseDisk>,
-) -> Result<(), AllocError> {
+) {
     match array.health() {
         Health::Out(disk) => {
             if rng.random_ratio(1, 40) {
-                replace_by_any(rt, rng, disk, disks, array)?;
+                replace_by_any(rt, rng, disk, disks, array);
             }
         }
         Health::Whole => {
@@ -121,10 +99,9 @@ fn disturb<R: Abort + AllocGlobal>(
         _ => {}
     }
     if disks.count < MOST_DISKS && rng.random_ratio(1, 1_000) {
-        add(rt, array)?;
+        add(rt, array);
         disks.count = disks.count.saturating_add(1);
     }
-    Ok(())
 }
 
 // The disk that comes is sound, or is itself lost some time.
@@ -134,13 +111,14 @@ fn replace_by_any<R: Abort + AllocGlobal>(
     disk: u8,
     disks: &mut Disks,
     array: &mut Array<FuseDisk>,
-) -> Result<(), AllocError> {
+) {
     if rng.random_ratio(1, 2) {
         disks.weak = None;
-        return replace(rt, disk, u64::MAX, array);
+        replace(rt, disk, u64::MAX, array);
+    } else {
+        disks.weak = Some(disk);
+        replace(rt, disk, rng.random_range(0u64..600), array);
     }
-    disks.weak = Some(disk);
-    replace(rt, disk, rng.random_range(0u64..600), array)
 }
 
 fn lose_any<R: Abort + AllocGlobal>(
@@ -154,31 +132,26 @@ fn lose_any<R: Abort + AllocGlobal>(
 }
 
 // Puts a sound disk in the place of one, and rebuilds it whole.
-fn renew<R: Abort + AllocGlobal>(
-    rt: &R,
-    disk: u8,
-    array: &mut Array<FuseDisk>,
-) -> Result<(), AllocError> {
+fn renew<R: Abort + AllocGlobal>(rt: &R, disk: u8, array: &mut Array<FuseDisk>) {
     take_out(rt, disk, array);
-    replace(rt, disk, u64::MAX, array)?;
+    replace(rt, disk, u64::MAX, array);
     for _ in 0..EXTENTS {
-        let _ = array.step(rt.alloc(), EventOf::Rebuild);
+        drop(array.step(rt.alloc(), EventOf::Rebuild));
     }
-    assert!(rt; array.health() == Health::Whole, "{:?}", array.health());
-    Ok(())
+    is_whole(rt, array.health());
+}
+
+fn is_whole(rt: &impl Abort, health: Health) {
+    assert!(rt; health == Health::Whole, "{health:?}");
 }
 
 // Makes all disks sound.
-fn settle<R: Abort + AllocGlobal>(
-    rt: &R,
-    disks: Disks,
-    array: &mut Array<FuseDisk>,
-) -> Result<(), AllocError> {
+fn settle<R: Abort + AllocGlobal>(rt: &R, disks: Disks, array: &mut Array<FuseDisk>) {
     match (array.health(), disks.weak) {
         (Health::Out(disk) | Health::Rebuilding(disk, _), _) | (_, Some(disk)) => {
-            renew(rt, disk, array)
+            renew(rt, disk, array);
         }
-        _ => Ok(()),
+        _ => {}
     }
 }
 
@@ -213,6 +186,7 @@ fn read<R: Abort + AllocGlobal>(
     let ask = read_of_two(rt.alloc(), place, lba);
     let wanted = run.lists.step(&ask).expect(rt, "memory");
     answers(rt, run, array, ask, &wanted);
+    drop(wanted);
 }
 
 // READ (10) of two sectors.
@@ -225,33 +199,28 @@ fn read_of_two(alloc: Global, place: Place, lba: u8) -> Ask {
 }
 
 // Draws events and lets disks come and go, and then reads all blocks without each disk in turn.
-fn live<R: Abort + AllocGlobal>(
-    rt: &R,
-    trial: Trial,
-    run: &mut Run,
-    array: &mut Array<FuseDisk>,
-) -> Result<(), AllocError> {
+fn live<R: Abort + AllocGlobal>(rt: &R, trial: Trial, run: &mut Run, array: &mut Array<FuseDisk>) {
     let mut rng = SmallRng::seed_from_u64(trial.seed);
     let mut disks = Disks {
         count: trial.disks,
         weak: None,
     };
     for _ in 0..EVENTS {
-        disturb(rt, &mut rng, &mut disks, array)?;
+        disturb(rt, &mut rng, &mut disks, array);
         ask_next(rt, run, array);
     }
-    settle(rt, disks, array)?;
+    settle(rt, disks, array);
     for disk in 0..disks.count {
         take_out(rt, disk, array);
         read_all(rt, run, array);
-        renew(rt, disk, array)?;
+        renew(rt, disk, array);
     }
-    Ok(())
 }
 
 fn ask_next<R: Abort + AllocGlobal>(rt: &R, run: &mut Run, array: &mut Array<FuseDisk>) {
     let (ask, wanted) = run.next(None).expect(rt, "memory");
     answers(rt, run, array, ask, &wanted);
+    drop(wanted);
 }
 
 // As many groups as the disks' extents make, of six blocks each, but for one that stays free.
@@ -259,67 +228,67 @@ fn room_of(disks: u8) -> u32 {
     (u32::from(disks) * u32::from(EXTENTS) / 4).saturating_sub(1) * 6
 }
 
-fn run<R: Abort + AllocGlobal>(rt: &R, trial: Trial) -> Result<(), Fail> {
+fn run<R: Abort + AllocGlobal>(rt: &R, trial: Trial) {
     let loss = Loss {
         extents: EXTENTS,
         cache: trial.cache,
         disk: 0,
         calls: u64::MAX,
     };
-    let disks = fused_disks(rt.alloc(), trial.disks, loss)?;
-    match Array::start(rt.alloc(), disks, u32::from(trial.cache)) {
-        Ok(mut array) => Ok(run_on(rt, trial, &mut array)?),
-        Err((fault, _)) => Err(Fail::new(fault)),
-    }
+    let disks = fused_disks(rt.alloc(), trial.disks, loss).expect(rt, "memory");
+    let mut array = start(rt, disks, trial.cache);
+    run_on(rt, trial, &mut array);
+    drop(array);
 }
 
-fn run_on<R: Abort + AllocGlobal>(
-    rt: &R,
-    trial: Trial,
-    array: &mut Array<FuseDisk>,
-) -> Result<(), AllocError> {
+fn run_on<R: Abort + AllocGlobal>(rt: &R, trial: Trial, array: &mut Array<FuseDisk>) {
     let room = room_of(trial.disks);
-    assert!(rt; array.free_room() == room, "{trial:?}");
+    has_room(rt, array.free_room(), room, trial);
     let mut run = Run::new(rt.alloc(), trial.seed, room);
-    live(rt, trial, &mut run, array)
+    live(rt, trial, &mut run, array);
+    drop(run);
+}
+
+fn has_room(rt: &impl Abort, room: u32, wanted: u32, trial: Trial) {
+    assert!(rt; room == wanted, "room for {room} blocks, {trial:?}");
 }
 
 #[test]
-fn four_disks_come_and_go(rt: HostRuntime) -> Result<(), Fail> {
+fn four_disks_come_and_go(rt: HostRuntime) {
     let trial = Trial {
         disks: 4,
         cache: 0,
         seed: 1,
     };
-    run(&rt, trial)
+    run(&rt, trial);
 }
 
 #[test]
-fn six_disks_come_and_go(rt: HostRuntime) -> Result<(), Fail> {
+fn six_disks_come_and_go(rt: HostRuntime) {
     let trial = Trial {
         disks: 6,
         cache: 2,
         seed: 2,
     };
-    run(&rt, trial)
+    run(&rt, trial);
 }
 
 #[test]
-fn nine_disks_come_and_go(rt: HostRuntime) -> Result<(), Fail> {
+fn nine_disks_come_and_go(rt: HostRuntime) {
     let trial = Trial {
         disks: 9,
         cache: 0,
         seed: 3,
     };
-    run(&rt, trial)
+    run(&rt, trial);
 }
 
 #[test]
-fn twelve_disks_come_and_go(rt: HostRuntime) -> Result<(), Fail> {
+fn twelve_disks_come_and_go(rt: HostRuntime) {
     let trial = Trial {
         disks: 12,
         cache: 64,
         seed: 4,
     };
-    run(&rt, trial)
+    run(&rt, trial);
 }

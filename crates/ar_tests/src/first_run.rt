@@ -1,12 +1,10 @@
 // Events that an array does in one run.
-use crate::arrays::done_at_once;
-use crate::calls::{Answer, Call, Row, event_of, is_answer};
-use ar_core::{Event, Outcome};
+use crate::arrays::{done_at_once, sound_array};
+use crate::calls::{Answer, Call, Row, event_of, is_met};
+use ar_core::{Array, Event, Outcome};
 use ar_disks::FuseDisk;
 use ar_scsi::Sense;
-use std::alloc::{AllocError, Global};
 use std::process::Abort;
-use std::test::Fail;
 
 /// A unit is made, written, read, removed and made anew, and has zeros then. At the other address no unit is.
 pub const FIRST_RUN: [Row; 7] = [
@@ -22,33 +20,41 @@ pub const FIRST_RUN: [Row; 7] = [
     ),
 ];
 
-fn push_events(alloc: Global, events: &mut Vec<Event<FuseDisk>>) -> Result<(), AllocError> {
-    for (call, _) in &FIRST_RUN {
-        events.push(event_of(alloc, *call)?)?;
-    }
-    Ok(())
+fn push_event<R: Abort + AllocGlobal>(rt: &R, events: &mut Vec<Event<FuseDisk>>, call: Call) {
+    let event = event_of(rt.alloc(), call).expect(rt, "memory");
+    events.push(event).ok().expect(rt, "memory");
 }
 
-fn outcomes(alloc: Global, cache: u16) -> Result<Vec<Outcome<FuseDisk>>, Fail> {
-    let mut events = Vec::new(alloc);
-    push_events(alloc, &mut events)?;
-    done_at_once(alloc, 4, cache, events)
+fn events<R: Abort + AllocGlobal>(rt: &R) -> Vec<Event<FuseDisk>> {
+    let mut events = Vec::new(rt.alloc());
+    for (call, _) in &FIRST_RUN {
+        push_event(rt, &mut events, *call);
+    }
+    events
+}
+
+fn run<R: Abort + AllocGlobal>(rt: &R, cache: u16) {
+    let mut array = sound_array(rt, 4, cache);
+    run_on(rt, &mut array, cache);
+    drop(array);
+}
+
+fn run_on<R: Abort + AllocGlobal>(rt: &R, array: &mut Array<FuseDisk>, cache: u16) {
+    let outcomes = done_at_once(rt, array, events(rt));
+    answers(rt, &outcomes, cache);
+    drop(outcomes);
 }
 
 fn answers(rt: &impl Abort, outcomes: &[Outcome<FuseDisk>], cache: u16) {
     assert!(rt; outcomes.len() == FIRST_RUN.len(), "cache {cache}");
     for (outcome, (call, answer)) in outcomes.iter().zip(&FIRST_RUN) {
-        assert!(rt;
-            is_answer(outcome, *answer),
-            "cache {cache}, {call:?}: {outcome:?}"
-        );
+        is_met(rt, &cache, *call, outcome, *answer);
     }
 }
 
 #[test]
-fn a_run_answers_each_event(rt: HostRuntime) -> Result<(), Fail> {
+fn a_run_answers_each_event(rt: HostRuntime) {
     for cache in [0, 4] {
-        answers(&rt, &outcomes(rt.alloc(), cache)?, cache);
+        run(&rt, cache);
     }
-    Ok(())
 }

@@ -3,9 +3,7 @@ use crate::arrays::sound_array;
 use crate::calls::{Answer, Call, Row, is_filled, play, unit};
 use ar_core::{Array, Health, HomeOf, Shown, Slot};
 use ar_disks::{Block, Completion, FuseDisk};
-use std::alloc::{AllocError, Global};
 use std::process::Abort;
-use std::test::Fail;
 
 /// What a row of an extent shows.
 #[derive(Clone, Copy, Debug, PartialEq, Eq)]
@@ -28,36 +26,33 @@ fn view_of(bytes: &[u8]) -> View {
     }
 }
 
-fn view_at(
-    alloc: Global,
+fn view_at<R: Abort + AllocGlobal>(
+    rt: &R,
     array: &mut Array<FuseDisk>,
     disk: u8,
     extent: u16,
     row: u16,
-) -> Result<View, AllocError> {
-    let mut block = Block::new(alloc, array.geometry())?;
-    Ok(match array.block_at(disk, extent, row, &mut block) {
+) -> View {
+    let mut block = Block::new(rt.alloc(), array.geometry()).expect(rt, "memory");
+    let view = match array.block_at(disk, extent, row, &mut block) {
         Shown::Outside => View::Outside,
         Shown::Broken => View::Broken,
         Shown::Missing => View::Missing,
         Shown::Bytes => view_of(block.bytes()),
-    })
+    };
+    drop(block);
+    view
 }
 
 // Asserts what rows show.
-fn show<R: Abort + AllocGlobal>(
-    rt: &R,
-    array: &mut Array<FuseDisk>,
-    places: &[Place],
-) -> Result<(), AllocError> {
+fn show<R: Abort + AllocGlobal>(rt: &R, array: &mut Array<FuseDisk>, places: &[Place]) {
     for (disk, extent, row, wanted) in places {
-        let view = view_at(rt.alloc(), array, *disk, *extent, *row)?;
+        let view = view_at(rt, array, *disk, *extent, *row);
         assert!(rt;
             view == *wanted,
             "disk {disk}, extent {extent}, row {row}: {view:?}"
         );
     }
-    Ok(())
 }
 
 // Asserts where a block of the first unit stands.
@@ -83,37 +78,30 @@ const WAITING: [Row; 6] = [
 ];
 
 // They wait in the cache: none is placed, and nothing is written.
-fn wait<R: Abort + AllocGlobal>(rt: &R, array: &mut Array<FuseDisk>) -> Result<(), AllocError> {
-    play(rt, &"four blocks wait", array, &WAITING)?;
+fn wait<R: Abort + AllocGlobal>(rt: &R, array: &mut Array<FuseDisk>) {
+    play(rt, &"four blocks wait", array, &WAITING);
     stands(rt, array, 0, HomeOf::Unplaced);
     show(
         rt,
         array,
         &[(0, 0, 0, View::Filled(0xEE)), (1, 0, 0, View::Missing)],
-    )
+    );
 }
 
 // The least recently written block is placed, and no other.
-fn flush_first<R: Abort + AllocGlobal>(
-    rt: &R,
-    array: &mut Array<FuseDisk>,
-) -> Result<(), AllocError> {
+fn flush_first<R: Abort + AllocGlobal>(rt: &R, array: &mut Array<FuseDisk>) {
     play(
         rt,
         &"the first is flushed",
         array,
         &[(Call::Flush, Answer::Flushed(0, 0))],
-    )?;
+    );
     stands(rt, array, 0, HomeOf::At(Slot { group: 0, slot: 0 }));
     stands(rt, array, 1, HomeOf::Unplaced);
-    Ok(())
 }
 
 // Each of the four stands on both disks of a pair, but on the one that is out. The next group is as it was.
-fn flush_others<R: Abort + AllocGlobal>(
-    rt: &R,
-    array: &mut Array<FuseDisk>,
-) -> Result<(), AllocError> {
+fn flush_others<R: Abort + AllocGlobal>(rt: &R, array: &mut Array<FuseDisk>) {
     flush_all(rt, array, Completion::Done);
     show(
         rt,
@@ -132,24 +120,21 @@ fn flush_others<R: Abort + AllocGlobal>(
             (0, 4, 0, View::Outside),
             (4, 0, 0, View::Outside),
         ],
-    )?;
-    play(rt, &"none is left", array, &[(Call::Flush, Answer::Idle)])?;
-    Ok(())
+    );
+    play(rt, &"none is left", array, &[(Call::Flush, Answer::Idle)]);
 }
 
-fn flush_past_a_lost_disk<R: Abort + AllocGlobal>(
-    rt: &R,
-    array: &mut Array<FuseDisk>,
-) -> Result<(), AllocError> {
-    wait(rt, array)?;
-    flush_first(rt, array)?;
-    flush_others(rt, array)
+fn flush_past_a_lost_disk<R: Abort + AllocGlobal>(rt: &R, array: &mut Array<FuseDisk>) {
+    wait(rt, array);
+    flush_first(rt, array);
+    flush_others(rt, array);
 }
 
 #[test]
-fn mirrored_blocks_are_flushed_past_a_lost_disk(rt: HostRuntime) -> Result<(), Fail> {
-    let mut array = sound_array(rt.alloc(), 4, 4)?;
-    Ok(flush_past_a_lost_disk(&rt, &mut array)?)
+fn mirrored_blocks_are_flushed_past_a_lost_disk(rt: HostRuntime) {
+    let mut array = sound_array(&rt, 4, 4);
+    flush_past_a_lost_disk(&rt, &mut array);
+    drop(array);
 }
 
 /// A unit takes all the room of three groups, and each of its blocks is written with a byte of its own.
@@ -170,8 +155,8 @@ const FILLED: [Row; 13] = [
 ];
 
 // Block 8, the parity of its row, and blocks 3 and 9 beside it.
-fn fill<R: Abort + AllocGlobal>(rt: &R, array: &mut Array<FuseDisk>) -> Result<(), AllocError> {
-    play(rt, &"a full array", array, &FILLED)?;
+fn fill<R: Abort + AllocGlobal>(rt: &R, array: &mut Array<FuseDisk>) {
+    play(rt, &"a full array", array, &FILLED);
     flush_all(rt, array, Completion::Done);
     show(
         rt,
@@ -182,28 +167,25 @@ fn fill<R: Abort + AllocGlobal>(rt: &R, array: &mut Array<FuseDisk>) -> Result<(
             (0, 2, 1, View::Filled(0x04)),
             (3, 2, 1, View::Filled(0x0A)),
         ],
-    )
+    );
 }
 
 // Block 8 is written once more and its disk is taken out: while it waits, the parity is the old one.
-fn rewrite<R: Abort + AllocGlobal>(rt: &R, array: &mut Array<FuseDisk>) -> Result<(), AllocError> {
+fn rewrite<R: Abort + AllocGlobal>(rt: &R, array: &mut Array<FuseDisk>) {
     let again = [
         (Call::Write(0, 16, 2, 0xBB), Answer::Good(&[])),
         (Call::DiskOut(2), Answer::Done),
     ];
-    play(rt, &"block 8 waits", array, &again)?;
+    play(rt, &"block 8 waits", array, &again);
     show(
         rt,
         array,
         &[(2, 2, 1, View::Missing), (1, 2, 1, View::Filled(0x07))],
-    )
+    );
 }
 
 // Flushed, it stands in the parity alone, from which it is read.
-fn flush_into_parity<R: Abort + AllocGlobal>(
-    rt: &R,
-    array: &mut Array<FuseDisk>,
-) -> Result<(), AllocError> {
+fn flush_into_parity<R: Abort + AllocGlobal>(rt: &R, array: &mut Array<FuseDisk>) {
     flush_all(rt, array, Completion::Done);
     show(
         rt,
@@ -214,38 +196,32 @@ fn flush_into_parity<R: Abort + AllocGlobal>(
             (0, 2, 1, View::Filled(0x04)),
             (3, 2, 1, View::Filled(0x0A)),
         ],
-    )?;
+    );
     let read = [(Call::Read(0, 16), Answer::Sectors(0xBB, 0xBB))];
-    play(rt, &"block 8 is read", array, &read)?;
-    Ok(())
+    play(rt, &"block 8 is read", array, &read);
 }
 
-fn flush_a_block_of_a_lost_disk<R: Abort + AllocGlobal>(
-    rt: &R,
-    array: &mut Array<FuseDisk>,
-) -> Result<(), AllocError> {
-    fill(rt, array)?;
-    rewrite(rt, array)?;
-    flush_into_parity(rt, array)
+fn flush_a_block_of_a_lost_disk<R: Abort + AllocGlobal>(rt: &R, array: &mut Array<FuseDisk>) {
+    fill(rt, array);
+    rewrite(rt, array);
+    flush_into_parity(rt, array);
 }
 
 #[test]
-fn a_block_of_a_lost_disk_is_flushed_into_parity(rt: HostRuntime) -> Result<(), Fail> {
-    let mut array = sound_array(rt.alloc(), 3, 2)?;
-    Ok(flush_a_block_of_a_lost_disk(&rt, &mut array)?)
+fn a_block_of_a_lost_disk_is_flushed_into_parity(rt: HostRuntime) {
+    let mut array = sound_array(&rt, 3, 2);
+    flush_a_block_of_a_lost_disk(&rt, &mut array);
+    drop(array);
 }
 
 // Two disks are out: no block is flushed, neither alone nor with the others, and no row is shown.
-fn flush_past_two_lost_disks<R: Abort + AllocGlobal>(
-    rt: &R,
-    array: &mut Array<FuseDisk>,
-) -> Result<(), AllocError> {
-    wait(rt, array)?;
+fn flush_past_two_lost_disks<R: Abort + AllocGlobal>(rt: &R, array: &mut Array<FuseDisk>) {
+    wait(rt, array);
     let lost = [
         (Call::DiskOut(2), Answer::Done),
         (Call::Flush, Answer::Broken),
     ];
-    let ending = play(rt, &"two disks are out", array, &lost)?;
+    let ending = play(rt, &"two disks are out", array, &lost);
     assert!(rt; ending.health == Health::Broken, "two disks are out");
     flush_all(rt, array, Completion::Broken);
     stands(rt, array, 0, HomeOf::Unplaced);
@@ -253,11 +229,12 @@ fn flush_past_two_lost_disks<R: Abort + AllocGlobal>(
         rt,
         array,
         &[(0, 0, 0, View::Broken), (4, 0, 0, View::Outside)],
-    )
+    );
 }
 
 #[test]
-fn nothing_is_flushed_past_two_lost_disks(rt: HostRuntime) -> Result<(), Fail> {
-    let mut array = sound_array(rt.alloc(), 4, 4)?;
-    Ok(flush_past_two_lost_disks(&rt, &mut array)?)
+fn nothing_is_flushed_past_two_lost_disks(rt: HostRuntime) {
+    let mut array = sound_array(&rt, 4, 4);
+    flush_past_two_lost_disks(&rt, &mut array);
+    drop(array);
 }

@@ -3,9 +3,7 @@ use crate::arrays::{Loss, fused_array};
 use crate::calls::{Answer, Call, Ending, INQUIRY, READ_CAPACITY, READ_PAST_END, Row, play};
 use ar_core::Health;
 use ar_scsi::Sense;
-use std::alloc::AllocError;
 use std::process::Abort;
-use std::test::Fail;
 
 /// More calls than any disk gets in a run.
 const MOST_CALLS: u64 = 1_000;
@@ -25,39 +23,52 @@ const QUESTIONS: [Row; 4] = [
 ];
 
 /// Writes each block of a unit of twelve with a byte of its own, counted up from the first.
-pub fn push_writes(rows: &mut Vec<Row>, first: u8) -> Result<(), AllocError> {
+pub fn push_writes(rt: &impl Abort, rows: &mut Vec<Row>, first: u8) {
     for block in 0..12u8 {
         let call = Call::Write(0, block * 2, 2, first.wrapping_add(block));
-        rows.push((call, Answer::Good(&[])))?;
+        push(rt, rows, (call, Answer::Good(&[])));
     }
-    Ok(())
 }
 
 /// Reads each of them.
-pub fn push_reads(rows: &mut Vec<Row>, first: u8) -> Result<(), AllocError> {
+pub fn push_reads(rt: &impl Abort, rows: &mut Vec<Row>, first: u8) {
     for block in 0..12u8 {
         let byte = first.wrapping_add(block);
-        rows.push((Call::Read(0, block * 2), Answer::Sectors(byte, byte)))?;
+        push(
+            rt,
+            rows,
+            (Call::Read(0, block * 2), Answer::Sectors(byte, byte)),
+        );
     }
-    Ok(())
+}
+
+/// Adds a row.
+pub fn push(rt: &impl Abort, rows: &mut Vec<Row>, row: Row) {
+    rows.push(row).ok().expect(rt, "memory");
 }
 
 // A unit takes all the room of three groups. Its blocks are written, and then read.
-fn push_full_array(rows: &mut Vec<Row>) -> Result<(), AllocError> {
-    rows.push((Call::Make(0, 24), Answer::Done))?;
-    push_writes(rows, 0x01)?;
-    push_reads(rows, 0x01)
+fn push_full_array(rt: &impl Abort, rows: &mut Vec<Row>) {
+    push(rt, rows, (Call::Make(0, 24), Answer::Done));
+    push_writes(rt, rows, 0x01);
+    push_reads(rt, rows, 0x01);
 }
 
 // A full array whose first disk is taken out once it is written. All blocks are written once more, and then read.
-fn push_rewritten_array(rows: &mut Vec<Row>) -> Result<(), AllocError> {
-    rows.push((Call::Make(0, 24), Answer::Done))?;
-    push_writes(rows, 0x01)?;
-    rows.push((Call::DiskOut(0), Answer::Done))?;
-    rows.extend_from_slice(&QUESTIONS)?;
-    push_writes(rows, 0x11)?;
-    push_reads(rows, 0x11)?;
-    rows.extend_from_slice(&QUESTIONS)
+fn push_rewritten_array(rt: &impl Abort, rows: &mut Vec<Row>) {
+    push(rt, rows, (Call::Make(0, 24), Answer::Done));
+    push_writes(rt, rows, 0x01);
+    push(rt, rows, (Call::DiskOut(0), Answer::Done));
+    push_questions(rt, rows);
+    push_writes(rt, rows, 0x11);
+    push_reads(rt, rows, 0x11);
+    push_questions(rt, rows);
+}
+
+fn push_questions(rt: &impl Abort, rows: &mut Vec<Row>) {
+    for row in &QUESTIONS {
+        push(rt, rows, *row);
+    }
 }
 
 // Two hosts have a unit each. One of them writes a block, which is on the disks before both units are read.
@@ -72,22 +83,29 @@ fn two_hosts(flushed: Answer) -> [Row; 6] {
     ]
 }
 
-// A run on a new array, of which one disk has a fuse.
-fn ending<R: Abort + AllocGlobal>(rt: &R, loss: Loss, rows: &[Row]) -> Result<Ending, Fail> {
-    let mut array = fused_array(rt.alloc(), loss)?;
-    Ok(play(rt, &loss, &mut array, rows)?)
+/// A run on a new array, of which one disk has a fuse.
+pub fn ending<R: Abort + AllocGlobal>(rt: &R, loss: Loss, rows: &[Row]) -> Ending {
+    let mut array = fused_array(rt, loss);
+    let ending = play(rt, &loss, &mut array, rows);
+    drop(array);
+    ending
 }
 
 // How many calls a disk gets in a run: with each shorter fuse it is lost, and no answer shows it.
-fn calls_in<R: Abort + AllocGlobal>(rt: &R, loss: Loss, rows: &[Row]) -> Result<u64, Fail> {
+fn calls_in<R: Abort + AllocGlobal>(rt: &R, loss: Loss, rows: &[Row]) -> u64 {
     for calls in 0..MOST_CALLS {
         let loss = Loss { calls, ..loss };
-        let ending = ending(rt, loss, rows)?;
-        if is_whole(rt, loss, ending) {
-            return Ok(calls);
+        if is_whole(rt, loss, ending(rt, loss, rows)) {
+            return calls;
         }
     }
-    Err(Fail::new("the disk is lost in each run"))
+    ever_lost(rt);
+    MOST_CALLS
+}
+
+/// No fuse was long enough.
+pub fn ever_lost(rt: &impl Abort) {
+    assert!(rt; false, "the disk is lost in each run");
 }
 
 // Whether no disk was lost. If one was it is the one with the fuse, and the data are there.
@@ -101,7 +119,7 @@ fn is_whole(rt: &impl Abort, loss: Loss, ending: Ending) -> bool {
 }
 
 // Any one disk is lost at any of its calls.
-fn outlive_any_disk<R: Abort + AllocGlobal>(rt: &R, rows: &[Row]) -> Result<(), Fail> {
+fn outlive_any_disk<R: Abort + AllocGlobal>(rt: &R, rows: &[Row]) {
     for cache in [0, 2] {
         for disk in [2, 0, 1, 3] {
             let loss = Loss {
@@ -110,23 +128,27 @@ fn outlive_any_disk<R: Abort + AllocGlobal>(rt: &R, rows: &[Row]) -> Result<(), 
                 disk,
                 calls: 0,
             };
-            let calls = calls_in(rt, loss, rows)?;
             // Two groups are in use, and both rows of each were written to every disk.
-            assert!(rt; calls >= 4, "{calls} calls, {loss:?}");
+            are_at_least(rt, calls_in(rt, loss, rows), 4, loss);
         }
     }
-    Ok(())
+}
+
+/// A disk was called so often.
+pub fn are_at_least(rt: &impl Abort, calls: u64, least: u64, loss: Loss) {
+    assert!(rt; calls >= least, "{calls} calls, {loss:?}");
 }
 
 #[test]
-fn a_full_array_outlives_any_disk(rt: HostRuntime) -> Result<(), Fail> {
+fn a_full_array_outlives_any_disk(rt: HostRuntime) {
     let mut rows = Vec::new(rt.alloc());
-    push_full_array(&mut rows)?;
-    outlive_any_disk(&rt, &rows)
+    push_full_array(&rt, &mut rows);
+    outlive_any_disk(&rt, &rows);
+    drop(rows);
 }
 
 #[test]
-fn units_of_two_hosts_outlive_a_disk(rt: HostRuntime) -> Result<(), Fail> {
+fn units_of_two_hosts_outlive_a_disk(rt: HostRuntime) {
     for (cache, flushed) in [(0, Answer::Idle), (2, Answer::Flushed(1, 0))] {
         let loss = Loss {
             extents: 4,
@@ -135,10 +157,12 @@ fn units_of_two_hosts_outlive_a_disk(rt: HostRuntime) -> Result<(), Fail> {
             calls: 0,
         };
         // The block is written to the disk, and read from it.
-        let calls = calls_in(&rt, loss, &two_hosts(flushed))?;
-        assert!(rt; calls == 2, "{calls} calls, {loss:?}");
+        are_two(&rt, calls_in(&rt, loss, &two_hosts(flushed)), loss);
     }
-    Ok(())
+}
+
+fn are_two(rt: &impl Abort, calls: u64, loss: Loss) {
+    assert!(rt; calls == 2, "{calls} calls, {loss:?}");
 }
 
 /// The calls by which the data were lost, in runs with fuses of each length.
@@ -161,7 +185,7 @@ impl Breaks {
 }
 
 // The calls by which the data were lost, where a second disk had a fuse: one for each fuse that is too short for the run.
-fn breaks_in<R: Abort + AllocGlobal>(rt: &R, loss: Loss, rows: &[Row]) -> Result<Breaks, Fail> {
+fn breaks_in<R: Abort + AllocGlobal>(rt: &R, loss: Loss, rows: &[Row]) -> Breaks {
     let mut breaks = Breaks {
         by_taking_out: false,
         by_write: false,
@@ -169,13 +193,13 @@ fn breaks_in<R: Abort + AllocGlobal>(rt: &R, loss: Loss, rows: &[Row]) -> Result
     };
     for calls in 0..MOST_CALLS {
         let loss = Loss { calls, ..loss };
-        let ending = ending(rt, loss, rows)?;
-        match broken_by(rt, loss, ending, rows) {
+        match broken_by(rt, loss, ending(rt, loss, rows), rows) {
             Some(call) => breaks.add(call),
-            None => return Ok(breaks),
+            None => return breaks,
         }
     }
-    Err(Fail::new("the disk is lost in each run"))
+    ever_lost(rt);
+    breaks
 }
 
 // The call by which the data were lost. Where they are not, only the disk that was taken out is out.
@@ -190,7 +214,7 @@ fn broken_by(rt: &impl Abort, loss: Loss, ending: Ending, rows: &[Row]) -> Optio
 }
 
 // The second disk goes before the first one is taken out, in a write after that, and in a read.
-fn lose_a_second_disk<R: Abort + AllocGlobal>(rt: &R, rows: &[Row]) -> Result<(), Fail> {
+fn lose_a_second_disk<R: Abort + AllocGlobal>(rt: &R, rows: &[Row]) {
     for cache in [0, 2] {
         let loss = Loss {
             extents: 3,
@@ -198,16 +222,19 @@ fn lose_a_second_disk<R: Abort + AllocGlobal>(rt: &R, rows: &[Row]) -> Result<()
             disk: 1,
             calls: 0,
         };
-        let breaks = breaks_in(rt, loss, rows)?;
-        let is_each = breaks.by_taking_out && breaks.by_write && breaks.by_read;
-        assert!(rt; is_each, "{breaks:?}, cache {cache}");
+        are_all(rt, breaks_in(rt, loss, rows), cache);
     }
-    Ok(())
+}
+
+fn are_all(rt: &impl Abort, breaks: Breaks, cache: u16) {
+    let are_all = breaks.by_taking_out && breaks.by_write && breaks.by_read;
+    assert!(rt; are_all, "{breaks:?}, cache {cache}");
 }
 
 #[test]
-fn a_second_loss_is_told(rt: HostRuntime) -> Result<(), Fail> {
+fn a_second_loss_is_told(rt: HostRuntime) {
     let mut rows = Vec::new(rt.alloc());
-    push_rewritten_array(&mut rows)?;
-    lose_a_second_disk(&rt, &rows)
+    push_rewritten_array(&rt, &mut rows);
+    lose_a_second_disk(&rt, &rows);
+    drop(rows);
 }

@@ -15,7 +15,6 @@ use ar_scsi::Status;
 use bytes::Bytes;
 use std::alloc::{AllocError, Global};
 use std::process::Abort;
-use std::test::Fail;
 
 /// What an array is asked.
 #[derive(Clone, Copy, Debug)]
@@ -68,13 +67,11 @@ fn disks(alloc: Global, extents: u16) -> Result<Vec<FuseDisk>, AllocError>
 }
 
 // An array. A start that is refused is tried again with the disks that it handed back.
-fn start(alloc: Global, extents: u16, cache: u16) -> Result<Array<FuseDisk>, Fail> {
-    match Array::start(alloc, disks(alloc, extents)?, u32::from(cache)) {
-        Ok(array) => Ok(array),
-        Err((_, disks)) => match Array::start(alloc, disks, u32::from(cache)) {
-            Ok(array) => Ok(array),
-            Err((fault, _)) => Err(Fail::new(fault)),
-        },
+fn start<R: Abort + AllocGlobal>(rt: &R, extents: u16, cache: u16) -> Array<FuseDisk> {
+    let disks = disks(rt.alloc(), extents).expect(rt, "memory");
+    match Array::start(rt.alloc(), disks, u32::from(cache)) {
+        Ok(array) => array,
+        Err((_, disks)) => crate::arrays::start(rt, disks, cache),
     }
 }
 
@@ -95,15 +92,18 @@ fn event(alloc: Global, ask: Ask, extents: u16) -> Result<Event<FuseDisk>, Alloc
 }
 
 // Steps an event. Where the test itself finds no memory for it, it is made once more.
-fn step(
-    alloc: Global,
+fn step<R: Abort + AllocGlobal>(
+    rt: &R,
     array: &mut Array<FuseDisk>,
     ask: Ask,
     extents: u16,
-) -> Result<Outcome<FuseDisk>, AllocError> {
-    match event(alloc, ask, extents) {
-        Ok(event) => Ok(array.step(alloc, event)),
-        Err(_) => Ok(array.step(alloc, event(alloc, ask, extents)?)),
+) -> Outcome<FuseDisk> {
+    match event(rt.alloc(), ask, extents) {
+        Ok(event) => array.step(rt.alloc(), event),
+        Err(_) => array.step(
+            rt.alloc(),
+            event(rt.alloc(), ask, extents).expect(rt, "memory"),
+        ),
     }
 }
 
@@ -137,16 +137,31 @@ fn goes_on<R: Abort + AllocGlobal>(
     array: &mut Array<FuseDisk>,
     extents: u16,
     (ask, want): (Ask, Want),
-) -> Result<(), AllocError> {
-    let mut outcome = step(rt.alloc(), array, ask, extents)?;
-    if is_refused(&outcome) {
-        outcome = step(rt.alloc(), array, ask, extents)?;
+) {
+    let outcome = step_at_last(rt, array, ask, extents);
+    is_given(rt, ask, &outcome, want);
+    drop(outcome);
+}
+
+fn step_at_last<R: Abort + AllocGlobal>(
+    rt: &R,
+    array: &mut Array<FuseDisk>,
+    ask: Ask,
+    extents: u16,
+) -> Outcome<FuseDisk> {
+    let outcome = step(rt, array, ask, extents);
+    if !is_refused(&outcome) {
+        return outcome;
     }
+    drop(outcome);
+    step(rt, array, ask, extents)
+}
+
+fn is_given(rt: &impl Abort, ask: Ask, outcome: &Outcome<FuseDisk>, want: Want) {
     assert!(rt;
-        is_wanted(&outcome, want),
+        is_wanted(outcome, want),
         "{ask:?} is answered with {outcome:?}"
     );
-    Ok(())
 }
 
 // Steps the events of a run on a new array, and answers the array.
@@ -155,12 +170,21 @@ fn array_after<R: Abort + AllocGlobal>(
     extents: u16,
     cache: u16,
     rows: &[(Ask, Want)],
-) -> Result<Array<FuseDisk>, Fail> {
-    let mut array = start(rt.alloc(), extents, cache)?;
+) -> Array<FuseDisk> {
+    let mut array = start(rt, extents, cache);
+    go_on(rt, &mut array, extents, rows);
+    array
+}
+
+fn go_on<R: Abort + AllocGlobal>(
+    rt: &R,
+    array: &mut Array<FuseDisk>,
+    extents: u16,
+    rows: &[(Ask, Want)],
+) {
     for row in rows {
-        goes_on(rt, &mut array, extents, *row)?;
+        goes_on(rt, array, extents, *row);
     }
-    Ok(array)
 }
 
 const MAKE: (Ask, Want) = (Ask::Call(Call::Make(0, 4)), Want::Answer(Answer::Done));
@@ -176,16 +200,20 @@ const READ: (Ask, Want) = (
 );
 
 #[test]
-fn the_first_run(rt: HostRuntime) -> Result<(), Fail> {
-    let mut array = array_after(&rt, 4, 0, &[])?;
-    for (call, answer) in FIRST_RUN {
-        goes_on(&rt, &mut array, 4, (Ask::Call(call), Want::Answer(answer)))?;
+fn the_first_run(rt: HostRuntime) {
+    let mut array = start(&rt, 4, 0);
+    do_first_run(&rt, &mut array);
+    drop(array);
+}
+
+fn do_first_run<R: Abort + AllocGlobal>(rt: &R, array: &mut Array<FuseDisk>) {
+    for (call, answer) in &FIRST_RUN {
+        goes_on(rt, array, 4, (Ask::Call(*call), Want::Answer(*answer)));
     }
-    Ok(())
 }
 
 #[test]
-fn a_unit_takes_all_the_room(rt: HostRuntime) -> Result<(), Fail> {
+fn a_unit_takes_all_the_room(rt: HostRuntime) {
     let rows = [
         (Ask::Call(Call::Make(0, 24)), Want::Answer(Answer::Done)),
         (Ask::Call(Call::Make(1, 1)), Want::NoRoom(0)),
@@ -194,30 +222,33 @@ fn a_unit_takes_all_the_room(rt: HostRuntime) -> Result<(), Fail> {
             Want::Answer(Answer::Good(&[0, 0, 0, 0x17, 0, 0, 2, 0])),
         ),
     ];
-    array_after(&rt, 3, 0, &rows)?;
-    Ok(())
+    drop(array_after(&rt, 3, 0, &rows));
 }
 
 // Twelve blocks, which two squeezes leave with parity.
 #[test]
-fn a_full_array(rt: HostRuntime) -> Result<(), Fail> {
+fn a_full_array(rt: HostRuntime) {
     let make = (Ask::Call(Call::Make(0, 24)), Want::Answer(Answer::Done));
-    let mut array = array_after(&rt, 3, 0, &[make])?;
+    let mut array = array_after(&rt, 3, 0, &[make]);
+    write_and_read(&rt, &mut array);
+    drop(array);
+}
+
+fn write_and_read<R: Abort + AllocGlobal>(rt: &R, array: &mut Array<FuseDisk>) {
     for block in 0..12u8 {
         let write = Call::Write(0, block * 2, 2, block + 1);
         let row = (Ask::Call(write), Want::Answer(Answer::Good(&[])));
-        goes_on(&rt, &mut array, 3, row)?;
+        goes_on(rt, array, 3, row);
     }
     for block in 0..12u8 {
         let shown = Answer::Sectors(block + 1, block + 1);
         let row = (Ask::Call(Call::Read(0, block * 2)), Want::Answer(shown));
-        goes_on(&rt, &mut array, 3, row)?;
+        goes_on(rt, array, 3, row);
     }
-    Ok(())
 }
 
 #[test]
-fn a_disk_is_replaced_and_rebuilt(rt: HostRuntime) -> Result<(), Fail> {
+fn a_disk_is_replaced_and_rebuilt(rt: HostRuntime) {
     let rows = [
         MAKE,
         WRITE,
@@ -239,40 +270,40 @@ fn a_disk_is_replaced_and_rebuilt(rt: HostRuntime) -> Result<(), Fail> {
             Want::Answer(Answer::Sectors(0xBB, 0xBB)),
         ),
     ];
-    array_after(&rt, 4, 0, &rows)?;
-    Ok(())
+    drop(array_after(&rt, 4, 0, &rows));
 }
 
 // What is flushed isn't asserted: without memory for the cache a write goes to the disks at once.
 #[test]
-fn a_block_waits_in_the_cache(rt: HostRuntime) -> Result<(), Fail> {
-    let mut array = array_after(&rt, 4, 4, &[MAKE, WRITE, READ])?;
-    array.step(rt.alloc(), EventOf::Flush);
+fn a_block_waits_in_the_cache(rt: HostRuntime) {
+    let mut array = array_after(&rt, 4, 4, &[MAKE, WRITE, READ]);
+    drop(array.step(rt.alloc(), EventOf::Flush));
     let force = (Ask::Force(0xBB), Want::Answer(Answer::Good(&[])));
-    goes_on(&rt, &mut array, 4, force)?;
     let idle = (Ask::Call(Call::Flush), Want::Answer(Answer::Idle));
-    goes_on(&rt, &mut array, 4, idle)?;
-    goes_on(&rt, &mut array, 4, READ)?;
-    Ok(())
+    go_on(&rt, &mut array, 4, &[force, idle, READ]);
+    drop(array);
 }
 
 #[test]
-fn an_added_disk_is_balanced(rt: HostRuntime) -> Result<(), Fail> {
-    let shifted = |group| Balance::Shifted {
-        group,
-        from: group as u8,
-        to: 4,
-    };
+fn an_added_disk_is_balanced(rt: HostRuntime) {
     let rows = [
         (Ask::AddDisk, Want::Done),
-        (Ask::Balance, Want::Balance(shifted(0))),
-        (Ask::Balance, Want::Balance(shifted(1))),
-        (Ask::Balance, Want::Balance(shifted(2))),
+        (Ask::Balance, shifted(0, 0)),
+        (Ask::Balance, shifted(1, 1)),
+        (Ask::Balance, shifted(2, 2)),
         (Ask::Balance, Want::Balance(Balance::Formed(4))),
         (Ask::Balance, Want::Balance(Balance::Idle)),
     ];
-    let array = array_after(&rt, 4, 0, &rows)?;
-    let room = array.free_room();
+    let array = array_after(&rt, 4, 0, &rows);
+    has_room(&rt, array.free_room());
+    drop(array);
+}
+
+// A group's extent goes from one disk to the new one.
+fn shifted(group: u32, from: u8) -> Want {
+    Want::Balance(Balance::Shifted { group, from, to: 4 })
+}
+
+fn has_room(rt: &impl Abort, room: u32) {
     assert!(rt; room == 24, "room for {room} blocks");
-    Ok(())
 }

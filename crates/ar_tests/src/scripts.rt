@@ -5,12 +5,10 @@ use ar_orders::{Fault, FaultKind, Notation};
 use ar_script::{Setup, run_script, write_health, write_outcome};
 use ar_scsi::Reply;
 use bytes::Bytes;
-use std::alloc::{AllocError, Global};
 use std::fmt::Debug;
 use std::io;
 use std::io::{Read, Write};
 use std::process::Abort;
-use std::test::Fail;
 
 const SMALL: Setup = Setup {
     geometry: Geometry::SMALL,
@@ -35,7 +33,17 @@ fn answers<R: Abort + AllocGlobal, S: Read + Drop>(
 ) {
     let mut out = Vec::new(rt.alloc());
     let done = run_script(rt.alloc(), script, &mut out, setup);
-    let is_shown = out.as_slice() == wanted;
+    is_answered(rt, name, done, end, out.as_slice() == wanted);
+    drop(out);
+}
+
+fn is_answered(
+    rt: &impl Abort,
+    name: &impl Debug,
+    done: Result<(), Fault>,
+    end: Result<(), Fault>,
+    is_shown: bool,
+) {
     assert!(rt;
         is_shown && done == end,
         "{name:?}: {done:?}, answers as wanted: {is_shown}"
@@ -43,14 +51,26 @@ fn answers<R: Abort + AllocGlobal, S: Read + Drop>(
 }
 
 // So many bytes of one value, with other bytes after them.
-fn padded(alloc: Global, byte: u8, len: usize, end: &[u8]) -> Result<Vec<u8>, AllocError> {
-    let mut bytes = vec![in alloc; byte; len]?;
-    bytes.extend_from_slice(end)?;
-    Ok(bytes)
+fn padded<R: Abort + AllocGlobal>(rt: &R, byte: u8, len: usize, end: &[u8]) -> Vec<u8> {
+    let mut bytes = vec![in rt.alloc(); byte; len].expect(rt, "memory");
+    bytes.extend_from_slice(end).expect(rt, "memory");
+    bytes
+}
+
+// Asserts how a script ends that answers nothing: so many bytes of one value, with other bytes after them.
+fn ends_silently<R: Abort + AllocGlobal>(
+    rt: &R,
+    name: &impl Debug,
+    (byte, len, end): (u8, usize, &[u8]),
+    wanted: Result<(), Fault>,
+) {
+    let script = padded(rt, byte, len, end);
+    answers(rt, name, SMALL, script.as_slice(), b"", wanted);
+    drop(script);
 }
 
 #[test]
-fn long_lines_and_bad_characters(rt: HostRuntime) -> Result<(), Fail> {
+fn long_lines_and_bad_characters(rt: HostRuntime) {
     for (byte, len, end, wanted) in [
         (b'#', 4_096, &b"\ntur 0"[..], at(2, FaultKind::BadArgument)),
         (b'#', 4_096, b"", Ok(())),
@@ -66,61 +86,30 @@ fn long_lines_and_bad_characters(rt: HostRuntime) -> Result<(), Fail> {
         (b'#', 3, b"\xC3\xA9\n", at(1, FaultKind::BadCharacter)),
         (b'\n', 9, b"\0", at(10, FaultKind::BadCharacter)),
     ] {
-        let script = padded(rt.alloc(), byte, len, end)?;
-        answers(
-            &rt,
-            &(byte, len, end),
-            SMALL,
-            script.as_slice(),
-            b"",
-            wanted,
-        );
+        ends_silently(&rt, &(byte, len, end), (byte, len, end), wanted);
     }
-    Ok(())
 }
 
 #[test]
-fn a_script_has_a_million_lines(rt: HostRuntime) -> Result<(), Fail> {
-    let script = padded(rt.alloc(), b'\n', 1_000_000, b"")?;
-    answers(&rt, &"a million", SMALL, script.as_slice(), b"", Ok(()));
-    Ok(())
+fn a_script_has_a_million_lines(rt: HostRuntime) {
+    ends_silently(&rt, &"a million", (b'\n', 1_000_000, b""), Ok(()));
 }
 
 #[test]
-fn the_last_of_a_million_lines_may_lack_its_end(rt: HostRuntime) -> Result<(), Fail> {
-    let script = padded(rt.alloc(), b'\n', 999_999, b"#")?;
-    answers(&rt, &"no end", SMALL, script.as_slice(), b"", Ok(()));
-    Ok(())
+fn the_last_of_a_million_lines_may_lack_its_end(rt: HostRuntime) {
+    ends_silently(&rt, &"no end", (b'\n', 999_999, b"#"), Ok(()));
 }
 
 #[test]
-fn a_line_after_a_million_is_too_many(rt: HostRuntime) -> Result<(), Fail> {
-    let script = padded(rt.alloc(), b'\n', 1_000_000, b"\0")?;
+fn a_line_after_a_million_is_too_many(rt: HostRuntime) {
     let wanted = at(1_000_001, FaultKind::TooManyLines);
-    answers(
-        &rt,
-        &"a bad line more",
-        SMALL,
-        script.as_slice(),
-        b"",
-        wanted,
-    );
-    Ok(())
+    ends_silently(&rt, &"a bad line more", (b'\n', 1_000_000, b"\0"), wanted);
 }
 
 #[test]
-fn an_empty_line_after_a_million_is_too_many(rt: HostRuntime) -> Result<(), Fail> {
-    let script = padded(rt.alloc(), b'\n', 1_000_001, b"")?;
+fn an_empty_line_after_a_million_is_too_many(rt: HostRuntime) {
     let wanted = at(1_000_001, FaultKind::TooManyLines);
-    answers(
-        &rt,
-        &"an empty line more",
-        SMALL,
-        script.as_slice(),
-        b"",
-        wanted,
-    );
-    Ok(())
+    ends_silently(&rt, &"an empty line more", (b'\n', 1_000_001, b""), wanted);
 }
 
 // Gives its bytes a few at a time, fails once, and then ends the line.
@@ -278,7 +267,7 @@ const LARGE: Setup = Setup {
 
 // More characters than are buffered.
 #[test]
-fn long_answers(rt: HostRuntime) -> Result<(), Fail> {
+fn long_answers(rt: HostRuntime) {
     let script = b"make 0 0 20000\nlevels 0 0\n".as_slice();
     ends(
         &rt,
@@ -288,21 +277,37 @@ fn long_answers(rt: HostRuntime) -> Result<(), Fail> {
         100,
         at(2, FaultKind::WriteFault),
     );
-    let mut wanted = b"ok\n".to_vec(rt.alloc())?;
-    wanted.extend_from_slice(&padded(rt.alloc(), b'-', 10_000, b"\n")?)?;
-    answers(&rt, &"a long answer", LARGE, script, &wanted, Ok(()));
-    Ok(())
+    are_long(&rt, script);
+}
+
+fn are_long<R: Abort + AllocGlobal>(rt: &R, script: &[u8]) {
+    let mut wanted = padded(rt, b'o', 1, b"k\n");
+    push_dashes(rt, &mut wanted);
+    answers(rt, &"a long answer", LARGE, script, &wanted, Ok(()));
+    drop(wanted);
+}
+
+// A dash for each of 10,000 blocks, and the end of the line.
+fn push_dashes(rt: &impl Abort, wanted: &mut Vec<u8>) {
+    for _ in 0..10_000 {
+        wanted.push(b'-').ok().expect(rt, "memory");
+    }
+    wanted.push(b'\n').ok().expect(rt, "memory");
 }
 
 // Asserts how a fault is told.
-fn tells<R: Abort + AllocGlobal>(rt: &R, fault: Fault, text: &str) -> Result<(), AllocError> {
-    let told = format!(in rt.alloc(); "{fault}")?;
-    assert!(rt; told.as_str() == text, "{told}");
-    Ok(())
+fn tells<R: Abort + AllocGlobal>(rt: &R, fault: Fault, text: &str) {
+    let told = format!(in rt.alloc(); "{fault}").expect(rt, "memory");
+    is_told(rt, told.as_str(), text);
+    drop(told);
+}
+
+fn is_told(rt: &impl Abort, told: &str, text: &str) {
+    assert!(rt; told == text, "{told}");
 }
 
 #[test]
-fn fault_texts(rt: HostRuntime) -> Result<(), Fail> {
+fn fault_texts(rt: HostRuntime) {
     for (kind, text) in [
         (FaultKind::UnknownWord, "line 7: unknown word"),
         (FaultKind::BadArgument, "line 7: bad argument"),
@@ -313,50 +318,65 @@ fn fault_texts(rt: HostRuntime) -> Result<(), Fail> {
         (FaultKind::ReadFault, "line 7: read fault"),
         (FaultKind::WriteFault, "line 7: write fault"),
     ] {
-        tells(&rt, Fault::Line { line: 7, kind }, text)?;
+        tells(&rt, Fault::Line { line: 7, kind }, text);
     }
-    Ok(tells(&rt, Fault::Start, "start fault")?)
+    tells(&rt, Fault::Start, "start fault");
 }
 
 // Asserts how an answer is written.
 fn writes<R: Abort + AllocGlobal>(rt: &R, outcome: OutcomeOf<()>, text: &[u8]) {
     let mut shown = Vec::new(rt.alloc());
     let is_written = write_outcome(&mut shown, &outcome, Notation::Runs).is_ok();
+    is_written_so(rt, &outcome, is_written, &shown, text);
+    drop(shown);
+    drop(outcome);
+}
+
+fn is_written_so(
+    rt: &impl Abort,
+    outcome: &OutcomeOf<()>,
+    is_written: bool,
+    shown: &[u8],
+    text: &[u8],
+) {
     assert!(rt;
-        is_written && shown.as_slice() == text,
+        is_written && shown == text,
         "{outcome:?} is written as {shown:?}"
     );
 }
 
 // Asserts how a run of so many bytes is written, before a short one and one of a single byte.
-fn writes_runs<R: Abort + AllocGlobal>(rt: &R, len: usize) -> Result<(), AllocError> {
-    let bytes = padded(rt.alloc(), 0x5A, len, &[1, 2, 2])?;
-    let text = format!(in rt.alloc(); "good {len}x5A 1x01 2x02\n")?;
-    let reply = Reply::good(Bytes::from_vec(bytes)?);
-    writes(rt, OutcomeOf::Cmd(reply), text.as_bytes());
-    Ok(())
+fn writes_runs<R: Abort + AllocGlobal>(rt: &R, len: usize) {
+    let text = format!(in rt.alloc(); "good {len}x5A 1x01 2x02\n").expect(rt, "memory");
+    writes(rt, good(rt, len, &[1, 2, 2]), text.as_bytes());
+    drop(text);
+}
+
+// GOOD, with so many bytes of one value, and others after them.
+fn good<R: Abort + AllocGlobal>(rt: &R, len: usize, end: &[u8]) -> OutcomeOf<()> {
+    let bytes = Bytes::from_vec(padded(rt, 0x5A, len, end))
+        .ok()
+        .expect(rt, "memory");
+    OutcomeOf::Cmd(Reply::good(bytes))
 }
 
 // Asserts how so many bytes are written that are all the same.
-fn writes_run<R: Abort + AllocGlobal>(rt: &R, len: usize) -> Result<(), AllocError> {
-    let bytes = padded(rt.alloc(), 0x5A, len, &[])?;
-    let text = format!(in rt.alloc(); "good {len}x5A\n")?;
-    let reply = Reply::good(Bytes::from_vec(bytes)?);
-    writes(rt, OutcomeOf::Cmd(reply), text.as_bytes());
-    Ok(())
+fn writes_run<R: Abort + AllocGlobal>(rt: &R, len: usize) {
+    let text = format!(in rt.alloc(); "good {len}x5A\n").expect(rt, "memory");
+    writes(rt, good(rt, len, &[]), text.as_bytes());
+    drop(text);
 }
 
 #[test]
-fn runs_of_each_length(rt: HostRuntime) -> Result<(), Fail> {
+fn runs_of_each_length(rt: HostRuntime) {
     for len in 1..=200 {
-        writes_run(&rt, len)?;
-        writes_runs(&rt, len)?;
+        writes_run(&rt, len);
+        writes_runs(&rt, len);
     }
     for len in [511, 512, 513, 1_023, 1_024, 1_025, 65_535, 65_536] {
-        writes_run(&rt, len)?;
-        writes_runs(&rt, len)?;
+        writes_run(&rt, len);
+        writes_runs(&rt, len);
     }
-    Ok(())
 }
 
 // A script meets none of these while there is memory.
@@ -373,8 +393,13 @@ fn texts_of_refused_memory(rt: HostRuntime) {
 fn the_text_of_a_rebuilding(rt: HostRuntime) {
     let mut shown = Vec::new(rt.alloc());
     let is_written = write_health(&mut shown, Health::Rebuilding(11, 1_023)).is_ok();
+    is_rebuilding(&rt, is_written, &shown);
+    drop(shown);
+}
+
+fn is_rebuilding(rt: &impl Abort, is_written: bool, shown: &[u8]) {
     assert!(rt;
-        is_written && shown.as_slice() == b"rebuilding 11 1023\n".as_slice(),
+        is_written && shown == b"rebuilding 11 1023\n".as_slice(),
         "{shown:?}"
     );
 }
