@@ -165,6 +165,8 @@ commands_served old new addr n cdb bytes reply unit quiet serves settles few =
         busy = λ status. kept (settles.busy status);
         begun = λ lba count is. subst (λ (s : ArrayState). ReadsFirst ReadsBlock (geometry_of old) addr lba count s new) (sym untold) (settles.begun lba count is);
         got = settles.got;
+        busy_read = λ lba count is status.
+            elim (settles.busy_read lba count is status) [ inl same ↦ inl (same ∙ sym untold) | inr all ↦ inr all ];
         forced = settles.forced;
         stored = settles.stored;
       };
@@ -259,6 +261,7 @@ commands_told old new addr n cdb bytes reply unit tells is cleared seen =
         busy = λ _. quiet;
         begun = λ lba count _. subst (ReadsFirst ReadsBlock (geometry_of old) addr lba count (once_told old addr cdb)) (sym only) (first_none (once_told old addr cdb) addr lba count);
         got = λ lba count _ good. (let status = sym (ap (λ (r : Reply). r.status) is) ∙ good in absurd (cc));
+        busy_read = λ lba count _ _. inl only;
         forced = λ lba count _ good. (let status = sym (ap (λ (r : Reply). r.status) is) ∙ good in absurd (cc));
         stored = λ lba count fua _ good. (let status = sym (ap (λ (r : Reply). r.status) is) ∙ good in absurd (cc));
       };
@@ -326,6 +329,7 @@ commands_absent s addr cdb bytes reply none given =
         busy = λ _. quiet;
         begun = λ lba count _. subst (λ (t : ArrayState). ReadsFirst ReadsBlock (geometry_of s) addr lba count t s) only (first_none s addr lba count);
         got = λ lba count is good. absurd (absent_needs cdb reply given (ap needs_blocks is) good);
+        busy_read = λ lba count _ _. inl only;
         forced = λ lba count is good. absurd (absent_needs cdb reply given (ap needs_blocks is) good);
         stored = λ lba count fua is good. absurd (absent_needs cdb reply given (ap needs_blocks is) good);
       };

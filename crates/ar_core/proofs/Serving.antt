@@ -284,6 +284,7 @@ settles_same s addr command reply no_write no_read = record {
   busy = λ _. places_refl s;
   begun = λ lba count _. first_none s addr lba count;
   got = λ lba count is good. absurd (no_read lba count is good);
+  busy_read = λ lba count _ _. inl refl;
   forced = λ lba count is good. absurd (no_write lba count true is good);
   stored = λ lba count fua is good. absurd (no_write lba count fua is good);
 }
@@ -321,13 +322,21 @@ got_same addr lba count l n old new is got =
     subst (λ k. InTurn ReadsBlock (keys_in (geometry_of old) addr l k) old new) many
     (subst (λ k. InTurn ReadsBlock (keys_in (geometry_of old) addr k count) old new) at got)
 
+-- a READ that had room for its sectors and is BUSY has moved them all
+pub moved_all : (transfer : Transfer) (reply : Reply) → reply.status ≡ Busy → (transfer ≡ Broken → reply ≡ check internal_target_failure)
+    → transfer ≢ NoMemory → transfer ≡ Done
+moved_all Done reply status broken room = refl
+moved_all Broken reply status broken room = (let told = sym (ap (λ (r : Reply). r.status) (broken refl)) ∙ status in absurd (cc))
+moved_all NoMemory reply status broken room = absurd (room refl)
+
 -- a READ that was not refused
 pub settles_read : (old new : ArrayState) (addr : Addr) (lba count : ℕ) (reply : Reply) → is_broken old ≡ false
     → ReadsFirst ReadsBlock (geometry_of old) addr lba count old new
     → (reply.status ≡ Good → InTurn ReadsBlock (keys_in (geometry_of old) addr lba count) old new)
+    → (reply.status ≡ Busy → (new ≡ old) ⊎ InTurn ReadsBlock (keys_in (geometry_of old) addr lba count) old new)
     → (reply.status ≡ CheckCondition → reply ≡ check internal_target_failure)
     → Settles old addr (Ok (Read lba count)) reply new
-settles_read old new addr lba count reply sound first got failed = record {
+settles_read old new addr lba count reply sound first got busy failed = record {
   still = λ none. read_none old new addr lba count (no_more count none) first;
   refused = λ status other. absurd (other (failed status));
   lost = λ gone. absurd (cc);
@@ -335,6 +344,7 @@ settles_read old new addr lba count reply sound first got failed = record {
   busy = λ _. places;
   begun = λ l n is. first_same addr lba count l n old new is first;
   got = λ l n is good. got_same addr lba count l n old new is (got good);
+  busy_read = λ l n is status. elim (busy status) [ inl same ↦ inl same | inr all ↦ inr (got_same addr lba count l n old new is all) ];
   forced = λ l n is good. absurd (cc);
   stored = λ l n fua is good. absurd (cc);
 }
@@ -436,6 +446,7 @@ settles_write old new addr lba count fua Kept reply sound done lost forced store
   reads = λ other. absurd (cc);
   begun = λ l n is. absurd (cc);
   got = λ l n is good. absurd (cc);
+  busy_read = λ l n is status. absurd (cc);
   refused = λ status _. (let told = sym (ap (λ (r : Reply). r.status) (done refl)) ∙ status in absurd (cc));
   lost = λ gone. absurd (cc);
   busy = λ status. (let told = sym (ap (λ (r : Reply). r.status) (done refl)) ∙ status in absurd (cc));
@@ -447,6 +458,7 @@ settles_write old new addr lba count fua Lost reply sound done lost forced store
   reads = λ other. absurd (cc);
   begun = λ l n is. absurd (cc);
   got = λ l n is good. absurd (cc);
+  busy_read = λ l n is status. absurd (cc);
   refused = λ _ other. absurd (other (lost refl));
   lost = λ gone. absurd (cc);
   busy = λ status. (let told = sym (ap (λ (r : Reply). r.status) (lost refl)) ∙ status in absurd (cc));

@@ -1,5 +1,5 @@
 -- What a command to a unit that is there does.
-use Rattle.std.specs.Prelude.{◌≡◌, ◌≢◌, ℕ, true, false, IsTrue, Bool, if◌then◌else◌, List, [], ◌∷◌, Result, Ok}
+use Rattle.std.specs.Prelude.{◌≡◌, ◌≢◌, ℕ, true, false, IsTrue, Bool, if◌then◌else◌, ◌⊎◌, List, [], ◌∷◌, Result, Ok}
 use Rattle.ar_disks.specs.declared.address.Addr.{Addr}
 use Rattle.ar_disks.specs.declared.address.Key.{Key}
 use Rattle.ar_scsi.specs.declared.command.Command.{Command}
@@ -29,7 +29,7 @@ pub record Serves (old : ArrayState) (addr : Addr) (table : Answered) (otherwise
   pub broken : IsTrue (is_broken new) → IsGiven otherwise reply
 
 -- Which disks were asked: none by a command that has no sector to read or to write, that is refused, or that finds the array
--- broken; by a READ, those of its blocks. And where the unit's blocks are kept afterwards: as before, but after a WRITE that was
+-- broken; by a READ, those of its blocks, and by one that is BUSY all of these or none. And where the unit's blocks are kept afterwards: as before, but after a WRITE that was
 -- done, which has put each of its blocks once; and none of these is in the cache where it came with FORCE UNIT ACCESS.
 pub record Settles (old : ArrayState) (addr : Addr) (command : Result Command Sense) (reply : Reply) (new : ArrayState) : Type 0 where
   pub still : moves_sectors command ≡ false → new ≡ old
@@ -40,6 +40,8 @@ pub record Settles (old : ArrayState) (addr : Addr) (command : Result Command Se
   pub begun : (lba count : ℕ) → command ≡ Ok (Read lba count) → ReadsFirst ReadsBlock (geometry_of old) addr lba count old new
   pub got : (lba count : ℕ) → command ≡ Ok (Read lba count) → reply.status ≡ Good
       → InTurn ReadsBlock (keys_in (geometry_of old) addr lba count) old new
+  pub busy_read : (lba count : ℕ) → command ≡ Ok (Read lba count) → reply.status ≡ Busy
+      → (new ≡ old) ⊎ InTurn ReadsBlock (keys_in (geometry_of old) addr lba count) old new
   pub forced : (lba count : ℕ) → command ≡ Ok (Write lba count true) → reply.status ≡ Good → IsForced new addr lba count
   pub stored : (lba count : ℕ) (fua : Bool) → command ≡ Ok (Write lba count fua) → reply.status ≡ Good
       → StoresBlocks addr lba count fua old new

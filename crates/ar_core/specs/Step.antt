@@ -1,5 +1,5 @@
 -- What one event does to an array.
-use Rattle.std.specs.Prelude.{◌≡◌, ◌≢◌, ◌≤◌, ◌*◌, ℕ, nat_lt, Bool, true, false, ◌&&◌, not, ◌==◌, if◌then◌else◌, IsTrue, List, [], ◌∷◌, length, Result, Ok}
+use Rattle.std.specs.Prelude.{◌≡◌, ◌≢◌, ◌≤◌, ◌*◌, ℕ, nat_lt, Bool, true, false, ◌&&◌, not, ◌==◌, if◌then◌else◌, ◌⊎◌, IsTrue, List, [], ◌∷◌, length, Result, Ok}
 use Rattle.ar_disks.specs.declared.address.Addr.{Addr}
 use Rattle.ar_disks.specs.declared.address.Host.{Host}
 use Rattle.ar_scsi.specs.declared.command.Command.{Command}
@@ -122,11 +122,13 @@ pub record Obeys (old : ArrayState) (addr : Addr) (cdb bytes : List ℕ) (reply 
   pub reads : is_write (reading cdb) ≡ false → MovesNothing old addr cdb new
   pub busy : reply.status ≡ Busy → MovesNothing old addr cdb new
   -- a READ, whatever it is answered, has read the blocks of its sectors once each, in ascending order, up to one of them, and no
-  -- other; all of them where it is GOOD
+  -- other; all of them where it is GOOD, and all of them or none where it is BUSY
   pub begun : (lba count : ℕ) → reading cdb ≡ Ok (Read lba count)
       → ReadsFirst ReadsBlock (geometry_of old) addr lba count (once_told old addr cdb) new
   pub got : (lba count : ℕ) → reading cdb ≡ Ok (Read lba count) → reply.status ≡ Good
       → InTurn ReadsBlock (keys_in (geometry_of old) addr lba count) old new
+  pub busy_read : (lba count : ℕ) → reading cdb ≡ Ok (Read lba count) → reply.status ≡ Busy
+      → (new ≡ once_told old addr cdb) ⊎ InTurn ReadsBlock (keys_in (geometry_of old) addr lba count) old new
   -- a WRITE with FORCE UNIT ACCESS leaves none of its blocks in the cache (SBC-2, WRITE (10) command)
   pub forced : (lba count : ℕ) → reading cdb ≡ Ok (Write lba count true) → reply.status ≡ Good → IsForced new addr lba count
   -- a WRITE that was done has put each of its blocks once, in ascending order, and no other, and then forced each where it was

@@ -1,8 +1,8 @@
 // The array: what a command to a unit does.
-ghost use Rattle.std.specs.Prelude.{◌≡◌, ◌≢◌, ◌+◌, ◌-◌, ◌*◌, ◌/◌, ◌≤◌, ◌<◌, ◌==◌, not, false, true, IsTrue, Ok, nat_lt, if◌then◌else◌, length, []};
+ghost use Rattle.std.specs.Prelude.{◌≡◌, ◌≢◌, ◌⊎◌, ◌+◌, ◌-◌, ◌*◌, ◌/◌, ◌≤◌, ◌<◌, ◌==◌, not, false, true, IsTrue, Ok, nat_lt, if◌then◌else◌, length, []};
 ghost use Rattle.ar_disks.specs.declared.address.Key.{Key};
 ghost use Rattle.ar_disks.specs.Geometry.{block_len_of, sectors_of};
-ghost use Rattle.ar_scsi.specs.declared.reply.Status.TheVariants.{Good, CheckCondition};
+ghost use Rattle.ar_scsi.specs.declared.reply.Status.TheVariants.{Good, CheckCondition, Busy};
 ghost use Rattle.ar_scsi.specs.Reading.{reading};
 ghost use Rattle.ar_scsi.specs.Reply.{good, check, busy};
 ghost use Rattle.ar_scsi.specs.Sense.{internal_target_failure, logical_block_address_out_of_range, data_phase_error, capacity_data_has_changed};
@@ -151,6 +151,8 @@ impl<D: Disk> Array<D> {
             (check internal_target_failure) result self.new }
         ensures begun { ReadsFirst ReadsBlock (geometry_of self.old) addr lba count self.old self.new }
         ensures got { result.status ≡ Good → InTurn ReadsBlock (keys_in (geometry_of self.old) addr lba count) self.old self.new }
+        ensures busy_read { result.status ≡ Busy
+            → (self.new ≡ self.old) ⊎ InTurn ReadsBlock (keys_in (geometry_of self.old) addr lba count) self.old self.new }
 
         ensures failed { result.status ≡ CheckCondition → result ≡ check internal_target_failure }
         ensures few { length result.payload ≤ 65535 * 512 }

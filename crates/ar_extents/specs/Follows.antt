@@ -69,8 +69,9 @@ IsPlace one place = place ≡ one
 abbrev pub IsEither : Place → Place → Place → Type 0
 IsEither one other place = (place ≡ one) ⊎ (place ≡ other)
 
--- Rows of these extents were read and written, as far as they are used: no disk was accessed but for that. An extent that isn't
--- used keeps its content, on whatever disk it is; no disk is lost without a cause; and what is loose stays so.
+-- No disk was asked but those of these extents, as far as they are used. An extent that isn't used keeps its content, on whatever
+-- disk it is; no disk is lost without a cause; and what is loose stays so. Which rows of the disks that were asked may have changed,
+-- others say (`Keeps`, `KeepsBut`).
 pub record WorksOn (these : Place → Type 0) (old new : SetState) : Type 0 where
   pub follows : Follows old new
   pub loose : new.loose ≡ old.loose

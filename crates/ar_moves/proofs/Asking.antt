@@ -1,11 +1,10 @@
--- Which disks a demotion asks.
+-- Which disks a demotion asks, and which group it writes.
 use Rattle.std.proofs.Common.{◌≡◌, ◌⊎◌, inl, inr, ℕ, ◌<◌, Some, ap, subst, ◌∙◌, arith}
 use Rattle.ar_disks.specs.declared.address.Key.{Key}
 use Rattle.ar_disks.specs.declared.address.Place.{Place}
 use Rattle.ar_disks.specs.declared.address.Members.{Members}
 use Rattle.ar_disks.specs.declared.geometry.Geometry.{Geometry}
 use Rattle.ar_extents.specs.Groups.{IsMember}
-use Rattle.ar_extents.proofs.Follows.{works_refl, works_then, works_more}
 use Rattle.ar_book.specs.declared.class.Class.{Class}
 use Rattle.ar_book.specs.declared.class.Class.TheVariants.{Parity}
 use Rattle.ar_book.specs.declared.class.Slot.{Slot}
@@ -19,7 +18,8 @@ use Rattle.ar_store.specs.Slots.{ReadsIn}
 use Rattle.ar_store.specs.Kept.{IsSpace}
 use Rattle.ar_store.specs.Placing.{slot_at, IsLowestHole, HasNoHole}
 use Rattle.ar_store.specs.Calls.{IsOpened}
-use Rattle.ar_store.specs.Asking.{ReadsAt, MovesAt, AsksSlots, AsksOpened, AsksGroup}
+use Rattle.ar_store.specs.Asking.{WorksWithin, ReadsAt, MovesAt, AsksSlots, AsksOpened, AsksGroup}
+use Rattle.ar_store.proofs.Within.{within_refl, within_then, within_more}
 use Rattle.ar_store.proofs.Asking.{writes_member}
 use Rattle.ar_store.proofs.Changes.{named_apart}
 use Rattle.ar_moves.specs.Demotion.{IsOldestMirrored, AsksToDemote}
@@ -28,8 +28,8 @@ use Rattle.ar_moves.proofs.Single.{oldest_single, slot_single, free_single}
 -- nothing was asked
 pub asks_none : (s : StoreState) → AsksToDemote s s
 asks_none s = record {
-  there = λ key from to oldest placed lowest. works_refl _ s.disks;
-  made = λ key from group oldest placed none many lowest. works_refl _ s.disks;
+  there = λ key from to oldest placed lowest. within_refl _ _ s.disks;
+  made = λ key from group oldest placed none many lowest. within_refl _ _ s.disks;
 }
 
 -- the block moved to the hole that was there
@@ -54,9 +54,11 @@ moved_asks a b c key from g space opening geometry placed opened moved =
     ap (λ (x : Tables). class_of x from.group) opening.tables ∙ opened_class_other t g Parity from.group apart in
     let members : (n : ℕ) → members_of b n ≡ members_of a n = λ n.
     ap (λ (x : Tables). (group_in x.groups n).members) opening.tables ∙ opened_members t g Parity n in
-    works_then these a.disks b.disks c.disks
-    (works_more (IsMember (members_of a g)) these a.disks b.disks (λ place is. inr is) opened)
-    (works_more (MovesAt b c from (slot_at g 0)) these b.disks c.disks
+    let W : Members → Type 0 = λ m. WorksWithin these m b.disks c.disks in
+    within_then these (members_of a g) a.disks b.disks c.disks
+    (within_more (IsMember (members_of a g)) these (members_of a g) a.disks b.disks (λ place is. inr is) opened)
+    (subst W (members g)
+    (within_more (MovesAt b c from (slot_at g 0)) these (members_of b g) b.disks c.disks
     (λ place is. elim is [
       | inl first ↦
           inl (subst (λ (x : Geometry). ReadsIn (class_in a from.group) c.disks x (members_of a from.group) from.slot place) geometry
@@ -65,7 +67,7 @@ moved_asks a b c key from g space opening geometry placed opened moved =
       | inr second ↦
           inr (subst (λ (x : Members). IsMember x place) (members g)
           (writes_member (class_in b g) c.disks b.disks.geometry (members_of b g) 0 place second))
-    ]) moved)
+    ]) moved))
 
 pub asks_made : (a b c : StoreState) (key : Key) (g : ℕ) → IsSpace a → IsOldestMirrored a.book key → HasNoHole a.book Parity → IsOpened a.book b.book Parity g
     → b.disks.geometry ≡ a.disks.geometry → ((k : Key) → home b.book k ≡ home a.book k) → AsksGroup g a b
@@ -92,6 +94,6 @@ pub asks_opened : (a c : StoreState) → HasNoHole a.book Parity → ((group : �
 asks_opened a c none asks = record {
   there = λ key from to oldest placed lowest. absurd (none.none to lowest.hole);
   made = λ key from group oldest placed _ many free.
-      works_more (IsMember (members_of a group)) (λ place. ReadsAt a c from place ⊎ IsMember (members_of a group) place) a.disks c.disks
+      within_more (IsMember (members_of a group)) (λ place. ReadsAt a c from place ⊎ IsMember (members_of a group) place) (members_of a group) a.disks c.disks
       (λ place is. inr is) (asks group free);
 }

@@ -1,4 +1,4 @@
--- Which disks are asked for a slot to be found, and at it.
+-- Which disks are asked for a slot to be found, and at it, and which group is written.
 use Rattle.std.proofs.Common.{◌≡◌, ◌⊎◌, inl, inr, ℕ, ◌<◌, zero, suc, Bool, true, false, true≢false, Option, None, Some, refl, sym, ap, subst, ◌∙◌, arith}
 use Rattle.std.proofs.lemmas.Option.{none-some, same_Some}
 use Rattle.ar_disks.specs.declared.address.Key.{Key}
@@ -8,9 +8,9 @@ use Rattle.ar_disks.specs.declared.geometry.Geometry.{Geometry}
 use Rattle.ar_disks.specs.Members.{member}
 use Rattle.ar_extents.specs.Health.{is_lost}
 use Rattle.ar_extents.specs.Set.{SetState, IsSound}
-use Rattle.ar_extents.specs.Groups.{IsMember}
-use Rattle.ar_extents.specs.Follows.{Follows, IsPlace, IsEither, WorksOn}
-use Rattle.ar_extents.proofs.Follows.{works_refl, works_then, works_more}
+use Rattle.ar_extents.specs.Groups.{IsMember, IsOutside}
+use Rattle.ar_extents.specs.Follows.{Follows, Keeps, Anywhere, IsPlace, IsEither, WorksOn}
+use Rattle.ar_extents.proofs.Follows.{works_more}
 use Rattle.ar_book.specs.declared.class.Class.{Class}
 use Rattle.ar_book.specs.declared.class.Class.TheVariants.{Free, Mirrored, Parity}
 use Rattle.ar_book.specs.declared.class.Level.TheVariants.{Mirrored as MirroredLevel, Parity as ParityLevel}
@@ -28,8 +28,9 @@ use Rattle.ar_store.specs.declared.way.Way.TheVariants.{Home, Hole, Broken}
 use Rattle.ar_store.specs.Store.{StoreState, store_of, members_of, class_in}
 use Rattle.ar_store.specs.Slots.{NeedsIn, ReadsIn, WritesIn, first_in, AsksFor, AsksForSlot}
 use Rattle.ar_store.specs.Placing.{slot_at, moved_from, moved_first, squeezed, LeadsHome, LeadsToHole, Leads, HasNoWay}
-use Rattle.ar_store.specs.Asking.{ReadsAt, WritesAt, MovesAt, MovesAll, ReadsPairs, AsksSlot, AsksSlots, AsksGroup, AsksGroups, AsksToPut, AsksToSqueeze, AsksOnWay, AsksWay}
+use Rattle.ar_store.specs.Asking.{WorksWithin, ReadsAt, WritesAt, MovesAt, MovesAll, ReadsPairs, AsksSlot, AsksSlots, AsksGroup, AsksGroups, AsksToPut, AsksToSqueeze, AsksOnWay, AsksWay}
 use Rattle.ar_store.specs.Spaces.{store_in}
+use Rattle.ar_store.proofs.Within.{within_same, within_then, within_more, within_read}
 use Rattle.ar_store.proofs.Squeezing.{IsSqueezing, same_full, same_free}
 use Rattle.ar_store.proofs.Ways.{nowhere, parity_not_mirrored, unplaced_not_mirrored, unplaced_not_parity}
 
@@ -115,26 +116,27 @@ squeezed_members t from to g = first_members (opened t to Parity) from to _ g �
 -- a write of a slot is work on its group
 pub slot_in_group : (a b : StoreState) (s : Slot) (class : Class) → AsksSlot class s a b → AsksGroup s.group a b
 slot_in_group a b s class works =
-    works_more (WritesIn class b.disks a.disks.geometry (members_of a s.group) s.slot) (IsMember (members_of a s.group)) a.disks b.disks
+    within_more (WritesIn class b.disks a.disks.geometry (members_of a s.group) s.slot) (IsMember (members_of a s.group)) (members_of a s.group) a.disks b.disks
     (writes_member class b.disks a.disks.geometry (members_of a s.group) s.slot) works
 
 -- What is asked where the blocks of a mirrored group move to another, over the members of both.
 abbrev MovesFrom : SetState → Geometry → Members → Members → Place → Type 0
 MovesFrom new g from to place = ReadsPairs new g from place ⊎ IsMember to place
 
-second_group : (new : SetState) (g : Geometry) (from to : Members) (a b : SetState) → WorksOn (IsMember to) a b → WorksOn (MovesFrom new g from to) a b
-second_group new g from to a b works = works_more (IsMember to) (MovesFrom new g from to) a b (λ place is. inr is) works
+second_group : (new : SetState) (g : Geometry) (from to : Members) (a b : SetState) → WorksWithin (IsMember to) to a b → WorksWithin (MovesFrom new g from to) to a b
+second_group new g from to a b works = within_more (IsMember to) (MovesFrom new g from to) to a b (λ place is. inr is) works
 
-groups_later : (b d : SetState) (g : Geometry) (from to : Members) (a c : SetState) → Follows b d → WorksOn (MovesFrom b g from to) a c → WorksOn (MovesFrom d g from to) a c
+groups_later : (b d : SetState) (g : Geometry) (from to : Members) (a c : SetState) → Follows b d → WorksWithin (MovesFrom b g from to) to a c
+    → WorksWithin (MovesFrom d g from to) to a c
 groups_later b d g from to a c bd works =
-    works_more (MovesFrom b g from to) (MovesFrom d g from to) a c
+    within_more (MovesFrom b g from to) (MovesFrom d g from to) to a c
     (λ place is. elim is [ inl reads ↦ inl (pairs_later b d g from place bd reads) | inr member ↦ inr member ]) works
 
 -- A block's move from one group to the other is part of it.
 slots_in_groups : (a b : StoreState) (one other : Slot) → class_in a one.group ≡ Mirrored → one.slot < slots_of a.disks.geometry Mirrored
     → AsksSlots one other a b → AsksGroups one.group other.group a b
 slots_in_groups a b one other mirrored below works =
-    works_more (MovesAt a b one other) (MovesAll a b one.group other.group) a.disks b.disks
+    within_more (MovesAt a b one other) (MovesAll a b one.group other.group) (members_of a other.group) a.disks b.disks
     (λ place moves. elim moves [
       | inl reads ↦ inl (record {
         slot = one.slot;
@@ -146,11 +148,11 @@ slots_in_groups a b one other mirrored below works =
 
 -- The blocks move from one group to another, whose members and geometry stay.
 groups_same : (a b c : StoreState) (from to : ℕ) → ((g : ℕ) → members_of b g ≡ members_of a g) → b.disks.geometry ≡ a.disks.geometry
-    → AsksGroups from to b c → WorksOn (MovesFrom c.disks a.disks.geometry (members_of a from) (members_of a to)) b.disks c.disks
+    → AsksGroups from to b c → WorksWithin (MovesFrom c.disks a.disks.geometry (members_of a from) (members_of a to)) (members_of a to) b.disks c.disks
 groups_same a b c from to same geometry works =
-    let P : Members → Type 0 = λ m. WorksOn (MovesFrom c.disks b.disks.geometry m (members_of b to)) b.disks c.disks in
-    let Q : Members → Type 0 = λ m. WorksOn (MovesFrom c.disks b.disks.geometry (members_of a from) m) b.disks c.disks in
-    let R : Geometry → Type 0 = λ g. WorksOn (MovesFrom c.disks g (members_of a from) (members_of a to)) b.disks c.disks in
+    let P : Members → Type 0 = λ m. WorksWithin (MovesFrom c.disks b.disks.geometry m (members_of b to)) (members_of b to) b.disks c.disks in
+    let Q : Members → Type 0 = λ m. WorksWithin (MovesFrom c.disks b.disks.geometry (members_of a from) m) m b.disks c.disks in
+    let R : Geometry → Type 0 = λ g. WorksWithin (MovesFrom c.disks g (members_of a from) (members_of a to)) (members_of a to) b.disks c.disks in
     subst R geometry (subst Q (same to) (subst P (same from) works))
 
 moving_asks : (t : Tables) (old now new : StoreState) (from to i : ℕ) → old.book ≡ t → now.book ≡ moved_first t from to i
@@ -159,18 +161,18 @@ moving_asks t old now new from to i is_old is_now before step =
     let same : (g : ℕ) → members_of now g ≡ members_of old g = λ g.
     ap (λ (x : Tables). (group_in x.groups g).members) is_now ∙ first_members t from to i g
     ∙ ap (λ (x : Tables). (group_in x.groups g).members) (sym is_old) in
-    works_then (MovesAll old new from to) old.disks now.disks new.disks
-    (groups_later now.disks new.disks old.disks.geometry (members_of old from) (members_of old to) old.disks now.disks step.follows before)
-    (groups_same old now new from to same before.follows.geometry step)
+    within_then (MovesAll old new from to) (members_of old to) old.disks now.disks new.disks
+    (groups_later now.disks new.disks old.disks.geometry (members_of old from) (members_of old to) old.disks now.disks step.works.follows before)
+    (groups_same old now new from to same before.works.follows.geometry step)
 
 -- the lowest free group was opened, and then blocks moved to it, or none so far
 pub squeeze_asks : (a b c : StoreState) (from to : ℕ) → b.book ≡ opened a.book to Parity → AsksGroup to a b → AsksGroups from to b c → AsksGroups from to a c
 squeeze_asks a b c from to is opening moves =
     let same : (g : ℕ) → members_of b g ≡ members_of a g = λ g.
     ap (λ (x : Tables). (group_in x.groups g).members) is ∙ opened_members a.book to Parity g in
-    works_then (MovesAll a c from to) a.disks b.disks c.disks
+    within_then (MovesAll a c from to) (members_of a to) a.disks b.disks c.disks
     (second_group c.disks a.disks.geometry (members_of a from) (members_of a to) a.disks b.disks opening)
-    (groups_same a b c from to same opening.follows.geometry moves)
+    (groups_same a b c from to same opening.works.follows.geometry moves)
 
 -- there is one full mirrored group that comes first, and one free one
 pub only_squeeze : (a c : StoreState) (from to : ℕ) → IsFullMirrored a.book from → IsLowestFree a.book to → AsksGroups from to a c → AsksToSqueeze a c
@@ -185,17 +187,14 @@ only_opened a c group free works g is_g =
     let P : ℕ → Type 0 = λ n. AsksGroup n a c in subst P (same_free a.book group g free is_g) works
 
 -- nothing was asked
-same_works : (these : Place → Type 0) (a b : SetState) → b ≡ a → WorksOn these a b
-same_works these a b same = subst (λ (x : SetState). WorksOn these a x) (sym same) (works_refl these a)
-
 pub asks_still : (a c : StoreState) (k : Key) → c.disks ≡ a.disks → AsksToPut a k c
 asks_still a c k same = record {
-  mirrored = λ s at is. same_works _ a.disks c.disks same;
-  mirrored_hole = λ s low hole. same_works _ a.disks c.disks same;
-  opened_group = λ g low none many lowest. same_works _ a.disks c.disks same;
-  parity = λ s at is none few. same_works _ a.disks c.disks same;
-  parity_hole = λ s at none few hole. same_works _ a.disks c.disks same;
-  squeezed_group = λ from to at none full few is_from is_to. same_works _ a.disks c.disks same;
+  mirrored = λ s at is. within_same _ _ a.disks c.disks same;
+  mirrored_hole = λ s low hole. within_same _ _ a.disks c.disks same;
+  opened_group = λ g low none many lowest. within_same _ _ a.disks c.disks same;
+  parity = λ s at is none few. within_same _ _ a.disks c.disks same;
+  parity_hole = λ s at none few hole. within_same _ _ a.disks c.disks same;
+  squeezed_group = λ from to at none full few is_from is_to. within_same _ _ a.disks c.disks same;
 }
 
 -- all that a squeeze needs
@@ -227,9 +226,9 @@ module _ (a b c : StoreState) (k : Key) where
   at_slot : (class : Class) (s r : Slot) → b.disks ≡ a.disks → s ≡ r → class_in b s.group ≡ class → members_of b s.group ≡ members_of a s.group
       → AsksSlot (class_in b s.group) s b c → AsksSlot class r a c
   at_slot class s r disks same is members asks =
-      let P : Class → Type 0 = λ x. WorksOn (WritesIn x c.disks b.disks.geometry (members_of b s.group) s.slot) b.disks c.disks in
-      let Q : Members → Type 0 = λ m. WorksOn (WritesIn class c.disks b.disks.geometry m s.slot) b.disks c.disks in
-      let R : SetState → Type 0 = λ x. WorksOn (WritesIn class c.disks x.geometry (members_of a s.group) s.slot) x c.disks in
+      let P : Class → Type 0 = λ x. WorksWithin (WritesIn x c.disks b.disks.geometry (members_of b s.group) s.slot) (members_of b s.group) b.disks c.disks in
+      let Q : Members → Type 0 = λ m. WorksWithin (WritesIn class c.disks b.disks.geometry m s.slot) m b.disks c.disks in
+      let R : SetState → Type 0 = λ x. WorksWithin (WritesIn class c.disks x.geometry (members_of a s.group) s.slot) (members_of a s.group) x c.disks in
       let S : Slot → Type 0 = λ x. AsksSlot class x a c in
       subst S same (subst R disks (subst Q members (subst P is asks)))
 
@@ -257,11 +256,11 @@ module _ (a b c : StoreState) (k : Key) where
 
   -- the slot that a squeeze left was written
   after_squeeze : (from to : ℕ) (s : Slot) → b.book ≡ squeezed a.book from to → s.group ≡ to → AsksSlot (class_in b s.group) s b c
-      → WorksOn (MovesAll a c from to) b.disks c.disks
+      → WorksWithin (MovesAll a c from to) (members_of a to) b.disks c.disks
   after_squeeze from to s is at asks =
       let same : members_of b s.group ≡ members_of a to =
       ap (λ (x : Tables). (group_in x.groups s.group).members) is ∙ squeezed_members a.book from to s.group ∙ ap (λ g. members_of a g) at in
-      let P : Members → Type 0 = λ m. WorksOn (IsMember m) b.disks c.disks in
+      let P : Members → Type 0 = λ m. WorksWithin (IsMember m) m b.disks c.disks in
       second_group c.disks a.disks.geometry (members_of a from) (members_of a to) b.disks c.disks (subst P same (slot_in_group b c s (class_in b s.group) asks))
 
   asks_hole : (s : Slot) → LeadsToHole a.book k b.book s → b.disks ≡ a.disks → AsksSlot (class_in b s.group) s b c → AsksToPut a k c
@@ -286,7 +285,7 @@ module _ (a b c : StoreState) (k : Key) where
             at_slot Parity s r disks same.1 (class_was t same.0 r same.1 ∙ hole.hole.class) (members_are t same.0) asks;
         squeezed_group = λ from to at none full few is_from is_to.
             let same = leads.squeezed_group from to none full few is_from is_to in
-            let P : SetState → Type 0 = λ x. WorksOn (MovesAll a c from to) x c.disks in
+            let P : SetState → Type 0 = λ x. WorksWithin (MovesAll a c from to) (members_of a to) x c.disks in
             subst P disks (after_squeeze from to s same.0 (ap (λ (x : Slot). x.group) same.1) asks);
       }
 
@@ -294,8 +293,8 @@ module _ (a b c : StoreState) (k : Key) where
   squeeze_hole : (s : Slot) → LeadsToHole a.book k b.book s → HasNoWay a.book k a.book → AsksToSqueeze a b → AsksSlot (class_in b s.group) s b c → AsksToSqueeze a c
   squeeze_hole s leads needs first asks from to is_from is_to =
       let same = leads.squeezed_group from to needs.mirrored.none needs.parity needs.mirrored.few is_from is_to in
-      works_then (MovesAll a c from to) a.disks b.disks c.disks
-      (groups_later b.disks c.disks a.disks.geometry (members_of a from) (members_of a to) a.disks b.disks asks.follows (first from to is_from is_to))
+      within_then (MovesAll a c from to) (members_of a to) a.disks b.disks c.disks
+      (groups_later b.disks c.disks a.disks.geometry (members_of a from) (members_of a to) a.disks b.disks asks.works.follows (first from to is_from is_to))
       (after_squeeze from to s same.0 (ap (λ (x : Slot). x.group) same.1) asks)
 
   -- What a put asks: what was asked for a slot to be found, and then that slot's disks.
@@ -306,25 +305,32 @@ module _ (a b c : StoreState) (k : Key) where
   asks_way (Hole s) leads (inr squeeze) asks = asks_squeezed a c k squeeze.0 (squeeze_hole s leads squeeze.0 squeeze.1 asks)
   asks_way Broken leads (inl disks) asks = asks_still a c k (asks ∙ disks)
   asks_way Broken leads (inr squeeze) asks = asks_squeezed a c k squeeze.0 (λ from to is_from is_to.
-      let P : SetState → Type 0 = λ x. WorksOn (MovesFrom x a.disks.geometry (members_of a from) (members_of a to)) a.disks x in
+      let P : SetState → Type 0 = λ x. WorksWithin (MovesFrom x a.disks.geometry (members_of a from) (members_of a to)) (members_of a to) a.disks x in
       subst P (sym asks) (squeeze.1 from to is_from is_to))
 
 -- A slot was read and then another written, where the tables stayed.
 pub asks_both : (a b c : StoreState) (one other : Slot) → b.book ≡ a.book → b.disks.geometry ≡ a.disks.geometry
-    → AsksForSlot a b one → AsksSlot (class_in b other.group) other b c → AsksSlots one other a c
-asks_both a b c one other book geometry read wrote =
-    let P : Tables → Type 0 = λ x. WorksOn (WritesIn (class_of x other.group) c.disks b.disks.geometry (group_in x.groups other.group).members other.slot) b.disks c.disks in
-    let Q : Geometry → Type 0 = λ x. WorksOn (WritesIn (class_in a other.group) c.disks x (members_of a other.group) other.slot) b.disks c.disks in
-    works_then (MovesAt a c one other) a.disks b.disks c.disks
+    → AsksForSlot a b one → Keeps Anywhere a.disks b.disks → AsksSlot (class_in b other.group) other b c → AsksSlots one other a c
+asks_both a b c one other book geometry read keeps wrote =
+    let P : Tables → Type 0 = λ x.
+    WorksWithin (WritesIn (class_of x other.group) c.disks b.disks.geometry (group_in x.groups other.group).members other.slot)
+    (group_in x.groups other.group).members b.disks c.disks in
+    let Q : Geometry → Type 0 = λ x.
+    WorksWithin (WritesIn (class_in a other.group) c.disks x (members_of a other.group) other.slot) (members_of a other.group) b.disks c.disks in
+    within_then (MovesAt a c one other) (members_of a other.group) a.disks b.disks c.disks
+    (within_read (MovesAt a c one other) (members_of a other.group) a.disks b.disks
     (works_more (ReadsAt a b one) (MovesAt a c one other) a.disks b.disks
-    (λ place reads. inl (reads_later (class_in a one.group) b.disks c.disks a.disks.geometry (members_of a one.group) one.slot place wrote.follows reads))
-    (reads_in (class_in a one.group) a.disks b.disks (members_of a one.group) one.slot read))
-    (works_more (WritesAt a c other) (MovesAt a c one other) b.disks c.disks (λ place is. inr is) (subst Q geometry (subst P book wrote)))
+    (λ place reads.
+    inl (reads_later (class_in a one.group) b.disks c.disks a.disks.geometry (members_of a one.group) one.slot place wrote.works.follows reads))
+    (reads_in (class_in a one.group) a.disks b.disks (members_of a one.group) one.slot read)) keeps)
+    (within_more (WritesAt a c other) (MovesAt a c one other) (members_of a other.group) b.disks c.disks (λ place is. inr is)
+    (subst Q geometry (subst P book wrote)))
 
-pub asks_one : (a b : StoreState) (one other : Slot) → AsksForSlot a b one → AsksSlots one other a b
-asks_one a b one other read =
-    works_more (ReadsAt a b one) (MovesAt a b one other) a.disks b.disks (λ place is. inl is)
-    (reads_in (class_in a one.group) a.disks b.disks (members_of a one.group) one.slot read)
+pub asks_one : (a b : StoreState) (one other : Slot) → AsksForSlot a b one → Keeps Anywhere a.disks b.disks → AsksSlots one other a b
+asks_one a b one other read keeps =
+    within_read (MovesAt a b one other) (members_of a other.group) a.disks b.disks
+    (works_more (ReadsAt a b one) (MovesAt a b one other) a.disks b.disks (λ place is. inl is)
+    (reads_in (class_in a one.group) a.disks b.disks (members_of a one.group) one.slot read)) keeps
 
 -- a slot stands where a block has its home
 pub asks_from : (a b : StoreState) (key : Key) (from other : Slot) → home a.book key ≡ Some from → AsksSlots from other a b
@@ -344,10 +350,10 @@ opening_asks a b from to opening = second_group b.disks a.disks.geometry (member
 
 -- the members of the group that was opened were written
 pub opened_asks : (a b : SetState) (t u : Tables) (g : ℕ) (c : Class) (m : Members) → u ≡ opened t g c → m ≡ (group_in u.groups g).members
-    → WorksOn (IsMember m) a b → AsksGroup g (store_of a t) (store_of b u)
-opened_asks a b t u g c m is members works =
-    let P : Members → Type 0 = λ x. WorksOn (IsMember x) a b in
-    subst P (members ∙ ap (λ (x : Tables). (group_in x.groups g).members) is ∙ opened_members t g c g) works
+    → WorksOn (IsMember m) a b → Keeps (IsOutside m) a b → AsksGroup g (store_of a t) (store_of b u)
+opened_asks a b t u g c m is members works keeps =
+    let P : Members → Type 0 = λ x. WorksWithin (IsMember x) x a b in
+    subst P (members ∙ ap (λ (x : Tables). (group_in x.groups g).members) is ∙ opened_members t g c g) (record { works = works; keeps = keeps })
 
 -- One more block of a squeeze has moved.
 pub step_asks : {X : Type 0} (old now new : Space X) (from to i : ℕ) (k : Key) → IsSqueezing old now from to i → i < slots_of old.book.geometry Mirrored

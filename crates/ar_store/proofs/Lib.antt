@@ -13,6 +13,7 @@ pub mod Fields
 pub mod Openings
 pub mod Squeezing
 pub mod Ways
+pub mod Within
 pub mod Asking
 pub mod UnitChanges
 pub mod Picking

@@ -23,7 +23,7 @@ use Rattle.ar_store.specs.Slots.{AllStand}
 use Rattle.ar_store.specs.Spaces.{store_in, IsReady, Stays}
 use Rattle.ar_store.proofs.Options.{some_value}
 use Rattle.ar_store.proofs.Stays.{stays_refl, stays_then, all_then}
-use Rattle.ar_store.specs.Placing.{slot_at, moved_from, moved_first, squeezed, CanMove, IsVacant, IsSqueezed, SameUnits}
+use Rattle.ar_store.specs.Placing.{slot_at, moved_from, moved_first, squeezed, CanMove, IsVacant, IsSqueezed, HasMovedSome, HasBegunSqueeze, SameUnits}
 use Rattle.ar_store.proofs.Changes.{units_refl, units_then, units_assigned, mirrored_not_free}
 
 -- The first i blocks of a group have moved, and the rest are to come.
@@ -249,6 +249,16 @@ squeezed_is t u v from to n full free is_u is_v is_n vacant =
             ap (λ m. slot_at to m) is_n ∙ ap (λ x. slot_at x (slots_of t.geometry Mirrored)) to_is,
           );
     }
+
+-- the free group was opened, and so many blocks have moved there
+pub begun_squeeze : (t u v : Tables) (from to : ℕ) → IsFullMirrored t from → IsLowestFree t to → u ≡ opened t to Parity → HasMovedSome u from to v → HasBegunSqueeze t v
+begun_squeeze t u v from to full lowest is some = record {
+  from = from;
+  to = to;
+  full = full;
+  lowest = lowest;
+  moves = subst (λ (x : Tables). HasMovedSome x from to v) is some;
+}
 
 -- a group that is free is counted
 pub free_counted : (t : Tables) (g : ℕ) → TablesAgree t → g < length t.groups → class_of t g ≡ Free → 0 < free_groups t

@@ -18,7 +18,7 @@ use Rattle.ar_extents.specs.Set.{SetState}
 use Rattle.ar_store.specs.Store.{store_of}
 use Rattle.ar_store.specs.declared.way.Way.{Way}
 use Rattle.ar_store.specs.declared.way.Way.TheVariants.{Home, Hole, Broken}
-use Rattle.ar_store.specs.Placing.{slot_at, HasNoHole, IsLowestHole, LeadsHome, LeadsToHole, Leads, Puts, IsMirroredHole, HasNoMirroredHole, IsSqueezed, IsVacant, IsThere, IsWayIn, MayOpen, IsReadyFor, placed_by, put_in}
+use Rattle.ar_store.specs.Placing.{slot_at, HasNoHole, IsLowestHole, LeadsHome, LeadsToHole, Leads, Puts, IsMirroredHole, HasNoMirroredHole, HasNoWay, IsSqueezed, IsVacant, IsThere, IsWayIn, MayOpen, IsReadyFor, placed_by, put_in}
 
 -- the level, as a number
 rank : Level → ℕ
@@ -41,6 +41,14 @@ unplaced_not_parity e = let ranks : rank Unplaced ≡ rank ParityLevel = ap rank
 -- a block without a home is at no level
 pub nowhere : (t : Tables) (k : Key) → home t k ≡ None → level t k ≡ Unplaced
 nowhere t k is = ap (λ (o : Option Slot). level_in t.groups o) is
+
+-- that there is no way was found, and changed nothing
+pub no_way : (t u : Tables) (k : Key) → HasNoWay t k u → HasNoWay t k t
+no_way t u k none = record {
+  unplaced = none.unplaced;
+  mirrored = record { same = refl; none = none.mirrored.none; few = none.mirrored.few };
+  parity = subst (λ (x : Tables). HasNoHole x Parity) none.mirrored.same none.parity;
+}
 
 -- a put to a block's home, and one to a hole, go by the steps
 puts_home : (t u new : Tables) (k : Key) (s : Slot) → LeadsHome t k u s → new ≡ stamped u k → Puts t k new

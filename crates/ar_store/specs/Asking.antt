@@ -1,12 +1,13 @@
--- Which disks a call asks: those of the slots that it reads and writes, and of the groups that it opens and empties.
+-- Which disks a call asks: those of the slots that it reads and writes, and of the groups that it opens and empties; and which
+-- extents it leaves as they are: all but those of the one group that it writes.
 use Rattle.std.specs.Prelude.{◌≡◌, ◌≢◌, ◌⊎◌, ℕ, ◌<◌, ◌≤◌, Some}
 use Rattle.ar_disks.specs.declared.address.Key.{Key}
 use Rattle.ar_disks.specs.declared.address.Members.{Members}
 use Rattle.ar_disks.specs.declared.address.Place.{Place}
 use Rattle.ar_disks.specs.declared.geometry.Geometry.{Geometry}
 use Rattle.ar_extents.specs.Set.{SetState}
-use Rattle.ar_extents.specs.Groups.{IsMember}
-use Rattle.ar_extents.specs.Follows.{WorksOn}
+use Rattle.ar_extents.specs.Groups.{IsMember, IsOutside}
+use Rattle.ar_extents.specs.Follows.{Keeps, WorksOn}
 use Rattle.ar_book.specs.declared.class.Class.{Class}
 use Rattle.ar_book.specs.declared.class.Class.TheVariants.{Mirrored, Parity}
 use Rattle.ar_book.specs.declared.class.Level.TheVariants.{Unplaced, Mirrored as MirroredLevel, Parity as ParityLevel}
@@ -18,6 +19,11 @@ use Rattle.ar_store.specs.declared.way.Way.TheVariants.{Home, Hole, Broken}
 use Rattle.ar_store.specs.Store.{StoreState, members_of, class_in}
 use Rattle.ar_store.specs.Slots.{ReadsIn, WritesIn}
 use Rattle.ar_store.specs.Placing.{slot_at, HasNoHole, HasNoWay, IsLowestHole}
+
+-- No disk was asked but for the extents that are named first, and each extent outside four members has the rows that it had.
+pub record WorksWithin (asked : Place → Type 0) (written : Members) (old new : SetState) : Type 0 where
+  pub works : WorksOn asked old new
+  pub keeps : Keeps (IsOutside written) old new
 
 -- the extents that a read of a slot asks, and those that a write asks, by how they leave the disks
 abbrev pub ReadsAt : StoreState → StoreState → Slot → Place → Type 0
@@ -40,27 +46,30 @@ pub record ReadsPairs (new : SetState) (g : Geometry) (m : Members) (place : Pla
 abbrev pub MovesAll : StoreState → StoreState → ℕ → ℕ → Place → Type 0
 MovesAll old new from to place = ReadsPairs new.disks old.disks.geometry (members_of old from) place ⊎ IsMember (members_of old to) place
 
--- no disk was asked but those that a write of the slot asks, where its group is used so
+-- no disk was asked but those that a write of the slot asks, where its group is used so, and no other group was written
 abbrev pub AsksSlot : Class → Slot → StoreState → StoreState → Type 0
-AsksSlot class slot old new = WorksOn (WritesIn class new.disks old.disks.geometry (members_of old slot.group) slot.slot) old.disks new.disks
+AsksSlot class slot old new =
+    WorksWithin (WritesIn class new.disks old.disks.geometry (members_of old slot.group) slot.slot) (members_of old slot.group) old.disks new.disks
 
--- none but those that a block's move from one slot to another asks
+-- none but those that a block's move from one slot to another asks, and no group was written but the other's
 abbrev pub AsksSlots : Slot → Slot → StoreState → StoreState → Type 0
-AsksSlots from to old new = WorksOn (MovesAt old new from to) old.disks new.disks
+AsksSlots from to old new = WorksWithin (MovesAt old new from to) (members_of old to.group) old.disks new.disks
 
--- none but those that a block's move to a group asks that is opened for it
+-- none but those that a block's move to a group asks that is opened for it, and no other group was written
 abbrev pub AsksOpened : Slot → ℕ → StoreState → StoreState → Type 0
-AsksOpened from group old new = WorksOn (λ place. ReadsAt old new from place ⊎ IsMember (members_of old group) place) old.disks new.disks
+AsksOpened from group old new =
+    WorksWithin (λ place. ReadsAt old new from place ⊎ IsMember (members_of old group) place) (members_of old group) old.disks new.disks
 
--- none but those of a group
+-- none but those of a group, and no other group was written
 abbrev pub AsksGroup : ℕ → StoreState → StoreState → Type 0
-AsksGroup group old new = WorksOn (IsMember (members_of old group)) old.disks new.disks
+AsksGroup group old new = WorksWithin (IsMember (members_of old group)) (members_of old group) old.disks new.disks
 
--- none but those that the move of all blocks of a mirrored group to another asks
+-- none but those that the move of all blocks of a mirrored group to another asks, and no group was written but the other
 abbrev pub AsksGroups : ℕ → ℕ → StoreState → StoreState → Type 0
-AsksGroups from to old new = WorksOn (MovesAll old new from to) old.disks new.disks
+AsksGroups from to old new = WorksWithin (MovesAll old new from to) (members_of old to) old.disks new.disks
 
--- Which disks a put asks, by the steps of `Puts`: those that a write of its slot asks, and where it squeezes, those of a squeeze.
+-- Which disks a put asks, by the steps of `Puts`: those that a write of its slot asks, and where it squeezes, those of a squeeze;
+-- and which group it writes.
 pub record AsksToPut (old : StoreState) (k : Key) (new : StoreState) : Type 0 where
   pub mirrored : (s : Slot) → level old.book k ≡ MirroredLevel → home old.book k ≡ Some s → AsksSlot Mirrored s old new
   pub mirrored_hole : (s : Slot) → level old.book k ≢ MirroredLevel → IsLowestHole old.book Mirrored s → AsksSlot Mirrored s old new
@@ -77,7 +86,7 @@ pub record AsksToPut (old : StoreState) (k : Key) (new : StoreState) : Type 0 wh
       (from to : ℕ) → level old.book k ≡ Unplaced → HasNoHole old.book Mirrored → HasNoHole old.book Parity → free_groups old.book < 2
       → IsFullMirrored old.book from → IsLowestFree old.book to → AsksGroups from to old new
 
--- no disk was asked but those that a squeeze asks
+-- no disk was asked but those that a squeeze asks, and no group was written but the one that it opens
 abbrev pub AsksToSqueeze : StoreState → StoreState → Type 0
 AsksToSqueeze old new = (from to : ℕ) → IsFullMirrored old.book from → IsLowestFree old.book to → AsksGroups from to old new
 
@@ -85,7 +94,7 @@ AsksToSqueeze old new = (from to : ℕ) → IsFullMirrored old.book from → IsL
 abbrev pub AsksOnWay : StoreState → Key → StoreState → Type 0
 AsksOnWay old k new = (new.disks ≡ old.disks) ⊎ (HasNoWay old.book k old.book × AsksToSqueeze old new)
 
--- no disk was asked but those of the slot that was found
+-- no disk was asked but those of the slot that was found, and no other group was written
 abbrev pub AsksWay : Way → StoreState → StoreState → Type 0
 AsksWay (Home s) old new = AsksSlot (class_in old s.group) s old new
 AsksWay (Hole s) old new = AsksSlot (class_in old s.group) s old new

@@ -144,6 +144,31 @@ pub record HasOpened (t new : Tables) : Type 0 where
 abbrev pub MayOpen : Tables → Tables → Type 0
 MayOpen t new = (new ≡ t) ⊎ HasOpened t new
 
+-- no slot is there for a block without a squeeze: it has no home, and no group a hole
+pub record HasNoWay (t : Tables) (k : Key) (new : Tables) : Type 0 where
+  pub unplaced : home t k ≡ None
+  pub mirrored : HasNoMirroredHole t new
+  pub parity : HasNoHole new Parity
+
+-- so many of a mirrored group's blocks, the first ones, have moved to another group
+pub record HasMovedSome (t : Tables) (from to : ℕ) (new : Tables) : Type 0 where
+  pub moved : ℕ
+  pub within : moved ≤ slots_of t.geometry Mirrored
+  pub tables : new ≡ moved_first t from to moved
+
+-- a squeeze was begun: the free group was opened for parity, and so many blocks of the full mirrored one have moved there
+pub record HasBegunSqueeze (t new : Tables) : Type 0 where
+  pub from : ℕ
+  pub to : ℕ
+  pub full : IsFullMirrored t from
+  pub lowest : IsLowestFree t to
+  pub moves : HasMovedSome (opened t to Parity) from to new
+
+-- What was done before a block is written, as far as it came: a group may have been opened for it; or, where it has no way without
+-- one, a squeeze was begun. No home has changed but for the blocks that a squeeze moves.
+abbrev pub MayHavePrepared : Tables → Key → Tables → Type 0
+MayHavePrepared t k new = MayOpen t new ⊎ (HasNoWay t k t × HasBegunSqueeze t new)
+
 -- a way is there: the block's home, or a slot that names none
 abbrev pub IsThere : Tables → Key → Way → Type 0
 IsThere t k (Home s) = home t k ≡ Some s
@@ -154,12 +179,6 @@ IsThere t k Broken = ⊥
 pub record IsWayIn (t : Tables) (k : Key) (new : Tables) (way : Way) : Type 0 where
   pub leads : Leads t k new way
   pub there : IsThere new k way
-
--- there is none: the block has no home, and no group a hole
-pub record HasNoWay (t : Tables) (k : Key) (new : Tables) : Type 0 where
-  pub unplaced : home t k ≡ None
-  pub mirrored : HasNoMirroredHole t new
-  pub parity : HasNoHole new Parity
 
 -- a block can be written where it was found to go; the way is Broken only where the disks are
 abbrev pub IsReadyFor : StoreState → Key → Way → Type 0

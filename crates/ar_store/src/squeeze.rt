@@ -16,7 +16,7 @@ impl<D: Disk> Space<D> {
     ghost use Rattle.ar_book.specs.Choices.{IsWaiting};
     ghost use Rattle.ar_store.specs.Slots.{AllStand};
     ghost use Rattle.ar_store.specs.Asking.{AsksGroups, AsksToSqueeze};
-    ghost use Rattle.ar_store.specs.Placing.{slot_at, moved_first, IsVacant, IsSqueezed, HasNoHole, CanMove};
+    ghost use Rattle.ar_store.specs.Placing.{slot_at, moved_first, IsVacant, IsSqueezed, HasNoHole, CanMove, HasMovedSome, HasBegunSqueeze};
     ghost use Rattle.ar_store.specs.Spaces.{store_in, IsReady, Stays};
 
     /// Moves all blocks of the lowest mirrored group to the one free group, which is opened for parity, and answers the first
@@ -32,6 +32,7 @@ impl<D: Disk> Space<D> {
         ensures squeezed { IfSome result (IsSqueezed self.old.book self.new.book) }
         ensures free { IfSome result (λ _. 0 < free_groups self.new.book) }
         ensures none { IfNone result (self.new.disks.health ≡ Broken) }
+        ensures begun { HasBegunSqueeze self.old.book self.new.book }
 
         ensures unplaced { (k : Key) → home self.old.book k ≡ None → home self.new.book k ≡ None }
         ensures stand { AllStand (store_in self.old) (store_in self.new) }
@@ -61,6 +62,7 @@ impl<D: Disk> Space<D> {
         requires whole { length block.old ≡ block_len_of self.old.disks.geometry }
 
         ensures outcome { result ≡ outcome_of self.new.disks.health }
+        ensures some { HasMovedSome self.old.book from to self.new.book }
         ensures moved { result ≡ Completion.Done → self.new.book ≡ moved_first self.old.book from to (slots_of self.old.book.geometry Mirrored) }
         ensures emptied { result ≡ Completion.Done → class_of self.new.book from ≡ Free }
         ensures hole { result ≡ Completion.Done → IsVacant self.new.book (slot_at to (slots_of self.old.book.geometry Mirrored)) }

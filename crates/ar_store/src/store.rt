@@ -40,7 +40,7 @@ impl<D: Disk> Store<D> {
     ghost use Rattle.ar_book.specs.Choices.{IsLowestFree};
     ghost use Rattle.ar_store.specs.Slots.{stands, AllStand, OthersStand, BesideHold, AsksForSlot, SurvivesLossOf};
     ghost use Rattle.ar_store.specs.Kept.{IsKept};
-    ghost use Rattle.ar_store.specs.Placing.{Puts, SameUnits, IsVacant};
+    ghost use Rattle.ar_store.specs.Placing.{Puts, SameUnits, IsVacant, MayHavePrepared};
     ghost use Rattle.ar_store.specs.Asking.{AsksToPut, AsksSlots, AsksGroup};
     ghost use Rattle.ar_store.specs.Calls.{IsAccessed, Opens, IfOpened, HoldsZeros};
 
@@ -104,8 +104,9 @@ impl<D: Disk> Store<D> {
     }
 
     /// Writes a block of a unit, from a block of the store's length, and gives it the next stamp. It is never refused for room:
-    /// where it goes, `Puts` says, and which disks are asked for that, `AsksToPut`. `Broken` says that the disks are: the block has
-    /// its old home then, and of a store that was broken before nothing has changed.
+    /// where it goes, `Puts` says, and which disks are asked and which group is written for that, `AsksToPut`. `Broken` says that
+    /// the disks are: the block has its old home then, other blocks' homes have changed only as far as a squeeze came, as
+    /// `MayHavePrepared` says, and of a store that was broken before nothing has.
     pub fn put(&mut self, key: Key, from: &[u8]) -> Completion
         requires block { HasBlock self.old.book key }
         requires whole { length from.now ≡ block_len_of self.old.disks.geometry }
@@ -115,6 +116,7 @@ impl<D: Disk> Store<D> {
         ensures others { OthersStand self.old self.new key }
         ensures tables { result ≡ Completion.Done → Puts self.old.book key self.new.book }
         ensures unmoved { result ≡ Completion.Broken → home self.new.book key ≡ home self.old.book key }
+        ensures prepared { result ≡ Completion.Broken → MayHavePrepared self.old.book key self.new.book }
 
         ensures units { SameUnits self.old.book self.new.book }
         ensures asks { AsksToPut self.old key self.new }
@@ -140,6 +142,7 @@ impl<D: Disk> Store<D> {
 
         ensures stands { AllStand self.old self.new }
         ensures unmoved { result ≡ Completion.Broken → home self.new.book key ≡ home self.old.book key }
+        ensures prepared { result ≡ Completion.Broken → MayHavePrepared self.old.book key self.new.book }
         ensures units { SameUnits self.old.book self.new.book }
         ensures asks { AsksToPut self.old key self.new }
         ensures accessed { IsAccessed self.old.disks self.new.disks }
@@ -155,8 +158,8 @@ impl<D: Disk> Store<D> {
 
     /// Moves a block from its home to a slot that names none. The new slot is written before the old one is left; the stamp
     /// stays, and so does what the other slots of the new one's group hold. No disk is asked but those that a read of the one slot
-    /// and a write of the other ask. After `Broken` the block has its old home; of a store that was broken before nothing has
-    /// changed.
+    /// and a write of the other ask, and no other group is written. After `Broken` the block has its old home; of a store that was
+    /// broken before nothing has changed.
     pub fn move_rb(&mut self, key: Key, slot: Slot) -> Completion
         requires placed { IsSome (home self.old.book key) }
         requires hole { IsVacant self.old.book slot }
@@ -179,8 +182,8 @@ impl<D: Disk> Store<D> {
     }
 
     /// Opens the lowest free group for mirrored blocks or for parity, while two are free. A group that is opened for parity is
-    /// filled with zeros; no disk is asked but those of the group. `Broken` says that the disks are: the group may have been
-    /// opened then, but of a store that was broken before nothing has changed.
+    /// filled with zeros; no disk is asked but those of the group, and no other group is written. `Broken` says that the disks are:
+    /// the group may have been opened then, but of a store that was broken before nothing has changed.
     pub fn open_group(&mut self, class: Class) -> Opening
         requires { class ≢ Class.Free }
 

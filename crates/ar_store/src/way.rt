@@ -6,7 +6,7 @@ ghost use Rattle.ar_book.specs.Book.{TablesAgree};
 ghost use Rattle.ar_book.specs.Tables.{home, free_groups, HasBlock};
 ghost use Rattle.ar_store.specs.Slots.{AllStand};
 ghost use Rattle.ar_store.specs.Asking.{AsksOnWay};
-ghost use Rattle.ar_store.specs.Placing.{Leads, IsReadyFor, MayOpen, IsMirroredHole, HasNoMirroredHole, IsWayIn, HasNoWay};
+ghost use Rattle.ar_store.specs.Placing.{Leads, IsReadyFor, MayOpen, MayHavePrepared, IsMirroredHole, HasNoMirroredHole, IsWayIn, HasNoWay};
 ghost use Rattle.ar_store.specs.Spaces.{store_in, IsReady, Stays};
 
 use crate::space::Space;
@@ -36,6 +36,7 @@ impl<D: Disk> Space<D> {
 
         ensures leads { Leads self.old.book key self.new.book result }
         ensures way { IsReadyFor (store_in self.new) key result }
+        ensures prepared { MayHavePrepared self.old.book key self.new.book }
 
         ensures home { home self.new.book key ≡ home self.old.book key }
         ensures free { self.new.disks.health ≢ Broken → 0 < free_groups self.new.book }

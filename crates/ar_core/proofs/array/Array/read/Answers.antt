@@ -32,4 +32,4 @@ returns-clause-settles g c =
     let sound : is_broken c.args.self.now ≡ false = sym (ap is_broken c.self.view_is) ∙ sym c.is_broken.ensures.broken ∙ c.if-is_broken.false in
     let from : c.from.result ≡ c.args.count = c.from.ensures in
     settles_read c.args.self.now c.read_range.new.self c.args.addr c.args.lba c.args.count c.read_range.result sound
-    (rw from at c.read_range.ensures.begun) (rw from at c.read_range.ensures.got) c.read_range.ensures.failed
+    (rw from at c.read_range.ensures.begun) (rw from at c.read_range.ensures.got) (rw from at c.read_range.ensures.busy_read) c.read_range.ensures.failed

@@ -1,4 +1,4 @@
-use Rattle.std.proofs.Common.{◌≡◌, ◌<◌, ◌*◌, ◌+◌, ◌++◌, ℕ, List, length, subst, sym, ap, ◌∙◌, arith}
+use Rattle.std.proofs.Common.{◌≡◌, inr, ◌<◌, ◌*◌, ◌+◌, ◌++◌, ℕ, List, length, subst, sym, ap, ◌∙◌, arith}
 use Rattle.std.specs.List.{concat}
 use Rattle.ar_disks.specs.declared.address.Key.{Key}
 use Rattle.ar_disks.specs.declared.geometry.Geometry.{Geometry}
@@ -15,7 +15,7 @@ use Rattle.ar_image.specs.Storing.{ReadsBlock, ReadsFirst}
 use Rattle.ar_image.specs.Seen.{IsUnit, present_at, sectors_read}
 use Rattle.ar_core.specs.Served.{Serves}
 use Rattle.ar_core.proofs.Events.{padded_follows}
-use Rattle.ar_core.proofs.Serving.{key_known, serves_quiet, serves_read, sectors_read-some, given_busy, transfer_sound}
+use Rattle.ar_core.proofs.Serving.{key_known, moved_all, serves_quiet, serves_read, sectors_read-some, given_busy, transfer_sound}
 use Rattle.ar_core.proofs.array.Array.read_range.Goals as goal
 
 pub returns-in_default-clause-serves : goal.returns-in_default-clause-serves
@@ -77,3 +77,13 @@ returns-clause-got g c = λ good.
     subst (λ (s : ArrayState). InTurn ReadsBlock (keys_in (geometry_of s) c.args.addr c.args.lba c.args.count) s c.read_sectors-transfer.new.blocks) c.self.view_is
     (subst (λ (h : Geometry). InTurn ReadsBlock (keys_in h c.args.addr c.args.lba c.args.count) c.self.inside.blocks c.read_sectors-transfer.new.blocks) c.geometry-geometry.ensures
     (c.read_sectors-transfer.ensures.all (c.reply_to_read.ensures.whole good)))
+
+pub returns-clause-busy_read : goal.returns-clause-busy_read
+returns-clause-busy_read g c = λ busy.
+    let len = c.in-Ok.ensures.len in
+    let capacity = c.in-Ok.ensures.capacity in
+    let all = c.read_sectors-transfer.ensures.all
+    (moved_all c.read_sectors-transfer.result c.reply_to_read.result busy c.reply_to_read.ensures.broken (c.read_sectors-transfer.ensures.room (omega arith))) in
+    inr (subst (λ (s : ArrayState). InTurn ReadsBlock (keys_in (geometry_of s) c.args.addr c.args.lba c.args.count) s c.read_sectors-transfer.new.blocks) c.self.view_is
+    (subst (λ (h : Geometry). InTurn ReadsBlock (keys_in h c.args.addr c.args.lba c.args.count) c.self.inside.blocks c.read_sectors-transfer.new.blocks)
+    c.geometry-geometry.ensures all))

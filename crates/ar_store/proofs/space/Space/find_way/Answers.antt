@@ -1,15 +1,15 @@
 use Rattle.std.proofs.Common.{inl, inr, sym, subst, ap, ◌∙◌, refl, arith}
-use Rattle.ar_book.specs.declared.class.Class.TheVariants.{Mirrored, Parity}
+use Rattle.ar_book.specs.declared.class.Class.TheVariants.{Mirrored}
 use Rattle.ar_book.specs.Tables.{Tables, home, free_groups}
 use Rattle.ar_store.specs.Store.{store_of}
 use Rattle.ar_store.specs.Slots.{AllStand}
 use Rattle.ar_store.specs.Kept.{IsSpace}
-use Rattle.ar_store.specs.Placing.{HasNoHole, SameUnits}
+use Rattle.ar_store.specs.Placing.{SameUnits, HasNoHole, HasBegunSqueeze}
 use Rattle.ar_store.specs.Asking.{AsksToSqueeze}
 use Rattle.ar_store.specs.Spaces.{store_in}
 use Rattle.ar_store.proofs.Fills.{accessed_refl}
 use Rattle.ar_store.proofs.Openings.{after_opening}
-use Rattle.ar_store.proofs.Ways.{ready_there, waits, leads_squeezed}
+use Rattle.ar_store.proofs.Ways.{no_way, ready_there, waits, leads_squeezed}
 use Rattle.ar_store.proofs.space.Space.find_way.Goals as goal
 
 pub way_in-requires : goal.way_in-requires
@@ -24,6 +24,7 @@ returns-in-Some g c =
     record {
       leads = found.way.leads;
       way = ready_there s.disks u c.args.key c.in-Some.way found.way.there;
+      prepared = inl found.opens;
       home = after.homes c.args.key;
       free = λ _. after.free c.requires.free;
       stand = after.stand;
@@ -69,17 +70,11 @@ returns-in-Some-squeeze g c =
     record {
       leads = leads_squeezed t u new.book c.args.key c.in-Some-squeeze.slot none.unplaced still none.mirrored none.parity squeezed.squeezed;
       way = squeezed.squeezed.empty;
+      prepared = inr (no_way t u c.args.key none, subst (λ (x : Tables). HasBegunSqueeze x new.book) same squeezed.begun);
       home = still ∙ sym none.unplaced;
       free = λ _. squeezed.free;
       stand = subst (λ (x : Tables). AllStand (store_of s.disks x) (store_in new)) same squeezed.stand;
-      asks = inr (
-        record {
-          unplaced = none.unplaced;
-          mirrored = record { same = refl; none = none.mirrored.none; few = none.mirrored.few };
-          parity = subst (λ (x : Tables). HasNoHole x Parity) same none.parity;
-        },
-        subst (λ (x : Tables). AsksToSqueeze (store_of s.disks x) (store_in new)) same squeezed.asks,
-      );
+      asks = inr (no_way t u c.args.key none, subst (λ (x : Tables). AsksToSqueeze (store_of s.disks x) (store_in new)) same squeezed.asks);
       stays = record {
         ready = squeezed.stays.ready;
         units = subst (λ (x : Tables). SameUnits x new.book) same squeezed.stays.units;
@@ -92,6 +87,7 @@ pub returns-in-None-squeeze : goal.returns-in-None-squeeze
 returns-in-None-squeeze g c =
     let s = c.args.self.now in
     let t = s.book in
+    let u = c.way_in.new.book in
     let new = c.squeeze.new.self in
     let none = c.in-None.ensures.none in
     let same = none.mirrored.same in
@@ -100,17 +96,11 @@ returns-in-None-squeeze g c =
     record {
       leads = tt;
       way = squeezed.none;
+      prepared = inr (no_way t u c.args.key none, subst (λ (x : Tables). HasBegunSqueeze x new.book) same squeezed.begun);
       home = still ∙ sym none.unplaced;
       free = λ sound. absurd (sound squeezed.none);
       stand = subst (λ (x : Tables). AllStand (store_of s.disks x) (store_in new)) same squeezed.stand;
-      asks = inr (
-        record {
-          unplaced = none.unplaced;
-          mirrored = record { same = refl; none = none.mirrored.none; few = none.mirrored.few };
-          parity = subst (λ (x : Tables). HasNoHole x Parity) same none.parity;
-        },
-        subst (λ (x : Tables). AsksToSqueeze (store_of s.disks x) (store_in new)) same squeezed.asks,
-      );
+      asks = inr (no_way t u c.args.key none, subst (λ (x : Tables). AsksToSqueeze (store_of s.disks x) (store_in new)) same squeezed.asks);
       stays = record {
         ready = squeezed.stays.ready;
         units = subst (λ (x : Tables). SameUnits x new.book) same squeezed.stays.units;

@@ -7,7 +7,7 @@ use Rattle.ar_book.proofs.Homes.{key_home}
 use Rattle.ar_extents.proofs.Outcomes.{done_sound, sound_done}
 use Rattle.ar_store.specs.Placing.{slot_at, moved_first, IsVacant}
 use Rattle.ar_store.proofs.Options.{some_is, none_not_some}
-use Rattle.ar_extents.proofs.Follows.{works_refl}
+use Rattle.ar_store.proofs.Within.{within_refl}
 use Rattle.ar_store.proofs.Asking.{step_asks}
 use Rattle.ar_store.proofs.Fills.{done_not_broken}
 use Rattle.ar_store.proofs.Stays.{stays_then, all_then}
@@ -17,7 +17,7 @@ use Rattle.ar_store.proofs.space.Space.move_all.Goals as goal
 pub loop-slot-init : goal.loop-slot-init
 loop-slot-init g c = record {
   squeezing = squeezing_start c.args.self.now c.args.from c.args.to c.requires.ready c.requires.can c.requires.sound;
-  asks = works_refl _ c.args.self.now.disks;
+  asks = within_refl _ _ c.args.self.now.disks;
   whole = refl;
 }
 
@@ -70,6 +70,11 @@ returns-in-Broken g c =
     let end = slots_end c.rows-slot-end.result c.geometry.result t.geometry c.rows-slot-end.ensures (c.geometry.ensures ∙ sym c.requires.ready.space.geometry) in
     record {
       outcome = sym c.in-Broken.is ∙ moved.outcome;
+      some = record {
+        moved = c.loop-slot.slot;
+        within = omega arith;
+        tables = moved.unmoved c.in-Broken.is ∙ now.moving.tables;
+      };
       moved = λ done. absurd (done_not_broken (sym done));
       emptied = λ done. absurd (done_not_broken (sym done));
       hole = λ done. absurd (done_not_broken (sym done));
@@ -91,6 +96,7 @@ returns g c =
     let all : c.loop-slot.slot ≡ slots_of t.geometry Mirrored = omega arith in
     record {
       outcome = sym (sound_done c.loop-slot.self.disks.health now.sound);
+      some = record { moved = c.loop-slot.slot; within = omega arith; tables = now.moving.tables };
       moved = λ _. subst (λ n. u ≡ moved_first t c.args.from c.args.to n) all now.moving.tables;
       emptied = λ _. now.moving.freed (omega arith);
       hole = λ _. subst (λ n. IsVacant u (slot_at c.args.to n)) all

@@ -51,7 +51,7 @@ returns-in-Done g c =
           (λ sound. fill.here (fill.outcome ∙ sound_done new.disks.health sound) ∙ c.bytes.ensures) fill.others;
       beside = beside_then s.disks mid.disks s.book mid.book (store_in new) c.args.to read.book read.stays.accessed.follows read.keeps fill.beside;
       asks = asks_from (store_in s) (store_in new) c.args.key c.in-Some.from c.args.to (sym c.home.ensures ∙ c.in-Some.is)
-          (asks_both (store_in s) (store_in mid) (store_in new) c.in-Some.from c.args.to read.book read.stays.accessed.follows.geometry read.asks fill.asks);
+          (asks_both (store_in s) (store_in mid) (store_in new) c.in-Some.from c.args.to read.book read.stays.accessed.follows.geometry read.asks read.keeps fill.asks);
       stays = stays_then s mid new read.stays fill.stays;
       len = read.len;
     }
@@ -68,7 +68,7 @@ returns-in-Broken g c =
       stand = read.stand;
       beside = beside_read c.args.self.now.disks mid.disks c.args.self.now.book mid.book c.args.to read.book read.stays.accessed.follows read.keeps;
       asks = asks_from (store_in c.args.self.now) (store_in mid) c.args.key c.in-Some.from c.args.to (sym c.home.ensures ∙ c.in-Some.is)
-          (asks_one (store_in c.args.self.now) (store_in mid) c.in-Some.from c.args.to read.asks);
+          (asks_one (store_in c.args.self.now) (store_in mid) c.in-Some.from c.args.to read.asks read.keeps);
       stays = read.stays;
       len = read.len;
     }

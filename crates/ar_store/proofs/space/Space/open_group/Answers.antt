@@ -6,7 +6,7 @@ use Rattle.ar_book.specs.Changes.{opened}
 use Rattle.ar_store.specs.Store.{store_of}
 use Rattle.ar_store.specs.Calls.{IsAccessed}
 use Rattle.ar_store.proofs.Changes.{mirrored_not_parity}
-use Rattle.ar_extents.proofs.Follows.{works_refl}
+use Rattle.ar_store.proofs.Within.{within_refl}
 use Rattle.ar_store.proofs.Asking.{only_opened, opened_asks}
 use Rattle.ar_store.proofs.Openings.{zeroed, opened_group, opened_there, opened_free, after_opening, class_mirrored, not_many, opened_not_broken, idle_not_broken}
 use Rattle.ar_store.proofs.Fills.{accessed_refl, accessed_work}
@@ -26,7 +26,7 @@ returns-in_default g c =
       homes = after.homes;
       free = after.free;
       stand = after.stand;
-      asks = λ group lowest. works_refl _ s.disks;
+      asks = λ group lowest. within_refl _ _ s.disks;
       stays = record {
         ready = record { space = after.space; scratch = c.requires.ready.scratch };
         units = after.units;
@@ -54,7 +54,7 @@ returns-in-Mirrored g c =
       homes = after.homes;
       free = after.free;
       stand = after.stand;
-      asks = λ group lowest. works_refl _ s.disks;
+      asks = λ group lowest. within_refl _ _ s.disks;
       stays = record {
         ready = record { space = after.space; scratch = c.requires.ready.scratch };
         units = after.units;
@@ -97,7 +97,7 @@ returns-in-Done g c =
       free = λ _. opened_free s.book u c.in-Some.group c.args.class c.requires.ready.space.tables opening.lowest (opening.when.0 refl) c.requires.class opening.opened;
       stand = zeros.stand;
       asks = only_opened (store_of s.disks s.book) (store_of b u) c.in-Some.group opening.lowest
-          (opened_asks s.disks b s.book u c.in-Some.group c.args.class c.members-members.result opening.opened c.members-members.ensures zero.works);
+          (opened_asks s.disks b s.book u c.in-Some.group c.args.class c.members-members.result opening.opened c.members-members.ensures zero.works zero.keeps);
       stays = record {
         ready = record { space = zeros.space; scratch = zero.scratch ∙ c.requires.ready.scratch ∙ sym zero.works.follows.geometry };
         units = zeros.units;
@@ -129,7 +129,7 @@ returns-in-Broken g c =
       free = λ _. opened_free s.book u c.in-Some.group c.args.class c.requires.ready.space.tables opening.lowest (opening.when.0 refl) c.requires.class opening.opened;
       stand = zeros.stand;
       asks = only_opened (store_of s.disks s.book) (store_of b u) c.in-Some.group opening.lowest
-          (opened_asks s.disks b s.book u c.in-Some.group c.args.class c.members-members.result opening.opened c.members-members.ensures zero.works);
+          (opened_asks s.disks b s.book u c.in-Some.group c.args.class c.members-members.result opening.opened c.members-members.ensures zero.works zero.keeps);
       stays = record {
         ready = record { space = zeros.space; scratch = zero.scratch ∙ c.requires.ready.scratch ∙ sym zero.works.follows.geometry };
         units = zeros.units;

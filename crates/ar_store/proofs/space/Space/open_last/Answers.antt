@@ -35,7 +35,7 @@ returns g c =
       opened = opening.opened;
       stand = zeros.stand;
       asks = opened_asks s.disks b s.book c.open_last-group.new.self c.open_last-group.result Parity c.members-members.result opening.opened
-          c.members-members.ensures zero.works;
+          c.members-members.ensures zero.works zero.keeps;
       stays = record {
         ready = record { space = zeros.space; scratch = zero.scratch ∙ c.requires.ready.scratch ∙ sym zero.works.follows.geometry };
         units = zeros.units;

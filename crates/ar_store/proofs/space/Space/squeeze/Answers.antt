@@ -1,4 +1,4 @@
-use Rattle.std.proofs.Common.{◌*◌, ◌<◌, sym, subst, ap, ◌∙◌, refl}
+use Rattle.std.proofs.Common.{◌*◌, ◌<◌, sym, subst, ap, ◌∙◌, refl, arith}
 use Rattle.ar_disks.specs.Geometry.{block_len_of}
 use Rattle.ar_book.specs.Tables.{Tables}
 use Rattle.ar_extents.proofs.Outcomes.{broken_is}
@@ -6,7 +6,7 @@ use Rattle.ar_store.specs.Placing.{CanMove}
 use Rattle.ar_store.specs.Spaces.{store_in}
 use Rattle.ar_store.proofs.Stays.{stays_then, all_then}
 use Rattle.ar_store.proofs.Asking.{only_squeeze, squeeze_asks, opening_asks}
-use Rattle.ar_store.proofs.Squeezing.{can_move, squeezed_is, free_counted, slots_end, homes_opened}
+use Rattle.ar_store.proofs.Squeezing.{begun_squeeze, can_move, squeezed_is, free_counted, slots_end, homes_opened}
 use Rattle.ar_store.proofs.space.Space.squeeze.Goals as goal
 
 pub full_mirrored-from-requires : goal.full_mirrored-from-requires
@@ -54,6 +54,7 @@ returns-in-Done g c =
       free = free_counted new.book from both.ready.space.tables (subst (λ n. from < n) (sym both.units.groups) c.full_mirrored-from.ensures.there)
           (moved.emptied c.in-Done.is);
       none = tt;
+      begun = begun_squeeze t mid.book new.book from to c.full_mirrored-from.ensures opening.lowest opening.opened moved.some;
       unplaced = λ k is. moved.unplaced k (homes_opened t mid.book to k opening.opened is);
       stand = all_then s mid new moved.stays opening.stand moved.stand;
       asks = only_squeeze (store_in s) (store_in new) c.full_mirrored-from.result c.open_last-to.result c.full_mirrored-from.ensures opening.lowest
@@ -73,6 +74,8 @@ returns-in-Broken-move_all g c =
       squeezed = tt;
       free = tt;
       none = broken_is new.disks.health (sym c.in-Broken-move_all.is ∙ moved.outcome);
+      begun = begun_squeeze s.book mid.book new.book c.full_mirrored-from.result c.open_last-to.result c.full_mirrored-from.ensures opening.lowest
+          opening.opened moved.some;
       unplaced = λ k is. moved.unplaced k (homes_opened s.book mid.book c.open_last-to.result k opening.opened is);
       stand = all_then s mid new moved.stays opening.stand moved.stand;
       asks = only_squeeze (store_in s) (store_in new) c.full_mirrored-from.result c.open_last-to.result c.full_mirrored-from.ensures opening.lowest
@@ -88,6 +91,13 @@ returns-in-Broken g c =
       squeezed = tt;
       free = tt;
       none = sym c.health.ensures.same ∙ c.in-Broken.is;
+      begun = record {
+        from = c.full_mirrored-from.result;
+        to = c.open_last-to.result;
+        full = c.full_mirrored-from.ensures;
+        lowest = opening.lowest;
+        moves = record { moved = 0; within = omega arith; tables = opening.opened };
+      };
       unplaced = λ k is. homes_opened c.args.self.now.book c.open_last-to.new.self.book c.open_last-to.result k opening.opened is;
       stand = opening.stand;
       asks = only_squeeze (store_in c.args.self.now) (store_in c.open_last-to.new.self) c.full_mirrored-from.result c.open_last-to.result

@@ -40,8 +40,11 @@ returns-in-Mirrored g c =
       here = written.here;
       others = slots_written s.disks b s.book c.args.slot c.args.from.now c.requires.ready.space c.requires.slot put.works.follows written;
       book = refl;
-      asks = wrote_in s c.args.slot c.members-members.result c.requires.ready.space c.requires.slot c.members-members.ensures Mirrored b
-          (sym c.in-Mirrored.is ∙ c.class.ensures) put.works;
+      asks = record {
+        works = wrote_in s c.args.slot c.members-members.result c.requires.ready.space c.requires.slot c.members-members.ensures Mirrored b
+            (sym c.in-Mirrored.is ∙ c.class.ensures) put.works;
+        keeps = written.outside;
+      };
       stays = record {
         ready = record {
           space = space_written s.disks b s.book c.args.slot c.args.from.now c.requires.ready.space c.requires.slot access c.requires.whole written;
@@ -77,8 +80,11 @@ returns-in-Parity g c =
       here = written.here;
       others = slots_written s.disks b s.book c.args.slot c.args.from.now c.requires.ready.space c.requires.slot put.works.follows written;
       book = refl;
-      asks = wrote_in s c.args.slot c.members-members.result c.requires.ready.space c.requires.slot c.members-members.ensures Parity b
-          (sym c.in-Parity.is ∙ c.class.ensures) (writes_parity s.disks b c.members-members.result c.args.slot.slot put.works put.known);
+      asks = record {
+        works = wrote_in s c.args.slot c.members-members.result c.requires.ready.space c.requires.slot c.members-members.ensures Parity b
+            (sym c.in-Parity.is ∙ c.class.ensures) (writes_parity s.disks b c.members-members.result c.args.slot.slot put.works put.known);
+        keeps = written.outside;
+      };
       stays = record {
         ready = record {
           space = space_written s.disks b s.book c.args.slot c.args.from.now c.requires.ready.space c.requires.slot access c.requires.whole written;

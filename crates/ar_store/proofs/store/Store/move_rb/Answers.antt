@@ -1,9 +1,11 @@
 use Rattle.std.proofs.Common.{IsSome, refl, sym, ap, subst, ◌∙◌}
 use Rattle.ar_extents.specs.Groups.{outcome_of}
-use Rattle.ar_extents.proofs.Follows.{works_refl}
+use Rattle.ar_store.proofs.Within.{within_refl}
 use Rattle.ar_book.specs.Tables.{home}
 use Rattle.ar_store.specs.Store.{StoreState}
 use Rattle.ar_store.specs.Placing.{IsVacant}
+use Rattle.ar_store.specs.Asking.{AsksSlots}
+use Rattle.ar_store.specs.Spaces.{store_in}
 use Rattle.ar_store.proofs.Changes.{units_refl}
 use Rattle.ar_store.proofs.Fills.{accessed_refl, done_not_broken}
 use Rattle.ar_store.proofs.Fields.{ready_in, fields_stay, free_then}
@@ -24,6 +26,11 @@ invariant_of-self g c =
     let moved = c.move_block.ensures in
     fields_stay a b c.self.inside.block c.move_block.new.block c.self.invariant moved.stays (free_then a b c.self.invariant.kept.free moved.stays moved.free) moved.len
 
+pub returns-clause-asks : goal.returns-clause-asks
+returns-clause-asks g c = λ from is.
+    subst (λ (s : StoreState). AsksSlots from c.args.slot s (store_in c.move_block.new.self)) c.self.view_is
+    (c.move_block.ensures.asks from (ap (λ (s : StoreState). home s.book c.args.key) c.self.view_is ∙ is))
+
 pub returns-in-Broken : goal.returns-in-Broken
 returns-in-Broken g c =
     let s = c.args.self.now in
@@ -35,7 +42,7 @@ returns-in-Broken g c =
       stands = record { blocks = λ _ k. refl };
       beside = record { slots = λ slot block there same ne holds. holds };
       units = units_refl s.book;
-      asks = λ from is. works_refl _ s.disks;
+      asks = λ from is. within_refl _ _ s.disks;
       accessed = accessed_refl s.disks;
       broken = λ _. refl;
     }

@@ -1,5 +1,5 @@
 use Rattle.std.proofs.Common.{inl, sym, ap, ◌∙◌, refl}
-use Rattle.ar_extents.proofs.Follows.{works_refl}
+use Rattle.ar_store.proofs.Within.{within_refl}
 use Rattle.ar_store.specs.Store.{StoreState}
 use Rattle.ar_store.proofs.Standing.{was_sound}
 use Rattle.ar_store.proofs.Changes.{units_refl}
@@ -34,7 +34,7 @@ returns-in-Broken g c =
       homes = λ k. refl;
       stands = record { blocks = λ _ k. refl };
       units = units_refl s.book;
-      asks = λ group lowest. works_refl _ s.disks;
+      asks = λ group lowest. within_refl _ _ s.disks;
       accessed = accessed_refl s.disks;
       broken = λ _. refl;
     }

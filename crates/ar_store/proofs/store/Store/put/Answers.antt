@@ -1,4 +1,4 @@
-use Rattle.std.proofs.Common.{◌≢◌, refl, sym, ap, subst, ◌∙◌, arith}
+use Rattle.std.proofs.Common.{◌≢◌, inl, refl, sym, ap, subst, ◌∙◌, arith}
 use Rattle.ar_disks.specs.Geometry.{block_len_of}
 use Rattle.ar_extents.specs.declared.health.Health.TheVariants.{Broken}
 use Rattle.ar_extents.specs.Groups.{outcome_of}
@@ -6,7 +6,7 @@ use Rattle.ar_extents.proofs.Outcomes.{done_sound}
 use Rattle.ar_book.specs.Tables.{Tables, home, HasBlock}
 use Rattle.ar_store.specs.Store.{StoreState}
 use Rattle.ar_store.specs.Slots.{OthersStand}
-use Rattle.ar_store.specs.Placing.{Puts, SameUnits}
+use Rattle.ar_store.specs.Placing.{Puts, SameUnits, MayHavePrepared}
 use Rattle.ar_store.specs.Calls.{IsAccessed}
 use Rattle.ar_store.specs.Asking.{AsksToPut}
 use Rattle.ar_store.specs.Spaces.{store_in}
@@ -72,6 +72,9 @@ returns g c =
           (way_sound (store_in b) d.disks c.args.key c.find_way-way.result way.way wrote.stays.accessed.follows (done_sound d.disks.health (sym done ∙ wrote.outcome))));
       unmoved = λ broke.
           ap (λ (x : Tables). home x c.args.key) (wrote.unwritten broke) ∙ way.home ∙ ap (λ (s : StoreState). home s.book c.args.key) view;
+      prepared = λ broke.
+          subst (λ (s : StoreState). MayHavePrepared s.book c.args.key d.book) view
+          (subst (λ (x : Tables). MayHavePrepared a.book c.args.key x) (sym (wrote.unwritten broke)) way.prepared);
       units = subst (λ (s : StoreState). SameUnits s.book d.book) view both.units;
       asks = subst (λ (s : StoreState). AsksToPut s c.args.key (store_in d)) view
           (asks_way (store_in a) (store_in b) (store_in d) c.args.key c.find_way-way.result way.leads way.asks wrote.asks);
@@ -89,6 +92,7 @@ returns-in-Broken g c =
       others = none_stands s s c.args.key broken;
       tables = λ done. absurd (done_not_broken (sym done));
       unmoved = λ _. refl;
+      prepared = λ _. inl (inl refl);
       units = units_refl s.book;
       asks = asks_still s s c.args.key refl;
       accessed = accessed_refl s.disks;
