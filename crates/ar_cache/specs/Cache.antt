@@ -1,5 +1,5 @@
 -- What a cache is: blocks under keys that the backing has not yet got.
-use Rattle.std.specs.Prelude.{◌≡◌, ◌≢◌, ◌⊎◌, ℕ, ◌-◌, ◌<◌, ◌≤◌, ◌==◌, ◌&&◌, not, Bool, IsTrue, IsSome, List, [], ◌∷◌, Option, Some, option_map, All, is_some, length, take, drop, filter, nat_lt, unwrap_or, if◌then◌else◌}
+use Rattle.std.specs.Prelude.{◌≡◌, ◌≢◌, ◌⊎◌, ℕ, ◌-◌, ◌<◌, ◌≤◌, ◌==◌, ◌&&◌, not, Bool, IsTrue, IsSome, List, [], ◌∷◌, Option, Some, option_map, All, is_some, length, take, drop, reverse, filter, nat_lt, unwrap_or, if◌then◌else◌}
 use Rattle.std.specs.List.{IsDistinct}
 use Rattle.std.specs.Option.{option_map_or}
 use Rattle.std.specs.Map.{keys_of, lookup, remove_entry}
@@ -9,7 +9,7 @@ use Rattle.ar_disks.specs.declared.address.Addr.{Addr}
 use Rattle.ar_disks.specs.declared.address.Key.{Key}
 use Rattle.ar_disks.specs.declared.geometry.Geometry.{Geometry}
 use Rattle.ar_disks.specs.Geometry.{block_len_of}
-use Rattle.ar_cache.specs.Backing.{Writes}
+use Rattle.ar_cache.specs.Backing.{InTurn, Writes}
 use Rattle.ar_cache.specs.declared.answers.Flush.{Flush}
 use Rattle.ar_cache.specs.declared.answers.Flush.TheVariants.{Flushed, Idle, Broken}
 use Rattle.ar_disks.specs.declared.completion.Completion.{Completion}
@@ -139,9 +139,10 @@ answer_of Idle = stored.Done
 answer_of Broken = stored.Broken
 
 -- A backing broke while the cache was emptied: the most recently used of its entries stand, at least the one whose
--- destaging broke it. When that destaging began, the backing was in a state that its own relation joins to the first and to
--- the last, it was broken only if it was at first, and no key was seen with another block.
-pub record StopsAt {S : Type 0} (block_at : S → Key → List ℕ) (is_broken : S → Bool) (follows : S → S → Type 0)
+-- destaging broke it. When that destaging began, the others had been put in turn, the least recently used first; the backing was in
+-- a state that its own relation joins to the first and to the last, it was broken only if it was at first, and no key was seen
+-- with another block.
+pub record StopsAt {S : Type 0} (block_at : S → Key → List ℕ) (is_broken : S → Bool) (follows : S → S → Type 0) (puts : S → Key → S → Type 0)
     (old new : CacheState) (backing ended : S) : Type 0 where
   pub left : ℕ
   pub some_left : 0 < left
@@ -149,6 +150,7 @@ pub record StopsAt {S : Type 0} (block_at : S → Key → List ℕ) (is_broken :
   pub entries : new ≡ with_entries old (take left old.entries)
   pub reached : S
   pub came : follows backing reached
+  pub put : InTurn puts (reverse (keys_of (drop left old.entries))) backing reached
   pub went_on : follows reached ended
   pub same_broken : is_broken reached ≡ is_broken backing
   pub unchanged : SameSeen old (block_at backing) new (block_at reached)

@@ -223,7 +223,7 @@ impl Cache {
             → InTurn B.puts (reverse (keys_of self.old.entries)) backing.old backing.new }
         ensures quiet { self.old.entries ≡ [] → backing.new ≡ backing.old }
         ensures broken { result ≡ Completion.Broken
-            → StopsAt B.block_at B.is_broken B.follows self.old self.new backing.old backing.new }
+            → StopsAt B.block_at B.is_broken B.follows B.puts self.old self.new backing.old backing.new }
 
         ensures seen { result ≡ Completion.Done
             → SameSeen self.old (B.block_at backing.old) self.new (B.block_at backing.new) }

@@ -18,7 +18,7 @@ use Rattle.ar_extents.specs.Set.{SetState}
 use Rattle.ar_store.specs.Store.{store_of}
 use Rattle.ar_store.specs.declared.way.Way.{Way}
 use Rattle.ar_store.specs.declared.way.Way.TheVariants.{Home, Hole, Broken}
-use Rattle.ar_store.specs.Placing.{slot_at, HasNoHole, IsLowestHole, LeadsHome, LeadsToHole, Leads, Puts, IsMirroredHole, HasNoMirroredHole, HasNoWay, IsSqueezed, IsVacant, IsThere, IsWayIn, MayOpen, IsReadyFor, placed_by, put_in}
+use Rattle.ar_store.specs.Placing.{slot_at, HasNoHole, IsLowestHole, LeadsHome, LeadsToHole, Leads, Puts, IsMirroredHole, HasNoMirroredHole, HasNoWay, WantsGroup, HasOpened, MayHavePrepared, IsSqueezed, IsVacant, IsThere, IsWayIn, MayOpen, IsReadyFor, placed_by, put_in}
 
 -- the level, as a number
 rank : Level → ℕ
@@ -41,6 +41,21 @@ unplaced_not_parity e = let ranks : rank Unplaced ≡ rank ParityLevel = ap rank
 -- a block without a home is at no level
 pub nowhere : (t : Tables) (k : Key) → home t k ≡ None → level t k ≡ Unplaced
 nowhere t k is = ap (λ (o : Option Slot). level_in t.groups o) is
+
+-- a group that was opened for a block without a home, or for one at the parity level, was wanted
+wanted_where : (t u : Tables) (k : Key) → level t k ≢ MirroredLevel → (u ≡ t) ⊎ HasNoHole t Mirrored → (u ≡ t) ⊎ WantsGroup t k
+wanted_where t u k low wanted = elim wanted [ inl same ↦ inl same | inr none ↦ inr (record { low = low; none = none }) ]
+
+pub wanted_unplaced : (t u : Tables) (k : Key) → home t k ≡ None → (u ≡ t) ⊎ HasNoHole t Mirrored → (u ≡ t) ⊎ WantsGroup t k
+wanted_unplaced t u k is wanted = wanted_where t u k (λ at. unplaced_not_mirrored (sym (nowhere t k is) ∙ at)) wanted
+
+pub wanted_low : (t u : Tables) (k : Key) → level t k ≡ ParityLevel → (u ≡ t) ⊎ HasNoHole t Mirrored → (u ≡ t) ⊎ WantsGroup t k
+wanted_low t u k is wanted = wanted_where t u k (λ at. parity_not_mirrored (sym is ∙ at)) wanted
+
+-- a way was found without a squeeze
+pub prepared_in : (t u : Tables) (k : Key) → MayOpen t u → (u ≡ t) ⊎ WantsGroup t k → MayHavePrepared t k u
+prepared_in t u k (inl same) wanted = inl same
+prepared_in t u k (inr has) wanted = elim wanted [ inl same ↦ inl same | inr wants ↦ inr (inl (wants, has)) ]
 
 -- that there is no way was found, and changed nothing
 pub no_way : (t u : Tables) (k : Key) → HasNoWay t k u → HasNoWay t k t

@@ -164,10 +164,15 @@ pub record HasBegunSqueeze (t new : Tables) : Type 0 where
   pub lowest : IsLowestFree t to
   pub moves : HasMovedSome (opened t to Parity) from to new
 
--- What was done before a block is written, as far as it came: a group may have been opened for it; or, where it has no way without
--- one, a squeeze was begun. No home has changed but for the blocks that a squeeze moves.
+-- a block that is put wants a group to be opened: it isn't at the mirrored level, where no group has a hole
+pub record WantsGroup (t : Tables) (k : Key) : Type 0 where
+  pub low : level t k ≢ MirroredLevel
+  pub none : HasNoHole t Mirrored
+
+-- What was done before a block is written, as far as it came: nothing; or a group was opened for it; or, where it has no way
+-- without one, a squeeze was begun. No home has changed but for the blocks that a squeeze moves.
 abbrev pub MayHavePrepared : Tables → Key → Tables → Type 0
-MayHavePrepared t k new = MayOpen t new ⊎ (HasNoWay t k t × HasBegunSqueeze t new)
+MayHavePrepared t k new = (new ≡ t) ⊎ ((WantsGroup t k × HasOpened t new) ⊎ (HasNoWay t k t × HasBegunSqueeze t new))
 
 -- a way is there: the block's home, or a slot that names none
 abbrev pub IsThere : Tables → Key → Way → Type 0

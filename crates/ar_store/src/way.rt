@@ -1,12 +1,13 @@
 // Where a block goes that is put.
-ghost use Rattle.std.specs.Prelude.{◌≡◌, ◌≢◌, ◌<◌, length, IfSome, IfNone};
+ghost use Rattle.std.specs.Prelude.{◌≡◌, ◌≢◌, ◌⊎◌, ◌<◌, length, IfSome, IfNone};
 ghost use Rattle.ar_disks.specs.Geometry.{block_len_of};
 ghost use Rattle.ar_extents.specs.declared.health.Health.TheVariants.{Broken};
 ghost use Rattle.ar_book.specs.Book.{TablesAgree};
+ghost use Rattle.ar_book.specs.declared.class.Class.TheVariants.{Mirrored};
 ghost use Rattle.ar_book.specs.Tables.{home, free_groups, HasBlock};
 ghost use Rattle.ar_store.specs.Slots.{AllStand};
 ghost use Rattle.ar_store.specs.Asking.{AsksOnWay};
-ghost use Rattle.ar_store.specs.Placing.{Leads, IsReadyFor, MayOpen, MayHavePrepared, IsMirroredHole, HasNoMirroredHole, IsWayIn, HasNoWay};
+ghost use Rattle.ar_store.specs.Placing.{Leads, IsReadyFor, MayOpen, WantsGroup, MayHavePrepared, IsMirroredHole, HasNoMirroredHole, HasNoHole, IsWayIn, HasNoWay};
 ghost use Rattle.ar_store.specs.Spaces.{store_in, IsReady, Stays};
 
 use crate::space::Space;
@@ -61,6 +62,7 @@ fn way_in(book: &mut Book, key: Key) -> Option<Way>
     ensures way { IfSome result (IsWayIn book.old key book.new) }
     ensures none { IfNone result (HasNoWay book.old key book.new) }
     ensures opens { MayOpen book.old book.new }
+    ensures wanted { (book.new ≡ book.old) ⊎ WantsGroup book.old key }
 {
     let Some(home) = book.home(key) else {
         if let Some(slot) = mirrored_hole(book) {
@@ -83,6 +85,7 @@ fn mirrored_hole(book: &mut Book) -> Option<Slot>
     ensures found { IfSome result (IsMirroredHole book.old book.new) }
     ensures none { IfNone result (HasNoMirroredHole book.old book.new) }
     ensures opens { MayOpen book.old book.new }
+    ensures wanted { (book.new ≡ book.old) ⊎ HasNoHole book.old Mirrored }
 {
     if let Some(slot) = book.hole(Class::Mirrored, &mut Steps::new()) {
         return Some(slot);

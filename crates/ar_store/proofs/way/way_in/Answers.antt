@@ -1,5 +1,5 @@
 use Rattle.std.proofs.Common.{sym, ◌∙◌, inl, refl}
-use Rattle.ar_store.proofs.Ways.{way_to_mirrored, way_to_parity, way_up, way_low, way_high}
+use Rattle.ar_store.proofs.Ways.{wanted_unplaced, wanted_low, way_to_mirrored, way_to_parity, way_up, way_low, way_high}
 use Rattle.ar_store.proofs.way.way_in.Goals as goal
 
 pub returns-in-Some-mirrored_hole : goal.returns-in-Some-mirrored_hole
@@ -9,6 +9,7 @@ returns-in-Some-mirrored_hole c =
       way = way_to_mirrored c.args.book.now c.args.key c.mirrored_hole.new.book c.in-Some-mirrored_hole.slot (sym c.home.ensures ∙ c.in_default.is) found.found found.opens;
       none = tt;
       opens = found.opens;
+      wanted = wanted_unplaced c.args.book.now c.mirrored_hole.new.book c.args.key (sym c.home.ensures ∙ c.in_default.is) found.wanted;
     }
 
 pub returns-in_default : goal.returns-in_default
@@ -19,6 +20,7 @@ returns-in_default c =
       way = way_to_parity c.args.book.now c.args.key c.mirrored_hole.new.book c.in_ok-slot.slot (sym c.home.ensures ∙ c.in_default.is) without.none found.found found.least;
       none = tt;
       opens = without.opens;
+      wanted = inl without.none.same;
     }
 
 pub returns-in-Some-mirrored_hole-2 : goal.returns-in-Some-mirrored_hole-2
@@ -28,6 +30,7 @@ returns-in-Some-mirrored_hole-2 c =
       way = way_up c.args.book.now c.args.key c.mirrored_hole-in-Parity.new.book c.in-Some-mirrored_hole-2.slot (sym c.level.ensures ∙ c.in-Parity.is) found.found found.opens;
       none = tt;
       opens = found.opens;
+      wanted = wanted_low c.args.book.now c.mirrored_hole-in-Parity.new.book c.args.key (sym c.level.ensures ∙ c.in-Parity.is) found.wanted;
     }
 
 pub returns-in-None : goal.returns-in-None
@@ -38,6 +41,7 @@ returns-in-None c =
           (sym c.home.ensures ∙ c.in-Some.is) without.none;
       none = tt;
       opens = without.opens;
+      wanted = inl without.none.same;
     }
 
 pub returns-in-Mirrored : goal.returns-in-Mirrored
@@ -45,4 +49,5 @@ returns-in-Mirrored c = record {
   way = way_high c.args.book.now c.args.key c.in-Some.home c.level.result c.requires (sym c.home.ensures ∙ c.in-Some.is) c.level.ensures c.in-Mirrored.is;
   none = tt;
   opens = inl refl;
+  wanted = inl refl;
 }

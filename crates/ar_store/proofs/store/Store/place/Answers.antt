@@ -102,7 +102,7 @@ returns-in-Broken g c =
       tables = λ done. absurd (done_not_broken (sym done));
       stands = record { blocks = λ _ k. refl };
       unmoved = λ _. refl;
-      prepared = λ _. inl (inl refl);
+      prepared = λ _. inl refl;
       units = units_refl s.book;
       asks = asks_still s s c.args.key refl;
       accessed = accessed_refl s.disks;
