@@ -79,14 +79,6 @@ impl Health {
             Health::Rebuilding(disk, done) => place.disk == disk && place.extent >= done,
         }
     }
-
-    /// Whether a disk is out or being rebuilt.
-    pub fn is_down(self, number: u8) -> bool {
-        match self {
-            Health::Whole | Health::Broken => false,
-            Health::Out(disk) | Health::Rebuilding(disk, _) => number == disk,
-        }
-    }
 }
 
 /// A unit: a list of blocks that a host has.

@@ -1,5 +1,5 @@
 // Scripts whose input, output or array fails, lines and answers that are long, and texts that no script meets.
-use ar_core::{Health, OutcomeOf, Refusal, UnitRefusal};
+use ar_core::{Balance, Health, OutcomeOf, Rebuild, Refusal, UnitRefusal};
 use ar_disks::Geometry;
 use ar_orders::{Fault, FaultKind, Notation};
 use ar_script::{Setup, run_script, write_health, write_outcome};
@@ -386,6 +386,14 @@ fn texts_of_refused_memory(rt: HostRuntime) {
     writes(&rt, OutcomeOf::Cmd(Reply::busy()), b"busy\n");
     writes(&rt, OutcomeOf::Make(refused), b"refused M4 NoMemory\n");
     writes(&rt, OutcomeOf::Grow(refused), b"refused M4 NoMemory\n");
+}
+
+// Of steps that meet a fault of a disk or want of memory: a disk in memory has no fault.
+#[test]
+fn texts_of_what_is_given_up(rt: HostRuntime) {
+    writes(&rt, OutcomeOf::Balance(Balance::GivenUp), b"given up\n");
+    writes(&rt, OutcomeOf::Balance(Balance::NoMemory), b"refused E5 NoMemory\n");
+    writes(&rt, OutcomeOf::Rebuild(Rebuild::GivenUp), b"given up\n");
 }
 
 // Of the widest array, which no script waits for.
