@@ -1,4 +1,5 @@
 pub mod BlockLemmas
+pub mod Gathering
 pub mod Going
 pub mod LineLemmas
 pub mod ParseLemmas

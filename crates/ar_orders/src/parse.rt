@@ -36,10 +36,10 @@ pub fn order_in(line: &str) -> Result<Option<Order>, FaultKind>
     if line.is_empty() || line.starts_with('#') {
         return Ok(None);
     }
-    if words::has_empty(line) {
+    let mut words = [""; words::MOST_WORDS];
+    let Some(count) = words::first_words(line, &mut words) else {
         return Err(FaultKind::BadArgument);
-    }
-    let (words, count) = words::first_words(line);
+    };
     order_in_words(&words[..count])
 }
 

@@ -1,6 +1,6 @@
 // The words of a line.
-ghost use Rattle.std.specs.Prelude.{◌≡◌, ◌∷◌, [], ◌++◌, ◌-◌, ◌↔◌, ℕ, List, length, replicate, IsSome, IfSome, Ok, map, take, min, ◌==◌};
-ghost use Rattle.std.specs.List.{list_all, list_any, slice_split};
+ghost use Rattle.std.specs.Prelude.{◌≡◌, ◌∷◌, [], ◌++◌, ◌-◌, ◌↔◌, ℕ, List, length, replicate, true, false, IsSome, IfSome, IfNone, OnSome, Ok, map, take, min, ◌==◌};
+ghost use Rattle.std.specs.List.{list_all, list_any, position_or_len, slice_split};
 ghost use Rattle.std.specs.Char.{is_ascii_digit};
 ghost use Rattle.std.specs.Option.{SomeIff};
 ghost use Rattle.std.specs.Str.Parse.{digits_value};
@@ -10,26 +10,43 @@ ghost use Rattle.ar_orders.specs.Words.{IsNumber, IsBytePair, IsBlockWord};
 /// Words that are looked at: no order has more than seven.
 pub const MOST_WORDS: usize = 8;
 
-/// The first words of a line, at most `MOST_WORDS`, and how many these are. One space parts two words, so that more spaces, and
-/// those at an end, make empty words.
-pub fn first_words(line: &str) -> ([&str; MOST_WORDS], usize)
-    ensures count { result.1 ≡ min 8 (length (slice_split (λ byte. byte == 32) line.now)) }
-    ensures words { take result.1 (map (λ word. word.now) result.0) ≡ take 8 (slice_split (λ byte. byte == 32) line.now) }
+/// Puts the first words of a line into `words`, as many as have room, and says how many these are, unless one of all its words is
+/// empty. One space parts two words, so that more spaces, and those at an end, make empty words.
+pub fn first_words<'a>(line: &'a str, words: &mut [&'a str; MOST_WORDS]) -> Option<usize>
+    ensures none { IfNone result (list_any (λ word. length word == 0) (slice_split (λ byte. byte == 32) line.now) ≡ true) }
+    ensures some { OnSome result (list_any (λ word. length word == 0) (slice_split (λ byte. byte == 32) line.now) ≡ false) }
+    ensures count { IfSome result (λ count. count ≡ min 8 (length (slice_split (λ byte. byte == 32) line.now))) }
+    ensures words { IfSome result (λ count. take count (map (λ word. word.now) words.new) ≡ take 8 (slice_split (λ byte. byte == 32) line.now)) }
 {
-    let mut words = [""; MOST_WORDS];
     let mut count = 0;
-    for word in line.split(' ').take(MOST_WORDS) {
-        words[count] = word;
-        count += 1;
+    let mut rest = line;
+    while !rest.is_empty() {
+        let end = word_end(rest);
+        if end == 0 {
+            return None;
+        }
+        if count < MOST_WORDS {
+            words[count] = &rest[..end];
+            count += 1;
+        }
+        if end == rest.len() {
+            return Some(count);
+        }
+        rest = &rest[end + 1..];
     }
-    (words, count)
+    // Nothing stands behind the last space, or in the line.
+    None
 }
 
-/// Whether one of the words of a line is empty.
-pub fn has_empty(line: &str) -> bool
-    ensures { result ≡ list_any (λ word. length word == 0) (slice_split (λ byte. byte == 32) line.now) }
+// Where the first word of a text ends: at a space, or where the text does.
+fn word_end(text: &str) -> usize
+    ensures { result ≡ position_or_len (λ byte. byte == 32) text.now }
 {
-    line.split(' ').any(|word| word.is_empty())
+    let bytes = text.as_bytes();
+    bytes
+        .iter()
+        .position(|byte| *byte == b' ')
+        .unwrap_or(bytes.len())
 }
 
 /// The number that a word says: 1 to 10 decimal digits.

@@ -1,13 +1,18 @@
-use Rattle.std.proofs.Common.{◌≡◌, length, take}
+use Rattle.std.proofs.Common.{◌≤◌, length, map}
+use denote.Text.{Utf8}
+use denote.Shadow.{shadow}
+use Rattle.ar_orders.proofs.Gathering.{Gathered, words_of}
 use Rattle.ar_orders.proofs.words.first_words.Given as goal
 
--- those so far stand in front
-abbrev pub invariant-loop-word : goal.invariant-loop-word
-invariant-loop-word l =
+-- the words in front of the rest were taken
+abbrev pub invariant-loop-rest : goal.invariant-loop-rest
+invariant-loop-rest l =
     record {
-      count : l.count ≡ length l.yielded;
-      front : take l.count l.words ≡ l.yielded;
-      room : length l.words ≡ 8;
-      can_next : (goal.iterator-loop-word).can_next l.word-iterator;
-      finite : (goal.iterator-loop-word).is_finite l.word-iterator;
+      text : shadow (Utf8 l.rest);
+      taken : Gathered (words_of l.line) (words_of l.rest) (map (λ word. word.now) l.words) l.count;
+      shorter : length l.rest ≤ length l.line;
     }
+
+-- the rest gets shorter
+abbrev pub decreases-loop-rest : goal.decreases-loop-rest
+decreases-loop-rest l = length l.rest
