@@ -1,14 +1,11 @@
 -- What std's and hex's contracts say in this crate's words.
-use Rattle.std.proofs.Common.{◌≡◌, ◌↔◌, ◌<◌, ◌-◌, ◌*◌, ◌^◌, ◌++◌, drop, replicate, ap, ℕ, Bool, true, false, not, List, length, Option, Some, Result, Ok, Err, IsOk, MatchResult, refl, sym, ◌∙◌, subst, rules, arith}
+use Rattle.std.proofs.Common.{◌≡◌, ◌↔◌, ◌<◌, ◌≤◌, ◌-◌, ◌*◌, ◌&&◌, ◌^◌, ◌++◌, drop, take, replicate, ap, ℕ, Bool, true, false, not, List, length, Result, Ok, Err, IsOk, MatchResult, sym, ◌∙◌, rules, arith}
 use Rattle.std.specs.List.{list_all, AllPass}
 use Rattle.std.specs.Char.{is_ascii_digit}
-use Rattle.std.specs.Option.{SomeIff}
-use Rattle.std.specs.Str.Parse.{digits_value, ParsesUnsigned}
-use Rattle.std.proofs.lemmas.Str.Parse.{IsNumeralModel, numerals_by_value, parse_gives, digits_value_short}
-use Rattle.std.specs.Result.{result_ok}
+use Rattle.std.specs.Str.Parse.{digits_value}
+use Rattle.std.proofs.lemmas.Str.Parse.{IsNumeralModel, numerals_by_value, digits_value_short}
 use Rattle.std.proofs.lemmas.Bool.{false≢true}
-use Rattle.std.proofs.lemmas.List.{drop-replicate}
-use Rattle.ar_orders.specs.Words.{IsNumber}
+use Rattle.std.proofs.lemmas.List.{drop-replicate, length-take}
 use Rattle.hex.specs.declared.error.FromHexError.{FromHexError}
 use Rattle.hex.specs.Hex.{decode_of, decode_sized, is_hex_digit}
 use Rattle.hex.proofs.HexLemmas.{IsOk-decode_sized, IsOk-written, decode_sized-twice}
@@ -17,16 +14,13 @@ use Rattle.hex.proofs.HexLemmas.{IsOk-decode_sized, IsOk-written, decode_sized-t
 own : IsNumeralModel (λ ds. list_all is_ascii_digit ds ≡ true) (digits_value 10)
 own = numerals_by_value (λ ds. list_all is_ascii_digit ds ≡ true) (search rules)
 
--- a text of 1 to 10 digits is parsed as its value
-pub parsed : {E : Type 0} (word : List ℕ) (r : Result ℕ E) → ParsesUnsigned 64 10 word r
-    → IsNumber word → result_ok r ≡ Some (digits_value 10 word)
-parsed {E = E} word r h good =
-    let small : digits_value 10 word < 10 ^ 10 = digits_value_short own word 10 good.digits good.at_most_ten in
-    let some : 0 < length word = omega (arith, good.some) in
-    ap (λ (x : Result ℕ E). result_ok x) (parse_gives own 64 word r h good.digits some (omega arith))
+-- what the first of at most ten bytes say, where they are digits
+pub small : (word : List ℕ) (i : ℕ) → list_all is_ascii_digit (take i word) ≡ true → length word ≤ 10 → digits_value 10 (take i word) < 10 ^ 10
+small word i digits short = digits_value_short own (take i word) 10 digits (omega (arith, length-take i word))
 
-pub some_iff : (o : Option ℕ) (P : Type 0) (v : ℕ) → o ≡ Some v → P → SomeIff o P v
-some_iff o P v e p = let F : Option ℕ → Type 0 = λ x. SomeIff x P v in subst F (sym e) (p, refl)
+pub both : (a b : Bool) → a ≡ true → b ≡ true → (a && b) ≡ true
+both true b first next = next
+both false b first next = first
 
 -- which texts are decoded into room for n bytes
 pub decodes : (text out : List ℕ) (n : ℕ) (r : Result Unit FromHexError)

@@ -53,16 +53,17 @@ fn word_end(text: &str) -> usize
 pub fn number(word: &str) -> Option<u64>
     ensures { SomeIff result (IsNumber word.now) (digits_value 10 word.now) }
 {
-    if word.is_empty() || word.len() > 10 || !is_digits(word) {
+    if word.is_empty() || word.len() > 10 {
         return None;
     }
-    word.parse::<u64>().ok()
-}
-
-fn is_digits(word: &str) -> bool
-    ensures { result ≡ list_all is_ascii_digit word.now }
-{
-    word.bytes().all(|byte| byte.is_ascii_digit())
+    let mut number: u64 = 0;
+    for byte in word.as_bytes() {
+        if !byte.is_ascii_digit() {
+            return None;
+        }
+        number = number * 10 + u64::from(*byte - b'0');
+    }
+    Some(number)
 }
 
 /// The byte that a word says: two hexadecimal digits of either case.
