@@ -392,7 +392,11 @@ fn texts_of_refused_memory(rt: HostRuntime) {
 #[test]
 fn texts_of_what_is_given_up(rt: HostRuntime) {
     writes(&rt, OutcomeOf::Balance(Balance::GivenUp), b"given up\n");
-    writes(&rt, OutcomeOf::Balance(Balance::NoMemory), b"refused E5 NoMemory\n");
+    writes(
+        &rt,
+        OutcomeOf::Balance(Balance::NoMemory),
+        b"refused E5 NoMemory\n",
+    );
     writes(&rt, OutcomeOf::Rebuild(Rebuild::GivenUp), b"given up\n");
 }
 
