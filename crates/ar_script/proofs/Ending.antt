@@ -7,10 +7,9 @@ use Rattle.ar_orders.specs.declared.fault.Fault.{Fault}
 use Rattle.ar_orders.specs.declared.fault.Fault.TheVariants.{Start, Line}
 use Rattle.ar_orders.specs.declared.fault.FaultKind.{FaultKind}
 use Rattle.ar_orders.specs.declared.fault.FaultKind.TheVariants.{TooManyLines, NoMemory}
-use Rattle.ar_orders.specs.Forms.{ReadsLine}
 use Rattle.ar_orders.specs.Lines.{Took, IsAllTaken, first_of, line_at, line_fault, IsToldOfNext, StopsAt, IsNumbered, IsOfNext}
 use Rattle.ar_script.specs.Orders.{IsLost, Meets, MeetsLine}
-use Rattle.ar_script.specs.Plays.{IsOutside, AreFirst, AreAll, IsSo, PlaysScript, PlaysAll, PlaysTo}
+use Rattle.ar_script.specs.Plays.{IsOutside, AreFirst, AreAll, SaysWrong, IsSo, PlaysScript, PlaysAll, PlaysTo}
 use Rattle.ar_script.proofs.Playing.{none_played, met_all, met_or_not}
 
 -- ---- lines that were taken
@@ -77,16 +76,16 @@ so_next (Some all) (Some left) lines n kind took count many told =
 
 -- a line that says nothing that can be asked for
 so_said : (script left rest : Option (List (List ℕ))) (lines : List (List ℕ)) (line : List ℕ) (n : ℕ) (kind : FaultKind) → Took script left lines → length lines ≡ n
-    → Took left rest (line ∷ []) → ReadsLine line (Err kind) → IsSo script (n + 1) kind
+    → Took left rest (line ∷ []) → SaysWrong line kind → IsSo script (n + 1) kind
 so_said None left rest lines line n kind took count next says = tt
 so_said (Some all) None rest lines line n kind took count next says = absurd took
 so_said (Some all) (Some left) None lines line n kind took count next says = absurd next
 so_said (Some all) (Some left) (Some rest) lines line n kind took count next says =
     let same : line ≡ line_at all (n + 1) = sym (next_at all lines left n took count ∙ ap first_of next) in
-    inr (inr (inl (subst (λ (l : List ℕ). ReadsLine l (Err kind)) same says)))
+    inr (inr (inl (subst (λ (l : List ℕ). SaysWrong l kind) same says)))
 
 so_answered : (script left rest : Option (List (List ℕ))) (lines : List (List ℕ)) (line : List ℕ) (n : ℕ) (kind : FaultKind) → Took script left lines → length lines ≡ n
-    → Took left rest (line ∷ []) → IsLost kind ⊎ ReadsLine line (Err kind) → IsSo script (n + 1) kind
+    → Took left rest (line ∷ []) → IsLost kind ⊎ SaysWrong line kind → IsSo script (n + 1) kind
 so_answered script left rest lines line n kind took count next told =
     elim told [
       | inl lost ↦ so_outside script (n + 1) kind (elim lost [ inl memory ↦ inl memory | inr write ↦ inr (inr write) ])
@@ -105,8 +104,8 @@ pub plays_line : (script left rest : Option (List (List ℕ))) (old mid new : Ar
     → PlaysAll script left old mid n → Took left rest (line ∷ []) → answer ≡ Ok tt → MeetsLine line mid answer new → PlaysAll script rest old new (suc n)
 plays_line script left rest old mid new n line answer before next is line_met = record {
   lines = before.lines ++ line ∷ [];
-  plays = met_all before.lines old mid new line line_met.0 before.plays line_met.1
-      (subst (λ (r : Result (Unit {0}) FaultKind). Meets line_met.0 mid r new) is line_met.2);
+  plays = met_all before.lines old mid new line line_met.read before.plays line_met.sound line_met.reads
+      (subst (λ (r : Result (Unit {0}) FaultKind). Meets line_met.read mid r new) is line_met.meets);
   all = one_taken before.lines line n before.all;
   took = took_more script left rest before.lines (line ∷ []) before.took next;
 }
@@ -178,13 +177,13 @@ plays_unread script left old new n begun (Err fault) before is stops next number
 
 -- at a line that was answered with a fault
 pub plays_fault : (script left rest : Option (List (List ℕ))) (old mid new : ArrayState) (n : ℕ) (line : List ℕ) (kind : FaultKind) (fault : Fault)
-    → PlaysAll script left old mid n → Took left rest (line ∷ []) → MeetsLine line mid (Err kind) new → IsLost kind ⊎ ReadsLine line (Err kind)
+    → PlaysAll script left old mid n → Took left rest (line ∷ []) → MeetsLine line mid (Err kind) new → IsLost kind ⊎ SaysWrong line kind
     → fault ≡ Line (max (suc n) 1) kind → PlaysTo script (Err fault) old new (suc n)
 plays_fault script left rest old mid new n line kind fault before next line_met told is =
     let same : max (suc n) 1 ≡ n + 1 = omega arith in
     let so = so_answered script left rest before.lines line n kind before.took before.all next told in
     let is_next = is ∙ ap (λ m. Line m kind) same in
-    elim (met_or_not before.lines old mid new line line_met.0 kind before.plays line_met.1 line_met.2) [
+    elim (met_or_not before.lines old mid new line line_met.read kind before.plays line_met.sound line_met.reads line_met.meets) [
       | inl unmet ↦
           plays_stopped script left old new n (suc n) (n + 1) kind fault (record { lines = before.lines; plays = unmet; all = before.all; took = before.took }) is_next (inr refl) so
           (omega arith) (omega arith)

@@ -18,6 +18,7 @@ use Rattle.ar_orders.specs.declared.order.Order.TheVariants.{Act, Ask}
 use Rattle.ar_orders.specs.declared.order.Question.{Question}
 use Rattle.ar_orders.specs.declared.order.Question.TheVariants.{Levels, Home, Groups, Room, Health, Picture, Block}
 use Rattle.ar_orders.specs.Forms.{ReadsLine}
+use Rattle.ar_orders.specs.Lines.{IsLine}
 use Rattle.ar_script.specs.Orders.{event_in, Acts, Leaves, Looks, Meets}
 use Rattle.ar_script.specs.Setups.{new_disk}
 use Rattle.ar_script.specs.Plays.{IsTurn, AsksFor, AsksNothing, AreMet, Plays}
@@ -51,12 +52,12 @@ met-more s (l ∷ lines) (t ∷ turns) line turn all one =
     ]
 
 -- lines and one line more
-more : (lines : List (List ℕ)) (old mid new : ArrayState) (line : List ℕ) (order : Order) (turn : Turn) → Plays lines old mid → ReadsLine line (Ok (Some order))
-    → IsTurn old order turn → MeetsTurn mid turn new → geometry_of new ≡ geometry_of mid → new.store.disks.extents ≡ mid.store.disks.extents
+more : (lines : List (List ℕ)) (old mid new : ArrayState) (line : List ℕ) (order : Order) (turn : Turn) → Plays lines old mid → IsLine line
+    → ReadsLine line (Ok (Some order)) → IsTurn old order turn → MeetsTurn mid turn new → geometry_of new ≡ geometry_of mid → new.store.disks.extents ≡ mid.store.disks.extents
     → Plays (lines ++ line ∷ []) old new
-more lines old mid new line order turn before reads is meets geometry extents = record {
+more lines old mid new line order turn before sound reads is meets geometry extents = record {
   turns = before.turns ++ turn ∷ [];
-  met = met-more old lines before.turns line turn before.met (record { order = order; reads = reads; met = is });
+  met = met-more old lines before.turns line turn before.met (record { sound = sound; order = order; reads = reads; met = is });
   run = one_more old before.turns mid turn new before.run meets;
   geometry = geometry ∙ before.geometry;
   extents = extents ∙ before.extents;
@@ -96,17 +97,17 @@ event-same old mid (actions.Replace disk) g e =
     ap (λ (d : DiskState). Replace disk d) (new_disk-same (geometry_of old) (geometry_of mid) old.store.disks.extents mid.store.disks.extents g e)
 event-same old mid actions.Rebuild g e = refl
 
-acted : (lines : List (List ℕ)) (old mid new : ArrayState) (line : List ℕ) (action : Action) → Plays lines old mid → ReadsLine line (Ok (Some (Act action)))
-    → Acts action mid new → Plays (lines ++ line ∷ []) old new
-acted lines old mid new line action before reads acts =
-    more lines old mid new line (Act action) (Did (event_in mid action) acts.outcome) before reads
+acted : (lines : List (List ℕ)) (old mid new : ArrayState) (line : List ℕ) (action : Action) → Plays lines old mid → IsLine line
+    → ReadsLine line (Ok (Some (Act action))) → Acts action mid new → Plays (lines ++ line ∷ []) old new
+acted lines old mid new line action before sound reads acts =
+    more lines old mid new line (Act action) (Did (event_in mid action) acts.outcome) before sound reads
     (event-same old mid action before.geometry before.extents) acts.steps acts.steps.disks.geometry acts.steps.disks.extents
 
-asked : (lines : List (List ℕ)) (old mid new : ArrayState) (line : List ℕ) (question : Question) → Plays lines old mid → ReadsLine line (Ok (Some (Ask question)))
-    → Looks question mid new → Plays (lines ++ line ∷ []) old new
-asked lines old mid new line question before reads looks =
+asked : (lines : List (List ℕ)) (old mid new : ArrayState) (line : List ℕ) (question : Question) → Plays lines old mid → IsLine line
+    → ReadsLine line (Ok (Some (Ask question))) → Looks question mid new → Plays (lines ++ line ∷ []) old new
+asked lines old mid new line question before sound reads looks =
     let is : LooksAt mid new = looked question mid new looks in
-    more lines old mid new line (Ask question) Looked before reads tt is is.accessed.follows.geometry is.accessed.follows.extents
+    more lines old mid new line (Ask question) Looked before sound reads tt is is.accessed.follows.geometry is.accessed.follows.extents
 
 unchanged : (lines : List (List ℕ)) (old mid new : ArrayState) → Plays lines old mid → new ≡ mid → Plays lines old new
 unchanged lines old mid new before same = subst (λ (s : ArrayState). Plays lines old s) (sym same) before
@@ -125,29 +126,29 @@ passed lines old mid new line before nothing same =
     same
 
 -- a line that was answered was met
-pub met_all : (lines : List (List ℕ)) (old mid new : ArrayState) (line : List ℕ) (read : Result (Option Order) FaultKind) → Plays lines old mid → ReadsLine line read
-    → Meets read mid (Ok tt) new → Plays (lines ++ line ∷ []) old new
-met_all lines old mid new line (Ok None) before reads meets = passed lines old mid new line before reads meets.1
-met_all lines old mid new line (Ok (Some (Ask question))) before reads looks = asked lines old mid new line question before reads looks
-met_all lines old mid new line (Ok (Some (Act action))) before reads acts = acted lines old mid new line action before reads acts
-met_all lines old mid new line (Err kind) before reads meets = let no = meets.0 in absurd (cc)
+pub met_all : (lines : List (List ℕ)) (old mid new : ArrayState) (line : List ℕ) (read : Result (Option Order) FaultKind) → Plays lines old mid → IsLine line
+    → ReadsLine line read → Meets read mid (Ok tt) new → Plays (lines ++ line ∷ []) old new
+met_all lines old mid new line (Ok None) before sound reads meets = passed lines old mid new line before (record { sound = sound; reads = reads }) meets.1
+met_all lines old mid new line (Ok (Some (Ask question))) before sound reads looks = asked lines old mid new line question before sound reads looks
+met_all lines old mid new line (Ok (Some (Act action))) before sound reads acts = acted lines old mid new line action before sound reads acts
+met_all lines old mid new line (Err kind) before sound reads meets = let no = meets.0 in absurd (cc)
 
 -- an action that wasn't done is none
 unacted : (lines : List (List ℕ)) (old mid new : ArrayState) (line : List ℕ) (action : Action) (kind : FaultKind) → Plays lines old mid
-    → ReadsLine line (Ok (Some (Act action))) → Leaves (Act action) mid (Err kind) new → Plays lines old new ⊎ Plays (lines ++ line ∷ []) old new
-unacted lines old mid new line action NoMemory before reads same = inl (unchanged lines old mid new before same)
-unacted lines old mid new line action UnknownWord before reads acts = inr (acted lines old mid new line action before reads acts)
-unacted lines old mid new line action BadArgument before reads acts = inr (acted lines old mid new line action before reads acts)
-unacted lines old mid new line action LineTooLong before reads acts = inr (acted lines old mid new line action before reads acts)
-unacted lines old mid new line action TooManyLines before reads acts = inr (acted lines old mid new line action before reads acts)
-unacted lines old mid new line action BadCharacter before reads acts = inr (acted lines old mid new line action before reads acts)
-unacted lines old mid new line action ReadFault before reads acts = inr (acted lines old mid new line action before reads acts)
-unacted lines old mid new line action WriteFault before reads acts = inr (acted lines old mid new line action before reads acts)
+    → IsLine line → ReadsLine line (Ok (Some (Act action))) → Leaves (Act action) mid (Err kind) new → Plays lines old new ⊎ Plays (lines ++ line ∷ []) old new
+unacted lines old mid new line action NoMemory before sound reads same = inl (unchanged lines old mid new before same)
+unacted lines old mid new line action UnknownWord before sound reads acts = inr (acted lines old mid new line action before sound reads acts)
+unacted lines old mid new line action BadArgument before sound reads acts = inr (acted lines old mid new line action before sound reads acts)
+unacted lines old mid new line action LineTooLong before sound reads acts = inr (acted lines old mid new line action before sound reads acts)
+unacted lines old mid new line action TooManyLines before sound reads acts = inr (acted lines old mid new line action before sound reads acts)
+unacted lines old mid new line action BadCharacter before sound reads acts = inr (acted lines old mid new line action before sound reads acts)
+unacted lines old mid new line action ReadFault before sound reads acts = inr (acted lines old mid new line action before sound reads acts)
+unacted lines old mid new line action WriteFault before sound reads acts = inr (acted lines old mid new line action before sound reads acts)
 
 -- a line that was answered with a fault was met, or nothing was done
 pub met_or_not : (lines : List (List ℕ)) (old mid new : ArrayState) (line : List ℕ) (read : Result (Option Order) FaultKind) (kind : FaultKind) → Plays lines old mid
-    → ReadsLine line read → Meets read mid (Err kind) new → Plays lines old new ⊎ Plays (lines ++ line ∷ []) old new
-met_or_not lines old mid new line (Ok None) kind before reads meets = let no = meets.0 in absurd (cc)
-met_or_not lines old mid new line (Ok (Some (Ask question))) kind before reads looks = inr (asked lines old mid new line question before reads looks)
-met_or_not lines old mid new line (Ok (Some (Act action))) kind before reads leaves = unacted lines old mid new line action kind before reads leaves
-met_or_not lines old mid new line (Err other) kind before reads meets = inl (unchanged lines old mid new before meets.1)
+    → IsLine line → ReadsLine line read → Meets read mid (Err kind) new → Plays lines old new ⊎ Plays (lines ++ line ∷ []) old new
+met_or_not lines old mid new line (Ok None) kind before sound reads meets = let no = meets.0 in absurd (cc)
+met_or_not lines old mid new line (Ok (Some (Ask question))) kind before sound reads looks = inr (asked lines old mid new line question before sound reads looks)
+met_or_not lines old mid new line (Ok (Some (Act action))) kind before sound reads leaves = unacted lines old mid new line action kind before sound reads leaves
+met_or_not lines old mid new line (Err other) kind before sound reads meets = inl (unchanged lines old mid new before meets.1)

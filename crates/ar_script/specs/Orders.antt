@@ -12,6 +12,7 @@ use Rattle.ar_core.specs.Step.{Steps}
 use Rattle.ar_orders.specs.declared.fault.FaultKind.{FaultKind}
 use Rattle.ar_orders.specs.declared.fault.FaultKind.TheVariants.{NoMemory, WriteFault}
 use Rattle.ar_orders.specs.Forms.{ReadsLine}
+use Rattle.ar_orders.specs.Lines.{IsLine}
 use Rattle.ar_orders.specs.declared.order.Action.{Action}
 use Rattle.ar_orders.specs.declared.order.Action.TheVariants as actions
 use Rattle.ar_orders.specs.declared.order.Order.{Order}
@@ -76,6 +77,9 @@ Meets (Ok None) old result new = (result ≡ Ok tt) × (new ≡ old)
 Meets (Ok (Some order)) old result new = Leaves order old result new
 Meets (Err kind) old result new = (result ≡ Err kind) × (new ≡ old)
 
--- what a line leaves of an array
-abbrev pub MeetsLine : List ℕ → ArrayState → Result (Unit {0}) FaultKind → ArrayState → Type 0
-MeetsLine line old result new = (read : Result (Option Order) FaultKind) × ReadsLine line read × Meets read old result new
+-- what a line without a fault leaves of an array
+pub record MeetsLine (line : List ℕ) (old : ArrayState) (result : Result (Unit {0}) FaultKind) (new : ArrayState) : Type 0 where
+  pub sound : IsLine line
+  pub read : Result (Option Order) FaultKind
+  pub reads : ReadsLine line read
+  pub meets : Meets read old result new

@@ -11,7 +11,7 @@ use Rattle.ar_orders.specs.declared.fault.FaultKind.TheVariants.{TooManyLines, N
 use Rattle.ar_orders.specs.declared.order.Order.{Order}
 use Rattle.ar_orders.specs.declared.order.Order.TheVariants.{Act, Ask}
 use Rattle.ar_orders.specs.Forms.{ReadsLine}
-use Rattle.ar_orders.specs.Lines.{line_fault, line_at, Took}
+use Rattle.ar_orders.specs.Lines.{line_fault, line_at, IsLine, Took}
 use Rattle.ar_script.specs.Orders.{event_in}
 
 -- the order is met in this turn by an array of this shape: an action is its event, and a question a look
@@ -20,15 +20,22 @@ IsTurn s (Act action) (Did event outcome) = event ≡ event_in s action
 IsTurn s (Ask question) Looked = Unit {0}
 IsTurn s order turn = ⊥
 
--- the line asks for something, and that is met in this turn
+-- the line has no fault and asks for something, and that is met in this turn
 pub record AsksFor (s : ArrayState) (line : List ℕ) (turn : Turn) : Type 0 where
+  pub sound : IsLine line
   pub order : Order
   pub reads : ReadsLine line (Ok (Some order))
   pub met : IsTurn s order turn
 
--- the line asks for nothing
-abbrev pub AsksNothing : List ℕ → Type 0
-AsksNothing line = ReadsLine line (Ok None)
+-- the line has no fault and asks for nothing
+pub record AsksNothing (line : List ℕ) : Type 0 where
+  pub sound : IsLine line
+  pub reads : ReadsLine line (Ok None)
+
+-- the line says what can't be asked for: its bytes have no fault, but its words this one
+pub record SaysWrong (line : List ℕ) (kind : FaultKind) : Type 0 where
+  pub sound : IsLine line
+  pub reads : ReadsLine line (Err kind)
 
 -- these lines are met in these turns, in their order: each that asks for something in one turn, and no other turn is there
 abbrev pub AreMet : ArrayState → List (List ℕ) → List Turn → Type 0
@@ -65,7 +72,7 @@ IsOutside kind = (kind ≡ NoMemory) ⊎ (kind ≡ ReadFault) ⊎ (kind ≡ Writ
 abbrev pub IsSo : Option (List (List ℕ)) → ℕ → FaultKind → Type 0
 IsSo None n kind = ⊤
 IsSo (Some script) n kind =
-    IsOutside kind ⊎ (line_fault (line_at script n) ≡ Some kind) ⊎ ReadsLine (line_at script n) (Err kind)
+    IsOutside kind ⊎ (line_fault (line_at script n) ≡ Some kind) ⊎ SaysWrong (line_at script n) kind
     ⊎ ((kind ≡ TooManyLines) × (1000000 < length script))
 
 -- it is told at the last of the lines that were met, or at the next

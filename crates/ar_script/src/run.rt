@@ -3,10 +3,9 @@ ghost use Rattle.std.specs.Prelude.{◌≡◌, ◌≢◌, ◌≤◌, ◌⊎◌, 
 ghost use Rattle.ar_extents.specs.Changes.{start_fault};
 ghost use Rattle.ar_orders.specs.Left.{lines_left, lines_begun};
 ghost use Rattle.ar_orders.specs.Lines.{lines_of, IsNumbered, IsReached};
-ghost use Rattle.ar_orders.specs.Forms.{ReadsLine};
 ghost use Rattle.ar_script.specs.Ends.{Ends, is_write_fault as tells_write_fault};
 ghost use Rattle.ar_script.specs.Orders.{IsLost, MeetsLine};
-ghost use Rattle.ar_script.specs.Plays.{PlaysScript, PlaysTo, HasPlayed};
+ghost use Rattle.ar_script.specs.Plays.{SaysWrong, PlaysScript, PlaysTo, HasPlayed};
 ghost use Rattle.ar_script.specs.Setups.{disks_of};
 
 use crate::runner::Runner;
@@ -125,7 +124,7 @@ fn answer_line<R: Read + Drop, W: Write + Drop>(
     out: &mut BufWriter<W>,
 ) -> Result<(), FaultKind>
     ensures meets { MeetsLine lines.now.line.items runner.old result runner.new }
-    ensures told { IfErr result (λ kind. IsLost kind ⊎ ReadsLine lines.now.line.items (Err kind)) }
+    ensures told { IfErr result (λ kind. IsLost kind ⊎ SaysWrong lines.now.line.items kind) }
     ensures few { IfErr result (λ kind. kind ≢ FaultKind.TooManyLines) }
 {
     match order_in(lines.line())? {

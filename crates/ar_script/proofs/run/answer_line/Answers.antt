@@ -5,4 +5,4 @@ use Rattle.ar_script.proofs.run.answer_line.Goals as goal
 pub returns-in_err-order-clause-meets : goal.returns-in_err-order-clause-meets
 returns-in_err-order-clause-meets g c =
     let was = c.in_err-order.was in
-    (c.order_in.result, search rules, unread _ _ _ _ was (search rules))
+    record { sound = search rules; read = c.order_in.result; reads = search rules; meets = unread _ _ _ _ was (search rules) }
