@@ -5,12 +5,11 @@ use crate::mirrors::WRITTEN_WITHOUT_A_DISK;
 use Answer::{Broken, Byte, Done, Finished, Now, Rebuilt};
 use Call::{Get, Put, Rebuild, Replace};
 use ar_extents::Health;
-use std::test::Fail;
 
 // Disk 1 passes so many calls. Before the rebuild it gets three: two writes and a read.
 fn fused(calls: u64) -> Shape {
     Shape {
-        fuses: [WHOLE, calls, WHOLE, WHOLE],
+        fuses: [WHOLE, calls, WHOLE, WHOLE, WHOLE],
         ..FOUR_GROUPS
     }
 }
@@ -36,34 +35,31 @@ const SURVIVOR_READ: [Step; 6] = [
 ];
 
 #[test]
-fn a_survivor_lost_at_the_first_row_breaks_the_disks(rt: HostRuntime) -> Result<(), Fail> {
+fn a_survivor_lost_at_the_first_row_breaks_the_disks(rt: HostRuntime) {
     play(
         &rt,
         rt.alloc(),
         fused(3),
-        &WRITTEN_WITHOUT_A_DISK,
-        &SURVIVOR_LOST,
-    )
+        &[&WRITTEN_WITHOUT_A_DISK, &SURVIVOR_LOST],
+    );
 }
 
 #[test]
-fn a_survivor_lost_at_the_last_row_breaks_the_disks(rt: HostRuntime) -> Result<(), Fail> {
+fn a_survivor_lost_at_the_last_row_breaks_the_disks(rt: HostRuntime) {
     play(
         &rt,
         rt.alloc(),
         fused(4),
-        &WRITTEN_WITHOUT_A_DISK,
-        &SURVIVOR_LOST,
-    )
+        &[&WRITTEN_WITHOUT_A_DISK, &SURVIVOR_LOST],
+    );
 }
 
 #[test]
-fn a_survivor_that_passes_both_rows_is_enough(rt: HostRuntime) -> Result<(), Fail> {
+fn a_survivor_that_passes_both_rows_is_enough(rt: HostRuntime) {
     play(
         &rt,
         rt.alloc(),
         fused(5),
-        &WRITTEN_WITHOUT_A_DISK,
-        &SURVIVOR_READ,
-    )
+        &[&WRITTEN_WITHOUT_A_DISK, &SURVIVOR_READ],
+    );
 }

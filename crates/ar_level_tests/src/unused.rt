@@ -4,17 +4,15 @@
 // form group 1; and disks 0 and 1 with their extents 2, disk 3 with its extent 1 and disk 4 with its extent 1 form group 2. The
 // extents 2 of disks 2, 3 and 4 are loose.
 use crate::calls::{Answer, Call, Step, play};
-use crate::fixtures::{FOUR_GROUPS, Shape};
+use crate::fixtures::{Shape, THREE_GROUPS};
 use Answer::{Byte, Done, Finished, GivenUp, Is, Now, Rebuilt, Used};
 use Call::{Get, Group, Make, Put, Rebuild, Replace, TakeOut};
 use ar_book::Class;
 use ar_extents::Health;
-use std::test::Fail;
 
 const FIVE_DISKS: Shape = Shape {
-    extents: 3,
-    fifth: true,
-    ..FOUR_GROUPS
+    disks: 5,
+    ..THREE_GROUPS
 };
 
 // One block is written: group 0 is used, the two others are free.
@@ -46,11 +44,16 @@ const WITH_ONE: [Step; 5] = [
 ];
 
 #[test]
-fn extents_of_free_groups_and_loose_ones_take_no_access(rt: HostRuntime) -> Result<(), Fail> {
-    play(&rt, rt.alloc(), FIVE_DISKS, &ONE_BLOCK, &WITHOUT_AN_ACCESS)
+fn extents_of_free_groups_and_loose_ones_take_no_access(rt: HostRuntime) {
+    play(
+        &rt,
+        rt.alloc(),
+        FIVE_DISKS,
+        &[&ONE_BLOCK, &WITHOUT_AN_ACCESS],
+    );
 }
 
 #[test]
-fn an_extent_of_a_used_group_takes_some(rt: HostRuntime) -> Result<(), Fail> {
-    play(&rt, rt.alloc(), FIVE_DISKS, &ONE_BLOCK, &WITH_ONE)
+fn an_extent_of_a_used_group_takes_some(rt: HostRuntime) {
+    play(&rt, rt.alloc(), FIVE_DISKS, &[&ONE_BLOCK, &WITH_ONE]);
 }

@@ -1,14 +1,11 @@
-// Worked examples of mirrored blocks. The unit's first block stands in the first row of extent 0 of disks 0 and 1.
-use crate::calls::{Answer, Call, Step, go_on, play, start};
+// Rebuilt mirrored blocks, worked by hand. The unit's first block stands in the first row of extent 0 of disks 0 and 1.
+use crate::calls::{Answer, Call, Step, play};
 use crate::fixtures::{FOUR_GROUPS, WHOLE};
 use Answer::{Broken, Byte, Done, Finished, GivenUp, Idle, Is, Missing, Now, Rebuilt};
 use Call::{Get, Make, Put, Rebuild, Replace, Row, TakeOut};
-use ar_disks::FuseDisk;
 use ar_extents::Health;
-use ar_store::Store;
 use std::alloc::Global;
 use std::process::Abort;
-use std::test::Fail;
 
 /// A block is written while disk 0 is sound, and once it is out.
 pub const WRITTEN_WITHOUT_A_DISK: [Step; 5] = [
@@ -71,57 +68,57 @@ const JUST_ENOUGH: [Step; 9] = [
 ];
 
 #[test]
-fn four_extents_are_rebuilt(rt: HostRuntime) -> Result<(), Fail> {
+fn four_extents_are_rebuilt(rt: HostRuntime) {
     play(
         &rt,
         rt.alloc(),
         FOUR_GROUPS,
-        &WRITTEN_WITHOUT_A_DISK,
-        &REBUILT,
-    )
+        &[&WRITTEN_WITHOUT_A_DISK, &REBUILT],
+    );
 }
 
 #[test]
-fn writes_between_steps_reach_what_is_done(rt: HostRuntime) -> Result<(), Fail> {
+fn writes_between_steps_reach_what_is_done(rt: HostRuntime) {
     play(
         &rt,
         rt.alloc(),
         FOUR_GROUPS,
-        &WRITTEN_WITHOUT_A_DISK,
-        &WRITTEN_BETWEEN,
-    )
+        &[&WRITTEN_WITHOUT_A_DISK, &WRITTEN_BETWEEN],
+    );
 }
 
 #[test]
-fn a_disk_that_passes_two_calls_is_rebuilt(rt: HostRuntime) -> Result<(), Fail> {
+fn a_disk_that_passes_two_calls_is_rebuilt(rt: HostRuntime) {
     play(
         &rt,
         rt.alloc(),
         FOUR_GROUPS,
-        &WRITTEN_WITHOUT_A_DISK,
-        &JUST_ENOUGH,
-    )
+        &[&WRITTEN_WITHOUT_A_DISK, &JUST_ENOUGH],
+    );
 }
 
 // The new disk is lost in its first extent, and a sound one rebuilt in its place.
-fn is_given_up(rt: &impl Abort, store: &mut Store<FuseDisk>, alloc: Global, calls: u64) {
-    go_on(rt, store, alloc, &WRITTEN_WITHOUT_A_DISK);
-    go_on(rt, store, alloc, &[(Replace(0, 4, calls), Done)]);
-    go_on(rt, store, alloc, &GIVEN_UP_AT_ONCE);
-    go_on(rt, store, alloc, &[(Get(0), Byte(0xBB))]);
-    go_on(rt, store, alloc, &REBUILT);
+fn is_given_up(rt: &impl Abort, alloc: Global, calls: u64) {
+    play(
+        rt,
+        alloc,
+        FOUR_GROUPS,
+        &[
+            &WRITTEN_WITHOUT_A_DISK,
+            &[(Replace(0, 4, calls), Done)],
+            &GIVEN_UP_AT_ONCE,
+            &[(Get(0), Byte(0xBB))],
+            &REBUILT,
+        ],
+    );
 }
 
 #[test]
-fn a_disk_that_passes_no_call_is_given_up(rt: HostRuntime) -> Result<(), Fail> {
-    let mut store = start(rt.alloc(), FOUR_GROUPS)?;
-    is_given_up(&rt, &mut store, rt.alloc(), 0);
-    Ok(())
+fn a_disk_that_passes_no_call_is_given_up(rt: HostRuntime) {
+    is_given_up(&rt, rt.alloc(), 0);
 }
 
 #[test]
-fn a_disk_that_passes_one_call_is_given_up(rt: HostRuntime) -> Result<(), Fail> {
-    let mut store = start(rt.alloc(), FOUR_GROUPS)?;
-    is_given_up(&rt, &mut store, rt.alloc(), 1);
-    Ok(())
+fn a_disk_that_passes_one_call_is_given_up(rt: HostRuntime) {
+    is_given_up(&rt, rt.alloc(), 1);
 }

@@ -1,13 +1,12 @@
-// Worked examples: which groups are formed, and which extents move. A SMALL extent has two rows.
+// Added disks and balancing, worked by hand: which groups are formed, and which extents move. A SMALL extent has two rows.
 use crate::calls::{Answer, Call, Step, play};
-use crate::fixtures::{FOUR_GROUPS, Shape};
+use crate::fixtures::{FOUR_GROUPS, Shape, THREE_GROUPS};
 use Answer::{
     Added, Broken, Byte, Count, Done, Formed, Idle, Is, Now, Refused, Shifted, Unfit, Used,
 };
-use Call::{Add, AddOf, Balance, Get, Group, Loose, Make, Put, Room, Row, TakeOut};
+use Call::{Add, AddOf, Balance, Get, Group, Loose, Make, Put, PutEach, Room, Row, TakeOut};
 use ar_book::Class;
 use ar_extents::{DiskRefusal, Health};
-use std::test::Fail;
 
 /// Three of the four groups get an extent of the disk that is added, and a fifth is formed of the extents that are loose then.
 pub const EVENED_OUT: [Step; 14] = [
@@ -53,7 +52,7 @@ const TWELVE_DISKS: [Step; 10] = [
     (Add, Added),
     (Add, Added),
     (Add, Added),
-    (Add, Refused(DiskRefusal::TooManyDisks)),
+    (Add, Refused(DiskRefusal::TooManyDisks, 4)),
     (Loose(12), Unfit),
 ];
 
@@ -72,32 +71,21 @@ const EIGHT_DISKS: [Step; 10] = [
 ];
 
 const REFUSED: [Step; 9] = [
-    (AddOf(3), Refused(DiskRefusal::WrongSize)),
-    (AddOf(5), Refused(DiskRefusal::WrongSize)),
+    (AddOf(3), Refused(DiskRefusal::WrongSize, 3)),
+    (AddOf(5), Refused(DiskRefusal::WrongSize, 5)),
     (Loose(4), Unfit),
     (TakeOut(0), Is(true)),
     (Add, Added),
     (Balance, Idle),
     (TakeOut(1), Is(true)),
-    (AddOf(3), Refused(DiskRefusal::Broken)),
+    (AddOf(3), Refused(DiskRefusal::Broken, 3)),
     (Balance, Broken),
 ];
 
 // Two groups with parity and a free one: each of the first two gives an extent, and then no two disks differ by two.
-const PARITY_GROUP_SHIFTED: [Step; 22] = [
+const PARITY_GROUP_SHIFTED: [Step; 11] = [
     (Make(24), Is(true)),
-    (Put(0, 1), Done),
-    (Put(1, 2), Done),
-    (Put(2, 3), Done),
-    (Put(3, 4), Done),
-    (Put(4, 5), Done),
-    (Put(5, 6), Done),
-    (Put(6, 7), Done),
-    (Put(7, 8), Done),
-    (Put(8, 9), Done),
-    (Put(9, 10), Done),
-    (Put(10, 11), Done),
-    (Put(11, 12), Done),
+    (PutEach(1), Done),
     (Add, Added),
     (Group(0), Used(Class::Parity, 6)),
     (Row(0, 0, 0), Byte(4)),
@@ -109,58 +97,48 @@ const PARITY_GROUP_SHIFTED: [Step; 22] = [
     (Get(4), Byte(5)),
 ];
 
-#[test]
-fn an_added_disk_is_evened_out(rt: HostRuntime) -> Result<(), Fail> {
-    play(&rt, rt.alloc(), FOUR_GROUPS, &EVENED_OUT, &[])?;
-    Ok(())
-}
-
-#[test]
-fn a_mirrored_group_is_shifted(rt: HostRuntime) -> Result<(), Fail> {
-    play(&rt, rt.alloc(), FOUR_GROUPS, &MIRRORED_GROUP_SHIFTED, &[])?;
-    Ok(())
-}
-
-#[test]
-fn a_thirteenth_disk_is_refused(rt: HostRuntime) -> Result<(), Fail> {
-    play(&rt, rt.alloc(), FOUR_GROUPS, &TWELVE_DISKS, &[])?;
-    Ok(())
-}
-
-#[test]
-fn four_added_disks_form_groups(rt: HostRuntime) -> Result<(), Fail> {
-    play(&rt, rt.alloc(), FOUR_GROUPS, &EIGHT_DISKS, &[])?;
-    Ok(())
-}
-
-#[test]
-fn disks_are_refused_in_order(rt: HostRuntime) -> Result<(), Fail> {
-    play(&rt, rt.alloc(), FOUR_GROUPS, &REFUSED, &[])?;
-    Ok(())
-}
-
-#[test]
-fn a_group_with_parity_is_shifted(rt: HostRuntime) -> Result<(), Fail> {
-    let three_groups = Shape {
-        extents: 3,
-        ..FOUR_GROUPS
-    };
-    play(&rt, rt.alloc(), three_groups, &PARITY_GROUP_SHIFTED, &[])?;
-    Ok(())
-}
-
 // Five disks of four extents have five groups at once.
+const FIVE_DISKS: [Step; 3] = [
+    (Room, Count(24)),
+    (Balance, Idle),
+    (Call::Health, Now(Health::Whole)),
+];
+
 #[test]
-fn five_disks_begin_even(rt: HostRuntime) -> Result<(), Fail> {
+fn an_added_disk_is_evened_out(rt: HostRuntime) {
+    play(&rt, rt.alloc(), FOUR_GROUPS, &[&EVENED_OUT]);
+}
+
+#[test]
+fn a_mirrored_group_is_shifted(rt: HostRuntime) {
+    play(&rt, rt.alloc(), FOUR_GROUPS, &[&MIRRORED_GROUP_SHIFTED]);
+}
+
+#[test]
+fn a_thirteenth_disk_is_refused(rt: HostRuntime) {
+    play(&rt, rt.alloc(), FOUR_GROUPS, &[&TWELVE_DISKS]);
+}
+
+#[test]
+fn four_added_disks_form_groups(rt: HostRuntime) {
+    play(&rt, rt.alloc(), FOUR_GROUPS, &[&EIGHT_DISKS]);
+}
+
+#[test]
+fn disks_are_refused_in_order(rt: HostRuntime) {
+    play(&rt, rt.alloc(), FOUR_GROUPS, &[&REFUSED]);
+}
+
+#[test]
+fn a_group_with_parity_is_shifted(rt: HostRuntime) {
+    play(&rt, rt.alloc(), THREE_GROUPS, &[&PARITY_GROUP_SHIFTED]);
+}
+
+#[test]
+fn five_disks_begin_even(rt: HostRuntime) {
     let five_disks = Shape {
         disks: 5,
         ..FOUR_GROUPS
     };
-    let steps = [
-        (Room, Count(24)),
-        (Balance, Idle),
-        (Call::Health, Now(Health::Whole)),
-    ];
-    play(&rt, rt.alloc(), five_disks, &steps, &[])?;
-    Ok(())
+    play(&rt, rt.alloc(), five_disks, &[&FIVE_DISKS]);
 }

@@ -4,7 +4,6 @@ use crate::fixtures::{FOUR_GROUPS, WHOLE};
 use Answer::{Done, Is, Now, Refused};
 use Call::{Replace, TakeOut};
 use ar_extents::{DiskRefusal, Health};
-use std::test::Fail;
 
 const WHILE_WHOLE: [Step; 3] = [
     (Replace(4, 5, WHOLE), Refused(DiskRefusal::NoSuchDisk, 5)),
@@ -33,11 +32,11 @@ const WHILE_BROKEN: [Step; 5] = [
 ];
 
 #[test]
-fn disks_are_refused_in_order(rt: HostRuntime) -> Result<(), Fail> {
-    play(&rt, rt.alloc(), FOUR_GROUPS, &WHILE_WHOLE, &WHILE_OUT)
+fn disks_are_refused_in_order(rt: HostRuntime) {
+    play(&rt, rt.alloc(), FOUR_GROUPS, &[&WHILE_WHOLE, &WHILE_OUT]);
 }
 
 #[test]
-fn no_disk_is_replaced_on_broken_disks(rt: HostRuntime) -> Result<(), Fail> {
-    play(&rt, rt.alloc(), FOUR_GROUPS, &WHILE_BROKEN, &[])
+fn no_disk_is_replaced_on_broken_disks(rt: HostRuntime) {
+    play(&rt, rt.alloc(), FOUR_GROUPS, &[&WHILE_BROKEN]);
 }

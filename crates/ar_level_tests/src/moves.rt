@@ -1,21 +1,15 @@
-// Worked examples: which block goes to which slot. A SMALL mirrored group has four slots, one with parity six.
+// Demotion and cleaning, worked by hand: which block goes to which slot. A SMALL mirrored group has four slots, one with parity six.
 use crate::calls::{Answer, Call, Step, play};
-use crate::fixtures::{FOUR_GROUPS, Shape};
+use crate::fixtures::{FOUR_GROUPS, THREE_GROUPS};
 use Answer::{Broken, Byte, Done, Idle, Is, Moved, Now, Used};
-use Call::{Clean, Demote, Get, Group, Make, Put, TakeOut};
+use Call::{Clean, Demote, Get, Group, Make, Put, PutEach, TakeOut};
 use ar_book::Class;
 use ar_extents::Health;
-use std::test::Fail;
 
 /// Six blocks fill one mirrored group and half of another. The oldest is demoted, and written again, which promotes it.
-pub const DEMOTED_AND_PROMOTED: [Step; 13] = [
+pub const DEMOTED_AND_PROMOTED: [Step; 8] = [
     (Make(12), Is(true)),
-    (Put(0, 1), Done),
-    (Put(1, 2), Done),
-    (Put(2, 3), Done),
-    (Put(3, 4), Done),
-    (Put(4, 5), Done),
-    (Put(5, 6), Done),
+    (PutEach(1), Done),
     (Demote, Moved(0, 2, 0)),
     (Put(0, 0xAA), Done),
     (Group(0), Used(Class::Mirrored, 4)),
@@ -25,14 +19,9 @@ pub const DEMOTED_AND_PROMOTED: [Step; 13] = [
 ];
 
 /// Two of six blocks are demoted. Of the two mirrored groups, which have two blocks each then, the first is emptied.
-pub const DEMOTED_AND_CLEANED: [Step; 16] = [
+pub const DEMOTED_AND_CLEANED: [Step; 11] = [
     (Make(12), Is(true)),
-    (Put(0, 1), Done),
-    (Put(1, 2), Done),
-    (Put(2, 3), Done),
-    (Put(3, 4), Done),
-    (Put(4, 5), Done),
-    (Put(5, 6), Done),
+    (PutEach(1), Done),
     (Demote, Moved(0, 2, 0)),
     (Demote, Moved(1, 2, 1)),
     (Clean, Moved(2, 1, 2)),
@@ -64,16 +53,9 @@ const OLDEST_BY_WRITES: [Step; 15] = [
 ];
 
 // Two mirrored groups are full and one of three is free: it is kept so, and no block fits in the other group.
-const LAST_FREE_GROUP: [Step; 13] = [
+const LAST_FREE_GROUP: [Step; 6] = [
     (Make(16), Is(true)),
-    (Put(0, 1), Done),
-    (Put(1, 2), Done),
-    (Put(2, 3), Done),
-    (Put(3, 4), Done),
-    (Put(4, 5), Done),
-    (Put(5, 6), Done),
-    (Put(6, 7), Done),
-    (Put(7, 8), Done),
+    (PutEach(1), Done),
     (Demote, Idle),
     (Clean, Idle),
     (Group(2), Used(Class::Free, 0)),
@@ -82,16 +64,9 @@ const LAST_FREE_GROUP: [Step; 13] = [
 
 // Eight blocks are demoted to two groups with parity, of which the second takes two. Three of the first are written again. The
 // one mirrored group can't be emptied then, and of the two others the one with fewer blocks is.
-const PARITY_GROUPS: [Step; 27] = [
+const PARITY_GROUPS: [Step; 20] = [
     (Make(16), Is(true)),
-    (Put(0, 1), Done),
-    (Put(1, 2), Done),
-    (Put(2, 3), Done),
-    (Put(3, 4), Done),
-    (Put(4, 5), Done),
-    (Put(5, 6), Done),
-    (Put(6, 7), Done),
-    (Put(7, 8), Done),
+    (PutEach(1), Done),
     (Demote, Moved(0, 2, 0)),
     (Demote, Moved(1, 2, 1)),
     (Demote, Moved(2, 2, 2)),
@@ -125,41 +100,31 @@ const ON_BROKEN_DISKS: [Step; 9] = [
 ];
 
 #[test]
-fn the_oldest_block_is_demoted_and_a_write_promotes_it(rt: HostRuntime) -> Result<(), Fail> {
-    play(&rt, rt.alloc(), FOUR_GROUPS, &DEMOTED_AND_PROMOTED, &[])?;
-    Ok(())
+fn the_oldest_block_is_demoted_and_a_write_promotes_it(rt: HostRuntime) {
+    play(&rt, rt.alloc(), FOUR_GROUPS, &[&DEMOTED_AND_PROMOTED]);
 }
 
 #[test]
-fn of_two_groups_as_empty_the_lower_is_emptied(rt: HostRuntime) -> Result<(), Fail> {
-    play(&rt, rt.alloc(), FOUR_GROUPS, &DEMOTED_AND_CLEANED, &[])?;
-    Ok(())
+fn of_two_groups_as_empty_the_lower_is_emptied(rt: HostRuntime) {
+    play(&rt, rt.alloc(), FOUR_GROUPS, &[&DEMOTED_AND_CLEANED]);
 }
 
 #[test]
-fn the_oldest_block_is_the_one_written_longest_ago(rt: HostRuntime) -> Result<(), Fail> {
-    play(&rt, rt.alloc(), FOUR_GROUPS, &OLDEST_BY_WRITES, &[])?;
-    Ok(())
+fn the_oldest_block_is_the_one_written_longest_ago(rt: HostRuntime) {
+    play(&rt, rt.alloc(), FOUR_GROUPS, &[&OLDEST_BY_WRITES]);
 }
 
 #[test]
-fn the_last_free_group_is_kept(rt: HostRuntime) -> Result<(), Fail> {
-    let three_groups = Shape {
-        extents: 3,
-        ..FOUR_GROUPS
-    };
-    play(&rt, rt.alloc(), three_groups, &LAST_FREE_GROUP, &[])?;
-    Ok(())
+fn the_last_free_group_is_kept(rt: HostRuntime) {
+    play(&rt, rt.alloc(), THREE_GROUPS, &[&LAST_FREE_GROUP]);
 }
 
 #[test]
-fn groups_with_parity_are_cleaned_after_mirrored_ones(rt: HostRuntime) -> Result<(), Fail> {
-    play(&rt, rt.alloc(), FOUR_GROUPS, &PARITY_GROUPS, &[])?;
-    Ok(())
+fn groups_with_parity_are_cleaned_after_mirrored_ones(rt: HostRuntime) {
+    play(&rt, rt.alloc(), FOUR_GROUPS, &[&PARITY_GROUPS]);
 }
 
 #[test]
-fn nothing_is_moved_on_broken_disks(rt: HostRuntime) -> Result<(), Fail> {
-    play(&rt, rt.alloc(), FOUR_GROUPS, &ON_BROKEN_DISKS, &[])?;
-    Ok(())
+fn nothing_is_moved_on_broken_disks(rt: HostRuntime) {
+    play(&rt, rt.alloc(), FOUR_GROUPS, &[&ON_BROKEN_DISKS]);
 }
