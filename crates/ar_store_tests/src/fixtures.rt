@@ -5,27 +5,34 @@ ghost use Rattle.ar_extents.specs.Set.{CanCount};
 
 use ar_disks::{Block, FuseDisk, Geometry, MemDisk};
 use std::alloc::{AllocError, Global};
+use std::process::Abort;
 
 /// More calls than any disk gets in a test.
 pub const WHOLE: u64 = 1_000_000;
 
-/// What the disks of a store are.
+/// What the disks are that a store begins with, and those that are added.
 #[derive(Clone, Copy, Debug)]
 pub struct Shape {
     pub geometry: Geometry,
     pub disks: u8,
     /// Extents of each disk.
     pub extents: u16,
-    /// How many reads and writes the first four disks pass. The others pass all.
-    pub fuses: [u64; 4],
+    /// How many reads and writes the first five disks pass, with those that are added. The others pass all.
+    pub fuses: [u64; 5],
 }
 
 /// Four disks of three SMALL extents, which are three groups.
-pub const SMALL: Shape = Shape {
+pub const THREE_GROUPS: Shape = Shape {
     geometry: Geometry::SMALL,
     disks: 4,
     extents: 3,
-    fuses: [WHOLE; 4],
+    fuses: [WHOLE; 5],
+};
+
+/// Four groups.
+pub const FOUR_GROUPS: Shape = Shape {
+    extents: 4,
+    ..THREE_GROUPS
 };
 
 impl Shape {
@@ -36,13 +43,13 @@ impl Shape {
 }
 
 /// A block of one byte throughout.
-pub fn filled(alloc: Global, geometry: Geometry, byte: u8) -> Result<Block, AllocError>
-    ensures { IfOk result (λ block. length block ≡ block_len_of geometry) }
+pub fn filled(rt: &impl Abort, alloc: Global, geometry: Geometry, byte: u8) -> Block
+    ensures { length result ≡ block_len_of geometry }
 {
-    let bytes = vec![in alloc; byte; geometry.block_len()]?;
-    let mut block = Block::new(alloc, geometry)?;
+    let bytes = vec![in alloc; byte; geometry.block_len()].expect(rt, "memory");
+    let mut block = Block::new(alloc, geometry).expect(rt, "memory");
     block.copy_from_slice(&bytes);
-    Ok(block)
+    block
 }
 
 /// The byte that all of these are, or None where they differ.
@@ -64,7 +71,7 @@ pub fn fused_disk(alloc: Global, shape: Shape, calls: u64) -> Result<FuseDisk, A
     Ok(FuseDisk::new(disk, calls))
 }
 
-/// All disks of a store.
+/// The disks that a store begins with.
 pub fn fused_disks(alloc: Global, shape: Shape) -> Result<Vec<FuseDisk>, AllocError>
     ensures { IfOk result (λ disks. All CanCount (map (λ disk. disk.disk) disks.items)) }
 {

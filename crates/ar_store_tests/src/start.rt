@@ -3,7 +3,7 @@
 ghost use Rattle.std.specs.Prelude.{◌≡◌, ◌≤◌, All, map, IfOk, IfSome, length};
 ghost use Rattle.ar_extents.specs.Set.{CanCount};
 
-use crate::fixtures::{SMALL, Shape, fused_disk, fused_disks};
+use crate::fixtures::{Shape, THREE_GROUPS, fused_disk, fused_disks};
 use ar_book::Book;
 use ar_disks::{Disk, FuseDisk, Geometry, Members, Place};
 use ar_extents::{Health, StartFault};
@@ -17,7 +17,7 @@ fn of(disks: u8, extents: u16) -> Shape {
     Shape {
         disks,
         extents,
-        ..SMALL
+        ..THREE_GROUPS
     }
 }
 

@@ -2,7 +2,7 @@
 use crate::calls::{Answer, Call, Step, play};
 use crate::fixtures::{FOUR_GROUPS, Shape, THREE_GROUPS};
 use Answer::{
-    Added, Broken, Byte, Count, Done, Formed, Idle, Is, Now, Refused, Shifted, Unfit, Used,
+    Added, Broken, Byte, Count, Done, Formed, HandedBack, Idle, Is, Now, Shifted, Unfit, Used,
 };
 use Call::{Add, AddOf, Balance, Get, Group, Loose, Make, Put, PutEach, Room, Row, TakeOut};
 use ar_book::Class;
@@ -52,7 +52,7 @@ const TWELVE_DISKS: [Step; 10] = [
     (Add, Added),
     (Add, Added),
     (Add, Added),
-    (Add, Refused(DiskRefusal::TooManyDisks, 4)),
+    (Add, HandedBack(DiskRefusal::TooManyDisks, 4)),
     (Loose(12), Unfit),
 ];
 
@@ -71,14 +71,14 @@ const EIGHT_DISKS: [Step; 10] = [
 ];
 
 const REFUSED: [Step; 9] = [
-    (AddOf(3), Refused(DiskRefusal::WrongSize, 3)),
-    (AddOf(5), Refused(DiskRefusal::WrongSize, 5)),
+    (AddOf(3), HandedBack(DiskRefusal::WrongSize, 3)),
+    (AddOf(5), HandedBack(DiskRefusal::WrongSize, 5)),
     (Loose(4), Unfit),
-    (TakeOut(0), Is(true)),
+    (TakeOut(0), Done),
     (Add, Added),
     (Balance, Idle),
-    (TakeOut(1), Is(true)),
-    (AddOf(3), Refused(DiskRefusal::Broken, 3)),
+    (TakeOut(1), Done),
+    (AddOf(3), HandedBack(DiskRefusal::Broken, 3)),
     (Balance, Broken),
 ];
 

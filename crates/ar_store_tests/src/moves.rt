@@ -90,10 +90,10 @@ const PARITY_GROUPS: [Step; 20] = [
 const ON_BROKEN_DISKS: [Step; 9] = [
     (Make(4), Is(true)),
     (Put(0, 1), Done),
-    (TakeOut(0), Is(true)),
+    (TakeOut(0), Done),
     (Demote, Moved(0, 1, 0)),
     (Get(0), Byte(1)),
-    (TakeOut(1), Is(true)),
+    (TakeOut(1), Done),
     (Call::Health, Now(Health::Broken)),
     (Demote, Broken),
     (Clean, Broken),

@@ -26,7 +26,7 @@ const ONE_BLOCK: [Step; 5] = [
 
 // Two extents of disk 4 are in free groups, and one is loose.
 const WITHOUT_AN_ACCESS: [Step; 6] = [
-    (TakeOut(4), Is(true)),
+    (TakeOut(4), Done),
     (Replace(4, 3, 0), Done),
     (Rebuild, Rebuilt(0, 2)),
     (Rebuild, Rebuilt(1, 1)),
@@ -36,7 +36,7 @@ const WITHOUT_AN_ACCESS: [Step; 6] = [
 
 // The first extent of disk 2 is in the group that is used, though not in the block's pair.
 const WITH_ONE: [Step; 5] = [
-    (TakeOut(2), Is(true)),
+    (TakeOut(2), Done),
     (Replace(2, 3, 0), Done),
     (Rebuild, GivenUp),
     (Call::Health, Now(Health::Out(2))),

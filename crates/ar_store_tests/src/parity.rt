@@ -23,7 +23,7 @@ const FULL: [Step; 8] = [
 // A disk is taken out, replaced, and rebuilt in three steps.
 fn rebuilt(disk: u8) -> [Step; 6] {
     [
-        (TakeOut(disk), Is(true)),
+        (TakeOut(disk), Done),
         (GetEach(1), Done),
         (Replace(disk, 3, WHOLE), Done),
         (Rebuild, Rebuilt(0, 2)),
@@ -62,7 +62,7 @@ fn each_disk_is_rebuilt_in_turn(rt: HostRuntime) {
 
 // All blocks are written again before each step, and read after it.
 const WRITTEN_BETWEEN: [Step; 17] = [
-    (TakeOut(2), Is(true)),
+    (TakeOut(2), Done),
     (Replace(2, 3, WHOLE), Done),
     (Row(2, 0, 0), Missing),
     (Row(2, 2, 1), Missing),
@@ -77,7 +77,7 @@ const WRITTEN_BETWEEN: [Step; 17] = [
     (Rebuild, Finished),
     (GetEach(0x31), Done),
     (Row(2, 2, 1), Byte(0x39)),
-    (TakeOut(1), Is(true)),
+    (TakeOut(1), Done),
     (GetEach(0x31), Done),
 ];
 

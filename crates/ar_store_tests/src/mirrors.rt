@@ -11,7 +11,7 @@ use std::process::Abort;
 pub const WRITTEN_WITHOUT_A_DISK: [Step; 5] = [
     (Make(4), Is(true)),
     (Put(0, 0xAA), Done),
-    (TakeOut(0), Is(true)),
+    (TakeOut(0), Done),
     (Get(0), Byte(0xAA)),
     (Put(0, 0xBB), Done),
 ];
@@ -24,7 +24,7 @@ const REBUILT: [Step; 9] = [
     (Rebuild, Rebuilt(2, 1)),
     (Rebuild, Finished),
     (Rebuild, Idle),
-    (TakeOut(1), Is(true)),
+    (TakeOut(1), Done),
     (Rebuild, Idle),
     (Get(0), Byte(0xBB)),
 ];
@@ -41,7 +41,7 @@ const WRITTEN_BETWEEN: [Step; 14] = [
     (Row(0, 0, 0), Byte(0xDD)),
     (Call::Health, Now(Health::Rebuilding(0, 1))),
     (Row(0, 1, 0), Missing),
-    (TakeOut(1), Is(true)),
+    (TakeOut(1), Done),
     (Call::Health, Now(Health::Broken)),
     (Get(0), Broken),
     (Row(0, 0, 0), Broken),
