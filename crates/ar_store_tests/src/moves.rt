@@ -1,4 +1,4 @@
-// Demotion and cleaning, worked by hand: which block goes to which slot. A SMALL mirrored group has four slots, one with parity six.
+// Demotion and cleaning, by hand: which block goes to which slot. A SMALL mirrored group has four slots, one with parity six.
 use crate::calls::{Answer, Call, Step, play};
 use crate::fixtures::{FOUR_GROUPS, THREE_GROUPS};
 use Answer::{Broken, Byte, Done, Idle, Is, Moved, Now, Used};

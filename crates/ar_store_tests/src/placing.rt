@@ -31,8 +31,8 @@ pub const PROMOTED: [Step; 15] = [
     (Get(0), Byte(0xBB)),
 ];
 
-/// A unit of twelve blocks takes all the room of three groups. Its blocks are written in order, so that two squeezes leave them all
-/// at the parity level and one group free.
+/// A unit of twelve blocks takes all the room of three groups. Its blocks are written in order, so that two squeezes leave
+/// them all at the parity level and one group free.
 pub const FILLED: [Step; 2] = [(Make(24), Is(true)), (PutEach(1), Done)];
 
 /// Six blocks in each of two groups with parity.
