@@ -1,4 +1,5 @@
 // What the words of a command line ask for.
+use clap::builder::ValueParser;
 use clap::error::ErrorKind;
 use clap::{Arg, ArgMatches, Command, Error as ParseError, value_parser};
 use std::alloc::{AllocError, Global};
@@ -6,7 +7,7 @@ use std::convert::AsStr;
 use thiserror::Error;
 
 /// Why a command line asks for nothing that the program does.
-#[derive(Clone, Copy, Debug, PartialEq, Eq, Error)]
+#[derive(Clone, Copy, Debug, Error)]
 pub enum CommandLineFault {
     /// The words are not the program's options and their values. A call for help is none either.
     #[error("bad command line: ar_load --port PORT [--hosts 1..4] [--bytes 512|4096|65536] [--seconds 1..10]")]
@@ -57,48 +58,36 @@ fn command<'a>(alloc: Global) -> Result<Command<'a>, AllocError> {
 }
 
 fn port<'a>(alloc: Global) -> Arg<'a> {
-    Arg::new(alloc, "port")
-        .long("port")
-        .value_parser(value_parser!(u16).range(1..=65_535))
-        .required(true)
+    option(alloc, "port", value_parser!(u16).range(1..)).required(true)
 }
 
 fn hosts<'a>(alloc: Global) -> Arg<'a> {
-    Arg::new(alloc, "hosts")
-        .long("hosts")
-        .value_parser(value_parser!(u8).range(1..=4))
-        .default_value("4")
+    option(alloc, "hosts", value_parser!(u8).range(1..=4)).default_value("4")
 }
 
 fn bytes<'a>(alloc: Global) -> Arg<'a> {
-    Arg::new(alloc, "bytes")
-        .long("bytes")
-        .value_parser(SIZES.as_slice())
-        .default_value("512")
+    option(alloc, "bytes", ValueParser::from(SIZES.as_slice())).default_value("512")
 }
 
 fn seconds<'a>(alloc: Global) -> Arg<'a> {
-    Arg::new(alloc, "seconds")
-        .long("seconds")
-        .value_parser(value_parser!(u32).range(1..=10))
-        .default_value("2")
+    option(alloc, "seconds", value_parser!(u32).range(1..=10)).default_value("2")
+}
+
+// An option with a value.
+fn option<'a>(alloc: Global, name: &'a str, parser: ValueParser<'a>) -> Arg<'a> {
+    Arg::new(alloc, name).long(name).value_parser(parser)
 }
 
 fn options_of(matches: &ArgMatches<'_>) -> Option<Options> {
     Some(Options {
         port: matches.get_one("port")?,
         hosts: matches.get_one("hosts")?,
-        sectors: sectors_of(matches.get_str("bytes")?)?,
+        sectors: sectors_of(matches.get_one("bytes")?)?,
         seconds: matches.get_one("seconds")?,
     })
 }
 
 // How many sectors so many bytes are.
-fn sectors_of(bytes: &str) -> Option<u16> {
-    match bytes {
-        "512" => Some(1),
-        "4096" => Some(8),
-        "65536" => Some(128),
-        _ => None,
-    }
+fn sectors_of(bytes: u32) -> Option<u16> {
+    u16::try_from(bytes / 512).ok()
 }

@@ -1,8 +1,9 @@
 // The bare echo: what sockets alone take.
 use crate::failure::Failure;
 use crate::request::{Shape, zeros};
+use crate::stream::pair;
 use std::alloc::Global;
-use std::io::{self, Read, Write};
+use std::io::{Read, Write};
 use std::net::{Net, TcpListener, TcpStream};
 
 /// The far end of a connection: it answers each request with as many bytes as its reply has, and does nothing else.
@@ -43,17 +44,4 @@ impl Echo {
             }
         }
     }
-}
-
-// The two ends of a connection within this program.
-fn pair<R: Net<Listener = TcpListener, Stream = TcpStream>>(
-    rt: &R,
-) -> io::Result<(TcpStream, TcpStream)> {
-    let listener = TcpListener::bind(rt, ("127.0.0.1", 0))?;
-    let port = listener.local_addr()?.port();
-    let near = TcpStream::connect(rt, ("127.0.0.1", port))?;
-    let (far, _) = listener.accept()?;
-    near.set_nodelay(true)?;
-    far.set_nodelay(true)?;
-    Ok((near, far))
 }

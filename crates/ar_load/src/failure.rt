@@ -3,7 +3,7 @@ use crate::command_line::CommandLineFault;
 use thiserror::Error;
 
 /// Why the program ends with a status other than 0.
-#[derive(Clone, Copy, Debug, PartialEq, Eq, Error)]
+#[derive(Clone, Copy, Debug, Error)]
 pub enum Failure {
     #[error(transparent)]
     CommandLine(CommandLineFault),

@@ -5,6 +5,7 @@ use crate::failure::Failure;
 use crate::figures::Figures;
 use crate::plan::{Plan, Slice};
 use crate::request::{Kind, Shape, zeros};
+use crate::stream::connect;
 use ar_frames::{Linked, hello};
 use std::alloc::Global;
 use std::io::Read;
@@ -39,7 +40,7 @@ impl Asker {
         host: u8,
         shape: Shape,
     ) -> Result<Asker, Failure> {
-        let array = connect(rt, port, host)?;
+        let array = open_session(rt, port, host)?;
         let kind = Kind::Overwrite;
         Talk::of(alloc, Shape { kind, ..shape })?.ask_all(&array)?;
         let (echo, near) = Echo::open(rt, alloc, shape)?;
@@ -78,17 +79,21 @@ impl Asker {
 }
 
 // A session of a host with the array.
-fn connect<R: Net<Listener = TcpListener, Stream = TcpStream>>(
+fn open_session<R: Net<Listener = TcpListener, Stream = TcpStream>>(
     rt: &R,
     port: u16,
     host: u8,
 ) -> Result<TcpStream, Failure> {
-    let Ok(stream) = TcpStream::connect(rt, ("127.0.0.1", port)) else {
+    let Ok(stream) = connect(rt, port) else {
         return Err(Failure::Connect);
     };
-    stream.set_nodelay(true).map_err(|_| Failure::Connect)?;
-    match hello(&mut Linked::new(&stream), &mut Linked::new(&stream), host) {
-        Ok(true) => Ok(stream),
+    log_in(&stream, host)?;
+    Ok(stream)
+}
+
+fn log_in(stream: &TcpStream, host: u8) -> Result<(), Failure> {
+    match hello(&mut Linked::new(stream), &mut Linked::new(stream), host) {
+        Ok(true) => Ok(()),
         Ok(false) => Err(Failure::Refused(host)),
         Err(_) => Err(Failure::Session),
     }
@@ -119,7 +124,7 @@ impl Talk {
         Ok(())
     }
 
-    // Asks array and echo in turn, and leaves both. The first round is not counted.
+    // Asks array and echo in turn, and leaves both.
     fn ask_both<C: Clock>(
         &mut self,
         clock: &C,
@@ -127,17 +132,29 @@ impl Talk {
         array: TcpStream,
         echo: TcpStream,
     ) -> Result<Figures, Failure> {
+        let figures = self.ask_rounds(clock, plan, &array, &echo)?;
+        leave(&array);
+        Ok(figures)
+    }
+
+    // Asks array and echo in turn. The first round is not counted.
+    fn ask_rounds<C: Clock>(
+        &mut self,
+        clock: &C,
+        plan: Plan,
+        array: &TcpStream,
+        echo: &TcpStream,
+    ) -> Result<Figures, Failure> {
         let mut figures = Figures::NONE;
         for round in 0..=plan.rounds() {
             let done = Figures {
-                array: self.ask_until(clock, plan, Slice::of_array(round), &array)?,
-                echo: self.ask_until(clock, plan, Slice::of_echo(round), &echo)?,
+                array: self.ask_until(clock, plan, Slice::of_array(round), array)?,
+                echo: self.ask_until(clock, plan, Slice::of_echo(round), echo)?,
             };
             if round > 0 {
                 figures = figures.and(done);
             }
         }
-        leave(&array);
         Ok(figures)
     }
 

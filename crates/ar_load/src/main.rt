@@ -10,6 +10,7 @@ mod host;
 mod measure;
 mod plan;
 mod request;
+mod stream;
 
 use command_line::{CommandLineFault, Options, options_in};
 use failure::Failure;

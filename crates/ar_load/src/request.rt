@@ -3,7 +3,6 @@ ghost use Rattle.std.specs.Prelude.{◌≡◌, ◌+◌, ◌*◌, ◌≤◌, IfOk
 
 use crate::failure::Failure;
 use ar_frames::{MemSink, MemSource, ask};
-use byteorder::{BigEndian, ByteOrder};
 use std::alloc::Global;
 
 /// How many places of its unit a host asks for in turn, from the first sector on.
@@ -16,7 +15,7 @@ const REQUEST_HEAD: usize = 29;
 const REPLY_HEAD: usize = 14;
 
 /// What a host asks for.
-#[derive(Clone, Copy, Debug, PartialEq, Eq)]
+#[derive(Clone, Copy)]
 pub enum Kind {
     Read,
     Overwrite,
@@ -42,7 +41,7 @@ impl Kind {
 }
 
 /// Requests of a kind, each of so many sectors.
-#[derive(Clone, Copy, Debug, PartialEq, Eq)]
+#[derive(Clone, Copy)]
 pub struct Shape {
     pub kind: Kind,
     pub sectors: u16,
@@ -81,16 +80,26 @@ impl Shape {
 
     // The request frame of a place: what a client writes that nobody answers.
     fn request(self, alloc: Global, place: u32) -> Result<Vec<u8>, Failure> {
-        let mut cdb = [0; 16];
-        cdb[0] = self.kind.code();
-        BigEndian::write_u32(&mut cdb[2..], place.saturating_mul(u32::from(self.sectors)));
-        BigEndian::write_u16(&mut cdb[7..], self.sectors);
-        let payload = zeros(alloc, self.sent())?;
         let mut writer = MemSink::new(zeros(alloc, self.request_len())?);
-        let mut reader = MemSource::new(Vec::new(alloc));
-        let tag = u64::from(place);
-        let _unanswered = ask(alloc, &mut reader, &mut writer, tag, 0, &cdb, &payload);
+        self.write_request(alloc, &mut writer, place)?;
         Ok(writer.into_bytes())
+    }
+
+    fn write_request(self, alloc: Global, writer: &mut MemSink, place: u32) -> Result<(), Failure> {
+        let payload = zeros(alloc, self.sent())?;
+        let mut reader = MemSource::new(Vec::new(alloc));
+        let (tag, cdb) = (u64::from(place), self.command_block(place));
+        let _unanswered = ask(alloc, &mut reader, writer, tag, 0, &cdb, &payload);
+        Ok(())
+    }
+
+    // The command block of a place: the operation code, where the sectors begin, and how many there are.
+    fn command_block(self, place: u32) -> [u8; 16] {
+        let lba = place.saturating_mul(u32::from(self.sectors));
+        let [a, b, c, d] = lba.to_be_bytes();
+        let [high, low] = self.sectors.to_be_bytes();
+        let code = self.kind.code();
+        [code, 0, a, b, c, d, 0, high, low, 0, 0, 0, 0, 0, 0, 0]
     }
 
     // The bytes of data that come with a request.
