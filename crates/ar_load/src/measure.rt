@@ -47,19 +47,9 @@ fn askers_of<R: Net<Listener = TcpListener, Stream = TcpStream>>(
     trial: Trial,
 ) -> Result<Vec<Asker>, Failure> {
     let mut askers = Vec::new(alloc);
-    open_askers(rt, alloc, trial, &mut askers)?;
-    Ok(askers)
-}
-
-fn open_askers<R: Net<Listener = TcpListener, Stream = TcpStream>>(
-    rt: &R,
-    alloc: Global,
-    trial: Trial,
-    askers: &mut Vec<Asker>,
-) -> Result<(), Failure> {
     for host in 0..trial.hosts {
         let asker = Asker::open(rt, alloc, trial.port, host, trial.shape)?;
         askers.push(asker).map_err(|_| Failure::NoMemory)?;
     }
-    Ok(())
+    Ok(askers)
 }
