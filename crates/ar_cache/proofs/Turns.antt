@@ -1,5 +1,5 @@
 -- Keys that were put into a backing, one after another.
-use Rattle.std.proofs.Common.{◌≡◌, ◌≢◌, ℕ, ◌-◌, ◌<◌, ◌≤◌, List, [], ◌∷◌, ◌++◌, Some, suc, length, take, drop, reverse, get_or, refl, sym, ap, ◌∙◌, subst, arith}
+use Rattle.std.proofs.Common.{◌≡◌, ◌≢◌, ℕ, ◌-◌, ◌<◌, ◌≤◌, List, [], ◌∷◌, ◌++◌, Some, suc, length, take, drop, reverse, get_or, inl, inr, refl, sym, ap, ◌∙◌, subst, arith}
 use Rattle.std.specs.List.{slice_get}
 use Rattle.std.specs.Map.{keys_of}
 use Rattle.std.proofs.Math.Seq.{drop-cons}
@@ -8,7 +8,7 @@ use Rattle.std.proofs.lemmas.List.{drop_all, get_or-take, length-take-le}
 use Rattle.std.proofs.lemmas.Option.{slice_get_within, get_or_from_slice_get}
 use Rattle.lru.specs.LruCache.{last_entry}
 use Rattle.ar_disks.specs.declared.address.Key.{Key}
-use Rattle.ar_cache.specs.Backing.{InTurn}
+use Rattle.ar_cache.specs.Backing.{InTurn, StopsInTurn}
 use Rattle.ar_cache.specs.Cache.{CacheState, Flushes, Gives, IsPut, last_key, last_keys}
 use Rattle.ar_cache.proofs.Lookups.{last_of_key}
 use Rattle.ar_cache.specs.declared.answers.Flush.{Flush}
@@ -73,8 +73,36 @@ module _ {S : Type 0} (step : S → Key → S → Type 0) where
   in_turn_flushed Idle es s t a b c ok some left put within are before = absurd (some refl)
   in_turn_flushed Broken es s t a b c ok some left put within are before = absurd (ok refl)
 
+module _ {S : Type 0} (step stop : S → Key → S → Type 0) where
+  -- some keys in turn, and it stopped at the next one
+  pub stops_then : (ks : List Key) (k : Key) (ls : List Key) (a b c : S) → InTurn step ks a b → stop b k c → StopsInTurn step stop (ks ++ k ∷ ls) a c
+  stops_then [] k ls a b c before end = inl (subst (λ s. stop s k c) before end)
+  stops_then (j ∷ ks) k ls a b c before end = inr (before.0, before.1, stops_then ks k ls before.0 b c before.2 end)
+
+  -- it stopped among the first of more keys
+  pub stops_among : (ks ls : List Key) (a c : S) → StopsInTurn step stop ks a c → StopsInTurn step stop (ks ++ ls) a c
+  stops_among [] ls a c h = absurd h
+  stops_among (k ∷ ks) ls a c (inl end) = inl end
+  stops_among (k ∷ ks) ls a c (inr h) = inr (h.0, h.1, stops_among ks ls h.0 c h.2)
+
+  -- it stopped at one key
+  pub stops_one : (k : Key) (a c : S) → stop a k c → StopsInTurn step stop (k ∷ []) a c
+  stops_one k a c end = inl end
+
+  -- it stopped at the last entry's
+  pub stops_last : (es : List (Key × List ℕ)) (e : Key × List ℕ) (a c : S) → last_entry es ≡ Some e → stop a e.0 c → StopsInTurn step stop (last_keys es) a c
+  stops_last es e a c last end = subst (λ ks. StopsInTurn step stop ks a c) (sym (last_keys_is es e last)) (stops_one e.0 a c end)
+
 -- steps in turn are, seen through a function, steps in turn
 pub in_turn_seen : {S T : Type 0} (see : S → T) (step : S → Key → S → Type 0) (shown : T → Key → T → Type 0) → ((a b : S) (k : Key) → step a k b → shown (see a) k (see b))
     → (ks : List Key) (a b : S) → InTurn step ks a b → InTurn shown ks (see a) (see b)
 in_turn_seen see step shown each [] a b h = ap see h
 in_turn_seen see step shown each (k ∷ ks) a b h = (see h.0, each a h.0 k h.1, in_turn_seen see step shown each ks h.0 b h.2)
+
+-- and so are those that stopped
+pub stops_seen : {S T : Type 0} (see : S → T) (step stop : S → Key → S → Type 0) (shown stopped : T → Key → T → Type 0)
+    → ((a b : S) (k : Key) → step a k b → shown (see a) k (see b)) → ((a b : S) (k : Key) → stop a k b → stopped (see a) k (see b))
+    → (ks : List Key) (a b : S) → StopsInTurn step stop ks a b → StopsInTurn shown stopped ks (see a) (see b)
+stops_seen see step stop shown stopped each last [] a b h = absurd h
+stops_seen see step stop shown stopped each last (k ∷ ks) a b (inl end) = inl (last a b k end)
+stops_seen see step stop shown stopped each last (k ∷ ks) a b (inr h) = inr (see h.0, each a h.0 k h.1, stops_seen see step stop shown stopped each last ks h.0 b h.2)

@@ -1,5 +1,5 @@
 -- What a cache asks of the store behind it.
-use Rattle.std.specs.Prelude.{◌≡◌, ◌≢◌, Bool, true, false, IsTrue, List, [], ◌∷◌, ℕ}
+use Rattle.std.specs.Prelude.{◌≡◌, ◌≢◌, ◌⊎◌, Bool, true, false, IsTrue, List, [], ◌∷◌, ℕ}
 use Rattle.ar_disks.specs.declared.address.Key.{Key}
 use Rattle.ar_disks.specs.declared.geometry.Geometry.{Geometry}
 use Rattle.ar_disks.specs.declared.completion.Completion.{Completion}
@@ -37,3 +37,9 @@ pub record Writes (old new : Key → List ℕ) (key : Key) (block : List ℕ) : 
 abbrev pub InTurn : {S : Type 0} → (S → Key → S → Type 0) → List Key → S → S → Type 0
 InTurn step [] from to = to ≡ from
 InTurn {S} step (key ∷ keys) from to = (next : S) × step from key next × InTurn step keys next to
+
+-- a step was made for the first of these keys, in turn, and at the next one it stopped
+abbrev pub StopsInTurn : {S : Type 0} → (step stop : S → Key → S → Type 0) → List Key → S → S → Type 0
+StopsInTurn step stop [] from to = ⊥
+StopsInTurn {S} step stop (key ∷ keys) from to =
+    stop from key to ⊎ ((next : S) × step from key next × StopsInTurn step stop keys next to)

@@ -9,7 +9,7 @@ use Rattle.ar_disks.specs.declared.address.Addr.{Addr}
 use Rattle.ar_disks.specs.declared.address.Key.{Key}
 use Rattle.ar_disks.specs.declared.geometry.Geometry.{Geometry}
 use Rattle.ar_disks.specs.Geometry.{block_len_of}
-use Rattle.ar_cache.specs.Backing.{InTurn, Writes}
+use Rattle.ar_cache.specs.Backing.{InTurn, StopsInTurn, Writes}
 use Rattle.ar_cache.specs.declared.answers.Flush.{Flush}
 use Rattle.ar_cache.specs.declared.answers.Flush.TheVariants.{Flushed, Idle, Broken}
 use Rattle.ar_disks.specs.declared.completion.Completion.{Completion}
@@ -141,9 +141,9 @@ answer_of Broken = stored.Broken
 -- A backing broke while the cache was emptied: the most recently used of its entries stand, at least the one whose
 -- destaging broke it. When that destaging began, the others had been put in turn, the least recently used first; the backing was in
 -- a state that its own relation joins to the first and to the last, it was broken only if it was at first, and no key was seen
--- with another block.
-pub record StopsAt {S : Type 0} (block_at : S → Key → List ℕ) (is_broken : S → Bool) (follows : S → S → Type 0) (puts : S → Key → S → Type 0)
-    (old new : CacheState) (backing ended : S) : Type 0 where
+-- with another block. And then the put of the least recently used of those that stand ended broken.
+pub record StopsAt {S : Type 0} (block_at : S → Key → List ℕ) (is_broken : S → Bool) (follows : S → S → Type 0)
+    (puts breaks : S → Key → S → Type 0) (old new : CacheState) (backing ended : S) : Type 0 where
   pub left : ℕ
   pub some_left : 0 < left
   pub as_many : left ≤ length old.entries
@@ -151,6 +151,7 @@ pub record StopsAt {S : Type 0} (block_at : S → Key → List ℕ) (is_broken :
   pub reached : S
   pub came : follows backing reached
   pub put : InTurn puts (reverse (keys_of (drop left old.entries))) backing reached
+  pub broke : StopsInTurn puts breaks (last_keys new.entries) reached ended
   pub went_on : follows reached ended
   pub same_broken : is_broken reached ≡ is_broken backing
   pub unchanged : SameSeen old (block_at backing) new (block_at reached)

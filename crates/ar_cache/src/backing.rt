@@ -33,6 +33,9 @@ pub trait Backing {
     /// What it says beside that of a call of `put` that is done, by the key.
     ghost puts: { Self → Key → Self → Type 0 };
 
+    /// What it says beside that of a call of `put` that ends broken, by the key.
+    ghost breaks: { Self → Key → Self → Type 0 };
+
     /// Reads the block under a key that it knows. On Broken any bytes may have come.
     fn get(&mut self, key: Key, into: &mut Block) -> Completion
         requires known { IsTrue (knows self.old key) }
@@ -51,6 +54,7 @@ pub trait Backing {
         ensures answer { result ≡ stored (is_broken self.new) }
         ensures written { result ≡ Completion.Done → Writes (block_at self.old) (block_at self.new) key from.now }
         ensures puts { result ≡ Completion.Done → puts self.old key self.new }
+        ensures breaks { result ≡ Completion.Broken → breaks self.old key self.new }
         ensures keeps { Keeps geometry knows is_broken follows self.old self.new };
 
     /// A state follows itself.

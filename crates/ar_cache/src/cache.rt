@@ -4,7 +4,7 @@ ghost use Rattle.std.specs.Map.{keys_of};
 ghost use Rattle.std.specs.Bool.{OnTrue, OnFalse};
 ghost use Rattle.ar_disks.specs.Geometry.{block_len_of};
 ghost use Rattle.ar_disks.specs.declared.address.Key.{Key};
-ghost use Rattle.ar_cache.specs.Backing.{InTurn, IsHonest, stored, Keeps, SameBlocks, Writes};
+ghost use Rattle.ar_cache.specs.Backing.{InTurn, StopsInTurn, IsHonest, stored, Keeps, SameBlocks, Writes};
 
 use crate::answers::Flush;
 use crate::backing::Backing;
@@ -132,6 +132,8 @@ impl Cache {
         ensures puts { result ≡ Completion.Done
             → InTurn B.puts (pushed_out self.old key ++ put_through self.new key) backing.old backing.new }
         ensures broken { result ≡ Completion.Broken → self.new ≡ self.old }
+        ensures stopped { result ≡ Completion.Broken
+            → StopsInTurn B.puts B.breaks (pushed_out self.old key ++ key ∷ []) backing.old backing.new }
 
         ensures fits { length self.new.entries ≤ self.new.capacity }
         ensures all_known { KnowsAll (B.knows backing.new) self.new }
@@ -158,6 +160,8 @@ impl Cache {
         ensures idle { (result ≡ Flush.Idle) ↔ (self.old.entries ≡ []) }
         ensures given { Gives result self.old.entries (B.block_at backing.old) (B.block_at backing.new) }
         ensures put { IsPut B.puts result backing.old backing.new }
+        ensures stopped { result ≡ Flush.Broken
+            → StopsInTurn B.puts B.breaks (last_keys self.old.entries) backing.old backing.new }
         ensures quiet { result ≡ Flush.Idle → backing.new ≡ backing.old }
 
         ensures seen { answer_of result ≡ Completion.Done
@@ -190,6 +194,7 @@ impl Cache {
             (λ block. Writes (B.block_at backing.old) (B.block_at backing.new) key block) }
         ensures put { result ≡ Completion.Done → IsSome (cached self.old key) → B.puts backing.old key backing.new }
         ensures broken { result ≡ Completion.Broken → self.new ≡ self.old }
+        ensures broke { result ≡ Completion.Broken → B.breaks backing.old key backing.new }
         ensures absent { cached self.old key ≡ None
             → (result ≡ Completion.Done) × (backing.new ≡ backing.old) }
 
@@ -223,7 +228,7 @@ impl Cache {
             → InTurn B.puts (reverse (keys_of self.old.entries)) backing.old backing.new }
         ensures quiet { self.old.entries ≡ [] → backing.new ≡ backing.old }
         ensures broken { result ≡ Completion.Broken
-            → StopsAt B.block_at B.is_broken B.follows B.puts self.old self.new backing.old backing.new }
+            → StopsAt B.block_at B.is_broken B.follows B.puts B.breaks self.old self.new backing.old backing.new }
 
         ensures seen { result ≡ Completion.Done
             → SameSeen self.old (B.block_at backing.old) self.new (B.block_at backing.new) }
@@ -285,6 +290,8 @@ impl Cache {
         ensures puts { result ≡ Completion.Done
             → InTurn B.puts (giving_way self.old ++ put_through self.new key) backing.old backing.new }
         ensures broken { result ≡ Completion.Broken → self.new ≡ self.old }
+        ensures stopped { result ≡ Completion.Broken
+            → StopsInTurn B.puts B.breaks (giving_way self.old ++ key ∷ []) backing.old backing.new }
 
         ensures fits { length self.new.entries ≤ self.new.capacity }
         ensures all_known { KnowsAll (B.knows backing.new) self.new }
@@ -321,6 +328,7 @@ impl Cache {
         ensures taken { result ≡ Completion.Done → TakesIn self.old self.new key block.now }
         ensures puts { result ≡ Completion.Done → InTurn B.puts (put_through self.new key) backing.old backing.new }
         ensures broken { result ≡ Completion.Broken → self.new ≡ self.old }
+        ensures broke { result ≡ Completion.Broken → B.breaks backing.old key backing.new }
 
         ensures fits { length self.new.entries ≤ self.new.capacity }
         ensures all_known { KnowsAll (B.knows backing.new) self.new }
@@ -354,6 +362,8 @@ impl Cache {
         ensures puts { result ≡ Completion.Done
             → InTurn B.puts (last_keys self.old.entries ++ put_through self.new key) backing.old backing.new }
         ensures broken { result ≡ Completion.Broken → self.new ≡ self.old }
+        ensures stopped { result ≡ Completion.Broken
+            → StopsInTurn B.puts B.breaks (last_keys self.old.entries ++ key ∷ []) backing.old backing.new }
 
         ensures fits { length self.new.entries ≤ self.new.capacity }
         ensures all_known { KnowsAll (B.knows backing.new) self.new }
@@ -385,6 +395,8 @@ impl Cache {
         ensures sound { IsSound self.now }
         ensures given { Gives result self.now.entries (B.block_at backing.old) (B.block_at backing.new) }
         ensures put { IsPut B.puts result backing.old backing.new }
+        ensures stopped { result ≡ Flush.Broken
+            → StopsInTurn B.puts B.breaks (last_keys self.now.entries) backing.old backing.new }
         ensures quiet { result ≡ Flush.Idle → backing.new ≡ backing.old }
 
         ensures answer { IsHonest (answer_of result) (B.is_broken backing.old) (B.is_broken backing.new) }

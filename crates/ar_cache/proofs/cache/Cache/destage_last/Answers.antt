@@ -1,9 +1,10 @@
-use Rattle.std.proofs.Common.{◌≡◌, IsSome, Some, None, length, refl, sym, ap, ◌∙◌, subst}
+use Rattle.std.proofs.Common.{◌≡◌, IsSome, Some, None, length, refl, sym, ap, ◌∙◌, subst, arith}
 use Rattle.ar_disks.specs.Geometry.{block_len_of}
 use Rattle.lru.specs.LruCache.{last_entry}
 use Rattle.ar_cache.specs.Cache.{IsSound, cached}
 use Rattle.ar_cache.proofs.Lookups.{lookup_last, none_last}
 use Rattle.ar_cache.proofs.Sound.{cached_whole}
+use Rattle.ar_cache.proofs.Turns.{stops_last}
 use Rattle.ar_cache.proofs.cache.Cache.destage_last.Goals as goal
 
 pub put-requires-clause-known : goal.put-requires-clause-known
@@ -22,3 +23,13 @@ put-requires-clause-whole g c =
 
 pub returns-in-None-clause-given : goal.returns-in-None-clause-given
 returns-in-None-clause-given g c = none_last c.args.self.now.entries (subst (λ s. last_entry s.entries ≡ None) c.self.view_is (sym c.in-None.ensures))
+
+pub returns-in-None-clause-asked : goal.returns-in-None-clause-asked
+returns-in-None-clause-asked g c some =
+    let none = none_last c.args.self.now.entries (subst (λ s. last_entry s.entries ≡ None) c.self.view_is (sym c.in-None.ensures)) in
+    absurd (omega (arith, ap length none, some))
+
+pub returns-in-Broken-clause-stopped : goal.returns-in-Broken-clause-stopped
+returns-in-Broken-clause-stopped g c lost =
+    let last = subst (λ s. last_entry s.entries ≡ Some (c.in-Some.key.now, c.in-Some.block.now)) c.self.view_is (sym c.in-Some.ensures) in
+    stops_last g.B.Backing.puts g.B.Backing.breaks c.args.self.now.entries (c.in-Some.key.now, c.in-Some.block.now) c.args.backing.now c.put.new.self last (c.in-Broken.ensures.breaks refl)

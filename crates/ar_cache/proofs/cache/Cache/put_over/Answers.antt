@@ -5,7 +5,7 @@ use Rattle.ar_cache.specs.Backing.{InTurn}
 use Rattle.ar_cache.specs.Cache.{cached, last_key, last_keys, put_through, Sees, SameSeen, KnowsAll, with_entries, without_last}
 use Rattle.ar_cache.proofs.Lookups.{others_given, absent_apart, seen_given, seen_front, seen_through, sees_after, absent_without_last, known_front, known_without_last, known_kept}
 use Rattle.ar_cache.proofs.Keys.{same_key_refl}
-use Rattle.ar_cache.proofs.Turns.{in_turn_then, in_turn_one, in_turn_last}
+use Rattle.ar_cache.proofs.Turns.{in_turn_then, in_turn_one, in_turn_last, stops_among, stops_then}
 use Rattle.ar_cache.proofs.Uses.{with_room_full, fits_put, fits_without_last, ≤_antisym}
 use Rattle.ar_cache.proofs.cache.Cache.put_over.Goals as goal
 
@@ -130,3 +130,18 @@ returns-in-Done-clause-puts g c done =
     in_turn_then step (last_keys old.entries) (put_through c.drop_last.new.self c.args.key) c.args.backing.now c.destage_last.new.backing c.put.new.self
     (in_turn_last step c.destage_last.result old.entries f h c.args.backing.now c.destage_last.new.backing c.in_default.not-Broken d.given d.put d.quiet)
     (subst (λ ks. InTurn step ks c.destage_last.new.backing c.put.new.self) (sym through) (in_turn_one step c.args.key c.destage_last.new.backing c.put.new.self (c.in-Done.ensures.puts refl)))
+
+pub returns-in-Broken-clause-stopped : goal.returns-in-Broken-clause-stopped
+returns-in-Broken-clause-stopped g c lost =
+    stops_among g.B.Backing.puts g.B.Backing.breaks (last_keys c.args.self.now.entries) (c.args.key ∷ []) c.args.backing.now c.destage_last.new.backing (c.in-Broken.ensures.stopped refl)
+
+pub returns-in-Broken-put-clause-stopped : goal.returns-in-Broken-put-clause-stopped
+returns-in-Broken-put-clause-stopped g c lost =
+    let old = c.args.self.now in
+    let d = c.destage_last.ensures in
+    let step = g.B.Backing.puts in
+    let f = g.B.Backing.block_at c.args.backing.now in
+    let h = g.B.Backing.block_at c.destage_last.new.backing in
+    stops_then step g.B.Backing.breaks (last_keys old.entries) c.args.key [] c.args.backing.now c.destage_last.new.backing c.put.new.self
+    (in_turn_last step c.destage_last.result old.entries f h c.args.backing.now c.destage_last.new.backing c.in_default.not-Broken d.given d.put d.quiet)
+    (c.in-Broken-put.ensures.breaks refl)
