@@ -30,9 +30,10 @@ use Rattle.ar_book.proofs.AfterMake.{made_unit_other, grown_unit, grown_unit_oth
 use Rattle.ar_book.proofs.DropLemmas.{dropped_unit_other}
 use Rattle.ar_cache.specs.declared.answers.Flush.{Flush}
 use Rattle.ar_cache.specs.declared.answers.Flush.TheVariants as flushes
-use Rattle.ar_cache.specs.Backing.{stored, IsHonest, Keeps, SameBlocks, Writes}
-use Rattle.ar_cache.specs.Cache.{CacheState, IsSound, Sees, SameSeen as CacheSeen, Flushes, Gives, IsPut, answer_of, cached, same_key, seen, with_entries}
+use Rattle.ar_cache.specs.Backing.{stored, IsHonest, Keeps, SameBlocks, StopsInTurn, Writes}
+use Rattle.ar_cache.specs.Cache.{CacheState, IsSound, Sees, SameSeen as CacheSeen, Flushes, Gives, IsPut, answer_of, cached, last_keys, same_key, seen, with_entries}
 use Rattle.ar_cache.proofs.Sound.{cached_whole}
+use Rattle.ar_cache.proofs.Turns.{stops_seen}
 use Rattle.ar_store.specs.Store.{StoreState}
 use Rattle.ar_store.specs.Slots.{stands}
 use Rattle.ar_store.specs.Kept.{IsSpace}
@@ -44,7 +45,7 @@ use Rattle.ar_store.proofs.Starting.{started_new}
 use Rattle.ar_image.specs.Sectors.{key_of, unit_block}
 use Rattle.ar_image.proofs.Images.{sector_in-zeros}
 use Rattle.ar_image.specs.Image.{ArrayState, IsJoined, IsPadded, geometry_of, knows_in, seen_at, unit_by}
-use Rattle.ar_image.specs.Following.{StoreFollows, PutsStored}
+use Rattle.ar_image.specs.Following.{StoreFollows, PutsStored, BreaksStored}
 use Rattle.ar_image.specs.Seen.{IsUnit, SameSeen}
 use Rattle.ar_image.specs.Start.{IsStarted}
 use Rattle.ar_image.specs.Flush.{FlushesOne}
@@ -109,6 +110,10 @@ pub done_told : (b : Bool) → Done ≡ stored b → b ≡ false
 done_told true is = cc
 done_told false is = refl
 
+pub lost_told : (b : Bool) → NotDone ≡ stored b → b ≡ true
+lost_told true is = refl
+lost_told false is = absurd (cc)
+
 -- a store's answer by the health that it leaves, as a cache hears it
 pub heard : (h : Health) → outcome_of h ≡ stored (is_broken_set h)
 heard Whole = refl
@@ -159,17 +164,20 @@ flush_put store flushes.Broken s n put = tt
 -- one flush of the cache is one of the array, where that wasn't broken
 pub flushed_one : {S : Type 0} (store : S → StoreState) (answer : Flush) (s n : S) (c d : CacheState) → is_broken_set (store s).disks.health ≡ false
     → Flushes answer c d → ((answer ≡ flushes.Idle) ↔ (c.entries ≡ [])) → Gives answer c.entries (stands (store s)) (stands (store n))
-    → IsPut (λ (o : S) (key : Key) (m : S). PutsStored (store o) key (store m)) answer s n → (answer ≡ flushes.Idle → n ≡ s)
+    → IsPut (λ (o : S) (key : Key) (m : S). PutsStored (store o) key (store m)) answer s n
+    → (answer ≡ flushes.Broken → StopsInTurn (λ (o : S) (key : Key) (m : S). PutsStored (store o) key (store m)) (λ (o : S) (key : Key) (m : S). BreaksStored (store o) key (store m)) (last_keys c.entries) s n)
+    → (answer ≡ flushes.Idle → n ≡ s)
     → IsHonest (answer_of answer) (is_broken_set (store s).disks.health) (is_broken_set (store n).disks.health)
     → StoreFollows (store s) (store n)
     → FlushesOne (record { store = store s; cache = c }) answer (record { store = store n; cache = d })
-flushed_one {S} store answer s n c d sound entries idle given put quiet honest follows =
+flushed_one {S} store answer s n c d sound entries idle given put stopped quiet honest follows =
     let new : ArrayState = record { store = store n; cache = d } in
     let kept = flush_idle answer c d entries in
     record {
       entries = entries;
       given = λ _. given;
       put = flush_put store answer s n put;
+      stopped = λ is _. stops_seen store (λ o k m. PutsStored (store o) k (store m)) (λ o k m. BreaksStored (store o) k (store m)) PutsStored BreaksStored (λ o m k h. h) (λ o m k h. h) (last_keys c.entries) s n (stopped is);
       units = follows.units;
       accessed = follows.accessed;
       idle = λ is.

@@ -7,7 +7,7 @@ use Rattle.ar_book.specs.declared.class.Slot.{Slot}
 use Rattle.ar_book.specs.Tables.{home}
 use Rattle.ar_store.specs.Store.{StoreState}
 use Rattle.ar_store.specs.Slots.{AsksForSlot}
-use Rattle.ar_store.specs.Placing.{Puts, SameUnits}
+use Rattle.ar_store.specs.Placing.{Puts, MayHavePrepared, SameUnits}
 use Rattle.ar_store.specs.Asking.{AsksToPut}
 use Rattle.ar_store.specs.Calls.{IsAccessed}
 use Rattle.ar_image.specs.Image.{ArrayState}
@@ -34,6 +34,15 @@ pub record ReadsStored (old : StoreState) (key : Key) (new : StoreState) : Type 
 pub record PutsStored (old : StoreState) (key : Key) (new : StoreState) : Type 0 where
   pub tables : Puts old.book key new.book
   pub asks : AsksToPut old key new
+
+-- The put of one block ended on broken disks: the block has its old home, and the tables are at most made ready for it; no disk
+-- was asked but those that its step asks, and where the disks were broken before nothing has changed.
+pub record BreaksStored (old : StoreState) (key : Key) (new : StoreState) : Type 0 where
+  pub unmoved : home new.book key ≡ home old.book key
+  pub prepared : MayHavePrepared old.book key new.book
+  pub asks : AsksToPut old key new
+  pub broken : new.disks.health ≡ Broken
+  pub lost : old.disks.health ≡ Broken → new ≡ old
 
 -- what both leave of an array: the cache is as large
 pub record Follows (old new : ArrayState) : Type 0 where

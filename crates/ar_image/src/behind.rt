@@ -3,7 +3,7 @@ ghost use Rattle.std.specs.Prelude.{◌≡◌};
 ghost use Rattle.ar_extents.specs.Changes.{is_broken as is_broken_set};
 ghost use Rattle.ar_store.specs.Slots.{stands};
 ghost use Rattle.ar_image.specs.Image.{knows_in};
-ghost use Rattle.ar_image.specs.Following.{StoreFollows, ReadsStored, PutsStored};
+ghost use Rattle.ar_image.specs.Following.{StoreFollows, ReadsStored, PutsStored, BreaksStored};
 ghost use Rattle.ar_image.specs.Laws.{store_refl, store_then};
 
 use ar_cache::Backing;
@@ -30,6 +30,8 @@ impl<D: Disk> Backing for Behind<D> {
     ghost gets = { λ old key new. ReadsStored old.store key new.store };
 
     ghost puts = { λ old key new. PutsStored old.store key new.store };
+
+    ghost breaks = { λ old key new. BreaksStored old.store key new.store };
 
     fn get(&mut self, key: Key, into: &mut Block) -> Completion {
         self.store.get(key, into)

@@ -11,7 +11,7 @@ ghost use Rattle.ar_cache.specs.Cache.{cached};
 ghost use Rattle.ar_image.specs.Image.{is_broken, geometry_of, seen_at, knows_in, attention_at};
 ghost use Rattle.ar_image.specs.Following.{Follows};
 ghost use Rattle.ar_image.specs.Laws.{follows_refl, follows_then};
-ghost use Rattle.ar_image.specs.Storing.{PutsBlock, ReadsBlock};
+ghost use Rattle.ar_image.specs.Storing.{BreaksBlock, PutsBlock, ReadsBlock};
 
 use crate::behind::Behind;
 use crate::{Flush, Refusal};
@@ -54,6 +54,8 @@ impl<D: Disk> Backing for Blocks<D> {
     ghost gets = { ReadsBlock };
 
     ghost puts = { PutsBlock };
+
+    ghost breaks = { BreaksBlock };
 
     fn get(&mut self, key: Key, into: &mut Block) -> Completion {
         if self.is_broken() {

@@ -2,14 +2,14 @@
 ghost use Rattle.std.specs.Prelude.{◌≡◌, ◌≢◌, ◌≤◌, ◌+◌, ◌-◌, ℕ, None, false, IsTrue, [], reverse};
 ghost use Rattle.ar_disks.specs.declared.address.Key.{Key};
 ghost use Rattle.std.specs.Map.{keys_of};
-ghost use Rattle.ar_cache.specs.Backing.{InTurn, stored};
+ghost use Rattle.ar_cache.specs.Backing.{InTurn, StopsInTurn, stored};
 ghost use Rattle.ar_cache.specs.Cache.{cached, with_entries};
 ghost use Rattle.ar_image.specs.Flush.{FlushesOne};
 ghost use Rattle.ar_image.specs.Following.{Follows, PutsStored};
 ghost use Rattle.ar_image.specs.Image.{is_broken};
 ghost use Rattle.ar_image.specs.Sectors.{key_of, keys_from};
 ghost use Rattle.ar_image.specs.Seen.{SameSeen, IsSpared};
-ghost use Rattle.ar_image.specs.Storing.{ForcesBlock, LeavesSome};
+ghost use Rattle.ar_image.specs.Storing.{BreaksForced, ForcesBlock, LeavesSome};
 
 use crate::{Blocks, Flush};
 use ar_disks::{Addr, Completion, Disk, Key};
@@ -34,7 +34,7 @@ impl<D: Disk> Blocks<D> {
         ensures puts { result ≡ Completion.Done
             → InTurn PutsStored (reverse (keys_of self.old.cache.entries)) self.old.store self.new.store }
         ensures quiet { self.old.cache.entries ≡ [] → self.new ≡ self.old }
-        ensures stopped { result ≡ Completion.Broken → is_broken self.old ≡ false → LeavesSome self.old.cache self.new.cache }
+        ensures stopped { result ≡ Completion.Broken → is_broken self.old ≡ false → LeavesSome self.old self.new }
         ensures lost { IsTrue (is_broken self.old) → self.new ≡ self.old }
         ensures seen { result ≡ Completion.Done → SameSeen self.old self.new }
         ensures follows { Follows self.old self.new }
@@ -52,6 +52,7 @@ impl<D: Disk> Blocks<D> {
         ensures gone { result ≡ Completion.Done → cached self.new.cache key ≡ None }
         ensures others { result ≡ Completion.Done → (k : Key) → k ≢ key → cached self.new.cache k ≡ cached self.old.cache k }
         ensures forces { result ≡ Completion.Done → ForcesBlock self.old key self.new }
+        ensures breaks { result ≡ Completion.Broken → BreaksForced self.old key self.new }
         ensures seen { result ≡ Completion.Done → SameSeen self.old self.new }
         ensures follows { Follows self.old self.new }
     {
@@ -66,6 +67,8 @@ impl<D: Disk> Blocks<D> {
         ensures forced { result ≡ Completion.Done → (rb : ℕ) → first ≤ rb → rb ≤ last → cached self.new.cache (key_of addr rb) ≡ None }
         ensures spared { result ≡ Completion.Done → IsSpared self.old.cache self.new.cache addr first (last + 1) }
         ensures in_turn { result ≡ Completion.Done → InTurn ForcesBlock (keys_from addr first (last + 1 - first)) self.old self.new }
+        ensures stopped { result ≡ Completion.Broken
+            → StopsInTurn ForcesBlock BreaksForced (keys_from addr first (last + 1 - first)) self.old self.new }
         ensures seen { result ≡ Completion.Done → SameSeen self.old self.new }
         ensures follows { Follows self.old self.new }
     {

@@ -4,9 +4,9 @@ ghost use Rattle.std.specs.List.{concat};
 ghost use Rattle.ar_disks.specs.declared.address.Key.{Key};
 ghost use Rattle.ar_disks.specs.Geometry.{sectors_of, block_len_of};
 ghost use Rattle.ar_disks.specs.Block.{sectors_at};
-ghost use Rattle.ar_cache.specs.Backing.{stored, InTurn, Keeps, SameBlocks};
+ghost use Rattle.ar_cache.specs.Backing.{stored, InTurn, StopsInTurn, Keeps, SameBlocks};
 ghost use Rattle.ar_image.specs.Sectors.{sector_in, sectors_in, key_of, keys_in, unit_block};
-ghost use Rattle.ar_image.specs.Storing.{Overwrites, ReadsFirst, Replaces};
+ghost use Rattle.ar_image.specs.Storing.{Overwrites, ReadsFirst, Replaces, StopsOver, StopsReplacing};
 
 use ar_cache::Backing;
 use ar_disks::{Addr, Block, Completion, Geometry, Key, SECTOR_LEN};
@@ -125,6 +125,8 @@ fn write_part<B: Backing>(
         → sectors_at (B.block_at blocks.new key) i 1 ≡ sectors_at (B.block_at blocks.old key) i 1 }
     ensures others { result ≡ Completion.Done → (k : Key) → k ≢ key → B.block_at blocks.new k ≡ B.block_at blocks.old k }
     ensures puts { result ≡ Completion.Done → Replaces B.gets B.puts (count == sectors_of geometry) blocks.old key blocks.new }
+    ensures stopped { result ≡ Completion.Broken
+        → StopsReplacing B.gets B.breaks B.is_broken (count == sectors_of geometry) blocks.old key blocks.new }
 
     ensures answer { result ≡ stored (B.is_broken blocks.new) }
     ensures keeps { Keeps B.geometry B.knows B.is_broken B.follows blocks.old blocks.new }
@@ -166,6 +168,8 @@ pub fn write_sectors<B: Backing>(
         → sector_in geometry (unit_block (B.block_at blocks.new) addr) i ≡ sector_in geometry (unit_block (B.block_at blocks.old) addr) i }
     ensures others { result ≡ Completion.Done → (k : Key) → k.addr ≢ addr → B.block_at blocks.new k ≡ B.block_at blocks.old k }
     ensures puts { result ≡ Completion.Done → InTurn (Overwrites B.gets B.puts geometry lba count) (keys_in geometry addr lba count) blocks.old blocks.new }
+    ensures stopped { result ≡ Completion.Broken → StopsInTurn (Overwrites B.gets B.puts geometry lba count)
+        (StopsOver B.gets B.breaks B.is_broken geometry lba count) (keys_in geometry addr lba count) blocks.old blocks.new }
     ensures nothing { count ≡ 0 → blocks.new ≡ blocks.old }
 
     ensures answer { result ≡ stored (B.is_broken blocks.new) }

@@ -1,10 +1,10 @@
 use Rattle.std.proofs.Common.{◌≡◌, ◌⊎◌, Bool, ℕ, ◌==◌, ◌%◌, ◌/◌, ◌+◌, ◌-◌, ◌*◌, ◌<◌, ◌≤◌, List, inl, inr, min, take, drop, sym, ap, subst, ◌∙◌, arith}
 use Rattle.ar_disks.specs.Geometry.{sectors_of}
 use Rattle.ar_image.specs.Sectors.{unit_block, key_of}
-use Rattle.ar_image.specs.Storing.{Overwrites, Replaces, is_whole}
+use Rattle.ar_image.specs.Storing.{Overwrites, Replaces, StopsOver, StopsReplacing, is_whole}
 use Rattle.ar_cache.proofs.Keeping.{keeps_then}
 use Rattle.ar_disks.specs.declared.address.Key.{Key}
-use Rattle.ar_image.proofs.Putting.{part-edge, part-whole, turn-more}
+use Rattle.ar_image.proofs.Putting.{part-edge, part-whole, turn-more, turn-stops}
 use Rattle.ar_image.proofs.Pieces.{other_block, other_unit, PutsPart, part-within, part-some, stored_done, written-inside, written-outside, cut_part}
 use Rattle.ar_image.proofs.transfer.write_sectors.Goals as goal
 
@@ -61,3 +61,26 @@ loop-at-preserved g c =
       keeps = keeps_then _ _ _ _ g.met.B.Backing.follows_trans _ _ _ c.loop-at.invariant.keeps c.write_part.ensures.keeps;
       len = c.write_part.ensures.len ∙ c.loop-at.invariant.len;
     }
+
+pub returns-in-Broken-clause-stopped : goal.returns-in-Broken-clause-stopped
+returns-in-Broken-clause-stopped g c = λ lost.
+    let at : ℕ = c.loop-at.at in
+    let part : ℕ = c.min-part.result in
+    let sectors : c.sectors-sectors.result ≡ sectors_of c.args.geometry = c.sectors-sectors.ensures in
+    let part_is : part ≡ min (sectors_of c.args.geometry - at % sectors_of c.args.geometry) (c.args.lba + c.args.count - at) =
+    c.min-part.ensures ∙ ap (λ (s : ℕ). min (s - at % s) (c.args.lba + c.args.count - at)) sectors in
+    let within : at % sectors_of c.args.geometry + part ≤ sectors_of c.args.geometry = part-within c.args.geometry at (c.args.lba + c.args.count - at) part part_is in
+    let some : 0 < part = part-some c.args.geometry at (c.args.lba + c.args.count - at) part part_is (omega arith) in
+    let key : Key = key_of c.args.addr (at / sectors_of c.args.geometry) in
+    let edge : (at ≡ c.args.lba) ⊎ (at % sectors_of c.args.geometry ≡ 0) =
+    elim c.loop-at.invariant.edge [ inl is ↦ is | inr past ↦ absurd (omega (arith, past)) ] in
+    let part_whole : part == sectors_of c.args.geometry ≡ is_whole c.args.geometry c.args.lba c.args.count key =
+    part-whole c.args.geometry c.args.addr c.args.lba c.args.count at part part_is c.loop-at.invariant.from (omega arith) edge in
+    let b = g.B.Backing in
+    let stop : StopsOver b.gets b.breaks b.is_broken c.args.geometry c.args.lba c.args.count c.loop-at.blocks key c.write_part.new.blocks =
+    subst (λ (w : Bool). StopsReplacing b.gets b.breaks b.is_broken w c.loop-at.blocks key c.write_part.new.blocks) part_whole
+    (subst (λ (s : ℕ). StopsReplacing b.gets b.breaks b.is_broken (part == sectors_of c.args.geometry) c.loop-at.blocks (key_of c.args.addr (at / s)) c.write_part.new.blocks) sectors
+    (c.write_part.ensures.stopped c.in-Broken.is)) in
+    turn-stops (Overwrites b.gets b.puts c.args.geometry c.args.lba c.args.count) (StopsOver b.gets b.breaks b.is_broken c.args.geometry c.args.lba c.args.count)
+    c.args.geometry c.args.addr c.args.lba c.args.count at part c.args.blocks.now c.loop-at.blocks c.write_part.new.blocks
+    c.loop-at.invariant.from some (omega arith) within edge c.loop-at.invariant.put stop

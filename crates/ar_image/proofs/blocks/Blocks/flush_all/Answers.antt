@@ -1,10 +1,11 @@
-use Rattle.std.proofs.Common.{◌≡◌, [], reverse, sym, ap, subst, ◌∙◌}
+use Rattle.std.proofs.Common.{◌≡◌, false, [], drop, reverse, sym, ap, subst, ◌∙◌}
 use Rattle.std.specs.Map.{keys_of}
 use Rattle.ar_disks.specs.declared.address.Key.{Key}
 use Rattle.ar_cache.specs.Backing.{InTurn}
-use Rattle.ar_cache.proofs.Turns.{in_turn_seen}
+use Rattle.ar_cache.specs.Cache.{last_keys}
+use Rattle.ar_cache.proofs.Turns.{in_turn_seen, stops_seen}
 use Rattle.ar_image.specs.declared.behind.Behind.{Behind}
-use Rattle.ar_image.specs.Following.{PutsStored}
+use Rattle.ar_image.specs.Following.{PutsStored, BreaksStored}
 use Rattle.ar_image.specs.Image.{ArrayState, is_broken}
 use Rattle.ar_image.specs.Storing.{LeavesSome}
 use Rattle.ar_image.specs.Seen.{SameSeen}
@@ -24,10 +25,23 @@ returns-clause-puts g c = λ done.
     (reverse (keys_of c.self.inside.cache.entries)) c.self.inside.behind c.flush_all.new.backing (c.flush_all.ensures.puts done))
 
 pub returns-clause-stopped : goal.returns-clause-stopped
-returns-clause-stopped g c = λ lost _.
+returns-clause-stopped g c = λ lost.
     let stopped = c.flush_all.ensures.broken lost in
-    subst (λ (s : ArrayState). LeavesSome s.cache c.flush_all.new.self) c.self.view_is
-    (record { left = stopped.left; some_left = stopped.some_left; as_many = stopped.as_many; entries = stopped.entries })
+    let new : ArrayState = record { store = c.flush_all.new.backing.store; cache = c.flush_all.new.self } in
+    let puts = λ (o : Behind g.row.D.Denot) (k : Key) (n : Behind g.row.D.Denot). PutsStored o.store k n.store in
+    let breaks = λ (o : Behind g.row.D.Denot) (k : Key) (n : Behind g.row.D.Denot). BreaksStored o.store k n.store in
+    let store = λ (b : Behind g.row.D.Denot). b.store in
+    subst (λ (s : ArrayState). is_broken s ≡ false → LeavesSome s new) c.self.view_is
+    (λ sound. record {
+      left = stopped.left;
+      some_left = stopped.some_left;
+      as_many = stopped.as_many;
+      entries = stopped.entries;
+      reached = stopped.reached.store;
+      put = in_turn_seen store puts PutsStored (λ o m k h. h) (reverse (keys_of (drop stopped.left c.self.inside.cache.entries))) c.self.inside.behind stopped.reached stopped.put;
+      sound = stopped.same_broken ∙ sound;
+      broke = stops_seen store puts breaks PutsStored BreaksStored (λ o m k h. h) (λ o m k h. h) (last_keys c.flush_all.new.self.entries) stopped.reached c.flush_all.new.backing stopped.broke;
+    })
 
 pub returns-clause-quiet : goal.returns-clause-quiet
 returns-clause-quiet g c =

@@ -7,8 +7,8 @@ use Rattle.ar_cache.specs.Cache.{cached}
 use Rattle.ar_image.specs.Sectors.{key_of, keys_from}
 use Rattle.ar_image.specs.Image.{is_broken}
 use Rattle.ar_image.specs.Laws.{follows_then}
-use Rattle.ar_image.specs.Storing.{ForcesBlock}
-use Rattle.ar_image.proofs.Putting.{keys_from-more}
+use Rattle.ar_image.specs.Storing.{BreaksForced, ForcesBlock}
+use Rattle.ar_image.proofs.Putting.{blocks-stop, keys_from-more}
 use Rattle.ar_image.proofs.Sparing.{kept_sound, spared_then}
 use Rattle.ar_image.proofs.blocks.Blocks.force.Goals as goal
 
@@ -46,3 +46,8 @@ loop-rb-preserved g c =
 pub returns-in-Broken-clause-follows : goal.returns-in-Broken-clause-follows
 returns-in-Broken-clause-follows g c =
     follows_then c.args.self.now c.loop-rb.self c.flush_key.new.self c.loop-rb.invariant.follows c.flush_key.ensures.follows
+
+pub returns-in-Broken-clause-stopped : goal.returns-in-Broken-clause-stopped
+returns-in-Broken-clause-stopped g c = λ lost.
+    blocks-stop ForcesBlock BreaksForced c.args.addr c.args.first c.loop-rb.rb c.args.last c.args.self.now c.loop-rb.self c.flush_key.new.self
+    c.loop-rb.invariant.ordered c.loop-rb-test.true c.loop-rb.invariant.in_turn (c.flush_key.ensures.breaks c.in-Broken.is)
