@@ -1,5 +1,5 @@
 -- A command to one address, and the images of all.
-use Rattle.std.proofs.Common.{◌≡◌, ◌≢◌, ◌≤◌, ◌*◌, ℕ, Bool, true, false, cond, ◌&&◌, not, IsTrue, Option, Some, None, is_some, List, [], ◌∷◌, length, take, refl, sym, ap, subst, ◌∙◌, inl, inr}
+use Rattle.std.proofs.Common.{◌≡◌, ◌≢◌, ◌≤◌, ◌*◌, ℕ, Bool, true, false, cond, ◌&&◌, not, IsTrue, Option, Some, None, is_some, List, [], ◌∷◌, length, take, refl, sym, ap, subst, ◌∙◌, inl, inr, true≢false}
 use Rattle.std.specs.Prelude.{◌==◌}
 use Rattle.std.specs.Map.{lookup}
 use Rattle.std.specs.Option.{unwrap_or}
@@ -169,6 +169,7 @@ commands_served old new addr n cdb bytes reply unit quiet serves settles few =
             elim (settles.busy_read lba count is status) [ inl same ↦ inl (same ∙ sym untold) | inr all ↦ inr all ];
         forced = settles.forced;
         stored = settles.stored;
+        stopped = settles.stopped;
       };
       others = λ now b other.
           image_same old new b (unit_follows old.store.book new.store.book b serves.follows.store.units) serves.follows.store.accessed.follows.geometry
@@ -264,6 +265,7 @@ commands_told old new addr n cdb bytes reply unit tells is cleared seen =
         busy_read = λ lba count _ _. inl only;
         forced = λ lba count _ good. (let status = sym (ap (λ (r : Reply). r.status) is) ∙ good in absurd (cc));
         stored = λ lba count fua _ good. (let status = sym (ap (λ (r : Reply). r.status) is) ∙ good in absurd (cc));
+        stopped = λ lba count fua _ now gone. (let kept = ap (λ (s : ArrayState). is_broken s) cleared ∙ now in absurd (true≢false (sym gone ∙ kept)));
       };
       others = λ now b other. image_same old new b (other_unit b other) shape (λ k _. seen.same k);
       shape = told_shape old new addr cdb bytes reply unit.there there len gone tells is;
@@ -332,6 +334,7 @@ commands_absent s addr cdb bytes reply none given =
         busy_read = λ lba count _ _. inl only;
         forced = λ lba count is good. absurd (absent_needs cdb reply given (ap needs_blocks is) good);
         stored = λ lba count fua is good. absurd (absent_needs cdb reply given (ap needs_blocks is) good);
+        stopped = λ lba count fua _ now gone. absurd (true≢false (sym gone ∙ now));
       };
       others = λ now b other. refl;
       shape =

@@ -1,5 +1,5 @@
 -- What commands do to the sectors of the unit.
-use Rattle.std.proofs.Common.{◌≡◌, ◌≢◌, ◌⊎◌, ℕ, zero, suc, ◌+◌, ◌-◌, ◌*◌, ◌/◌, ◌%◌, ◌<◌, ◌≤◌, Bool, true, false, IsTrue, nat_lt, List, [], ◌∷◌, ◌++◌, length, take, drop, map, Result, Ok, refl, sym, ap, subst, ◌∙◌, inl, inr, arith}
+use Rattle.std.proofs.Common.{◌≡◌, ◌≢◌, ◌⊎◌, ℕ, zero, suc, ◌+◌, ◌-◌, ◌*◌, ◌/◌, ◌%◌, ◌<◌, ◌≤◌, Bool, true, false, IsTrue, nat_lt, List, [], ◌∷◌, ◌++◌, length, take, drop, map, Result, Ok, refl, sym, ap, subst, ◌∙◌, inl, inr, true≢false, arith}
 use Rattle.std.specs.Prelude.{◌==◌}
 use Rattle.std.specs.List.{range_with_len, concat}
 use Rattle.std.proofs.lemmas.List.{drop-drop, length-append}
@@ -30,7 +30,7 @@ use Rattle.ar_image.specs.Laws.{follows_refl, places_refl, places_in_turn}
 use Rattle.ar_image.specs.Seen.{IsUnit, SamePlaces, SameSeen, Writes, present_at, sectors_read}
 use Rattle.ar_core.specs.Served.{Serves, Settles}
 use Rattle.ar_image.specs.Seen.{IsForced}
-use Rattle.ar_image.specs.Storing.{ReadsBlock, ReadsFirst, StoresBlocks}
+use Rattle.ar_image.specs.Storing.{ReadsBlock, ReadsFirst, StopsStoring, StoresBlocks}
 use Rattle.ar_image.specs.declared.transfer.Transfer.{Transfer}
 use Rattle.ar_image.specs.declared.transfer.Transfer.TheVariants.{Done, Broken, NoMemory}
 use Rattle.ar_disks.specs.declared.completion.Completion.{Completion}
@@ -287,6 +287,7 @@ settles_same s addr command reply no_write no_read = record {
   busy_read = λ lba count _ _. inl refl;
   forced = λ lba count is good. absurd (no_write lba count true is good);
   stored = λ lba count fua is good. absurd (no_write lba count fua is good);
+  stopped = λ lba count fua is now gone. absurd (true≢false (sym gone ∙ now));
 }
 
 -- a command was refused, or met a broken array
@@ -347,6 +348,7 @@ settles_read old new addr lba count reply sound first got busy failed = record {
   busy_read = λ l n is status. elim (busy status) [ inl same ↦ inl same | inr all ↦ inr (got_same addr lba count l n old new is all) ];
   forced = λ l n is good. absurd (cc);
   stored = λ l n fua is good. absurd (cc);
+  stopped = λ l n fua is now gone. absurd (cc);
 }
   where
     places : SamePlaces old new
@@ -436,12 +438,21 @@ stored_same addr lba count l n old new fua f is stored =
     subst (λ b. StoresBlocks addr l n b old new) same
     (subst (λ k. StoresBlocks addr l k fua old new) many (subst (λ k. StoresBlocks addr k count fua old new) first stored))
 
+stopped_same : (addr : Addr) (lba count l n : ℕ) (old new : ArrayState) (fua f : Bool) → write_of lba count fua ≡ write_of l n f
+    → StopsStoring addr lba count fua old new → StopsStoring addr l n f old new
+stopped_same addr lba count l n old new fua f is stopped =
+    let first : lba ≡ l = cc in
+    let many : count ≡ n = cc in
+    let same : fua ≡ f = cc in
+    subst (λ b. StopsStoring addr l n b old new) same
+    (subst (λ k. StopsStoring addr l k fua old new) many (subst (λ k. StopsStoring addr k count fua old new) first stopped))
+
 -- a WRITE that was not refused
 pub settles_write : (old new : ArrayState) (addr : Addr) (lba count : ℕ) (fua : Bool) (answer : Completion) (reply : Reply) → is_broken old ≡ false
     → (answer ≡ Kept → reply ≡ good []) → (answer ≡ Lost → reply ≡ check internal_target_failure) → (answer ≡ Kept → IsTrue fua → IsForced new addr lba count)
-    → (answer ≡ Kept → StoresBlocks addr lba count fua old new)
+    → (answer ≡ Kept → StoresBlocks addr lba count fua old new) → answer ≡ stored (is_broken new) → (answer ≡ Lost → StopsStoring addr lba count fua old new)
     → (count ≡ 0 → new ≡ old) → Settles old addr (Ok (Write lba count fua)) reply new
-settles_write old new addr lba count fua Kept reply sound done lost forced stored none = record {
+settles_write old new addr lba count fua Kept reply sound done lost forced stores told stops none = record {
   still = λ nothing. none (no_more count nothing);
   reads = λ other. absurd (cc);
   begun = λ l n is. absurd (cc);
@@ -451,9 +462,10 @@ settles_write old new addr lba count fua Kept reply sound done lost forced store
   lost = λ gone. absurd (cc);
   busy = λ status. (let told = sym (ap (λ (r : Reply). r.status) (done refl)) ∙ status in absurd (cc));
   forced = λ l n is good. forced_same addr lba count l n new fua is (forced refl);
-  stored = λ l n f is good. stored_same addr lba count l n old new fua f is (stored refl);
+  stored = λ l n f is good. stored_same addr lba count l n old new fua f is (stores refl);
+  stopped = λ l n f is now gone. (let kept = told ∙ ap stored gone in absurd (cc));
 }
-settles_write old new addr lba count fua Lost reply sound done lost forced stored none = record {
+settles_write old new addr lba count fua Lost reply sound done lost forced stores told stops none = record {
   still = λ nothing. none (no_more count nothing);
   reads = λ other. absurd (cc);
   begun = λ l n is. absurd (cc);
@@ -463,5 +475,6 @@ settles_write old new addr lba count fua Lost reply sound done lost forced store
   lost = λ gone. absurd (cc);
   busy = λ status. (let told = sym (ap (λ (r : Reply). r.status) (lost refl)) ∙ status in absurd (cc));
   forced = λ l n is good. (let told = sym (ap (λ (r : Reply). r.status) (lost refl)) ∙ good in absurd (cc));
-  stored = λ l n f is good. (let told = sym (ap (λ (r : Reply). r.status) (lost refl)) ∙ good in absurd (cc));
+  stored = λ l n f is good. (let status = sym (ap (λ (r : Reply). r.status) (lost refl)) ∙ good in absurd (cc));
+  stopped = λ l n f is now gone. stopped_same addr lba count l n old new fua f is (stops refl);
 }

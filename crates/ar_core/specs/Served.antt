@@ -17,7 +17,7 @@ use Rattle.ar_store.specs.Calls.{IsAccessed}
 use Rattle.ar_core.specs.Step.{Obeys, is_write, is_busy, moves_sectors}
 use Rattle.ar_image.specs.Sectors.{keys_in}
 use Rattle.ar_cache.specs.Backing.{InTurn}
-use Rattle.ar_image.specs.Storing.{ReadsBlock, ReadsFirst, StoresBlocks}
+use Rattle.ar_image.specs.Storing.{ReadsBlock, ReadsFirst, StopsStoring, StoresBlocks}
 use Rattle.ar_image.specs.Seen.{IsForced, SamePlaces, present_at}
 
 -- The unit was served as the table says, by its sectors before the command, and is left with the table's, and no other unit's
@@ -30,7 +30,8 @@ pub record Serves (old : ArrayState) (addr : Addr) (table : Answered) (otherwise
 
 -- Which disks were asked: none by a command that has no sector to read or to write, that is refused, or that finds the array
 -- broken; by a READ, those of its blocks, and by one that is BUSY all of these or none. And where the unit's blocks are kept afterwards: as before, but after a WRITE that was
--- done, which has put each of its blocks once; and none of these is in the cache where it came with FORCE UNIT ACCESS.
+-- done, which has put each of its blocks once; and none of these is in the cache where it came with FORCE UNIT ACCESS. One at which
+-- the array broke has put them up to the block at which it did.
 pub record Settles (old : ArrayState) (addr : Addr) (command : Result Command Sense) (reply : Reply) (new : ArrayState) : Type 0 where
   pub still : moves_sectors command ≡ false → new ≡ old
   pub refused : reply.status ≡ CheckCondition → reply ≢ check internal_target_failure → new ≡ old
@@ -45,6 +46,8 @@ pub record Settles (old : ArrayState) (addr : Addr) (command : Result Command Se
   pub forced : (lba count : ℕ) → command ≡ Ok (Write lba count true) → reply.status ≡ Good → IsForced new addr lba count
   pub stored : (lba count : ℕ) (fua : Bool) → command ≡ Ok (Write lba count fua) → reply.status ≡ Good
       → StoresBlocks addr lba count fua old new
+  pub stopped : (lba count : ℕ) (fua : Bool) → command ≡ Ok (Write lba count fua) → is_broken old ≡ false → IsTrue (is_broken new)
+      → StopsStoring addr lba count fua old new
 
 -- What a command does to the array: its unit obeys, and each unit, its own too, is what the command makes of it.
 pub record Commands (old : ArrayState) (addr : Addr) (cdb bytes : List ℕ) (reply : Reply) (new : ArrayState) : Type 0 where

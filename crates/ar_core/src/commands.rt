@@ -8,7 +8,7 @@ ghost use Rattle.ar_scsi.specs.Reply.{good, check, busy};
 ghost use Rattle.ar_scsi.specs.Sense.{internal_target_failure, logical_block_address_out_of_range, data_phase_error, capacity_data_has_changed};
 ghost use Rattle.ar_unit.specs.Unit.{obeyed, IsGiven, leaving, read_reply, write_answer};
 ghost use Rattle.ar_unit.specs.Broken.{broken_obeyed};
-ghost use Rattle.ar_cache.specs.Backing.{InTurn, stored};
+ghost use Rattle.ar_cache.specs.Backing.{InTurn, StopsInTurn, stored};
 ghost use Rattle.ar_cache.specs.Cache.{cached};
 ghost use Rattle.ar_image.specs.Image.{is_broken, geometry_of, seen_at, unit_sectors, attention_at, with_book};
 ghost use Rattle.ar_image.specs.Seen.{IsUnit, SameSeen, IsSpared, Writes, present_at, sectors_read};
@@ -16,7 +16,7 @@ ghost use Rattle.ar_core.specs.Served.{Serves, Settles, Commands};
 ghost use Rattle.ar_image.specs.Following.{Follows};
 ghost use Rattle.ar_image.specs.Sectors.{keys_in};
 ghost use Rattle.ar_image.specs.Seen.{IsForced};
-ghost use Rattle.ar_image.specs.Storing.{ForcesBlock, PutsBlocks, ReadsBlock, ReadsFirst, StoresBlocks};
+ghost use Rattle.ar_image.specs.Storing.{BreaksForced, ForcesBlock, PutsBlocks, ReadsBlock, ReadsFirst, StopsPutting, StopsStoring, StoresBlocks};
 ghost use Rattle.ar_book.specs.Changes.{unmarked};
 
 use crate::{Array, Completion};
@@ -229,6 +229,7 @@ impl<D: Disk> Array<D> {
         ensures forced { result ≡ Completion.Done → IsTrue fua → IsForced self.new addr lba count }
 
         ensures stored { result ≡ Completion.Done → StoresBlocks addr lba count fua self.old self.new }
+        ensures stopped { result ≡ Completion.Broken → StopsStoring addr lba count fua self.old self.new }
         ensures nothing { count ≡ 0 → self.new ≡ self.old }
         ensures follows { Follows self.old self.new }
     {
@@ -255,6 +256,7 @@ impl<D: Disk> Array<D> {
         ensures answer { result ≡ stored (is_broken self.new) }
         ensures writes { result ≡ Completion.Done → Writes self.old addr lba count bytes.now self.new }
         ensures puts { result ≡ Completion.Done → PutsBlocks addr lba count self.old self.new }
+        ensures stopped { result ≡ Completion.Broken → StopsPutting addr lba count self.old self.new }
 
         ensures nothing { count ≡ 0 → self.new ≡ self.old }
         ensures follows { Follows self.old self.new }
@@ -280,6 +282,8 @@ impl<D: Disk> Array<D> {
         ensures answer { result ≡ stored (is_broken self.new) }
         ensures forced { result ≡ Completion.Done → IsForced self.new addr lba count }
         ensures forces { result ≡ Completion.Done → InTurn ForcesBlock (keys_in (geometry_of self.old) addr lba count) self.old self.new }
+        ensures stopped { result ≡ Completion.Broken
+            → StopsInTurn ForcesBlock BreaksForced (keys_in (geometry_of self.old) addr lba count) self.old self.new }
 
         ensures spared { result ≡ Completion.Done → 0 < count → IsSpared self.old.cache self.new.cache addr
             (lba / sectors_of (geometry_of self.old)) ((lba + count - 1) / sectors_of (geometry_of self.old) + 1) }

@@ -32,7 +32,7 @@ impl<D: Disk> Array<D> {
         ensures puts { result ≡ Completion.Done
             → InTurn PutsStored (reverse (keys_of self.old.cache.entries)) self.old.store self.new.store }
         ensures quiet { self.old.cache.entries ≡ [] → self.new ≡ self.old }
-        ensures stopped { result ≡ Completion.Broken → is_broken self.old ≡ false → LeavesSome self.old.cache self.new.cache }
+        ensures stopped { result ≡ Completion.Broken → is_broken self.old ≡ false → LeavesSome self.old self.new }
         ensures follows { Follows self.old self.new }
     {
         self.blocks.flush_all()

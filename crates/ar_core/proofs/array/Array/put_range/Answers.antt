@@ -2,9 +2,9 @@ use Rattle.std.proofs.Common.{◌<◌, ◌*◌, ◌+◌, subst, sym, ap, ◌∙�
 use Rattle.ar_disks.specs.declared.geometry.Geometry.{Geometry}
 use Rattle.ar_disks.specs.Geometry.{sectors_of, block_len_of}
 use Rattle.ar_image.specs.Image.{ArrayState, is_broken, geometry_of}
-use Rattle.ar_cache.specs.Backing.{InTurn}
+use Rattle.ar_cache.specs.Backing.{InTurn, StopsInTurn}
 use Rattle.ar_image.specs.Sectors.{keys_in}
-use Rattle.ar_image.specs.Storing.{Overwrites, PutsBlock, PutsBlocks, ReadsBlock}
+use Rattle.ar_image.specs.Storing.{BreaksBlock, Overwrites, PutsBlock, PutsBlocks, ReadsBlock, StopsOver, StopsPutting}
 use Rattle.ar_image.specs.Following.{Follows}
 use Rattle.ar_image.specs.Seen.{IsUnit, Writes}
 use Rattle.ar_core.proofs.Serving.{key_known, padded_written, range_written}
@@ -44,3 +44,10 @@ returns-clause-puts g c = λ done.
     (subst
     (λ (h : Geometry). InTurn (Overwrites ReadsBlock PutsBlock h c.args.lba c.args.count) (keys_in h c.args.addr c.args.lba c.args.count) c.self.inside.blocks c.write_sectors.new.blocks)
     c.geometry-geometry.ensures (c.write_sectors.ensures.puts done))
+
+pub returns-clause-stopped : goal.returns-clause-stopped
+returns-clause-stopped g c = λ lost.
+    subst (λ (s : ArrayState). StopsPutting c.args.addr c.args.lba c.args.count s c.write_sectors.new.blocks) c.self.view_is
+    (subst
+    (λ (h : Geometry). StopsInTurn (Overwrites ReadsBlock PutsBlock h c.args.lba c.args.count) (StopsOver ReadsBlock BreaksBlock is_broken h c.args.lba c.args.count) (keys_in h c.args.addr c.args.lba c.args.count) c.self.inside.blocks c.write_sectors.new.blocks)
+    c.geometry-geometry.ensures (c.write_sectors.ensures.stopped lost))

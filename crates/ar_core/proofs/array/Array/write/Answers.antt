@@ -45,4 +45,5 @@ returns-clause-settles g c =
     let sound : is_broken c.args.self.now ≡ false = sym (ap is_broken c.self.view_is) ∙ sym c.is_broken.ensures.broken ∙ c.if-is_broken.false in
     let from : c.from-2.result ≡ c.args.count = c.from-2.ensures in
     settles_write c.args.self.now c.write_range-stored.new.self c.args.addr c.args.lba c.args.count c.args.fua c.write_range-stored.result c.reply_to_write.result
-    sound c.reply_to_write.ensures.done c.reply_to_write.ensures.broken (rw from at c.write_range-stored.ensures.forced) (rw from at c.write_range-stored.ensures.stored) (λ none. c.write_range-stored.ensures.nothing (from ∙ none))
+    sound c.reply_to_write.ensures.done c.reply_to_write.ensures.broken (rw from at c.write_range-stored.ensures.forced) (rw from at c.write_range-stored.ensures.stored)
+    c.write_range-stored.ensures.answer (rw from at c.write_range-stored.ensures.stopped) (λ none. c.write_range-stored.ensures.nothing (from ∙ none))
