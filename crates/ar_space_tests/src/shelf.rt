@@ -81,6 +81,8 @@ impl Backing for Shelf {
 
     ghost puts = { λ _ _ _. ⊤ };
 
+    ghost breaks = { λ _ _ _. ⊤ };
+
     fn get(&mut self, key: Key, into: &mut Block) -> Completion {
         self.gets = self.gets.wrapping_add(1);
         if !self.breaks() && copy(&self.blocks, key, into) {
