@@ -1,7 +1,7 @@
 // What the words of a command line ask for.
 use clap::builder::ValueParser;
 use clap::error::ErrorKind;
-use clap::{Arg, ArgMatches, Command, Error as ParseError, value_parser};
+use clap::{Arg, ArgAction, ArgMatches, Command, Error as ParseError, value_parser};
 use std::alloc::{AllocError, Global};
 use std::convert::AsStr;
 use thiserror::Error;
@@ -10,7 +10,7 @@ use thiserror::Error;
 #[derive(Clone, Copy, Debug, Error)]
 pub enum CommandLineFault {
     /// The words are not the program's options and their values. A call for help is none either.
-    #[error("bad command line: ar_load --port PORT [--hosts 1..4] [--bytes 512|4096|65536] [--seconds 1..10]")]
+    #[error("bad command line: ar_load --port PORT [--echo] [--echo-port PORT] [--hosts 1..4] [--bytes 512|4096|65536] [--seconds 1..10]")]
     Bad,
     /// Memory was refused.
     #[error("no memory")]
@@ -20,8 +20,12 @@ pub enum CommandLineFault {
 /// What is to be measured.
 #[derive(Clone, Copy)]
 pub struct Options {
-    /// The port of 127.0.0.1 at which the array is served.
+    /// The port of 127.0.0.1 at which the array is served, or at which the bare echo is to be.
     pub port: u16,
+    /// Whether this is the bare echo, which another run with the same hosts and bytes asks.
+    pub is_echo: bool,
+    /// The port of 127.0.0.1 at which the bare echo is.
+    pub echo_port: u16,
     /// The most hosts that ask at once.
     pub hosts: u8,
     /// Sectors of a request.
@@ -52,6 +56,8 @@ fn matches_of<'a, S: AsStr>(alloc: Global, words: &'a [S]) -> Result<ArgMatches<
 fn command<'a>(alloc: Global) -> Result<Command<'a>, AllocError> {
     Command::new(alloc, "ar_load")
         .arg(port(alloc))?
+        .arg(echo(alloc))?
+        .arg(echo_port(alloc))?
         .arg(hosts(alloc))?
         .arg(bytes(alloc))?
         .arg(seconds(alloc))
@@ -59,6 +65,16 @@ fn command<'a>(alloc: Global) -> Result<Command<'a>, AllocError> {
 
 fn port<'a>(alloc: Global) -> Arg<'a> {
     option(alloc, "port", value_parser!(u16).range(1..)).required(true)
+}
+
+fn echo<'a>(alloc: Global) -> Arg<'a> {
+    Arg::new(alloc, "echo")
+        .long("echo")
+        .action(ArgAction::SetTrue)
+}
+
+fn echo_port<'a>(alloc: Global) -> Arg<'a> {
+    option(alloc, "echo-port", value_parser!(u16).range(1..)).default_value("7118")
 }
 
 fn hosts<'a>(alloc: Global) -> Arg<'a> {
@@ -81,6 +97,8 @@ fn option<'a>(alloc: Global, name: &'a str, parser: ValueParser<'a>) -> Arg<'a> 
 fn options_of(matches: &ArgMatches<'_>) -> Option<Options> {
     Some(Options {
         port: matches.get_one("port")?,
+        is_echo: matches.get_flag("echo"),
+        echo_port: matches.get_one("echo-port")?,
         hosts: matches.get_one("hosts")?,
         sectors: sectors_of(matches.get_one("bytes")?)?,
         seconds: matches.get_one("seconds")?,

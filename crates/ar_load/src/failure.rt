@@ -19,12 +19,9 @@ pub enum Failure {
     /// A reply other than GOOD: its status byte.
     #[error("a reply of status {0}, not good")]
     NotGood(u8),
-    /// The bare echo can't be set up.
+    /// The bare echo can't be reached, or can't be set up.
     #[error("echo fault")]
     Echo,
-    /// No thread could be started for the echo.
-    #[error("no thread")]
-    NoThread,
     /// The clock can't be read.
     #[error("no clock")]
     Clock,

@@ -1,5 +1,4 @@
 // A host that asks, request after request.
-use crate::echo::Echo;
 use crate::exchange::exchange;
 use crate::failure::Failure;
 use crate::figures::Figures;
@@ -10,18 +9,21 @@ use ar_frames::{Linked, hello};
 use std::alloc::Global;
 use std::io::Read;
 use std::net::{Net, Shutdown, TcpListener, TcpStream};
-use std::sync::Wait;
-use std::thread;
-use std::thread::Threads;
 use std::time::Clock;
 
-/// A host that is ready to ask: its session with the array, its connection to a bare echo, and what it asks both.
+/// A host that is ready to ask: its session with the array, its connection to the bare echo, and what it asks both.
 #[derive(Drop)]
 pub struct Asker {
     talk: Talk,
     array: TcpStream,
-    near: TcpStream,
-    echo: Echo,
+    echo: TcpStream,
+}
+
+/// Where array and echo are, at 127.0.0.1.
+#[derive(Clone, Copy)]
+pub struct Ports {
+    pub array: u16,
+    pub echo: u16,
 }
 
 // The request frames, in turn, and room for a reply.
@@ -32,49 +34,36 @@ struct Talk {
 }
 
 impl Asker {
-    /// Logs a host in, writes all places that it will ask for, so that each block stands there, and sets its echo up.
+    /// Logs a host in, writes all places that it will ask for, so that each block stands there, and connects to the echo.
     pub fn open<R: Net<Listener = TcpListener, Stream = TcpStream>>(
         rt: &R,
         alloc: Global,
-        port: u16,
+        ports: Ports,
         host: u8,
         shape: Shape,
     ) -> Result<Asker, Failure> {
-        let array = open_session(rt, port, host)?;
+        let array = open_session(rt, ports.array, host)?;
         let kind = Kind::Overwrite;
         Talk::of(alloc, Shape { kind, ..shape })?.ask_all(&array)?;
-        let (echo, near) = Echo::open(rt, alloc, shape)?;
+        let echo = connect(rt, ports.echo).map_err(|_| Failure::Echo)?;
         Ok(Asker {
             talk: Talk::of(alloc, shape)?,
             array,
-            near,
             echo,
         })
     }
 
     /// Asks the array and the echo in turn, by the plan, and answers how many requests of each were done. The session has
     /// ended then.
-    pub fn run<R: Threads + Wait + Clock + Sync>(
-        self,
-        rt: &R,
-        plan: Plan,
-    ) -> Result<Figures, Failure> {
+    pub fn run<C: Clock>(self, clock: &C, plan: Plan) -> Result<Figures, Failure> {
         let Asker {
             mut talk,
             array,
-            near,
             echo,
         } = self;
-        thread::scope(
-            thread::scope_env(),
-            rt,
-            |scope| -> Result<Figures, Failure> {
-                let Ok(_echo) = scope.spawn(move || echo.serve()) else {
-                    return Err(Failure::NoThread);
-                };
-                talk.ask_both(rt, plan, array, near)
-            },
-        )
+        let figures = talk.ask_rounds(clock, plan, &array, &echo)?;
+        leave(&array);
+        Ok(figures)
     }
 }
 
@@ -122,19 +111,6 @@ impl Talk {
             exchange(stream, request, &mut self.reply)?;
         }
         Ok(())
-    }
-
-    // Asks array and echo in turn, and leaves both.
-    fn ask_both<C: Clock>(
-        &mut self,
-        clock: &C,
-        plan: Plan,
-        array: TcpStream,
-        echo: TcpStream,
-    ) -> Result<Figures, Failure> {
-        let figures = self.ask_rounds(clock, plan, &array, &echo)?;
-        leave(&array);
-        Ok(figures)
     }
 
     // Asks array and echo in turn. The first round is not counted.

@@ -1,4 +1,5 @@
-//! What a served array takes: hosts ask it over sockets, request after request, and beside it a bare echo.
+//! What a served array takes: hosts ask it over sockets, request after request, and beside it a bare echo, which is this program,
+//! too.
 #![tactic(auto)]
 
 mod command_line;
@@ -13,14 +14,15 @@ mod request;
 mod stream;
 
 use command_line::{CommandLineFault, Options, options_in};
+use echo::serve_echo;
 use failure::Failure;
 use figures::Line;
+use host::Ports;
 use measure::{Trial, measure};
 use request::{Kind, Shape};
 use std::alloc::Global;
 use std::net::{Net, TcpListener, TcpStream};
 use std::process::ExitCode;
-use std::sync::Wait;
 use std::thread::Threads;
 use std::time::Clock;
 use std::{env, io};
@@ -56,25 +58,34 @@ fn words_of(rt: &HostRuntime, alloc: Global) -> Result<Vec<String>, CommandLineF
     }
 }
 
-// Measures reads, and then overwrites.
-fn run<R: Threads + Wait + Clock + Net<Listener = TcpListener, Stream = TcpStream> + Print + Sync>(
+// Is the echo, or measures reads and then overwrites.
+fn run<R: Threads + Clock + Net<Listener = TcpListener, Stream = TcpStream> + Print + Sync>(
     rt: &R,
     alloc: Global,
     options: Options,
 ) -> Result<(), Failure> {
+    let sectors = options.sectors;
+    if options.is_echo {
+        return serve_echo(rt, alloc, options.port, options.hosts, sectors);
+    }
     for kind in Kind::ALL {
-        let sectors = options.sectors;
         run_shape(rt, alloc, options, Shape { kind, sectors })?;
     }
     Ok(())
 }
 
 // Measures one host, and then as many as are asked for.
-fn run_shape<
-    R: Threads + Wait + Clock + Net<Listener = TcpListener, Stream = TcpStream> + Print + Sync,
->(rt: &R, alloc: Global, options: Options, shape: Shape) -> Result<(), Failure> {
+fn run_shape<R: Threads + Clock + Net<Listener = TcpListener, Stream = TcpStream> + Print + Sync>(
+    rt: &R,
+    alloc: Global,
+    options: Options,
+    shape: Shape,
+) -> Result<(), Failure> {
     let trial = |hosts| Trial {
-        port: options.port,
+        ports: Ports {
+            array: options.port,
+            echo: options.echo_port,
+        },
         shape,
         hosts,
         seconds: options.seconds,

@@ -1,12 +1,11 @@
 // Hosts that ask at once.
 use crate::failure::Failure;
 use crate::figures::{Figures, Rates};
-use crate::host::Asker;
+use crate::host::{Asker, Ports};
 use crate::plan::Plan;
 use crate::request::Shape;
 use std::alloc::Global;
 use std::net::{Net, TcpListener, TcpStream};
-use std::sync::Wait;
 use std::thread;
 use std::thread::Threads;
 use std::time::Clock;
@@ -14,8 +13,7 @@ use std::time::Clock;
 /// So many hosts, each of which asks for the same again and again.
 #[derive(Clone, Copy)]
 pub struct Trial {
-    /// The port of the array.
-    pub port: u16,
+    pub ports: Ports,
     pub shape: Shape,
     pub hosts: u8,
     /// For how many seconds the array is asked, and for how many more the bare echo.
@@ -23,7 +21,7 @@ pub struct Trial {
 }
 
 /// Makes all hosts ready, and then has them ask at once, each in a thread of its own.
-pub fn measure<R: Threads + Wait + Clock + Net<Listener = TcpListener, Stream = TcpStream> + Sync>(
+pub fn measure<R: Threads + Clock + Net<Listener = TcpListener, Stream = TcpStream> + Sync>(
     rt: &R,
     alloc: Global,
     trial: Trial,
@@ -48,7 +46,7 @@ fn askers_of<R: Net<Listener = TcpListener, Stream = TcpStream>>(
 ) -> Result<Vec<Asker>, Failure> {
     let mut askers = Vec::new(alloc);
     for host in 0..trial.hosts {
-        let asker = Asker::open(rt, alloc, trial.port, host, trial.shape)?;
+        let asker = Asker::open(rt, alloc, trial.ports, host, trial.shape)?;
         askers.push(asker).map_err(|_| Failure::NoMemory)?;
     }
     Ok(askers)
