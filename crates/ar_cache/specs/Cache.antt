@@ -139,9 +139,9 @@ answer_of Idle = stored.Done
 answer_of Broken = stored.Broken
 
 -- A backing broke while the cache was emptied: the most recently used of its entries stand, at least the one whose
--- destaging broke it. When that destaging began, the others had been put in turn, the least recently used first; the backing was in
--- a state that its own relation joins to the first and to the last, it was broken only if it was at first, and no key was seen
--- with another block. And then the put of the least recently used of those that stand ended broken.
+-- destaging broke it. When that destaging began, the others had been put in turn, the least recently used first; the backing
+-- was in a state that its own relation joins to the first and to the last, it was broken only if it was at first, and no key was
+-- seen with another block. And then the put of the least recently used of those that stand ended broken.
 pub record StopsAt {S : Type 0} (block_at : S → Key → List ℕ) (is_broken : S → Bool) (follows : S → S → Type 0)
     (puts breaks : S → Key → S → Type 0) (old new : CacheState) (backing ended : S) : Type 0 where
   pub left : ℕ

@@ -29,9 +29,9 @@ pub record Serves (old : ArrayState) (addr : Addr) (table : Answered) (otherwise
   pub broken : IsTrue (is_broken new) → IsGiven otherwise reply
 
 -- Which disks were asked: none by a command that has no sector to read or to write, that is refused, or that finds the array
--- broken; by a READ, those of its blocks, and by one that is BUSY all of these or none. And where the unit's blocks are kept afterwards: as before, but after a WRITE that was
--- done, which has put each of its blocks once; and none of these is in the cache where it came with FORCE UNIT ACCESS. One at which
--- the array broke has put them up to the block at which it did.
+-- broken; by a READ, those of its blocks, and by one that is BUSY all of these or none. And where the unit's blocks are kept
+-- afterwards: as before, but after a WRITE. One that was done has put each of its blocks once, and none of these is in the cache
+-- where it came with FORCE UNIT ACCESS; one at which the array broke has put them up to the block at which it did.
 pub record Settles (old : ArrayState) (addr : Addr) (command : Result Command Sense) (reply : Reply) (new : ArrayState) : Type 0 where
   pub still : moves_sectors command ≡ false → new ≡ old
   pub refused : reply.status ≡ CheckCondition → reply ≢ check internal_target_failure → new ≡ old

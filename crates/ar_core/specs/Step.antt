@@ -135,8 +135,8 @@ pub record Obeys (old : ArrayState) (addr : Addr) (cdb bytes : List ℕ) (reply 
   -- asked; it has read before none but those of which it has only a part
   pub stored : (lba count : ℕ) (fua : Bool) → reading cdb ≡ Ok (Write lba count fua) → reply.status ≡ Good
       → StoresBlocks addr lba count fua old new
-  -- a WRITE at which the array broke has put its blocks so up to one, in whose read or put it broke, and no other; or, where it was
-  -- asked to force them, it has put all, and forced them in ascending order up to one whose put broke it
+  -- a WRITE at which the array broke has put its blocks so up to one, in whose read or put it broke, and no other; or, where it
+  -- was asked to force them, it has put all, and forced them in ascending order up to one whose put broke it
   pub stopped : (lba count : ℕ) (fua : Bool) → reading cdb ≡ Ok (Write lba count fua) → is_broken old ≡ false → IsTrue (is_broken new)
       → StopsStoring addr lba count fua old new
 

@@ -34,9 +34,9 @@ pub fn own_entries_decide_replies()
         → reply ≡ answer }
 {}
 
-/// Redundancy: while no disk is lost any one of them may go, and each block of each unit stands on as it does, whatever then stands
-/// on that disk. Every array keeps `IsKept` (`Array::health`, clause `kept`), so this holds between any two calls. It does nothing
-/// when it is called.
+/// Redundancy: while no disk is lost any one of them may go, and each block of each unit stands on as it does, whatever then
+/// stands on that disk. Every array keeps `IsKept` (`Array::health`, clause `kept`), so this holds between any two calls. It does
+/// nothing when it is called.
 pub fn any_disk_may_go()
     ensures { (array : ArrayState) (disk : ℕ) → IsKept array.store → array.store.disks.health ≡ Whole → SurvivesLossOf array.store disk }
 {}

@@ -123,8 +123,8 @@ impl<D: Disk> Array<D> {
         ensures free { result ≢ Health.Broken → 0 < free_groups self.now.store.book }
         ensures padded { IsPadded self.now }
 
-        // The tables agree with each other and with the disks (so that, by the law `any_disk_may_go`, an array whose disks are whole
-        // outlives the loss of any one), and the cache has blocks of units alone.
+        // The tables agree with each other and with the disks (so that, by the law `any_disk_may_go`, an array whose disks are
+        // whole outlives the loss of any one), and the cache has blocks of units alone.
         ensures kept { IsKept self.now.store }
         ensures joined { IsJoined self.now }
 

@@ -25,9 +25,9 @@ pub struct Mismatch {
 
 impl<D: Disk, L: Ledger> Kept<D, L> {
     /// Compares each host's transcript with its part of the history: Ok exactly where all four are the same, else the first
-    /// host of which they aren't, and the first place where they differ. The history is legal in any case. At Ok each reply in a transcript is the one that the
-    /// unit's own makings, growths, removals and commands before it give. It takes no memory, and walks the history once for each
-    /// host.
+    /// host of which they aren't, and the first place where they differ. The history is legal in any case. At Ok each reply in a
+    /// transcript is the one that the unit's own makings, growths, removals and commands before it give. It takes no memory, and
+    /// walks the history once for each host.
     pub fn close(&self, seats: &[Seat<L>; 4]) -> Result<Report, Mismatch>
         requires order { map (λ (s : SeatState). s.host.number) seats.now ≡ 0 ∷ 1 ∷ 2 ∷ 3 ∷ [] }
         ensures legal { IsLegal self.now.history }

@@ -40,8 +40,9 @@ pub record PutsBlock (old : ArrayState) (key : Key) (new : ArrayState) : Type 0 
   pub stored : InTurn PutsStored (destaged old.cache key new.cache) old.store new.store
   pub kept : destaged old.cache key new.cache ≡ [] → new.store ≡ old.store
 
--- A put ended on a broken array: the cache is as it was. One that was broken before has not changed; else the block had no entry,
--- and what the put gives to the disks was put in turn, up to the block whose put broke them: its own, or that which it pushes out.
+-- A put ended on a broken array: the cache is as it was. One that was broken before has not changed; else the block had no
+-- entry, and what the put gives to the disks was put in turn, up to the block whose put broke them: its own, or that which it
+-- pushes out.
 pub record BreaksBlock (old : ArrayState) (key : Key) (new : ArrayState) : Type 0 where
   pub cache : new.cache ≡ old.cache
   pub lost : IsTrue (is_broken old) → new ≡ old
@@ -94,15 +95,15 @@ StoresBlocks addr lba count false old new = PutsBlocks addr lba count old new
 StoresBlocks addr lba count true old new =
     (put : ArrayState) × PutsBlocks addr lba count old put × InTurn ForcesBlock (keys_in (geometry_of old) addr lba count) put new
 
--- The blocks of these sectors were written over once each, in ascending order, up to one at which the array broke: in its read, or
--- in its put.
+-- The blocks of these sectors were written over once each, in ascending order, up to one at which the array broke: in its read,
+-- or in its put.
 abbrev pub StopsPutting : Addr → ℕ → ℕ → ArrayState → ArrayState → Type 0
 StopsPutting addr lba count old new =
     StopsInTurn (Overwrites ReadsBlock PutsBlock (geometry_of old) lba count) (StopsOver ReadsBlock BreaksBlock is_broken (geometry_of old) lba count)
     (keys_in (geometry_of old) addr lba count) old new
 
--- And for FORCE UNIT ACCESS it stopped so, or each was written over, and then forced in ascending order, up to one whose put broke
--- the array.
+-- And for FORCE UNIT ACCESS it stopped so, or each was written over, and then forced in ascending order, up to one whose put
+-- broke the array.
 abbrev pub StopsStoring : Addr → ℕ → ℕ → Bool → ArrayState → ArrayState → Type 0
 StopsStoring addr lba count false old new = StopsPutting addr lba count old new
 StopsStoring addr lba count true old new =
