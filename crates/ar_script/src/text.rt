@@ -1,4 +1,6 @@
 // Answers as text.
+ghost use Rattle.std.specs.Prelude.{◌<◌};
+
 use crate::runs::run_len;
 use ar_core::{
     Array, Balance, Class, DiskRefusal, Flush, GroupUse, Health, HomeOf, LevelOf, Move, OutcomeOf,
@@ -219,10 +221,24 @@ fn write_runs<W: Write>(out: &mut W, bytes: &[u8]) -> io::Result<()> {
         };
         let count = run_len(rest);
         write_gap(out, place)?;
-        write!(out, "{count}x{byte:02X}")?;
+        write_run(out, count, *byte)?;
         rest = &rest[count..];
     }
     Ok(())
+}
+
+// Writes a run. (Without `write!`, which took a sixth of the time of a line that reads a small block.)
+fn write_run<W: Write>(out: &mut W, count: usize, byte: u8) -> io::Result<()> {
+    let mut digits = itoa::Buffer::new();
+    out.write_all(digits.format(count).as_bytes())?;
+    out.write_all(&[b'x', hex_digit(byte >> 4), hex_digit(byte & 15)])
+}
+
+// A number below 16 as a hexadecimal digit.
+fn hex_digit(number: u8) -> u8
+    requires { number < 16 }
+{
+    b"0123456789ABCDEF"[usize::from(number)]
 }
 
 // Writes the space that parts a word from the one before it.
