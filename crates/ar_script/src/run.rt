@@ -1,5 +1,7 @@
 // Runs a script.
-ghost use Rattle.std.specs.Prelude.{◌≡◌, ◌≢◌, ◌≤◌, ◌⊎◌, max, true, None, Err, IfErr, OnOk};
+ghost use Rattle.std.specs.Prelude.{◌≡◌, ◌≢◌, ◌≤◌, ◌⊎◌, max, true, false, [], None, Err, IfErr, OnOk};
+ghost use Rattle.std.specs.Io.Buffered.{writer_buffer, writer_contents};
+ghost use Rattle.std.specs.Io.KnownBytes.{Keeps};
 ghost use Rattle.ar_extents.specs.Changes.{start_fault};
 ghost use Rattle.ar_orders.specs.Left.{lines_left, lines_begun};
 ghost use Rattle.ar_orders.specs.Lines.{lines_of, IsNumbered, IsReached};
@@ -78,7 +80,9 @@ fn write_answers<R: Read + Drop, W: Write + Drop>(
         return Err(fault_at(1, FaultKind::NoMemory));
     };
     let done = run_lines(alloc, runner, lines, &mut out);
-    finish(out, lines.number(), done)
+    let done = finish(&mut out, lines.number(), done);
+    let (_writer, _unwritten) = out.into_parts();
+    done
 }
 
 // A fault at a line, or at the first where none was begun.
@@ -133,20 +137,23 @@ fn answer_line<R: Read + Drop, W: Write + Drop>(
     }
 }
 
-// Writes what is not yet written. After a write fault it is let go.
+// Writes what is not yet written: unless a write fault is told, nothing is left in the buffer. After a write fault the rest is
+// let go.
 fn finish<W: Write + Drop>(
-    mut out: BufWriter<W>,
+    out: &mut BufWriter<W>,
     line: u32,
     done: Result<(), Fault>,
 ) -> Result<(), Fault>
     requires line { line ≤ 1000000 }
     requires numbered { IfErr done IsNumbered }
+
     ensures ends { Ends line done result }
     ensures numbered { IfErr result IsNumbered }
+
+    ensures written { tells_write_fault result ≡ false → writer_buffer out.new ≡ [] }
+    ensures given { Keeps (writer_contents W.contents out.old) (writer_contents W.contents out.new) }
 {
-    let failed = is_write_fault(&done) || out.flush().is_err();
-    let (_writer, _unwritten) = out.into_parts();
-    if failed {
+    if is_write_fault(&done) || out.flush().is_err() {
         Err(fault_at(line, FaultKind::WriteFault))
     } else {
         done
