@@ -1,5 +1,5 @@
 // Sessions in threads.
-ghost use Rattle.std.specs.Prelude.{◌≡◌, ◌+◌, ◌<◌, ◌≤◌, All, IfOk, OnOk, OnErr, vec_len, vec_capacity, length};
+ghost use Rattle.std.specs.Prelude.{◌≡◌, ◌≢◌, ◌+◌, ◌<◌, ◌≤◌, All, IfOk, OnOk, OnErr, vec_len, vec_capacity, length};
 ghost use Rattle.std.specs.VecDeque.{deque_len, deque_capacity};
 ghost use Rattle.ar_sessions.specs.Ends.{WasServed, IsEnd};
 
@@ -184,6 +184,7 @@ where
     requires { O.to_come door.old ≡ roll.left }
     ensures count { vec_len result ≡ roll.left }
     ensures ends { All IsEnd result.items }
+    ensures opened { O.to_come door.new ≡ 0 }
 {
     let Roll {
         mut pending,
@@ -217,7 +218,9 @@ fn begin<
     G: Gate + Sync,
     S: Source + Send + Drop + 's,
     W: Sink + Send + Drop + 's,
->(scope: &'s Scope<'s, E>, connection: Connection<'s, R, D, L, G, S, W>) -> Pending {
+>(scope: &'s Scope<'s, E>, connection: Connection<'s, R, D, L, G, S, W>) -> Pending
+    ensures begun { result ≢ Pending.Unopened }
+{
     let session = move || -> SessionEnd
         ensures { WasServed result }
     { connection.serve() };
