@@ -1,5 +1,5 @@
 // A disk array as plain data.
-ghost use Rattle.std.specs.Prelude.{◌≡◌, ◌≤◌};
+ghost use Rattle.std.specs.Prelude.{◌≡◌, ◌≢◌, ℕ, ◌+◌, ◌^◌, ◌<◌, ◌≤◌, slice_index};
 ghost use Rattle.ar_picture.specs.Cells.{stands_on, fullness_of, is_missing, group_at};
 
 use ar_disks::{Members, Place};
@@ -97,7 +97,19 @@ pub struct Unit {
 /// How many blocks of each unit a group holds. Unit L of host H has place 8 H + L.
 #[derive(Clone, Copy, Debug, PartialEq, Eq)]
 pub struct Held {
-    pub blocks: [u16; UNITS_MAX],
+    pub blocks: [u32; UNITS_MAX],
+}
+
+impl Held {
+    /// Counts one more block of the unit with a place.
+    pub fn add(&mut self, place: usize)
+        requires place { place < 32 }
+        requires few { slice_index self.old.blocks place + 1 < 2 ^ 32 }
+        ensures one { slice_index self.new.blocks place ≡ slice_index self.old.blocks place + 1 }
+        ensures others { (other : ℕ) → other ≢ place → slice_index self.new.blocks other ≡ slice_index self.old.blocks other }
+    {
+        self.blocks[place] += 1;
+    }
 }
 
 /// A disk array, as its pictures show it. Disks, extents and groups count from 0.

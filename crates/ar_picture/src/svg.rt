@@ -186,7 +186,7 @@ fn write_bar<W: Write>(
         "<svg x='{x}' y='{y}' width='{width}' height='{height}'"
     )?;
     write!(out, " viewBox='0 0 {slots} 1' preserveAspectRatio='none'>")?;
-    let mut from = 0u16;
+    let mut from = 0u32;
     for (blocks, colour) in held.blocks.iter().zip(COLOURS.iter()) {
         if *blocks > 0 {
             write!(

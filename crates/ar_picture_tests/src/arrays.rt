@@ -66,7 +66,7 @@ pub fn picture_of(alloc: Global, plan: Plan<'_>, held: &[Held]) -> Result<Pictur
 }
 
 /// So many blocks of unit 0 of host 0, and of unit 1 of host 2.
-pub fn held(first: u16, second: u16) -> Held {
+pub fn held(first: u32, second: u32) -> Held {
     let mut blocks = [0; UNITS_MAX];
     blocks[0] = first;
     blocks[17] = second;

@@ -1,4 +1,5 @@
 pub mod AnswerLemmas
+pub mod Counting
 pub mod Ending
 pub mod FaultLemmas
 pub mod Playing

@@ -1,10 +1,14 @@
 -- An array as its pictures show it.
-use Rattle.std.specs.Prelude.{◌≡◌, List, length, map}
+use Rattle.std.specs.Prelude.{◌≡◌, ◌≢◌, ℕ, ◌+◌, ◌*◌, ◌/◌, ◌%◌, ◌<◌, ◌≤◌, Bool, false, ◌==◌, if◌then◌else◌, List, [], length, map, count_by, slice_index, slice_index_or, Option, Some, None}
+use Rattle.std.specs.List.{range_with_len, filter_map}
+use Rattle.std.proofs.Common.{mod-lt, lit<}
+use Rattle.ar_disks.specs.declared.address.Addr.{Addr}
 use Rattle.ar_extents.specs.declared.health.Health.{Health}
 use Rattle.ar_extents.specs.declared.health.Health.TheVariants.{Whole, Out, Rebuilding, Broken}
 use Rattle.ar_book.specs.declared.class.Class.{Class}
 use Rattle.ar_book.specs.declared.class.Class.TheVariants.{Free, Mirrored, Parity}
-use Rattle.ar_book.specs.Tables.{Tables}
+use Rattle.ar_book.specs.declared.class.Slot.{Slot}
+use Rattle.ar_book.specs.Tables.{Tables, has_unit, unit_in, placed}
 use Rattle.ar_image.specs.Image.{ArrayState}
 use Rattle.ar_core.specs.declared.map.GroupView.{GroupView}
 use Rattle.ar_core.specs.Map.{view_of}
@@ -13,7 +17,9 @@ use Rattle.ar_picture.specs.declared.picture.Class.TheVariants as classes
 use Rattle.ar_picture.specs.declared.picture.Group.{Group}
 use Rattle.ar_picture.specs.declared.picture.Health.{Health as PictureHealth}
 use Rattle.ar_picture.specs.declared.picture.Health.TheVariants as states
+use Rattle.ar_picture.specs.declared.picture.Held.{Held}
 use Rattle.ar_picture.specs.declared.picture.Picture.{Picture}
+use Rattle.ar_picture.specs.declared.picture.Unit.{Unit as PictureUnit}
 
 -- a class, as pictures have it
 abbrev pub class_shown : Class → PictureClass
@@ -36,10 +42,68 @@ group_in view = record { class = class_shown view.class; members = view.members;
 abbrev pub groups_in : Tables → List Group
 groups_in t = map group_in (map (view_of t.geometry) t.groups)
 
--- The picture has the array's disks, their health, and its groups: their classes, their extents, and how many blocks each holds.
--- (Whose blocks these are it says, too, but no clause does.)
+-- the place of an address among all that there can be: unit L of host H has place 8 H + L
+abbrev pub place_of : Addr → ℕ
+place_of addr = 8 * addr.host.number + addr.lun
+
+-- the address that has a place
+abbrev pub addr_at : ℕ → Addr
+addr_at place = record { host = record { number = place / 8 % 4; in_range = mod-lt (place / 8) (lit< tt) }; lun = place % 8 }
+
+-- the unit at an address, as pictures have it, where there is one: how many blocks it has, and how many of them have a home
+abbrev pub unit_at : Tables → Addr → Option PictureUnit
+unit_at t addr =
+    let unit = unit_in t.units addr in
+    if has_unit t addr
+    then Some (record { host = addr.host.number; lun = addr.lun; blocks = length unit.homes; placed = placed unit })
+    else None
+
+-- the units at the first places
+unfoldable pub units_below : Tables → ℕ → List PictureUnit
+units_below t places = filter_map (unit_at t) (map addr_at (range_with_len 0 places))
+
+-- all units, in the order of their hosts and LUNs
+abbrev pub units_in : Tables → List PictureUnit
+units_in t = units_below t 32
+
+-- a home is in a group
+abbrev pub is_in : ℕ → Option Slot → Bool
+is_in group None = false
+is_in group (Some slot) = slot.group == group
+
+-- how many blocks of the unit at an address have their home in a group
+abbrev pub blocks_in : Tables → ℕ → Addr → ℕ
+blocks_in t group addr = count_by (is_in group) (unit_in t.units addr).homes
+
+-- how many blocks of the unit with a place are counted in a group
+abbrev pub held_at : List Held → ℕ → ℕ → ℕ
+held_at held group place = slice_index (slice_index_or held group (record { blocks = [] })).blocks place
+
+-- the count of one place of one group is one more, where there is the group, and all others are as they were
+pub record AddsOne (group place : ℕ) (old new : List Held) : Type 0 where
+  pub groups : length new ≡ length old
+  pub one : group < length old → held_at new group place ≡ held_at old group place + 1
+  pub other_groups : (other at : ℕ) → other ≢ group → held_at new other at ≡ held_at old other at
+  pub other_places : (at : ℕ) → at ≢ place → held_at new group at ≡ held_at old group at
+
+-- blocks with these homes were counted for one place, each at the group of its home, and the counts of others are as they were
+pub record AddsHomes (homes : List (Option Slot)) (place : ℕ) (old new : List Held) : Type 0 where
+  pub groups : length new ≡ length old
+  pub counted : (group : ℕ) → group < length old → held_at new group place ≡ held_at old group place + count_by (is_in group) homes
+  pub other_places : (group at : ℕ) → at ≢ place → held_at new group at ≡ held_at old group at
+
+-- for each group it is counted how many blocks of each unit stand in it
+pub record HoldsBlocks (t : Tables) (held : List Held) : Type 0 where
+  pub groups : length held ≡ length t.groups
+  pub blocks : (group : ℕ) (addr : Addr) → group < length t.groups → addr.lun < 8 → held_at held group (place_of addr) ≡ blocks_in t group addr
+
+-- The picture has the array's disks, their health, and its groups: their classes, their extents, and how many blocks each holds. It
+-- has the units, in the order of their hosts and LUNs, each with the number of its blocks and of those that have a home, and says of
+-- each group how many blocks of each unit stand in it.
 pub record IsPicture (array : ArrayState) (picture : Picture) : Type 0 where
   pub disks : picture.disks ≡ length array.store.disks.disks
   pub extents : picture.extents ≡ array.store.disks.extents
   pub health : picture.health ≡ health_shown array.store.disks.health
   pub groups : picture.groups.items ≡ groups_in array.store.book
+  pub units : picture.units.items ≡ units_in array.store.book
+  pub held : HoldsBlocks array.store.book picture.held.items

@@ -1,7 +1,10 @@
 // An array as its pictures show it.
-ghost use Rattle.std.specs.Prelude.{◌≡◌, ◌≢◌, map, IfOk, IfErr};
+ghost use Rattle.std.specs.Prelude.{◌≡◌, ◌≢◌, ℕ, ◌+◌, ◌^◌, ◌<◌, ◌++◌, length, map, IfOk, IfErr, OnOk};
+ghost use Rattle.std.specs.Option.{option_to_list};
+ghost use Rattle.ar_book.specs.Book.{TablesAgree};
+ghost use Rattle.ar_book.specs.Tables.{unit_in};
 ghost use Rattle.ar_script.specs.Orders.{IsLost};
-ghost use Rattle.ar_script.specs.Pictures.{IsPicture, health_shown, class_shown, group_in, groups_in};
+ghost use Rattle.ar_script.specs.Pictures.{IsPicture, health_shown, class_shown, group_in, groups_in, unit_at, units_in, addr_at, held_at, AddsOne, AddsHomes, HoldsBlocks};
 
 use ar_core::{Array, Class, GroupView, Health, HomeOf};
 use ar_disks::{Addr, Disk, Host};
@@ -34,13 +37,14 @@ pub fn write_picture<W: Write, D: Disk>(
 pub fn picture_of<D: Disk>(alloc: Global, array: &Array<D>) -> Result<Picture, AllocError>
     ensures { IfOk result (IsPicture array.now) }
 {
+    let health = health_of(array.health());
     let groups = groups_of(alloc, array)?;
     let mut held = vec![in alloc; NOTHING; groups.len()]?;
     let units = units_of(alloc, array, &mut held)?;
     Ok(Picture {
         disks: array.disks(),
         extents: array.extents(),
-        health: health_of(array.health()),
+        health,
         groups,
         units,
         held,
@@ -98,53 +102,89 @@ fn units_of<D: Disk>(
     alloc: Global,
     array: &Array<D>,
     held: &mut Vec<Held>,
-) -> Result<Vec<Unit>, AllocError> {
+) -> Result<Vec<Unit>, AllocError>
+    requires tables { TablesAgree array.now.store.book }
+    requires groups { length held.old.items ≡ length array.now.store.book.groups }
+    requires fresh { (group place : ℕ) → held_at held.old.items group place ≡ 0 }
+    ensures units { IfOk result (λ units. units.items ≡ units_in array.now.store.book) }
+    ensures held { OnOk result (HoldsBlocks array.now.store.book held.new.items) }
+{
     let mut units = Vec::new(alloc);
     for place in 0..UNITS_MAX {
-        let Some(host) = Host::new((place / 8) as u8) else {
-            break;
-        };
-        let lun = (place % 8) as u8;
-        if let Some(unit) = unit_at(array, Addr { host, lun }, place, held) {
-            units.push(unit)?;
-        }
+        let unit = unit_at(array, place, held);
+        list(&mut units, unit)?;
     }
     Ok(units)
 }
 
-// The unit at an address, which has this place among all that there can be.
-fn unit_at<D: Disk>(
-    array: &Array<D>,
-    addr: Addr,
-    place: usize,
-    held: &mut Vec<Held>,
-) -> Option<Unit> {
-    let (mut blocks, mut placed) = (0u32, 0u32);
+// Lists a unit, where there is one.
+fn list(units: &mut Vec<Unit>, unit: Option<Unit>) -> Result<(), AllocError>
+    ensures { OnOk result (units.new.items ≡ units.old.items ++ option_to_list unit) }
+{
+    if let Some(unit) = unit {
+        units.push(unit)?;
+    }
+    Ok(())
+}
+
+// The unit that has this place among all that there can be. Its blocks are counted, each at the group that holds it.
+fn unit_at<D: Disk>(array: &Array<D>, place: usize, held: &mut Vec<Held>) -> Option<Unit>
+    requires place { place < 32 }
+    requires tables { TablesAgree array.now.store.book }
+    requires fresh { (group : ℕ) → held_at held.old.items group place ≡ 0 }
+    ensures unit { result ≡ unit_at array.now.store.book (addr_at place) }
+    ensures held { AddsHomes (unit_in array.now.store.book.units (addr_at place)).homes place held.old.items held.new.items }
+{
+    let addr = addr_at(place);
+    let mut placed = 0;
     for rb in 0..u32::MAX {
         match array.home_of(addr, rb) {
             HomeOf::Absent => return None,
-            HomeOf::Outside => break,
+            HomeOf::Outside => return Some(shown(addr, rb, placed)),
             HomeOf::Unplaced => {}
             HomeOf::At(slot) => {
-                placed = placed.saturating_add(1);
+                placed += 1;
                 count(held, slot.group, place);
             }
         }
-        blocks = rb + 1;
     }
-    Some(Unit {
+    unreachable!()
+}
+
+// The address that has a place.
+fn addr_at(place: usize) -> Addr
+    requires { place < 32 }
+    ensures { result ≡ addr_at place }
+{
+    let Some(host) = Host::new((place / 8) as u8) else {
+        unreachable!()
+    };
+    Addr {
+        host,
+        lun: (place % 8) as u8,
+    }
+}
+
+// A unit with so many blocks, of which so many have a home.
+fn shown(addr: Addr, blocks: u32, placed: u32) -> Unit
+    ensures { result ≡ record { host = addr.host.number; lun = addr.lun; blocks = blocks; placed = placed } }
+{
+    Unit {
         host: addr.host.number(),
         lun: addr.lun,
         blocks,
         placed,
-    })
+    }
 }
 
 // Counts a block of the unit with this place at a group.
-fn count(held: &mut Vec<Held>, group: u32, place: usize) {
-    if let Some(of_group) = held.get_mut(group as usize) {
-        if let Some(blocks) = of_group.blocks.get_mut(place) {
-            *blocks = blocks.saturating_add(1);
-        }
+fn count(held: &mut Vec<Held>, group: u32, place: usize)
+    requires place { place < 32 }
+    requires few { held_at held.old.items group place + 1 < 2 ^ 32 }
+    ensures { AddsOne group place held.old.items held.new.items }
+{
+    let group = group as usize;
+    if group < held.len() {
+        held[group].add(place);
     }
 }
