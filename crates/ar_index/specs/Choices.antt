@@ -1,23 +1,27 @@
 -- What the searches choose among groups, and how the choices of two neighbours are joined.
-use Rattle.std.specs.Prelude.{ℕ, Bool, not, is_some, ◌&&◌, ◌||◌, ◌==◌, nat_lt, nat_le, if◌then◌else◌, List, [], ◌∷◌, Option, None, Some}
+use Rattle.std.specs.Prelude.{◌≡◌, ℕ, Bool, not, is_some, ◌&&◌, ◌||◌, ◌==◌, nat_lt, nat_le, if◌then◌else◌, List, [], ◌∷◌, Option, None, Some, ⊤}
 use Rattle.std.specs.List.{position_or_len}
 use Rattle.std.specs.Map.{keys_of}
 use Rattle.std.specs.Option.{option_or}
 use Rattle.ar_disks.specs.Addresses.{same_addr}
 use Rattle.ar_disks.specs.declared.address.Addr.{Addr}
+use Rattle.ar_disks.specs.declared.address.Key.{Key}
 use Rattle.ar_index.specs.declared.choices.Age.{Age}
+use Rattle.ar_index.specs.declared.choices.Change.{Change}
+use Rattle.ar_index.specs.declared.choices.Change.TheVariants.{Nothing, Oldest, Anything}
 use Rattle.ar_index.specs.declared.choices.Choices.{Choices}
 
 -- a unit's place among these, in order of making; past the last where it is none of them
 abbrev pub place_in : {V : Type 0} → List (Addr × V) → Addr → ℕ
 place_in units a = position_or_len (same_addr a) (keys_of units)
 
--- whether the first block was written longer ago; where the stamps are equal its unit was made earlier, or it is the lower one of
--- a unit, or the same
+-- whether the first block's unit was made earlier, or it is the lower one of a unit, or the same
+abbrev pub comes_no_later : (Addr → ℕ) → Key → Key → Bool
+comes_no_later place k j = nat_lt (place k.addr) (place j.addr) || ((place k.addr == place j.addr) && nat_le k.rb j.rb)
+
+-- whether the first block was written longer ago; where the stamps are equal it comes no later
 abbrev pub is_no_newer : (Addr → ℕ) → Age → Age → Bool
-is_no_newer place a b =
-    nat_lt a.stamp b.stamp
-    || ((a.stamp == b.stamp) && (nat_lt (place a.key.addr) (place b.key.addr) || ((place a.key.addr == place b.key.addr) && nat_le a.key.rb b.key.rb)))
+is_no_newer place a b = nat_lt a.stamp b.stamp || ((a.stamp == b.stamp) && comes_no_later place a.key b.key)
 
 -- the older of two blocks, where there are two
 abbrev pub older : (Addr → ℕ) → Option Age → Option Age → Option Age
@@ -33,6 +37,16 @@ oldest place (o ∷ os) = older place o (oldest place os)
 -- no group at all
 abbrev pub nothing : Choices
 nothing = record { mirrored = None; parity = None; free = None; oldest = None }
+
+-- the choices are the others but for the oldest block
+abbrev pub HaveSameNumbers : Choices → Choices → Type 0
+HaveSameNumbers c d = c ≡ record d { oldest = c.oldest }
+
+-- the second choices differ from the first in no more than the change says
+abbrev pub IsChangedTo : Choices → Choices → Change → Type 0
+IsChangedTo old new Nothing = new ≡ old
+IsChangedTo old new Oldest = HaveSameNumbers new old
+IsChangedTo old new Anything = ⊤
 
 -- whether there is no choice, as of no group
 abbrev pub is_nothing : Choices → Bool

@@ -1,8 +1,10 @@
 -- The tree over the groups.
-use Rattle.std.specs.Prelude.{◌≡◌, ◌≢◌, ℕ, zero, suc, ◌+◌, ◌*◌, ◌<◌, ◌≤◌, List, length, take, drop, slice_index_or, count_by, is_some}
+use Rattle.std.specs.Prelude.{◌≡◌, ◌≢◌, ℕ, zero, suc, ◌+◌, ◌*◌, ◌/◌, ◌<◌, ◌≤◌, List, length, take, drop, slice_index_or, slice_set, count_by, is_some}
 use Rattle.ar_disks.specs.declared.address.Addr.{Addr}
+use Rattle.ar_index.specs.declared.choices.Change.{Change}
+use Rattle.ar_index.specs.declared.choices.Change.TheVariants.{Nothing, Oldest, Anything}
 use Rattle.ar_index.specs.declared.choices.Choices.{Choices}
-use Rattle.ar_index.specs.Choices.{nothing, join}
+use Rattle.ar_index.specs.Choices.{nothing, join, HaveSameNumbers}
 
 -- the node with a number: the root is 1, and the children of a node are twice it and the next
 abbrev pub node_at : List Choices → ℕ → Choices
@@ -12,9 +14,23 @@ node_at nodes i = slice_index_or nodes i nothing
 abbrev pub IsJoined : (Addr → ℕ) → List Choices → ℕ → Type 0
 IsJoined place nodes i = node_at nodes i ≡ join place (node_at nodes (2 * i)) (node_at nodes (2 * i + 1))
 
+-- the node is that join but for the oldest block
+abbrev pub HasJoinedNumbers : (Addr → ℕ) → List Choices → ℕ → Type 0
+HasJoinedNumbers place nodes i = HaveSameNumbers (node_at nodes i) (join place (node_at nodes (2 * i)) (node_at nodes (2 * i + 1)))
+
 -- each node below so many is the join of its children, but perhaps for one
 abbrev pub AreJoinedBut : (Addr → ℕ) → ℕ → List Choices → ℕ → Type 0
 AreJoinedBut place size nodes but = (i : ℕ) → 0 < i → i < size → i ≢ but → IsJoined place nodes i
+
+-- each node below so many is the join of its children, but perhaps for the one above a node that has changed so far
+abbrev pub AreJoinedAfter : (Addr → ℕ) → ℕ → List Choices → Change → ℕ → Type 0
+AreJoinedAfter place size nodes Nothing i = AreJoinedBut place size nodes 0
+AreJoinedAfter place size nodes Oldest i = AreJoinedBut place size nodes (i / 2) × (1 < i → HasJoinedNumbers place nodes (i / 2))
+AreJoinedAfter place size nodes Anything i = AreJoinedBut place size nodes (i / 2)
+
+-- the second nodes are the first, where one is made the join of its children
+abbrev pub IsJoinedAt : (Addr → ℕ) → List Choices → ℕ → List Choices → Type 0
+IsJoinedAt place old i new = new ≡ slice_set old i (join place (node_at old (2 * i)) (node_at old (2 * i + 1)))
 
 -- so many leaves stand behind as many inner nodes, each the join of its children
 pub record IsTree (place : Addr → ℕ) (size : ℕ) (nodes : List Choices) : Type 0 where

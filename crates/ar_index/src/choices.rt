@@ -1,6 +1,6 @@
 // The choices of a group, and of two neighbours together.
 ghost use Rattle.std.specs.Prelude.{◌≡◌, true};
-ghost use Rattle.ar_index.specs.Choices.{place_in};
+ghost use Rattle.ar_index.specs.Choices.{place_in, comes_no_later};
 
 use ar_disks::{Addr, Key};
 use indexmap::IndexMap;
@@ -39,17 +39,26 @@ impl Age {
     ghost use Rattle.std.specs.Prelude.{◌≡◌};
     ghost use Rattle.ar_index.specs.Choices.{place_in, is_no_newer};
 
-    // Whether the block is older than another, or as old. The units are asked where the stamps are equal.
+    // Whether the block is older than another, or as old.
     fn is_no_newer<V>(&self, other: &Age, units: &IndexMap<Addr, V>) -> bool
         ensures { result ≡ is_no_newer (place_in units.now.entries) self.now other.now }
     {
-        if self.stamp != other.stamp {
-            return self.stamp < other.stamp;
+        if self.stamp == other.stamp {
+            return is_no_later(self.key, other.key, units);
         }
-        let own = place_of(units, self.key.addr);
-        let others = place_of(units, other.key.addr);
-        own < others || (own == others && self.key.rb <= other.key.rb)
+        self.stamp < other.stamp
     }
+}
+
+// Whether a block comes no later than another with the same stamp. There are few such: that this stays a call keeps the comparison
+// of stamps short.
+#[cold]
+fn is_no_later<V>(key: Key, other: Key, units: &IndexMap<Addr, V>) -> bool
+    ensures { result ≡ comes_no_later (place_in units.now.entries) key other }
+{
+    let own = place_of(units, key.addr);
+    let others = place_of(units, other.addr);
+    own < others || (own == others && key.rb <= other.rb)
 }
 
 fn is_same_number(one: Option<u32>, other: Option<u32>) -> bool
@@ -72,9 +81,18 @@ fn is_same_age(one: Option<Age>, other: Option<Age>) -> bool
     }
 }
 
+/// In what choices differ from those that stood there before.
+#[derive(Clone, Copy)]
+pub(crate) enum Change {
+    Nothing,
+    /// In the oldest block alone.
+    Oldest,
+    Anything,
+}
+
 impl Choices {
     ghost use Rattle.std.specs.Prelude.{◌≡◌, true};
-    ghost use Rattle.ar_index.specs.Choices.{place_in, nothing, is_nothing, join};
+    ghost use Rattle.ar_index.specs.Choices.{place_in, nothing, is_nothing, join, IsChangedTo};
 
     /// The choices among no groups.
     pub fn nothing() -> Choices
@@ -98,14 +116,18 @@ impl Choices {
             && self.oldest.is_none()
     }
 
-    /// Whether the choices are these.
-    pub(crate) fn is_same(&self, other: &Choices) -> bool
-        ensures { result ≡ true → self.now ≡ other.now }
+    /// In what the choices differ from the former ones.
+    pub(crate) fn change(&self, former: &Choices) -> Change
+        ensures { IsChangedTo former.now self.now result }
     {
-        is_same_number(self.mirrored, other.mirrored)
-            && is_same_number(self.parity, other.parity)
-            && is_same_number(self.free, other.free)
-            && is_same_age(self.oldest, other.oldest)
+        let has_same_numbers = is_same_number(self.mirrored, former.mirrored)
+            && is_same_number(self.parity, former.parity)
+            && is_same_number(self.free, former.free);
+        if has_same_numbers {
+            Change::of_oldest(self.oldest, former.oldest)
+        } else {
+            Change::Anything
+        }
     }
 
     /// The choices among the groups of both, of which those of `left` have the lower numbers.
@@ -117,6 +139,31 @@ impl Choices {
             parity: left.parity.or(right.parity),
             free: left.free.or(right.free),
             oldest: Age::older(left.oldest, right.oldest, units),
+        }
+    }
+}
+
+impl Change {
+    ghost use Rattle.std.specs.Prelude.{◌≡◌, ◌≢◌, true, false};
+    ghost use Rattle.ar_index.specs.declared.choices.Change.{Change};
+
+    /// Whether there is one.
+    pub(crate) fn is_some(self) -> bool
+        ensures some { result ≡ true → self ≢ Change.Nothing }
+        ensures none { result ≡ false → self ≡ Change.Nothing }
+    {
+        !matches!(self, Change::Nothing)
+    }
+
+    /// The change of choices that differ in the oldest block, if in anything.
+    pub(crate) fn of_oldest(oldest: Option<Age>, former: Option<Age>) -> Change
+        ensures nothing { result ≡ Change.Nothing → oldest ≡ former }
+        ensures numbers { result ≢ Change.Anything }
+    {
+        if is_same_age(oldest, former) {
+            Change::Nothing
+        } else {
+            Change::Oldest
         }
     }
 }

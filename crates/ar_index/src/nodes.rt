@@ -1,11 +1,13 @@
 // The nodes of a tree in one list: the root is 1, the children of a node are twice it and the next, and the leaves stand behind
 // the inner nodes.
 ghost use Rattle.std.specs.Prelude.{◌≡◌, false, ℕ, ◌+◌, ◌-◌, ◌*◌, ◌/◌, ◌^◌, ◌<◌, ◌≤◌, length, drop, slice_set, IfOk, OnErr};
-ghost use Rattle.ar_index.specs.Choices.{place_in, nothing, join};
+ghost use Rattle.ar_index.specs.Choices.{place_in, nothing, IsChangedTo};
 ghost use Rattle.ar_index.specs.Tree as spec;
-ghost use Rattle.ar_index.specs.Tree.{AreJoinedBut, IsTree, IsGrown, leaves_in};
+ghost use Rattle.ar_index.specs.declared.choices.Change.{Change};
+ghost use Rattle.ar_index.specs.Tree.{HasJoinedNumbers, IsJoinedAt, AreJoinedAfter, IsTree, IsGrown, leaves_in};
 
-use crate::{Choices, Steps};
+use crate::choices::Change;
+use crate::{Age, Choices, Steps};
 use ar_disks::Addr;
 use indexmap::IndexMap;
 use std::alloc::{AllocError, Global};
@@ -18,43 +20,72 @@ pub(crate) fn node_at(nodes: &[Choices], node: usize) -> Choices
     nodes[node]
 }
 
-// Joins the children of an inner node. Says whether it may be another than it was: where it is the same, so are all above it.
-fn join_at<V>(nodes: &mut Vec<Choices>, node: usize, units: &IndexMap<Addr, V>) -> bool
-    requires { 2 * node + 1 < length nodes.old.items }
-    ensures joined { nodes.new.items
-        ≡ slice_set nodes.old.items node
-        (join (place_in units.now.entries) (spec.node_at nodes.old.items (2 * node)) (spec.node_at nodes.old.items (2 * node + 1))) }
-    ensures same { result ≡ false → spec.node_at nodes.new.items node ≡ spec.node_at nodes.old.items node }
+// Joins the children of an inner node, one of which may have changed so far, and says how far the node has.
+fn join_at<V>(
+    nodes: &mut Vec<Choices>,
+    node: usize,
+    below: Change,
+    units: &IndexMap<Addr, V>,
+) -> Change
+    requires there { 2 * node + 1 < length nodes.old.items }
+    requires numbers { below ≡ Change.Oldest → HasJoinedNumbers (place_in units.now.entries) nodes.old.items node }
+    ensures joined { IsJoinedAt (place_in units.now.entries) nodes.old.items node nodes.new.items }
+    ensures changed { IsChangedTo (spec.node_at nodes.old.items node) (spec.node_at nodes.new.items node) result }
 {
-    let joined = Choices::join(&nodes[2 * node], &nodes[2 * node + 1], units);
-    let is_changed = !joined.is_same(&nodes[node]);
-    nodes[node] = joined;
-    is_changed
+    match below {
+        Change::Oldest => join_oldest_at(nodes, node, units),
+        _ => join_all_at(nodes, node, units),
+    }
 }
 
-// Joins the nodes above a leaf of a tree of so many leaves, from the lowest up to one that stays as it was, or to the root. A
-// step is a node.
+fn join_all_at<V>(nodes: &mut Vec<Choices>, node: usize, units: &IndexMap<Addr, V>) -> Change
+    requires { 2 * node + 1 < length nodes.old.items }
+    ensures joined { IsJoinedAt (place_in units.now.entries) nodes.old.items node nodes.new.items }
+    ensures changed { IsChangedTo (spec.node_at nodes.old.items node) (spec.node_at nodes.new.items node) result }
+{
+    let joined = Choices::join(&nodes[2 * node], &nodes[2 * node + 1], units);
+    let change = joined.change(&nodes[node]);
+    nodes[node] = joined;
+    change
+}
+
+// The same where the node's numbers are those of its children already.
+fn join_oldest_at<V>(nodes: &mut Vec<Choices>, node: usize, units: &IndexMap<Addr, V>) -> Change
+    requires there { 2 * node + 1 < length nodes.old.items }
+    requires numbers { HasJoinedNumbers (place_in units.now.entries) nodes.old.items node }
+    ensures joined { IsJoinedAt (place_in units.now.entries) nodes.old.items node nodes.new.items }
+    ensures changed { IsChangedTo (spec.node_at nodes.old.items node) (spec.node_at nodes.new.items node) result }
+{
+    let oldest = Age::older(nodes[2 * node].oldest, nodes[2 * node + 1].oldest, units);
+    let change = Change::of_oldest(oldest, nodes[node].oldest);
+    nodes[node].oldest = oldest;
+    change
+}
+
+// Joins the nodes above a leaf of a tree of so many leaves, which has changed so far, from the lowest up to one that stays as it
+// was, or to the root. A step is a node.
 fn climb<V>(
     nodes: &mut Vec<Choices>,
     size: usize,
     leaf: usize,
+    change: Change,
     units: &IndexMap<Addr, V>,
     steps: &mut Steps,
 )
     requires twice { length nodes.old.items ≡ 2 * size }
     requires there { leaf < size }
-    requires joined { AreJoinedBut (place_in units.now.entries) size nodes.old.items ((size + leaf) / 2) }
+    requires joined { AreJoinedAfter (place_in units.now.entries) size nodes.old.items change (size + leaf) }
     ensures tree { IsTree (place_in units.now.entries) size nodes.new.items }
     ensures leaves { drop size nodes.new.items ≡ drop size nodes.old.items }
     ensures few { 2 ^ (steps.new.count - steps.old.count) ≤ size + leaf }
     ensures on { steps.old.count ≤ steps.new.count }
 {
     let mut node = size + leaf;
-    let mut is_changed = true;
-    while is_changed && node > 1 {
+    let mut change = change;
+    while change.is_some() && node > 1 {
         steps.tick();
         node /= 2;
-        is_changed = join_at(nodes, node, units);
+        change = join_at(nodes, node, change, units);
     }
 }
 
@@ -74,8 +105,9 @@ pub(crate) fn put<V>(
     ensures few { 2 ^ (steps.new.count - steps.old.count) ≤ size + leaf }
     ensures on { steps.old.count ≤ steps.new.count }
 {
+    let change = choices.change(&node_at(nodes, size + leaf));
     nodes[size + leaf] = choices;
-    climb(nodes, size, leaf, units, steps);
+    climb(nodes, size, leaf, change, units, steps);
 }
 
 // A tree of more leaves, of which the first are those of this one, and the others have nothing.

@@ -5,7 +5,7 @@ ghost use Rattle.ar_index.specs.Choices.{place_in, nothing, is_nothing, search_a
 ghost use Rattle.ar_index.specs.Tree.{leaves, free_in, IsRight};
 
 use crate::nodes::{make_room, node_at, put};
-use crate::{Choices, Steps};
+use crate::{Age, Choices, Steps};
 use ar_disks::Addr;
 use indexmap::IndexMap;
 use std::alloc::{AllocError, Global};
@@ -85,6 +85,14 @@ impl Tree {
         ensures { result ≡ is_nothing (slice_index_or (leaves self.now) leaf nothing) }
     {
         node_at(&self.nodes, self.size + leaf).is_nothing()
+    }
+
+    /// The oldest mirrored block of one group.
+    pub fn oldest(&self, leaf: usize) -> Option<Age>
+        requires { leaf < length (leaves self.now) }
+        ensures { result ≡ (slice_index_or (leaves self.now) leaf nothing).oldest }
+    {
+        node_at(&self.nodes, self.size + leaf).oldest
     }
 
     /// The choices among all groups: those of a plain search from the first to the last, where units have the places that the tree
