@@ -1,10 +1,11 @@
 -- The tree after each change of the book.
 use Rattle.std.proofs.Common.{◌≡◌, ◌≢◌, ℕ, ◌+◌, ◌*◌, ◌<◌, ◌≤◌, Option, None, Some, List, [], ◌∷◌, ◌++◌, length, get_or, set, fold, refl, sym, ap, subst, ◌∙◌, inl, inr, arith, get_or-set_same, get_or-set_other}
+use Rattle.std.specs.Prelude.{IfSome, IfNone}
 use Rattle.std.specs.List.{position_or_len}
 use Rattle.std.specs.Option.{ForSome, MatchOption}
 use Rattle.std.proofs.lemmas.Bool.{cases_eq}
 use Rattle.std.proofs.lemmas.Option.{none-some, same_Some}
-use Rattle.std.proofs.lemmas.List.{length-set, ext_get_or}
+use Rattle.std.proofs.lemmas.List.{length-set, ext_get_or, set-get_or}
 use Rattle.std.proofs.lemmas.Map.{keys-set_value}
 use Rattle.ar_disks.specs.Geometry.{rows_of}
 use Rattle.ar_disks.specs.Members.{with_member}
@@ -18,10 +19,10 @@ use Rattle.ar_index.specs.Choices.{place_in, nothing}
 use Rattle.ar_book.specs.declared.class.Class.{Class}
 use Rattle.ar_book.specs.declared.class.Slot.{Slot}
 use Rattle.ar_disks.specs.Addresses.{same_addr}
-use Rattle.ar_book.specs.Tables.{GroupState, UnitState, Tables, group_in, unit_in, key_at, home, HasBlock, HasSlot}
+use Rattle.ar_book.specs.Tables.{GroupState, UnitState, Tables, group_in, unit_in, key_at, home, reserved, HasBlock, HasSlot}
 use Rattle.ar_book.specs.Changes.{with_key, without_key, named, vacated, homed, restamped, grown, unmarked, opened, free_group, formed, shifted}
 use Rattle.ar_book.specs.Book.{TablesAgree}
-use Rattle.ar_book.specs.Index.{age_of, choices_in, choices_of, leaves_from, leaves_of, free_leaf}
+use Rattle.ar_book.specs.Index.{age_of, choices_in, choices_of, leaves_from, leaves_of, free_leaf, KeepsOldest}
 use Rattle.ar_disks.proofs.Addresses.{addr_tells, make_key}
 use Rattle.ar_book.proofs.UnitLemmas.{has_by_block, unit_same, unit_other}
 use Rattle.ar_book.proofs.GroupLemmas.{there_group, named_shape, vacated_size, vacated_shape}
@@ -29,6 +30,8 @@ use Rattle.ar_book.proofs.KeptLemmas.{former_group}
 use Rattle.ar_book.proofs.AfterAssign.{assigned_stamp, assigned_order}
 use Rattle.ar_book.proofs.AfterRelease.{released_stamp, released_order}
 use Rattle.ar_book.proofs.AfterMake.{grown_stamp, grown_order, unmarked_stamp, unmarked_order}
+use Rattle.ar_book.proofs.UnitChanges.{stamps_long}
+use Rattle.ar_book.proofs.Stays.{later_stamp, stay_chosen}
 use Rattle.ar_book.proofs.IndexLemmas.{leaves_length, leaf_of, refreshed, same_ages, same_choices, same_leaves, same_leaf, leaves_push}
 
 same_age : (us new : List (Addr × UnitState)) (k : Key) → get_or (unit_in new k.addr).stamps k.rb 0 ≡ get_or (unit_in us k.addr).stamps k.rb 0 → age_of new k ≡ age_of us k
@@ -56,6 +59,14 @@ pub vacated_leaves : (g : Geometry) (units : List (Addr × UnitState)) (gs new :
 vacated_leaves g units gs new index now None there before put e = e ∙ before ∙ sym (ap (leaves_of g units) put)
 vacated_leaves g units gs new index now (Some q) there before put e =
     refreshed g units gs new index now q.group (without_key (group_in gs q.group) q.slot) (there q refl) before put e
+
+-- a home that may have changed is the home, and its group is there
+changed_home : (o changed : Option Slot) → IfSome changed (λ q. o ≡ Some q) → (q : Slot) → changed ≡ Some q → o ≡ Some q
+changed_home o None same q e = absurd (none-some q e)
+changed_home o (Some r) same q e = same ∙ e
+
+pub changed_group : (t : Tables) (k : Key) (ok : TablesAgree t) (o changed : Option Slot) → o ≡ home t k → IfSome changed (λ q. o ≡ Some q) → (q : Slot) → changed ≡ Some q → q.group < length t.groups
+changed_group t k ok o changed former same q e = there_group t.groups q k (ok.agree.to_slot k q (sym former ∙ changed_home o changed same q e))
 
 -- a block moves
 module _ (t : Tables) (k : Key) (s : Slot) (ok : TablesAgree t) (slot : HasSlot t s) (empty : key_at t s ≡ None) where
@@ -133,6 +144,32 @@ module _ (t : Tables) (k : Key) (n : ℕ) (ok : TablesAgree t) (block : HasBlock
             get_or-set_other old q.group i c nothing ne ∙ leaf_of t.geometry t.units t.groups i (omega arith)
             ∙ sym (elsewhere i (only i ne)) ∙ sym (leaf_of t.geometry units t.groups i (omega arith))
       ])
+
+  stamps : TablesAgree t → (age_of units k).stamp ≡ n
+  stamps agree =
+      let u = unit_in t.units k.addr in
+      ap (λ x. get_or x.stamps k.rb 0) (unit_same t.units k.addr (record u { stamps = set u.stamps k.rb n }) (has_by_block t.units k.addr k.rb block))
+      ∙ get_or-set_same u.stamps k.rb n 0 (stamps_long t (reserved t) k (record { tables = agree; total = refl }) block)
+
+  -- a group keeps its choices where another of its blocks is the oldest and stays so
+  kept_choices : (i : ℕ) → KeepsOldest (choices_of t.geometry t.units i (group_in t.groups i)).oldest k n → choices_of t.geometry units i (group_in t.groups i) ≡ choices_of t.geometry t.units i (group_in t.groups i)
+  kept_choices i keeps =
+      ap (λ (p : Addr → ℕ). choices_in t.geometry p (age_of units) i (group_in t.groups i)) same_places
+      ∙ stay_chosen (place_in t.units) (age_of t.units) (age_of units) k keeps.oldest keeps.other
+      (later_stamp (place_in t.units) keeps.oldest (age_of units k) (subst (λ m. keeps.oldest.stamp < m) (sym (stamps ok)) keeps.older)) other_age (λ j. refl) t.geometry i (group_in t.groups i) keeps.is
+
+  -- the tree, where it was refreshed for a home that may have changed
+  pub restamped_leaves : (index now : List Choices) (o changed : Option Slot) → o ≡ home t k → IfSome changed (λ q. o ≡ Some q) → IfNone changed (ForSome o (λ q. KeepsOldest (get_or index q.group nothing).oldest k n))
+      → index ≡ leaves_of t.geometry t.units t.groups
+      → MatchOption changed (now ≡ index) (λ q. now ≡ set index q.group (choices_of t.geometry units q.group (group_in t.groups q.group)))
+      → now ≡ leaves_of t.geometry units t.groups
+  restamped_leaves index now o (Some q) former same stays before e = stamped_leaves index now (Some q) (sym same ∙ former) before e
+  restamped_leaves index now None None former same stays before e = stamped_leaves index now None former before e
+  restamped_leaves index now (Some q) None former same stays before e =
+      let inside : q.group < length t.groups = there_group t.groups q k (ok.agree.to_slot k q (sym former)) in
+      let leaf : get_or index q.group nothing ≡ choices_of t.geometry t.units q.group (group_in t.groups q.group) = ap (λ l. get_or l q.group nothing) before ∙ leaf_of t.geometry t.units t.groups q.group inside in
+      let kept = kept_choices q.group (subst (λ c. KeepsOldest c.oldest k n) leaf (stays q refl)) in
+      stamped_leaves index now (Some q) former before (e ∙ sym (ap (set index q.group) (kept ∙ sym leaf) ∙ set-get_or index q.group nothing))
 
 -- a group gets a class
 pub opened_leaves : (t : Tables) (g : ℕ) (c : Class) (new : List GroupState) (index now : List Choices) → g < length t.groups → new ≡ (opened t g c).groups

@@ -24,5 +24,6 @@ pub mod CleaningLemmas
 pub mod IndexLemmas
 pub mod Searches
 pub mod Ages
+pub mod Stays
 pub mod IndexAfter
 pub mod UnitPlaces

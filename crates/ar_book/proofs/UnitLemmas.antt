@@ -2,7 +2,9 @@
 use Rattle.std.proofs.Common.{◌≡◌, ◌≢◌, ℕ, ◌<◌, ◌+◌, Bool, true, false, cond, Option, None, Some, IsSome, is_some, List, [], ◌∷◌, length, get_or, set, sum_by, count_by, refl, sym, ap, subst, ◌∙◌, inl, inr, arith, true≢false, get_or-set_same, get_or-set_other}
 use Rattle.std.specs.List.{IsDistinct}
 use Rattle.std.specs.Map.{lookup, set_value, values_of}
-use Rattle.std.specs.Option.{unwrap_or}
+use Rattle.std.specs.Prelude.{IfNone}
+use Rattle.std.specs.Option.{unwrap_or, ForSome, MatchOption}
+use Rattle.std.proofs.lemmas.List.{get_or_past}
 use Rattle.std.proofs.Math.ListN.{length-set}
 use Rattle.std.proofs.lemmas.Option.{none-some}
 use Rattle.std.proofs.lemmas.List.Sums.{sum_by-set}
@@ -128,3 +130,9 @@ module _ (us : List (Addr × UnitState)) (k : Key) (o : Option Slot) (inside : k
       let len : length (set old.homes k.rb o) ≡ length old.homes = length-set old.homes k.rb o in
       let all : sum_by (λ x. length x.homes) (values_of (homed us k o)) + length old.homes ≡ sum_by (λ x. length x.homes) (values_of us) + length (set old.homes k.rb o) = unit_sum us k.addr u here (λ x. length x.homes) in
       omega arith
+
+-- the stamp of a block whose unit was looked up
+pub found_stamp : {A : Type 0} (f : A → UnitState) (units : List (Addr × UnitState)) (a : Addr) (rb stamp : ℕ) (o : Option A) → ForSome o (λ x. lookup (same_addr a) units ≡ Some (f x)) → IfNone o (lookup (same_addr a) units ≡ None)
+    → MatchOption o (stamp ≡ 0) (λ x. stamp ≡ get_or (f x).stamps rb 0) → stamp ≡ get_or (unit_in units a).stamps rb 0
+found_stamp f units a rb stamp None found none e = e ∙ sym (get_or_past [] rb 0 (omega arith)) ∙ sym (ap (λ l. get_or (unwrap_or l no_unit).stamps rb 0) none)
+found_stamp f units a rb stamp (Some x) found none e = e ∙ sym (ap (λ l. get_or (unwrap_or l no_unit).stamps rb 0) (found x refl))

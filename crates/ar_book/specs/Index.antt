@@ -79,6 +79,13 @@ pub record IsIndexed (t : Tables) (total : ℕ) (index : TreeState) : Type 0 whe
 abbrev pub leaf : TreeState → ℕ → Choices
 leaf index i = slice_index_or (leaves index) i nothing
 
+-- another block than this is the oldest, and older than this stamp
+pub record KeepsOldest (chosen : Option Age) (key : Key) (stamp : ℕ) : Type 0 where
+  pub oldest : Age
+  pub is : chosen ≡ Some oldest
+  pub other : oldest.key ≢ key
+  pub older : oldest.stamp < stamp
+
 -- none of the first of these homes is in the group
 abbrev pub IsOutside : List (Option Slot) → ℕ → ℕ → Type 0
 IsOutside homes n group = (j : ℕ) (s : Slot) → j < n → slice_index_or homes j None ≡ Some s → s.group ≢ group

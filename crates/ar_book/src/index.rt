@@ -1,11 +1,13 @@
 // The tree over the groups, kept right: the choices of a group, by one scan of its slots, and one climb.
-ghost use Rattle.std.specs.Prelude.{◌≡◌, ℕ, ◌+◌, ◌<◌, ◌≤◌, length, slice_set};
-ghost use Rattle.std.specs.Option.{option_map, ForSome, MatchOption};
+ghost use Rattle.std.specs.Prelude.{◌≡◌, ℕ, ◌+◌, ◌<◌, ◌≤◌, length, slice_index_or, slice_set, true, Some, None, IfSome, IfNone};
+ghost use Rattle.std.specs.Option.{ForSome, MatchOption};
+ghost use Rattle.std.specs.Map.{lookup};
+ghost use Rattle.ar_disks.specs.Addresses.{same_addr};
 ghost use Rattle.ar_index.specs.Choices.{place_in};
 ghost use Rattle.ar_index.specs.Tree.{leaves, IsRight};
 ghost use Rattle.ar_book.specs.Tables.{group_in};
 ghost use Rattle.ar_book.specs.Index as spec;
-ghost use Rattle.ar_book.specs.Index.{oldest_named, leaves_of, AreInside, IsBlanked, IsLeafOrBlank};
+ghost use Rattle.ar_book.specs.Index.{oldest_named, leaves_of, leaf, KeepsOldest, AreInside, IsBlanked, IsLeafOrBlank};
 
 use crate::group::slots_of;
 use crate::{Class, Group, Slot, UnitTable};
@@ -13,25 +15,36 @@ use ar_disks::{Addr, Geometry, Key};
 use ar_index::{Age, Choices, Steps, Tree};
 use indexmap::IndexMap;
 
-// A block's stamp; 0 where there is no unit.
-fn stamp_in(units: &IndexMap<Addr, UnitTable>, key: Key) -> u64
-    ensures { result ≡ (spec.age_of units.now.entries key).stamp }
+// A unit's address and its table.
+type Found<'a> = (Addr, &'a UnitTable);
+
+// The unit at an address: the one that was found last, or by a look-up. Most blocks of a group are of one unit.
+fn find<'a>(
+    last: Option<Found<'a>>,
+    units: &'a IndexMap<Addr, UnitTable>,
+    addr: Addr,
+) -> Option<Found<'a>>
+    requires { ForSome last (λ unit. lookup (same_addr unit.0) units.now.entries ≡ Some unit.1.now) }
+    ensures addr { ForSome result (λ unit. unit.0 ≡ addr) }
+    ensures found { ForSome result (λ unit. lookup (same_addr addr) units.now.entries ≡ Some unit.1.now) }
+    ensures none { IfNone result (lookup (same_addr addr) units.now.entries ≡ None) }
 {
-    match units.get(&key.addr) {
-        Some(unit) => unit.stamp(key.rb),
-        None => 0,
+    if let Some((held, unit)) = last {
+        if held == addr {
+            return Some((addr, unit));
+        }
     }
+    Some((addr, units.get(&addr)?))
 }
 
-// How old the block is that a slot names.
-fn age_in(units: &IndexMap<Addr, UnitTable>, named: Option<Key>) -> Option<Age>
-    ensures { result ≡ option_map (spec.age_of units.now.entries) named }
+// A block's stamp; 0 where there is no unit.
+fn stamp_of(unit: Option<Found>, rb: u32) -> u64
+    ensures { MatchOption unit.entry (result ≡ 0) (λ found. result ≡ slice_index_or found.1.now.stamps rb 0) }
 {
-    let key = named?;
-    Some(Age {
-        stamp: stamp_in(units, key),
-        key,
-    })
+    match unit {
+        Some((_, unit)) => unit.stamp(rb),
+        None => 0,
+    }
 }
 
 // The oldest of the blocks that these slots name. A step is a slot.
@@ -44,9 +57,14 @@ fn oldest_in(
     ensures few { steps.new.count ≡ steps.old.count + length slots.now }
 {
     let mut oldest = None;
+    let mut unit = None;
     for named in slots {
         steps.tick();
-        oldest = Age::older(oldest, age_in(units, *named), units);
+        if let Some(key) = named {
+            unit = find(unit, units, key.addr);
+            let stamp = stamp_of(unit, key.rb);
+            oldest = Age::older(oldest, Some(Age { stamp, key: *key }), units);
+        }
     }
     oldest
 }
@@ -149,6 +167,36 @@ pub(crate) fn refresh_home(
 {
     if let Some(slot) = home {
         refresh(index, groups, units, geometry, slot.group, steps);
+    }
+}
+
+// Whether another block is the oldest and older than this stamp.
+fn keeps_oldest(oldest: Option<Age>, key: Key, stamp: u64) -> bool
+    ensures { result ≡ true → KeepsOldest oldest key stamp }
+{
+    match oldest {
+        Some(oldest) => oldest.stamp < stamp && oldest.key != key,
+        None => false,
+    }
+}
+
+/// The home of a block that gets a stamp, where the choices of its group may change by that. None where there is no home, or where
+/// another block is the oldest of the group and older than the stamp: it stays the oldest then.
+pub(crate) fn changed_by_stamp(
+    index: &Tree,
+    home: Option<Slot>,
+    key: Key,
+    stamp: u64,
+) -> Option<Slot>
+    requires { ForSome home (λ slot. slot.group < length (leaves index.now)) }
+    ensures same { IfSome result (λ slot. home ≡ Some slot) }
+    ensures stays { IfNone result (ForSome home (λ slot. KeepsOldest (leaf index.now slot.group).oldest key stamp)) }
+{
+    let slot = home?;
+    if keeps_oldest(index.oldest(slot.group as usize), key, stamp) {
+        None
+    } else {
+        Some(slot)
     }
 }
 

@@ -4,7 +4,7 @@ ghost use Rattle.ar_disks.specs.Geometry.{rows_of};
 ghost use Rattle.ar_book.specs.Tables.{key_at, HasBlock, HasSlot};
 ghost use Rattle.ar_book.specs.Changes.{assigned, released, stamped};
 
-use crate::index::{refresh, refresh_home};
+use crate::index::{changed_by_stamp, refresh, refresh_home};
 use crate::tables::{home_in, name_slot, set_home, set_stamp, vacate_slot};
 use crate::{Book, Slot};
 use ar_disks::Key;
@@ -71,13 +71,14 @@ impl Book {
     {
         let home = home_in(&self.units, key);
         self.puts = self.puts.saturating_add(1);
+        let changed = changed_by_stamp(&self.index, home, key, self.puts);
         set_stamp(&mut self.units, key, self.puts);
         refresh_home(
             &mut self.index,
             &self.groups,
             &self.units,
             self.geometry,
-            home,
+            changed,
             steps,
         );
     }

@@ -9,15 +9,21 @@ use Rattle.ar_book.specs.Tables.{Tables, HasBlock}
 use Rattle.ar_book.proofs.GroupLemmas.{there_group}
 use Rattle.ar_book.proofs.UnitChanges.{restamped_kept, stamps_long}
 use Rattle.ar_book.proofs.IndexLemmas.{index_length, same_order}
-use Rattle.ar_book.proofs.IndexAfter.{stamped_leaves, few_home}
+use Rattle.ar_book.proofs.IndexAfter.{changed_group, restamped_leaves, few_home}
 use Rattle.ar_book.proofs.book.Book.stamp.Goals as goal
 
 pub set_stamp-requires : goal.set_stamp-requires
 set_stamp-requires c = stamps_long (the_view c.self.inside) c.self.inside.reserved c.args.key c.self.invariant.kept (subst (λ x. HasBlock x c.args.key) (sym c.self.view_is) c.requires)
 
+pub changed_by_stamp-changed-requires : goal.changed_by_stamp-changed-requires
+changed_by_stamp-changed-requires c = λ q e.
+    let size = index_length (the_view c.self.inside) _ _ c.self.invariant in
+    let here = there_group c.self.inside.groups.items q c.args.key (c.self.invariant.kept.tables.agree.to_slot c.args.key q (sym c.home_in-home.ensures ∙ e)) in
+    omega (arith, size, here)
+
 pub refresh_home-requires-clause-there : goal.refresh_home-requires-clause-there
-refresh_home-requires-clause-there c = λ q e.
-    there_group c.self.inside.groups.items q c.args.key (c.self.invariant.kept.tables.agree.to_slot c.args.key q (sym c.home_in-home.ensures ∙ e))
+refresh_home-requires-clause-there c =
+    changed_group (the_view c.self.inside) c.args.key c.self.invariant.kept.tables c.home_in-home.result c.changed_by_stamp-changed.result c.home_in-home.ensures c.changed_by_stamp-changed.ensures.same
 
 pub refresh_home-requires-clause-leaves : goal.refresh_home-requires-clause-leaves
 refresh_home-requires-clause-leaves c = index_length (the_view c.self.inside) _ _ c.self.invariant
@@ -34,7 +40,8 @@ invariant_of-self c =
     rw c.set_stamp.ensures
     (record {
       kept = restamped_kept t c.self.inside.reserved c.saturating_add-self-inside.result c.saturating_add-self-inside.result c.args.key c.self.invariant.kept block;
-      leaves = stamped_leaves t c.args.key c.saturating_add-self-inside.result c.self.invariant.kept.tables block _ _ _ c.home_in-home.ensures c.self.invariant.leaves
+      leaves = restamped_leaves t c.args.key c.saturating_add-self-inside.result c.self.invariant.kept.tables block _ _ c.home_in-home.result c.changed_by_stamp-changed.result c.home_in-home.ensures
+          c.changed_by_stamp-changed.ensures.same c.changed_by_stamp-changed.ensures.stays c.self.invariant.leaves
           (rw c.set_stamp.ensures at c.refresh_home.ensures.set);
       right = rw c.set_stamp.ensures at c.refresh_home.ensures.right;
     })
@@ -43,7 +50,8 @@ pub returns-clause-few : goal.returns-clause-few
 returns-clause-few c most =
     let t : Tables = the_view c.self.inside in
     let groups : length t.groups ≤ 4096 = subst (λ (x : Tables). length x.groups ≤ 4096) (sym c.self.view_is) most in
-    let here : ForSome c.home_in-home.result (λ q. q.group < length t.groups) = λ q e. there_group t.groups q c.args.key (c.self.invariant.kept.tables.agree.to_slot c.args.key q (sym c.home_in-home.ensures ∙ e)) in
-    let few = few_home t.geometry t.groups _ _ c.home_in-home.result (λ q e. c.self.invariant.kept.tables.groups.long q.group (here q e)) (c.refresh_home.ensures.few groups) in
+    let here : ForSome c.changed_by_stamp-changed.result (λ q. q.group < length t.groups) =
+    changed_group t c.args.key c.self.invariant.kept.tables c.home_in-home.result c.changed_by_stamp-changed.result c.home_in-home.ensures c.changed_by_stamp-changed.ensures.same in
+    let few = few_home t.geometry t.groups _ _ c.changed_by_stamp-changed.result (λ q e. c.self.invariant.kept.tables.groups.long q.group (here q e)) (c.refresh_home.ensures.few groups) in
     let rows = ap (λ (x : Tables). rows_of x.geometry) c.self.view_is in
     omega (arith, few)
