@@ -7,6 +7,8 @@ mod client;
 #[cfg(test)]
 mod fakes;
 #[cfg(test)]
+mod gates;
+#[cfg(test)]
 mod largest;
 #[cfg(test)]
 mod links;

@@ -69,7 +69,7 @@ fn answer<W: Sink, P: Port, G: Gate>(
     requires room { work.old.given < 2 ^ 63 }
     ensures answers { AnswersRequest P.commands (W.state writer.old) (W.state writer.new) port.old port.new request result }
     ensures logged { P.has_login port.new ≡ true }
-    ensures given { work.new.given ≤ work.old.given + 1 }
+    ensures given { work.new.given ≡ work.old.given + 1 }
 {
     let Request {
         tag,
