@@ -231,6 +231,49 @@ fn answers_are_written_before_more_is_read(rt: HostRuntime) {
     );
 }
 
+// Takes all bytes, and fails to pass them on in one call, by its number from 0.
+#[derive(Clone, Copy)]
+struct HoldingWriter {
+    fails: u32,
+    calls: u32,
+}
+
+impl Write for HoldingWriter {
+    fn write(&mut self, buf: &[u8]) -> io::Result<usize> {
+        Ok(buf.len())
+    }
+
+    fn flush(&mut self) -> io::Result<()> {
+        let call = self.calls;
+        self.calls = self.calls.saturating_add(1);
+        if call == self.fails {
+            return Err(io::Error::from(io::ErrorKind::BrokenPipe));
+        }
+        Ok(())
+    }
+}
+
+// They come before the first read, before the one that finds the end, and last of all. One that fails is told, though the next
+// would not fail.
+#[test]
+fn flushes_that_fail(rt: HostRuntime) {
+    for (fails, end) in [
+        (0, at(1, FaultKind::WriteFault)),
+        (1, at(2, FaultKind::WriteFault)),
+        (2, at(2, FaultKind::WriteFault)),
+        (3, Ok(())),
+    ] {
+        ends_flushed(&rt, fails, end);
+    }
+}
+
+fn ends_flushed<R: Abort + AllocGlobal>(rt: &R, fails: u32, end: Result<(), Fault>) {
+    let script = b"tur 0 0\n# done\n".as_slice();
+    let writer = HoldingWriter { fails, calls: 0 };
+    let done = run_script(rt.alloc(), script, writer, SMALL);
+    assert!(rt; done == end, "flush {fails}: {done:?}");
+}
+
 #[test]
 fn arrays_that_do_not_start(rt: HostRuntime) {
     for (disks, extents, cache) in [
