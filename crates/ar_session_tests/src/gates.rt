@@ -82,10 +82,10 @@ fn push(
 }
 
 // Serves a door on a new array where hosts 0 and 1 have units, and closes it.
-fn serve<O: Door, G: Gate + Sync, R: Threads + Wait + Abort + Sync>(
+fn serve<O: Door + Drop, G: Gate + Sync, R: Threads + Wait + Abort + Sync>(
     rt: &R,
     alloc: Global,
-    door: &mut O,
+    door: O,
     gate: &G,
     wanted: &[ConnectionEnd],
     commands: [u64; 4],
@@ -103,12 +103,17 @@ fn serve<O: Door, G: Gate + Sync, R: Threads + Wait + Abort + Sync>(
     );
 }
 
-fn serve_on<L: Ledger + Send + Sync, O: Door, G: Gate + Sync, R: Threads + Wait + Abort + Sync>(
+fn serve_on<
+    L: Ledger + Send + Sync,
+    O: Door + Drop,
+    G: Gate + Sync,
+    R: Threads + Wait + Abort + Sync,
+>(
     rt: &R,
     alloc: Global,
     blank: Blank,
     array: Array<MemDisk>,
-    door: &mut O,
+    door: O,
     gate: &G,
     wanted: &[ConnectionEnd],
     commands: [u64; 4],
@@ -123,19 +128,19 @@ fn serve_on<L: Ledger + Send + Sync, O: Door, G: Gate + Sync, R: Threads + Wait 
     closes(rt, rig, &commands);
 }
 
-fn run_on<L: Ledger + Send + Sync, O: Door, G: Gate + Sync, R: Threads + Wait + Abort + Sync>(
-    rt: &R,
-    alloc: Global,
-    rig: &Rig<L>,
-    door: &mut O,
-    gate: &G,
-    wanted: &[ConnectionEnd],
-) {
+fn run_on<
+    L: Ledger + Send + Sync,
+    O: Door + Drop,
+    G: Gate + Sync,
+    R: Threads + Wait + Abort + Sync,
+>(rt: &R, alloc: Global, rig: &Rig<L>, door: O, gate: &G, wanted: &[ConnectionEnd]) {
     rig.make(rt, 0);
     rig.make(rt, 1);
-    let ends = run_sessions(rt, alloc, door, &rig.kept, &rig.desk, gate).expect(rt, "memory");
+    let (door, ends) = run_sessions(rt, alloc, door, &rig.kept, &rig.desk, gate);
+    let ends = ends.expect(rt, "memory");
     are_wanted(rt, ends.as_slice(), wanted);
     drop(ends);
+    drop(door);
 }
 
 fn are_wanted(rt: &impl Abort, ends: &[ConnectionEnd], wanted: &[ConnectionEnd]) {
@@ -174,9 +179,8 @@ fn meet<G: Gate + Sync, R: Threads + Wait + Abort + Sync>(
     wanted: &[ConnectionEnd],
     commands: [u64; 4],
 ) {
-    let mut door = door(rt, alloc, sessions);
-    serve(rt, alloc, &mut door, gate, wanted, commands);
-    drop(door);
+    let door = door(rt, alloc, sessions);
+    serve(rt, alloc, door, gate, wanted, commands);
 }
 
 #[test]
@@ -216,6 +220,6 @@ impl Door for Jammed {
 #[test]
 fn a_connection_that_does_not_open(rt: HostRuntime) {
     let wanted = [served(0, Why::Read), served(0, Why::Read)];
-    let mut door = Jammed { left: 2 };
-    serve(&rt, rt.alloc(), &mut door, &NoGate, &wanted, [0, 0, 0, 0]);
+    let door = Jammed { left: 2 };
+    serve(&rt, rt.alloc(), door, &NoGate, &wanted, [0, 0, 0, 0]);
 }

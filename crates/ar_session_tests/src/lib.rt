@@ -13,6 +13,8 @@ mod gates;
 #[cfg(test)]
 mod rig;
 #[cfg(test)]
+mod scarce;
+#[cfg(test)]
 mod sockets;
 #[cfg(test)]
 mod turns;

@@ -79,16 +79,14 @@ fn meets<
     L: Ledger + Send + Sync,
     R: Threads + Wait + Clock + Abort + Net<Listener = TcpListener, Stream = TcpStream> + Sync,
 >(rt: &R, alloc: Global, rig: &Rig<L>, guests: Guests, connections: usize) -> Vec<ConnectionEnd> {
-    let mut door = TcpDoor::listen(rt, alloc, 0, connections).expect(rt, "a port");
+    let door = TcpDoor::listen(rt, alloc, 0, connections).expect(rt, "a port");
     let port = door.port().expect(rt, "its number");
-    let ends = thread::scope(thread::scope_env(), rt, |scope| {
+    let (door, ends) = thread::scope(thread::scope_env(), rt, move |scope| {
         welcome(scope, rt, alloc, guests, port);
-        run_beside_background(rt, alloc, &mut door, &rig.kept, &rig.desk, &NoGate).expect(
-            rt, "memory",
-        )
+        run_beside_background(rt, alloc, door, &rig.kept, &rig.desk, &NoGate)
     });
     drop(door);
-    ends
+    ends.expect(rt, "memory")
 }
 
 // Starts the guests' thread.

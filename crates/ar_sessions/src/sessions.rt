@@ -85,28 +85,30 @@ struct Roll {
     ghost ends_room: { left ≤ vec_capacity ends },
 }
 
-/// Serves each connection that the door opens in a thread of its own, and answers their ends in the order in which they came.
-/// The gate is told of each command. Where memory for the ends is refused, no connection is opened.
+/// Serves each connection that the door opens in a thread of its own, and answers their ends in the order in which they came, with
+/// the door. The gate is told of each command. Where memory for the ends is refused, no connection is opened.
 pub fn run_sessions<
     R: Threads + Wait + Sync,
     D: Disk + Drop + Send,
     L: Ledger + Send + Sync,
-    O: Door,
+    O: Door + Drop,
     G: Gate + Sync,
 >(
     rt: &R,
     alloc: Global,
-    door: &mut O,
+    door: O,
     kept: &Mutex<Kept<D, L>>,
     desk: &Mutex<Desk<L>>,
     gate: &G,
-) -> Result<Vec<ConnectionEnd>, NoMemory>
-    ensures count { IfOk result (λ ends. vec_len ends ≡ O.to_come door.old) }
-    ensures ends { IfOk result (λ ends. All IsEnd ends.items) }
-    ensures refused { OnErr result (O.to_come door.new ≡ O.to_come door.old) }
+) -> (O, Result<Vec<ConnectionEnd>, NoMemory>)
+    ensures count { IfOk result.1 (λ ends. vec_len ends ≡ O.to_come door) }
+    ensures ends { IfOk result.1 (λ ends. All IsEnd ends.items) }
+    ensures opened { OnOk result.1 (O.to_come result.0 ≡ 0) }
+    ensures refused { OnErr result.1 (O.to_come result.0 ≡ O.to_come door) }
 {
-    let left = door.left();
-    let roll = Roll::new(alloc, left)?;
+    let Ok(roll) = Roll::new(alloc, door.left()) else {
+        return (door, Err(NoMemory));
+    };
     let hall = Hall {
         rt,
         alloc,
@@ -115,15 +117,19 @@ pub fn run_sessions<
         gate,
     };
     let shared = &hall;
-    let ends = thread::scope(
+    let (door, ends) = thread::scope(
         thread::scope_env(),
         rt,
-        |scope| -> Vec<ConnectionEnd>
-            requires { O.to_come door.now ≡ roll.left }
-            ensures { (vec_len result ≡ roll.left) × All IsEnd result.items }
-        { serve_all(scope, shared, door, roll) },
+        move |scope| -> (O, Vec<ConnectionEnd>)
+            requires { O.to_come door ≡ roll.left }
+            ensures { (O.to_come result.0 ≡ 0) × (vec_len result.1 ≡ roll.left) × All IsEnd result.1.items }
+        {
+            let mut door = door;
+            let ends = serve_all(scope, shared, &mut door, roll);
+            (door, ends)
+        },
     );
-    Ok(ends)
+    (door, Ok(ends))
 }
 
 /// Serves the door's connections as `run_sessions` does, with one thread beside them that works in the background until all have
@@ -132,33 +138,37 @@ pub fn run_beside_background<
     R: Threads + Wait + Clock + Sync,
     D: Disk + Drop + Send,
     L: Ledger + Send + Sync,
-    O: Door,
+    O: Door + Drop,
     G: Gate + Sync,
 >(
     rt: &R,
     alloc: Global,
-    door: &mut O,
+    door: O,
     kept: &Mutex<Kept<D, L>>,
     desk: &Mutex<Desk<L>>,
     gate: &G,
-) -> Result<Vec<ConnectionEnd>, NoMemory>
-    ensures count { IfOk result (λ ends. vec_len ends ≡ O.to_come door.old) }
-    ensures ends { IfOk result (λ ends. All IsEnd ends.items) }
+) -> (O, Result<Vec<ConnectionEnd>, NoMemory>)
+    ensures count { IfOk result.1 (λ ends. vec_len ends ≡ O.to_come door) }
+    ensures ends { IfOk result.1 (λ ends. All IsEnd ends.items) }
+    ensures opened { OnOk result.1 (O.to_come result.0 ≡ 0) }
+    ensures refused { OnErr result.1 (O.to_come result.0 ≡ O.to_come door) }
 {
     let stop = AtomicBool::new(false);
     let flag = &stop;
     thread::scope(
         thread::scope_env(),
         rt,
-        |scope| -> Result<Vec<ConnectionEnd>, NoMemory>
-            ensures { IfOk result (λ ends. (vec_len ends ≡ O.to_come door.entry.now) × All IsEnd ends.items) }
+        move |scope| -> (O, Result<Vec<ConnectionEnd>, NoMemory>)
+            ensures { IfOk result.1 (λ ends. (vec_len ends ≡ O.to_come door) × All IsEnd ends.items)
+                × OnOk result.1 (O.to_come result.0 ≡ 0)
+                × OnErr result.1 (O.to_come result.0 ≡ O.to_come door) }
         {
             let Ok(_worker) = scope.spawn(move || run_background(rt, kept, flag)) else {
-                return Err(NoMemory);
+                return (door, Err(NoMemory));
             };
-            let ends = run_sessions(rt, alloc, door, kept, desk, gate);
+            let served = run_sessions(rt, alloc, door, kept, desk, gate);
             flag.store(true, Ordering::SeqCst);
-            ends
+            served
         },
     )
 }

@@ -90,9 +90,10 @@ fn serve_hosts<
 ) -> Result<(), ServeFault> {
     make_units(alloc, &mut kept.lock(rt), &service.units)?;
     let port = service.port;
-    let mut door = TcpDoor::listen(rt, alloc, port, usize::from(service.sessions))?;
+    let door = TcpDoor::listen(rt, alloc, port, usize::from(service.sessions))?;
     println!(rt; "listening {port}").map_err(|_| ServeFault::Write)?;
-    run_beside_background(rt, alloc, &mut door, kept, desk, &NoGate)?;
+    let (_door, ends) = run_beside_background(rt, alloc, door, kept, desk, &NoGate);
+    ends?;
     Ok(())
 }
 

@@ -1,0 +1,125 @@
+// Connections, of which one may find no thread, or the work in the background none. The gate refuses each allocation in turn, and
+// so each thread, by `.ci/scarce`; with ample memory all of them start.
+ghost use Rattle.std.specs.Prelude.{◌≡◌, []};
+
+use crate::rig::{Rig, array, closes};
+use ar_core::Array;
+use ar_disks::{Geometry, MemDisk};
+use ar_frames::{MemSink, MemSource, NoGate, SessionEnd, Why};
+use ar_script::{Setup, start_array};
+use ar_sessions::{ConnectionEnd, Door, run_beside_background};
+use std::alloc::Global;
+use std::marker::Brand;
+use std::process::Abort;
+use std::sync::Wait;
+use std::sync::ledger::{Blank, Ledger};
+use std::thread::Threads;
+use std::time::Clock;
+
+/// How many connections come.
+const CONNECTIONS: usize = 3;
+
+// Opens connections that end before a login. It takes no memory, so that it opens them whatever is refused.
+#[derive(Drop)]
+struct Brief {
+    alloc: Global,
+    left: usize,
+}
+
+impl Door for Brief {
+    type Reader = MemSource;
+
+    type Writer = MemSink;
+
+    ghost to_come = { λ door. door.left };
+
+    fn left(&self) -> usize {
+        self.left
+    }
+
+    fn accept(&mut self) -> Option<(MemSource, MemSink)> {
+        self.left -= 1;
+        let reader = MemSource::new(Vec::new(self.alloc));
+        Some((reader, MemSink::new(Vec::new(self.alloc))))
+    }
+}
+
+#[test]
+fn a_thread_that_does_not_start(rt: HostRuntime) {
+    let alloc = rt.alloc();
+    let array = started(&rt, alloc);
+    serves_on::<Brand, _>(&rt, alloc, Blank::new(4), array);
+}
+
+// A new array. Where memory for it was refused, it is asked for once more.
+fn started(rt: &impl Abort, alloc: Global) -> Array<MemDisk>
+    ensures { result.store.book.units ≡ [] }
+{
+    let setup = Setup {
+        geometry: Geometry::SMALL,
+        disks: 4,
+        extents: 4,
+        cache: 0,
+    };
+    match start_array(alloc, setup) {
+        Ok(array) => array,
+        Err(_) => array(rt, alloc, 4, 0),
+    }
+}
+
+fn serves_on<L: Ledger + Send + Sync, R: Threads + Wait + Clock + Abort + Sync>(
+    rt: &R,
+    alloc: Global,
+    blank: Blank,
+    array: Array<MemDisk>,
+)
+    requires name { blank.name ≡ L.name }
+    requires parts { blank.parts ≡ L.parts }
+    requires four { blank.parts ≡ 4 }
+    requires no_unit { array.store.book.units ≡ [] }
+{
+    let rig: Rig<L> = Rig::start(alloc, blank, array);
+    serves(rt, alloc, &rig);
+    closes(rt, rig, &[0, 0, 0, 0]);
+}
+
+fn serves<L: Ledger + Send + Sync, R: Threads + Wait + Clock + Abort + Sync>(
+    rt: &R,
+    alloc: Global,
+    rig: &Rig<L>,
+) {
+    let door = Brief {
+        alloc,
+        left: CONNECTIONS,
+    };
+    let (door, met) = run_beside_background(rt, alloc, door, &rig.kept, &rig.desk, &NoGate);
+    if let Ok(ends) = &met {
+        all_ended(rt, ends.as_slice());
+    }
+    drop(met);
+    drop(door);
+}
+
+// Of one refusal at most one thread is lacking.
+fn all_ended(rt: &impl Abort, ends: &[ConnectionEnd]) {
+    let mut threadless: u32 = 0;
+    for end in ends {
+        if *end == ConnectionEnd::NoThread {
+            threadless = threadless.saturating_add(1);
+        } else {
+            was_cut(rt, *end);
+        }
+    }
+    assert!(rt;
+        threadless <= 1,
+        "{threadless} connections without a thread: {ends:?}"
+    );
+}
+
+fn was_cut(rt: &impl Abort, end: ConnectionEnd) {
+    let wanted = ConnectionEnd::Served(SessionEnd {
+        frames: 0,
+        why: Why::Cut,
+    });
+    assert!(rt; end == wanted, "{end:?}");
+}
