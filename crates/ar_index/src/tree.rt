@@ -79,12 +79,20 @@ impl Tree {
         self.free
     }
 
+    // The choices of one group.
+    fn choices(&self, leaf: usize) -> Choices
+        requires { leaf < length (leaves self.now) }
+        ensures { result ≡ slice_index_or (leaves self.now) leaf nothing }
+    {
+        node_at(&self.nodes, self.size + leaf)
+    }
+
     /// Whether there is no choice in a group.
     pub fn is_blank(&self, leaf: usize) -> bool
         requires { leaf < length (leaves self.now) }
         ensures { result ≡ is_nothing (slice_index_or (leaves self.now) leaf nothing) }
     {
-        node_at(&self.nodes, self.size + leaf).is_nothing()
+        self.choices(leaf).is_nothing()
     }
 
     /// The oldest mirrored block of one group.
@@ -92,7 +100,7 @@ impl Tree {
         requires { leaf < length (leaves self.now) }
         ensures { result ≡ (slice_index_or (leaves self.now) leaf nothing).oldest }
     {
-        node_at(&self.nodes, self.size + leaf).oldest
+        self.choices(leaf).oldest
     }
 
     /// The choices among all groups: those of a plain search from the first to the last, where units have the places that the tree

@@ -1,9 +1,8 @@
 use Rattle.std.proofs.Common.{◌+◌, ◌∙◌, sym, ap, arith, length, get_or}
-use Rattle.ar_index.specs.declared.choices.Choices.{Choices}
 use Rattle.ar_index.specs.Choices.{nothing}
 use Rattle.ar_index.specs.Tree.{node_at, leaves}
 use Rattle.ar_index.proofs.Leaves.{seen_inside, leaf_at}
-use Rattle.ar_index.proofs.tree.Tree.oldest.Goals as goal
+use Rattle.ar_index.proofs.tree.Tree.choices.Goals as goal
 
 pub node_at-requires : goal.node_at-requires
 node_at-requires c =
@@ -13,7 +12,6 @@ node_at-requires c =
 pub returns : goal.returns
 returns c =
     let inside = seen_inside _ _ c.args.leaf _ _ c.self.invariant.grown (ap leaves c.self.view_is) c.requires in
-    ap (λ (x : Choices). x.oldest)
-    (c.node_at.ensures ∙ ap (λ xs. node_at xs (c.self.inside.size + c.args.leaf)) c.deref.ensures.value
+    c.node_at.ensures ∙ ap (λ xs. node_at xs (c.self.inside.size + c.args.leaf)) c.deref.ensures.value
     ∙ sym (leaf_at c.self.inside.size c.self.inside.count c.args.leaf c.self.inside.nodes.items inside)
-    ∙ ap (λ t. get_or (leaves t) c.args.leaf nothing) c.self.view_is)
+    ∙ ap (λ t. get_or (leaves t) c.args.leaf nothing) c.self.view_is
