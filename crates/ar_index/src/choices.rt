@@ -1,5 +1,5 @@
 // The choices of a group, and of two neighbours together.
-ghost use Rattle.std.specs.Prelude.{◌≡◌, true};
+ghost use Rattle.std.specs.Prelude.{◌≡◌, ◌≢◌, true, false};
 ghost use Rattle.ar_index.specs.Choices.{place_in, comes_no_later};
 
 use ar_disks::{Addr, Key};
@@ -62,7 +62,8 @@ fn is_no_later<V>(key: Key, other: Key, units: &IndexMap<Addr, V>) -> bool
 }
 
 fn is_same_number(one: Option<u32>, other: Option<u32>) -> bool
-    ensures { result ≡ true → one ≡ other }
+    ensures same { result ≡ true → one ≡ other }
+    ensures another { result ≡ false → one ≢ other }
 {
     match (one, other) {
         (Some(one), Some(other)) => one == other,
@@ -72,7 +73,8 @@ fn is_same_number(one: Option<u32>, other: Option<u32>) -> bool
 }
 
 fn is_same_age(one: Option<Age>, other: Option<Age>) -> bool
-    ensures { result ≡ true → one ≡ other }
+    ensures same { result ≡ true → one ≡ other }
+    ensures another { result ≡ false → one ≢ other }
 {
     match (one, other) {
         (Some(one), Some(other)) => one.stamp == other.stamp && one.key == other.key,
@@ -91,8 +93,8 @@ pub(crate) enum Change {
 }
 
 impl Choices {
-    ghost use Rattle.std.specs.Prelude.{◌≡◌, true};
-    ghost use Rattle.ar_index.specs.Choices.{place_in, nothing, is_nothing, join, IsChangedTo};
+    ghost use Rattle.std.specs.Prelude.{◌≡◌, ◌≢◌, true};
+    ghost use Rattle.ar_index.specs.Choices.{place_in, nothing, is_nothing, join, HaveSameNumbers, IsChangedTo};
 
     /// The choices among no groups.
     pub fn nothing() -> Choices
@@ -118,7 +120,9 @@ impl Choices {
 
     /// In what the choices differ from the former ones.
     pub(crate) fn change(&self, former: &Choices) -> Change
-        ensures { IsChangedTo former.now self.now result }
+        ensures changed { IsChangedTo former.now self.now result }
+        ensures numbers { result ≡ Change.Anything → HaveSameNumbers self.now former.now → ⊥ }
+        ensures oldest { result ≡ Change.Oldest → self.now ≢ former.now }
     {
         let has_same_numbers = is_same_number(self.mirrored, former.mirrored)
             && is_same_number(self.parity, former.parity)
@@ -158,6 +162,7 @@ impl Change {
     /// The change of choices that differ in the oldest block, if in anything.
     pub(crate) fn of_oldest(oldest: Option<Age>, former: Option<Age>) -> Change
         ensures nothing { result ≡ Change.Nothing → oldest ≡ former }
+        ensures oldest { result ≡ Change.Oldest → oldest ≢ former }
         ensures numbers { result ≢ Change.Anything }
     {
         if is_same_age(oldest, former) {
