@@ -1,6 +1,6 @@
 // The nodes of a tree in one list: the root is 1, the children of a node are twice it and the next, and the leaves stand behind
 // the inner nodes.
-ghost use Rattle.std.specs.Prelude.{◌≡◌, false, ℕ, ◌+◌, ◌-◌, ◌*◌, ◌/◌, ◌^◌, ◌<◌, ◌≤◌, length, drop, slice_set, IfOk, OnErr};
+ghost use Rattle.std.specs.Prelude.{◌≡◌, ℕ, ◌+◌, ◌-◌, ◌*◌, ◌/◌, ◌^◌, ◌<◌, ◌≤◌, length, drop, slice_set, IfOk, OnErr};
 ghost use Rattle.ar_index.specs.Choices.{place_in, nothing, IsChangedTo};
 ghost use Rattle.ar_index.specs.Tree as spec;
 ghost use Rattle.ar_index.specs.declared.choices.Change.{Change};
