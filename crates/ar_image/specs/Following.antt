@@ -1,7 +1,8 @@
 -- What reads and writes of blocks leave of a store and of the cache before it.
-use Rattle.std.specs.Prelude.{◌≡◌, None, Some}
+use Rattle.std.specs.Prelude.{◌≡◌, false, None, Some}
 use Rattle.ar_disks.specs.declared.address.Key.{Key}
 use Rattle.ar_extents.specs.declared.health.Health.TheVariants.{Broken}
+use Rattle.ar_extents.specs.Changes.{is_broken}
 use Rattle.ar_extents.specs.Follows.{Keeps, Anywhere}
 use Rattle.ar_book.specs.declared.class.Slot.{Slot}
 use Rattle.ar_book.specs.Tables.{home}
@@ -30,10 +31,12 @@ pub record ReadsStored (old : StoreState) (key : Key) (new : StoreState) : Type 
   pub asks : (slot : Slot) → home old.book key ≡ Some slot → AsksForSlot old new slot
   pub lost : old.disks.health ≡ Broken → new ≡ old
 
--- One block was put into a store: it went where the steps of a put lead, and no disk was asked but those that its step asks.
+-- One block was put into a store, and the disks aren't broken: it went where the steps of a put lead, and no disk was asked but
+-- those that its step asks.
 pub record PutsStored (old : StoreState) (key : Key) (new : StoreState) : Type 0 where
   pub tables : Puts old.book key new.book
   pub asks : AsksToPut old key new
+  pub sound : is_broken new.disks.health ≡ false
 
 -- The put of one block ended on broken disks: the block has its old home, and the tables are at most made ready for it; no disk
 -- was asked but those that its step asks, and where the disks were broken before nothing has changed.
