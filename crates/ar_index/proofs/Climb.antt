@@ -1,8 +1,8 @@
 -- The climb from a leaf to the root: at each node on the way one node alone may not be the join of its children, the next above it;
 -- where a node stays as it was, there is none.
-use Rattle.std.proofs.Common.{◌≡◌, ◌≢◌, ℕ, suc, ◌+◌, ◌-◌, ◌*◌, ◌/◌, ◌^◌, ◌<◌, ◌≤◌, ◌⊎◌, List, length, drop, set, refl, sym, ap, subst, ◌∙◌, inl, inr, arith}
+use Rattle.std.proofs.Common.{◌≡◌, ◌≢◌, ℕ, zero, suc, ◌+◌, ◌-◌, ◌*◌, ◌/◌, ◌^◌, ◌<◌, ◌≤◌, ◌⊎◌, List, length, drop, set, refl, sym, ap, subst, ◌∙◌, inl, inr, arith}
 use Rattle.std.proofs.Math.Nat.{mul-le-mul_left, pow-succ'}
-use Rattle.std.proofs.lemmas.Bool.{cases_eq}
+use Rattle.std.proofs.lemmas.Bool.{cases_eq, cases_lt}
 use Rattle.std.specs.Option.{option_or}
 use Rattle.std.proofs.lemmas.List.{length-set, drop-set-lt, get_or-set_other, get_or-set_same}
 use Rattle.ar_disks.specs.declared.address.Addr.{Addr}
@@ -10,12 +10,13 @@ use Rattle.ar_index.specs.declared.choices.Change.{Change}
 use Rattle.ar_index.specs.declared.choices.Change.TheVariants.{Nothing, Oldest, Anything}
 use Rattle.ar_index.specs.declared.choices.Choices.{Choices}
 use Rattle.ar_index.specs.Choices.{nothing, join, HaveSameNumbers, IsChangedTo}
-use Rattle.ar_index.specs.Tree.{node_at, IsJoined, HasJoinedNumbers, AreJoinedBut, AreJoinedAfter, IsTree}
+use Rattle.ar_index.specs.Tree.{node_at, IsJoined, HasJoinedNumbers, AreJoinedBut, AreJoinedAfter, IsTree, above, HaveChanged}
 use Rattle.ar_index.proofs.Joins.{same_choices}
+use Rattle.ar_index.proofs.Leaves.{put_here}
 
--- what holds at a node on the way up, which has changed so far, where it began at another, with the leaves and the count of steps of
--- the beginning
-pub record IsClimbing (place : Addr → ℕ) (size : ℕ) (old nodes : List Choices) (change : Change) (start node before steps : ℕ) : Type 0 where
+-- what holds at a node on the way up, which has changed in no more than this, where it began at another, with the nodes, the change
+-- and the count of steps of the beginning
+pub record IsClimbing (place : Addr → ℕ) (size : ℕ) (old nodes : List Choices) (first change : Change) (start node before steps : ℕ) : Type 0 where
   pub twice : length nodes ≡ 2 * size
   pub low : 0 < node
   pub high : node < 2 * size
@@ -23,10 +24,17 @@ pub record IsClimbing (place : Addr → ℕ) (size : ℕ) (old nodes : List Choi
   pub leaves : drop size nodes ≡ drop size old
   pub few : 2 ^ (steps - before) * node ≤ start
   pub on : before ≤ steps
+  -- the node is so many levels above the first, and those below it in number are as they were
+  pub here : node ≡ above (steps - before) start
+  pub rest : (i : ℕ) → i < node → node_at nodes i ≡ node_at old i
+  -- the first has changed where a step was taken, and so has each on the way, this one too where its change is told
+  pub still : first ≡ Nothing → (steps ≡ before) × (change ≡ Nothing)
+  pub passed : HaveChanged old nodes start 1 (steps - before)
+  pub last : change ≢ Nothing → 0 < steps - before → node_at nodes node ≢ node_at old node
 
 -- the nodes where the one above this is joined anew
-abbrev pub above : (Addr → ℕ) → List Choices → ℕ → List Choices
-above place nodes n = set nodes (n / 2) (join place (node_at nodes (2 * (n / 2))) (node_at nodes (2 * (n / 2) + 1)))
+abbrev pub joined_anew : (Addr → ℕ) → List Choices → ℕ → List Choices
+joined_anew place nodes n = set nodes (n / 2) (join place (node_at nodes (2 * (n / 2))) (node_at nodes (2 * (n / 2) + 1)))
 
 -- joins of nodes with the same numbers have the same numbers
 join_numbers : (place : Addr → ℕ) (l r m s : Choices) → HaveSameNumbers l m → HaveSameNumbers r s → HaveSameNumbers (join place l r) (join place m s)
@@ -36,6 +44,39 @@ join_numbers place l r m s p q =
     (ap (λ x. option_or x.parity r.parity) p ∙ ap (λ y. option_or m.parity y.parity) q)
     (ap (λ x. option_or x.free r.free) p ∙ ap (λ y. option_or m.free y.free) q)
     refl
+
+-- numbers that are the same are so both ways
+numbers_turned : (a b : Choices) → HaveSameNumbers a b → HaveSameNumbers b a
+numbers_turned a b e = same_choices b (record a { oldest = b.oldest }) (sym (ap (λ x. x.mirrored) e)) (sym (ap (λ x. x.parity) e)) (sym (ap (λ x. x.free) e)) refl
+
+-- choices that are the same have the same numbers
+same_numbers : (a b : Choices) → a ≡ b → HaveSameNumbers a b
+same_numbers a b e = subst (λ x. HaveSameNumbers x b) (sym e) refl
+
+-- a change that is told is one
+pub change_is : (old new : Choices) (change : Change) → IsChangedTo old new change → change ≢ Nothing → new ≢ old
+change_is old new Nothing told some = absurd (some refl)
+change_is old new Oldest told some = told.1
+change_is old new Anything told some = λ e. told (same_numbers new old e)
+
+-- and where there is none, none is told
+pub none_told : (old new : Choices) (change : Change) → IsChangedTo old new change → new ≡ old → change ≡ Nothing
+none_told old new Nothing told same = refl
+none_told old new Oldest told same = absurd (told.1 same)
+none_told old new Anything told same = absurd (told (same_numbers new old same))
+
+-- two lists of nodes that differ at one node at most
+module _ (nodes next : List Choices) (n : ℕ) (elsewhere : (i : ℕ) → i ≢ n → node_at next i ≡ node_at nodes i) where
+  -- not at all, where that one is as it was
+  same_nodes : node_at next n ≡ node_at nodes n → (j : ℕ) → node_at next j ≡ node_at nodes j
+  same_nodes same j = elim (cases_eq j n) [ inl e ↦ subst (λ k. node_at next k ≡ node_at nodes k) (sym e) same | inr other ↦ elsewhere j other ]
+
+  -- nor in a number, where that one has its numbers
+  same_each : HaveSameNumbers (node_at next n) (node_at nodes n) → (j : ℕ) → HaveSameNumbers (node_at nodes j) (node_at next j)
+  same_each same j = elim (cases_eq j n) [
+    | inl e ↦ subst (λ i. HaveSameNumbers (node_at nodes i) (node_at next i)) (sym e) (numbers_turned (node_at next n) (node_at nodes n) same)
+    | inr other ↦ same_numbers (node_at nodes j) (node_at next j) (sym (elsewhere j other))
+  ]
 
 -- where a node may have changed, those below are joined but for the one above it
 but_above : (place : Addr → ℕ) (size : ℕ) (nodes : List Choices) (n : ℕ) (change : Change) → change ≢ Nothing → AreJoinedAfter place size nodes change n → AreJoinedBut place size nodes (n / 2)
@@ -67,23 +108,17 @@ put_joined place size nodes n c change some outer inside twice joined changed = 
         ∙ sym (ap (λ x. join place x (node_at next (2 * i + 1))) (elsewhere (2 * i) (omega arith)) ∙ ap (join place (node_at nodes (2 * i))) (elsewhere (2 * i + 1) (omega arith)))
 
     each : HaveSameNumbers c (node_at nodes n) → (j : ℕ) → HaveSameNumbers (node_at nodes j) (node_at next j)
-    each same j = elim (cases_eq j n) [
-      | inl e ↦ subst (λ i. HaveSameNumbers (node_at nodes i) (node_at next i)) (sym e) (subst (HaveSameNumbers (node_at nodes n)) (sym here) (turned same))
-      | inr ne ↦ subst (HaveSameNumbers (node_at nodes j)) (sym (elsewhere j ne)) refl
-    ]
-      where
-        turned : HaveSameNumbers c (node_at nodes n) → HaveSameNumbers (node_at nodes n) c
-        turned e = same_choices (node_at nodes n) (record c { oldest = (node_at nodes n).oldest }) (sym (ap (λ x. x.mirrored) e)) (sym (ap (λ x. x.parity) e)) (sym (ap (λ x. x.free) e)) refl
+    each same = same_each nodes next n elsewhere (subst (λ x. HaveSameNumbers x (node_at nodes n)) (sym here) same)
 
     by : (change : Change) → IsChangedTo (node_at nodes n) c change → AreJoinedAfter place size next change n
     by Nothing same = λ i low inner ne. all i ∙ joined i low inner ne ∙ sym (ap (λ x. join place x (node_at next (2 * i + 1))) (all (2 * i)) ∙ ap (join place (node_at nodes (2 * i))) (all (2 * i + 1)))
       where
         all : (j : ℕ) → node_at next j ≡ node_at nodes j
-        all j = elim (cases_eq j n) [ inl e ↦ subst (λ k. node_at next k ≡ node_at nodes k) (sym e) (here ∙ same) | inr other ↦ elsewhere j other ]
+        all = same_nodes nodes next n elsewhere (here ∙ same)
     by Oldest same = (
       but,
       λ low. subst (λ x. HaveSameNumbers x (join place (node_at next (2 * (n / 2))) (node_at next (2 * (n / 2) + 1)))) (sym (elsewhere (n / 2) (omega arith) ∙ joined (n / 2) (omega arith) (omega arith) (omega arith)))
-          (join_numbers place (node_at nodes (2 * (n / 2))) (node_at nodes (2 * (n / 2) + 1)) (node_at next (2 * (n / 2))) (node_at next (2 * (n / 2) + 1)) (each same (2 * (n / 2))) (each same (2 * (n / 2) + 1))),
+          (join_numbers place (node_at nodes (2 * (n / 2))) (node_at nodes (2 * (n / 2) + 1)) (node_at next (2 * (n / 2))) (node_at next (2 * (n / 2) + 1)) (each same.0 (2 * (n / 2))) (each same.0 (2 * (n / 2) + 1))),
     )
     by Anything same = but
 
@@ -133,7 +168,7 @@ module _ (place : Addr → ℕ) (size : ℕ) (nodes : List Choices) (n : ℕ) (t
       ]
     where
       all : (j : ℕ) → node_at next j ≡ node_at nodes j
-      all j = elim (cases_eq j m) [ inl e ↦ subst (λ k. node_at next k ≡ node_at nodes k) (sym e) same | inr other ↦ elsewhere j other ]
+      all = same_nodes nodes next m elsewhere same
 
       joins : (j : ℕ) → join place (node_at next (2 * j)) (node_at next (2 * j + 1)) ≡ join place (node_at nodes (2 * j)) (node_at nodes (2 * j + 1))
       joins j = ap (λ x. join place x (node_at next (2 * j + 1))) (all (2 * j)) ∙ ap (join place (node_at nodes (2 * j))) (all (2 * j + 1))
@@ -144,24 +179,44 @@ module _ (place : Addr → ℕ) (size : ℕ) (nodes : List Choices) (n : ℕ) (t
       subst (λ x. HaveSameNumbers x (join place (node_at next (2 * (m / 2))) (node_at next (2 * (m / 2) + 1)))) (sym (elsewhere (m / 2) (omega arith) ∙ joined (m / 2) (omega arith) (omega arith) (omega arith)))
       (join_numbers place (node_at nodes (2 * (m / 2))) (node_at nodes (2 * (m / 2) + 1)) (node_at next (2 * (m / 2))) (node_at next (2 * (m / 2) + 1)) (each (2 * (m / 2))) (each (2 * (m / 2) + 1)))
     where
-      turned : HaveSameNumbers (node_at nodes m) (node_at next m)
-      turned = same_choices (node_at nodes m) (record (node_at next m) { oldest = (node_at nodes m).oldest }) (sym (ap (λ x. x.mirrored) same)) (sym (ap (λ x. x.parity) same)) (sym (ap (λ x. x.free) same)) refl
-
       each : (j : ℕ) → HaveSameNumbers (node_at nodes j) (node_at next j)
-      each j = elim (cases_eq j m) [
-        | inl e ↦ subst (λ i. HaveSameNumbers (node_at nodes i) (node_at next i)) (sym e) turned
-        | inr ne ↦ subst (HaveSameNumbers (node_at nodes j)) (sym (elsewhere j ne)) refl
-      ]
+      each = same_each nodes next m elsewhere same
 
   pub joined_after : (change : Change) → IsChangedTo (node_at nodes m) (node_at next m) change → AreJoinedAfter place size next change m
   joined_after Nothing same = joined_all same
-  joined_after Oldest same = (joined_above, numbers_next same)
+  joined_after Oldest same = (joined_above, numbers_next same.0)
   joined_after Anything same = joined_above
 
-pub climbed : (place : Addr → ℕ) (size : ℕ) (old nodes : List Choices) (start n before steps : ℕ) (below change : Change) → below ≢ Nothing → 1 < n → IsClimbing place size old nodes below start n before steps
-    → IsChangedTo (node_at nodes (n / 2)) (node_at (above place nodes n) (n / 2)) change
-    → IsClimbing place size old (above place nodes n) change start (n / 2) before (steps + 1)
-climbed place size old nodes start n before steps below change ne low h changed = record {
+-- levels further up no node has a greater number
+above_low : (h k i : ℕ) → h ≤ k → above k i ≤ above h i
+above_low h zero i le = subst (λ n. above 0 i ≤ above n i) (let e : 0 ≡ h = omega arith in e) (let e : i ≤ i = omega arith in e)
+above_low h (suc k) i le = elim (cases_lt k h) [
+  | inl top ↦ subst (λ n. above (suc k) i ≤ above n i) (let e : suc k ≡ h = omega arith in e) (let e : above (suc k) i ≤ above (suc k) i = omega arith in e)
+  | inr under ↦ let r = above_low h k i under in let e : above k i / 2 ≤ above h i = omega arith in e
+]
+
+-- the climb begins at a leaf
+pub begun : (place : Addr → ℕ) (size : ℕ) (nodes : List Choices) (first : Change) (start steps : ℕ) → length nodes ≡ 2 * size → 0 < start → start < 2 * size
+    → AreJoinedAfter place size nodes first start → IsClimbing place size nodes nodes first first start start steps steps
+begun place size nodes first start steps twice low high joined = record {
+  twice = twice;
+  low = low;
+  high = high;
+  joined = joined;
+  leaves = refl;
+  few = subst (λ n. 2 ^ n * start ≤ start) (let e : 0 ≡ steps - steps = omega arith in e) (let e : 1 * start ≤ start = omega arith in e);
+  on = omega arith;
+  here = ap (λ n. above n start) (let e : 0 ≡ steps - steps = omega arith in e);
+  rest = λ i h. refl;
+  still = λ e. (refl, e);
+  passed = λ h from to. absurd (omega arith);
+  last = λ some on. absurd (omega arith);
+}
+
+pub climbed : (place : Addr → ℕ) (size : ℕ) (old nodes : List Choices) (start n before steps : ℕ) (first below change : Change) → below ≢ Nothing → 1 < n → IsClimbing place size old nodes first below start n before steps
+    → IsChangedTo (node_at nodes (n / 2)) (node_at (joined_anew place nodes n) (n / 2)) change
+    → IsClimbing place size old (joined_anew place nodes n) first change start (n / 2) before (steps + 1)
+climbed place size old nodes start n before steps first below change ne low h changed = record {
   twice = length-set nodes (n / 2) _ ∙ h.twice;
   low = omega arith;
   high = omega (arith, h.high);
@@ -169,12 +224,34 @@ climbed place size old nodes start n before steps below change ne low h changed 
   leaves = drop-set-lt size nodes (n / 2) _ (omega (arith, h.high)) ∙ h.leaves;
   few = subst (λ p. p * (n / 2) ≤ start) (sym (power before steps h.on)) (doubled (2 ^ (steps - before)) n start h.few);
   on = omega (arith, h.on);
+  here = ap (λ i. i / 2) h.here ∙ ap (λ d. above d start) (sym more);
+  rest = λ i le. elsewhere i (omega arith) ∙ h.rest i (omega arith);
+  still = λ e. absurd (ne (h.still e).1);
+  passed = λ d from to. elim (cases_lt d (steps - before)) [
+    | inl past ↦ λ e.
+        let le = above_low d (steps - before) start (omega arith) in
+        h.passed d from past (sym (elsewhere (above d start) (omega (arith, le, h.here))) ∙ e)
+    | inr top ↦
+        let level : d ≡ steps - before = omega arith in
+        let here : above d start ≡ n = ap (λ i. above i start) level ∙ sym h.here in
+        subst (λ i. node_at next i ≢ node_at old i) (sym here) (λ e. h.last ne (omega arith) (sym (elsewhere n (omega arith)) ∙ e))
+  ];
+  last = λ some on e. change_is (node_at nodes (n / 2)) (node_at next (n / 2)) change changed some (e ∙ sym (h.rest (n / 2) (omega arith)));
 }
+  where
+    next : List Choices
+    next = joined_anew place nodes n
+
+    more : steps + 1 - before ≡ suc (steps - before)
+    more = omega (arith, h.on)
+
+    elsewhere : (i : ℕ) → i ≢ n / 2 → node_at next i ≡ node_at nodes i
+    elsewhere i other = get_or-set_other nodes (n / 2) i _ nothing other
 
 -- at the root, or where a node stays as it was, the tree is whole
-pub ended : (place : Addr → ℕ) (size : ℕ) (old nodes : List Choices) (start n before steps : ℕ) (change : Change) → IsClimbing place size old nodes change start n before steps
+pub ended : (place : Addr → ℕ) (size : ℕ) (old nodes : List Choices) (start n before steps : ℕ) (first change : Change) → IsClimbing place size old nodes first change start n before steps
     → (change ≡ Nothing) ⊎ (n ≤ 1) → IsTree place size nodes
-ended place size old nodes start n before steps change h at = record { twice = h.twice; joined = elim at [ inl none ↦ subst (λ c. AreJoinedAfter place size nodes c n) none h.joined | inr top ↦ by change h.joined top ] }
+ended place size old nodes start n before steps first change h at = record { twice = h.twice; joined = elim at [ inl none ↦ subst (λ c. AreJoinedAfter place size nodes c n) none h.joined | inr top ↦ by change h.joined top ] }
   where
     root : AreJoinedBut place size nodes (n / 2) → n ≤ 1 → AreJoinedBut place size nodes 0
     root joined top i low inner ne = joined i low inner (omega arith)
@@ -183,3 +260,12 @@ ended place size old nodes start n before steps change h at = record { twice = h
     by Nothing joined top = joined
     by Oldest joined top = root joined.0 top
     by Anything joined top = root joined top
+
+-- after a leaf was put, each node below the last one taken has changed
+module _ (size leaf steps : ℕ) (old new : List Choices) (c : Choices) (there : leaf < size) (twice : length old ≡ 2 * size)
+    (put : drop size new ≡ set (drop size old) leaf c) (still : node_at old (size + leaf) ≡ c → steps ≡ 0) where
+  pub put_changed : HaveChanged (set old (size + leaf) c) new (size + leaf) 1 steps → HaveChanged old new (size + leaf) 0 steps
+  put_changed changed zero from to = λ e. let none = still (sym e ∙ put_here size leaf old new c put twice there) in absurd (omega arith)
+  put_changed changed (suc h) from to = λ e.
+      let le = above_low 1 (suc h) (size + leaf) (omega arith) in
+      changed (suc h) (omega arith) to (e ∙ sym (get_or-set_other old (size + leaf) (above (suc h) (size + leaf)) c nothing (let ne : above (suc h) (size + leaf) ≢ size + leaf = omega arith in ne)))

@@ -1,5 +1,5 @@
 -- What the searches choose among groups, and how the choices of two neighbours are joined.
-use Rattle.std.specs.Prelude.{◌≡◌, ℕ, Bool, not, is_some, ◌&&◌, ◌||◌, ◌==◌, nat_lt, nat_le, if◌then◌else◌, List, [], ◌∷◌, Option, None, Some, ⊤}
+use Rattle.std.specs.Prelude.{◌≡◌, ◌≢◌, ℕ, Bool, not, is_some, ◌&&◌, ◌||◌, ◌==◌, nat_lt, nat_le, if◌then◌else◌, List, [], ◌∷◌, Option, None, Some}
 use Rattle.std.specs.List.{position_or_len}
 use Rattle.std.specs.Map.{keys_of}
 use Rattle.std.specs.Option.{option_or}
@@ -42,11 +42,17 @@ nothing = record { mirrored = None; parity = None; free = None; oldest = None }
 abbrev pub HaveSameNumbers : Choices → Choices → Type 0
 HaveSameNumbers c d = c ≡ record d { oldest = c.oldest }
 
--- the second choices differ from the first in no more than the change says
+-- this is the change from the first oldest block to the second
+abbrev pub IsOldestChangedTo : Option Age → Option Age → Change → Type 0
+IsOldestChangedTo old new Nothing = new ≡ old
+IsOldestChangedTo old new Oldest = new ≢ old
+IsOldestChangedTo old new Anything = ⊥
+
+-- this is the change from the first choices to the second: they differ in just what it says
 abbrev pub IsChangedTo : Choices → Choices → Change → Type 0
 IsChangedTo old new Nothing = new ≡ old
-IsChangedTo old new Oldest = HaveSameNumbers new old
-IsChangedTo old new Anything = ⊤
+IsChangedTo old new Oldest = HaveSameNumbers new old × (new ≢ old)
+IsChangedTo old new Anything = HaveSameNumbers new old → ⊥
 
 -- whether there is no choice, as of no group
 abbrev pub is_nothing : Choices → Bool

@@ -22,7 +22,7 @@ HasJoinedNumbers place nodes i = HaveSameNumbers (node_at nodes i) (join place (
 abbrev pub AreJoinedBut : (Addr → ℕ) → ℕ → List Choices → ℕ → Type 0
 AreJoinedBut place size nodes but = (i : ℕ) → 0 < i → i < size → i ≢ but → IsJoined place nodes i
 
--- each node below so many is the join of its children, but perhaps for the one above a node that has changed so far
+-- each node below so many is the join of its children, but perhaps for the one above a node that has changed in no more than this
 abbrev pub AreJoinedAfter : (Addr → ℕ) → ℕ → List Choices → Change → ℕ → Type 0
 AreJoinedAfter place size nodes Nothing i = AreJoinedBut place size nodes 0
 AreJoinedAfter place size nodes Oldest i = AreJoinedBut place size nodes (i / 2) × (1 < i → HasJoinedNumbers place nodes (i / 2))
@@ -31,6 +31,15 @@ AreJoinedAfter place size nodes Anything i = AreJoinedBut place size nodes (i / 
 -- the second nodes are the first, where one is made the join of its children
 abbrev pub IsJoinedAt : (Addr → ℕ) → List Choices → ℕ → List Choices → Type 0
 IsJoinedAt place old i new = new ≡ slice_set old i (join place (node_at old (2 * i)) (node_at old (2 * i + 1)))
+
+-- the node that stands so many levels above another
+abbrev pub above : ℕ → ℕ → ℕ
+above zero i = i
+above (suc h) i = above h i / 2
+
+-- each node above this one, from a level on and below another, differs from what stood there
+abbrev pub HaveChanged : List Choices → List Choices → ℕ → ℕ → ℕ → Type 0
+HaveChanged old new i from to = (h : ℕ) → from ≤ h → h < to → node_at new (above h i) ≢ node_at old (above h i)
 
 -- so many leaves stand behind as many inner nodes, each the join of its children
 pub record IsTree (place : Addr → ℕ) (size : ℕ) (nodes : List Choices) : Type 0 where

@@ -93,8 +93,8 @@ pub(crate) enum Change {
 }
 
 impl Choices {
-    ghost use Rattle.std.specs.Prelude.{◌≡◌, ◌≢◌, true};
-    ghost use Rattle.ar_index.specs.Choices.{place_in, nothing, is_nothing, join, HaveSameNumbers, IsChangedTo};
+    ghost use Rattle.std.specs.Prelude.{◌≡◌};
+    ghost use Rattle.ar_index.specs.Choices.{place_in, nothing, is_nothing, join, IsChangedTo};
 
     /// The choices among no groups.
     pub fn nothing() -> Choices
@@ -120,9 +120,7 @@ impl Choices {
 
     /// In what the choices differ from the former ones.
     pub(crate) fn change(&self, former: &Choices) -> Change
-        ensures changed { IsChangedTo former.now self.now result }
-        ensures numbers { result ≡ Change.Anything → HaveSameNumbers self.now former.now → ⊥ }
-        ensures oldest { result ≡ Change.Oldest → self.now ≢ former.now }
+        ensures { IsChangedTo former.now self.now result }
     {
         let has_same_numbers = is_same_number(self.mirrored, former.mirrored)
             && is_same_number(self.parity, former.parity)
@@ -150,6 +148,7 @@ impl Choices {
 impl Change {
     ghost use Rattle.std.specs.Prelude.{◌≡◌, ◌≢◌, true, false};
     ghost use Rattle.ar_index.specs.declared.choices.Change.{Change};
+    ghost use Rattle.ar_index.specs.Choices.{IsOldestChangedTo};
 
     /// Whether there is one.
     pub(crate) fn is_some(self) -> bool
@@ -161,9 +160,7 @@ impl Change {
 
     /// The change of choices that differ in the oldest block, if in anything.
     pub(crate) fn of_oldest(oldest: Option<Age>, former: Option<Age>) -> Change
-        ensures nothing { result ≡ Change.Nothing → oldest ≡ former }
-        ensures oldest { result ≡ Change.Oldest → oldest ≢ former }
-        ensures numbers { result ≢ Change.Anything }
+        ensures { IsOldestChangedTo former oldest result }
     {
         if is_same_age(oldest, former) {
             Change::Nothing

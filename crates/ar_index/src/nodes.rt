@@ -4,7 +4,7 @@ ghost use Rattle.std.specs.Prelude.{◌≡◌, ℕ, ◌+◌, ◌-◌, ◌*◌, �
 ghost use Rattle.ar_index.specs.Choices.{place_in, nothing, IsChangedTo};
 ghost use Rattle.ar_index.specs.Tree as spec;
 ghost use Rattle.ar_index.specs.declared.choices.Change.{Change};
-ghost use Rattle.ar_index.specs.Tree.{HasJoinedNumbers, IsJoinedAt, AreJoinedAfter, IsTree, IsGrown, leaves_in};
+ghost use Rattle.ar_index.specs.Tree.{HasJoinedNumbers, IsJoinedAt, AreJoinedAfter, HaveChanged, IsTree, IsGrown, leaves_in};
 
 use crate::choices::Change;
 use crate::{Age, Choices, Steps};
@@ -20,7 +20,7 @@ pub(crate) fn node_at(nodes: &[Choices], node: usize) -> Choices
     nodes[node]
 }
 
-// Joins the children of an inner node, one of which may have changed so far, and says how far the node has.
+// Joins the children of an inner node, one of which may have changed in no more than this, and says in what the node has.
 fn join_at<V>(
     nodes: &mut Vec<Choices>,
     node: usize,
@@ -62,8 +62,8 @@ fn join_oldest_at<V>(nodes: &mut Vec<Choices>, node: usize, units: &IndexMap<Add
     change
 }
 
-// Joins the nodes above a leaf of a tree of so many leaves, which has changed so far, from the lowest up to one that stays as it
-// was, or to the root. A step is a node.
+// Joins the nodes above a leaf of a tree of so many leaves, which has changed in no more than this, from the lowest up to one that
+// stays as it was, or to the root. A step is a node.
 fn climb<V>(
     nodes: &mut Vec<Choices>,
     size: usize,
@@ -77,6 +77,8 @@ fn climb<V>(
     requires joined { AreJoinedAfter (place_in units.now.entries) size nodes.old.items change (size + leaf) }
     ensures tree { IsTree (place_in units.now.entries) size nodes.new.items }
     ensures leaves { drop size nodes.new.items ≡ drop size nodes.old.items }
+    ensures still { change ≡ Change.Nothing → steps.new.count ≡ steps.old.count }
+    ensures changed { HaveChanged nodes.old.items nodes.new.items (size + leaf) 1 (steps.new.count - steps.old.count) }
     ensures few { 2 ^ (steps.new.count - steps.old.count) ≤ size + leaf }
     ensures on { steps.old.count ≤ steps.new.count }
 {
@@ -89,7 +91,7 @@ fn climb<V>(
     }
 }
 
-/// Puts the choices of a leaf into a tree of so many leaves, and climbs once.
+/// Puts the choices of a leaf into a tree of so many leaves, and climbs once: no step is taken above a node that stays as it was.
 pub(crate) fn put<V>(
     nodes: &mut Vec<Choices>,
     size: usize,
@@ -102,6 +104,8 @@ pub(crate) fn put<V>(
     requires there { leaf < size }
     ensures tree { IsTree (place_in units.now.entries) size nodes.new.items }
     ensures leaves { drop size nodes.new.items ≡ slice_set (drop size nodes.old.items) leaf choices }
+    ensures still { spec.node_at nodes.old.items (size + leaf) ≡ choices → steps.new.count ≡ steps.old.count }
+    ensures changed { HaveChanged nodes.old.items nodes.new.items (size + leaf) 0 (steps.new.count - steps.old.count) }
     ensures few { 2 ^ (steps.new.count - steps.old.count) ≤ size + leaf }
     ensures on { steps.old.count ≤ steps.new.count }
 {
@@ -139,6 +143,7 @@ fn twice(size: usize) -> Result<usize, AllocError>
     ensures first { IfOk result (λ more. size ≡ 0 → more ≡ 1) }
     ensures twice { IfOk result (λ more. 0 < size → more ≡ 2 * size) }
     ensures fits { IfOk result (λ more. 2 * more < 2 ^ 64) }
+    ensures fails { OnErr result (2 ^ 64 ≤ 4 * size) }
 {
     if size == 0 {
         return Ok(1);

@@ -8,5 +8,5 @@ join_at-change-requires-clause-numbers g c = numbers_above (place_in c.args.unit
 pub loop-change-preserved : goal.loop-change-preserved
 loop-change-preserved g c =
     let joined = c.join_at-change.ensures.joined in
-    rw (joined, c.tick.ensures) (climbed _ _ _ _ _ _ _ _ _ c.join_at-change.result (c.is_some.ensures.some c.loop-change-test.true) c.if-node-gt1.true c.loop-change.invariant
+    rw (joined, c.tick.ensures) (climbed _ _ _ _ _ _ _ _ _ _ c.join_at-change.result (c.is_some.ensures.some c.loop-change-test.true) c.if-node-gt1.true c.loop-change.invariant
     (rw joined at c.join_at-change.ensures.changed))

@@ -1,8 +1,8 @@
-use Rattle.std.proofs.Common.{◌+◌, ◌≡◌, ◌∙◌, ℕ, cond, arith, ap, sym, subst, length}
+use Rattle.std.proofs.Common.{◌+◌, ◌-◌, get_or, ◌≡◌, ◌∙◌, ℕ, cond, arith, ap, sym, subst, length}
 use Rattle.std.specs.Prelude.{slice_set}
-use Rattle.ar_index.proofs.Leaves.{one_if_free, seen_inside, set_kept, put_leaves, few_steps, leaves_count}
-use Rattle.ar_index.specs.Choices.{place_in}
-use Rattle.ar_index.specs.Tree.{node_at, leaves, IsRight}
+use Rattle.ar_index.proofs.Leaves.{one_if_free, seen_inside, leaf_at, set_kept, put_leaves, few_steps, leaves_count}
+use Rattle.ar_index.specs.Choices.{place_in, nothing}
+use Rattle.ar_index.specs.Tree.{TreeState, node_at, leaves, HaveChanged, IsRight}
 use Rattle.ar_index.specs.contracts.tree.Tree.{the_view}
 use Rattle.ar_index.proofs.tree.Tree.set.Goals as goal
 
@@ -33,3 +33,12 @@ returns-clause-few g c most =
     let inside = seen_inside _ _ c.args.leaf _ _ c.self.invariant.grown (ap leaves c.self.view_is) c.requires.there in
     let count = leaves_count _ _ _ c.self.invariant.grown.twice c.self.invariant.grown.within in
     few_steps _ c.args.leaf c.self.inside.count _ _ c.put.ensures.few (omega (arith, c.self.invariant.grown.within)) c.self.invariant.close (omega (arith, ap (λ t. length (leaves t)) c.self.view_is)) c.put.ensures.on
+
+pub returns-clause-still : goal.returns-clause-still
+returns-clause-still g c = λ same.
+    let inside = seen_inside _ _ c.args.leaf _ _ c.self.invariant.grown (ap leaves c.self.view_is) c.requires.there in
+    c.put.ensures.still (sym (leaf_at c.self.inside.size c.self.inside.count c.args.leaf c.self.inside.nodes.items inside) ∙ ap (λ t. get_or (leaves t) c.args.leaf nothing) c.self.view_is ∙ same)
+
+pub returns-clause-changed : goal.returns-clause-changed
+returns-clause-changed g c =
+    subst (λ (t : TreeState). HaveChanged t.nodes c.put.new.nodes.items (t.size + c.args.leaf) 0 (c.put.new.steps.count - c.args.steps.now.count)) c.self.view_is c.put.ensures.changed
