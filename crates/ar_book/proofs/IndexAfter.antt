@@ -17,12 +17,13 @@ use Rattle.ar_disks.specs.declared.geometry.Geometry.{Geometry}
 use Rattle.ar_index.specs.declared.choices.Choices.{Choices}
 use Rattle.ar_index.specs.Choices.{place_in, nothing}
 use Rattle.ar_book.specs.declared.class.Class.{Class}
+use Rattle.ar_book.specs.declared.class.Class.TheVariants.{Free, Mirrored, Parity}
 use Rattle.ar_book.specs.declared.class.Slot.{Slot}
 use Rattle.ar_disks.specs.Addresses.{same_addr}
 use Rattle.ar_book.specs.Tables.{GroupState, UnitState, Tables, group_in, unit_in, key_at, home, reserved, HasBlock, HasSlot}
 use Rattle.ar_book.specs.Changes.{with_key, without_key, named, vacated, homed, restamped, grown, unmarked, opened, free_group, formed, shifted}
 use Rattle.ar_book.specs.Book.{TablesAgree}
-use Rattle.ar_book.specs.Index.{age_of, choices_in, choices_of, leaves_from, leaves_of, free_leaf, KeepsOldest}
+use Rattle.ar_book.specs.Index.{age_of, choices_by, choices_in, choices_of, leaves_from, leaves_of, free_leaf, oldest_by, oldest_in, KeepsOldest}
 use Rattle.ar_disks.proofs.Addresses.{addr_tells, make_key}
 use Rattle.ar_book.proofs.UnitLemmas.{has_by_block, unit_same, unit_other}
 use Rattle.ar_book.proofs.GroupLemmas.{there_group, named_shape, vacated_size, vacated_shape}
@@ -87,6 +88,26 @@ pub released_leaves : (t : Tables) (k : Key) (ok : TablesAgree t) (new : List Gr
 released_leaves t k ok new index now o former put before two =
     vacated_leaves t.geometry t.units t.groups new index now o (λ q e. there_group t.groups q k (ok.agree.to_slot k q (sym former ∙ e))) before put two
     ∙ sym (same_ages t.geometry t.units (homed t.units k None) new (released_stamp t k) (released_order t k))
+
+-- the oldest block among a group's choices is that of the group
+oldest_chosen : (t : Tables) (i n : ℕ) → (choices_of t.geometry t.units n (group_in t.groups i)).oldest ≡ oldest_in t i
+oldest_chosen t i n = by (group_in t.groups i).class
+  where
+    by : (c : Class) → (choices_by c t.geometry (place_in t.units) (age_of t.units) n (group_in t.groups i)).oldest ≡ oldest_by c (place_in t.units) (age_of t.units) (group_in t.groups i)
+    by Free = refl
+    by Mirrored = refl
+    by Parity = refl
+
+-- where the group of its home keeps its oldest block, or it has none, nothing is refreshed
+pub kept_still : (t : Tables) (k : Key) (n : ℕ) (ok : TablesAgree t) (index : List Choices) (o changed : Option Slot) → o ≡ home t k → IfSome changed (λ q. o ≡ Some q)
+    → IfSome changed (λ q. KeepsOldest (get_or index q.group nothing).oldest k n → ⊥) → index ≡ leaves_of t.geometry t.units t.groups
+    → ForSome (home t k) (λ q. KeepsOldest (oldest_in t q.group) k n) → changed ≡ None
+kept_still t k n ok index o None former same needed before keeps = refl
+kept_still t k n ok index o (Some q) former same needed before keeps =
+    let at : home t k ≡ Some q = sym former ∙ same in
+    let inside : q.group < length t.groups = there_group t.groups q k (ok.agree.to_slot k q at) in
+    let leaf : get_or index q.group nothing ≡ choices_of t.geometry t.units q.group (group_in t.groups q.group) = ap (λ l. get_or l q.group nothing) before ∙ leaf_of t.geometry t.units t.groups q.group inside in
+    absurd (needed (subst (λ x. KeepsOldest x k n) (sym (ap (λ c. c.oldest) leaf ∙ oldest_chosen t q.group q.group)) (keeps q at)))
 
 -- a block has another stamp
 module _ (t : Tables) (k : Key) (n : ℕ) (ok : TablesAgree t) (block : HasBlock t k) where

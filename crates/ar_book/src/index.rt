@@ -1,5 +1,5 @@
 // The tree over the groups, kept right: the choices of a group, by one scan of its slots, and one climb.
-ghost use Rattle.std.specs.Prelude.{◌≡◌, ℕ, ◌+◌, ◌<◌, ◌≤◌, length, slice_index_or, slice_set, true, Some, None, IfSome, IfNone};
+ghost use Rattle.std.specs.Prelude.{◌≡◌, ℕ, ◌+◌, ◌<◌, ◌≤◌, length, slice_index_or, slice_set, true, false, Some, None, IfSome, IfNone};
 ghost use Rattle.std.specs.Option.{ForSome, MatchOption};
 ghost use Rattle.std.specs.Map.{lookup};
 ghost use Rattle.ar_disks.specs.Addresses.{same_addr};
@@ -16,21 +16,27 @@ use ar_index::{Age, Choices, Steps, Tree};
 use indexmap::IndexMap;
 
 // A unit's address and its table.
-type Found<'a> = (Addr, &'a UnitTable);
+type HeldUnit<'a> = (Addr, &'a UnitTable);
 
-// The unit at an address: the one that was found last, or by a look-up. Most blocks of a group are of one unit.
-fn find<'a>(
-    last: Option<Found<'a>>,
+fn is_same_unit(held: Addr, addr: Addr) -> bool
+    ensures { result ≡ same_addr held addr }
+{
+    held == addr
+}
+
+// The unit at an address: the one that was looked up last, or by another look-up. Most blocks of a group are of one unit.
+fn look_up<'a>(
+    last: Option<HeldUnit<'a>>,
     units: &'a IndexMap<Addr, UnitTable>,
     addr: Addr,
-) -> Option<Found<'a>>
+) -> Option<HeldUnit<'a>>
     requires { ForSome last (λ unit. lookup (same_addr unit.0) units.now.entries ≡ Some unit.1.now) }
     ensures addr { ForSome result (λ unit. unit.0 ≡ addr) }
     ensures found { ForSome result (λ unit. lookup (same_addr addr) units.now.entries ≡ Some unit.1.now) }
     ensures none { IfNone result (lookup (same_addr addr) units.now.entries ≡ None) }
 {
     if let Some((held, unit)) = last {
-        if held == addr {
+        if is_same_unit(held, addr) {
             return Some((addr, unit));
         }
     }
@@ -38,8 +44,8 @@ fn find<'a>(
 }
 
 // A block's stamp; 0 where there is no unit.
-fn stamp_of(unit: Option<Found>, rb: u32) -> u64
-    ensures { MatchOption unit.entry (result ≡ 0) (λ found. result ≡ slice_index_or found.1.now.stamps rb 0) }
+fn stamp_in(unit: Option<HeldUnit>, rb: u32) -> u64
+    ensures { MatchOption unit.entry (result ≡ 0) (λ held. result ≡ slice_index_or held.1.now.stamps rb 0) }
 {
     match unit {
         Some((_, unit)) => unit.stamp(rb),
@@ -61,8 +67,8 @@ fn oldest_in(
     for named in slots {
         steps.tick();
         if let Some(key) = named {
-            unit = find(unit, units, key.addr);
-            let stamp = stamp_of(unit, key.rb);
+            unit = look_up(unit, units, key.addr);
+            let stamp = stamp_in(unit, key.rb);
             oldest = Age::older(oldest, Some(Age { stamp, key: *key }), units);
         }
     }
@@ -163,6 +169,7 @@ pub(crate) fn refresh_home(
     ensures few { length groups.now.items ≤ 4096
         → MatchOption home (steps.new.count ≡ steps.old.count)
         (λ slot. steps.new.count ≤ steps.old.count + (length (group_in groups.now.items slot.group).slots + 14)) }
+    ensures still { home ≡ None → steps.new.count ≡ steps.old.count }
     ensures on { steps.old.count ≤ steps.new.count }
 {
     if let Some(slot) = home {
@@ -172,7 +179,8 @@ pub(crate) fn refresh_home(
 
 // Whether another block is the oldest and older than this stamp.
 fn keeps_oldest(oldest: Option<Age>, key: Key, stamp: u64) -> bool
-    ensures { result ≡ true → KeepsOldest oldest key stamp }
+    ensures keeps { result ≡ true → KeepsOldest oldest key stamp }
+    ensures changes { result ≡ false → KeepsOldest oldest key stamp → ⊥ }
 {
     match oldest {
         Some(oldest) => oldest.stamp < stamp && oldest.key != key,
@@ -182,7 +190,7 @@ fn keeps_oldest(oldest: Option<Age>, key: Key, stamp: u64) -> bool
 
 /// The home of a block that gets a stamp, where the choices of its group may change by that. None where there is no home, or where
 /// another block is the oldest of the group and older than the stamp: it stays the oldest then.
-pub(crate) fn changed_by_stamp(
+pub(crate) fn home_to_refresh(
     index: &Tree,
     home: Option<Slot>,
     key: Key,
@@ -190,6 +198,7 @@ pub(crate) fn changed_by_stamp(
 ) -> Option<Slot>
     requires { ForSome home (λ slot. slot.group < length (leaves index.now)) }
     ensures same { IfSome result (λ slot. home ≡ Some slot) }
+    ensures needed { IfSome result (λ slot. KeepsOldest (leaf index.now slot.group).oldest key stamp → ⊥) }
     ensures stays { IfNone result (ForSome home (λ slot. KeepsOldest (leaf index.now slot.group).oldest key stamp)) }
 {
     let slot = home?;

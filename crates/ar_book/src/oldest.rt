@@ -1,6 +1,5 @@
 // The search for the mirrored block that was written longest ago.
-ghost use Rattle.std.specs.Prelude.{◌+◌, ◌*◌, ◌≤◌, length, IfSome, IfNone};
-ghost use Rattle.ar_disks.specs.Geometry.{rows_of};
+ghost use Rattle.std.specs.Prelude.{◌≡◌, IfSome, IfNone};
 ghost use Rattle.ar_disks.specs.declared.address.Key.{Key};
 ghost use Rattle.ar_book.specs.Choices.{IsMirrored, IsNoNewer};
 
@@ -15,8 +14,7 @@ impl Book {
         ensures found { IfSome result (IsMirrored self.now) }
         ensures oldest { IfSome result (λ key. (other : Key) → IsMirrored self.now other → IsNoNewer self.now key other) }
         ensures none { IfNone result ((other : Key) → IsMirrored self.now other → ⊥) }
-        ensures few { length self.now.groups ≤ 4096 → steps.new.count ≤ steps.old.count + (8 * rows_of self.now.geometry + 120) }
-        ensures on { steps.old.count ≤ steps.new.count }
+        ensures still { steps.new.count ≡ steps.old.count }
     {
         match self.index.best().oldest {
             Some(age) => Some(age.key),

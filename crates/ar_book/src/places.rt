@@ -1,11 +1,13 @@
 // Changes of homes and stamps.
 ghost use Rattle.std.specs.Prelude.{◌≡◌, ◌+◌, ◌*◌, ◌≤◌, length, None};
+ghost use Rattle.std.specs.Option.{ForSome};
 ghost use Rattle.ar_disks.specs.Geometry.{rows_of};
-ghost use Rattle.ar_book.specs.Tables.{key_at, HasBlock, HasSlot};
+ghost use Rattle.ar_book.specs.Tables.{key_at, home, HasBlock, HasSlot};
+ghost use Rattle.ar_book.specs.Index.{oldest_in, KeepsOldest};
 ghost use Rattle.ar_book.specs.Changes.{assigned, released, stamped};
 
-use crate::index::{changed_by_stamp, refresh, refresh_home};
-use crate::tables::{home_in, name_slot, set_home, set_stamp, vacate_slot};
+use crate::index::{home_to_refresh, refresh, refresh_home};
+use crate::tables::{home_in, name_slot, restamp, set_home, vacate_slot};
 use crate::{Book, Slot};
 use ar_disks::Key;
 use ar_index::Steps;
@@ -62,17 +64,19 @@ impl Book {
         set_home(&mut self.units, key, None);
     }
 
-    /// Gives a unit's block the next stamp.
+    /// Gives a unit's block the next stamp. It takes no step where the block has no home, or another block is the oldest of its
+    /// home's group and older than the stamp.
     pub fn stamp(&mut self, key: Key, steps: &mut Steps)
         requires { HasBlock self.old key }
         ensures stamped { self.new ≡ stamped self.old key }
+        ensures still { ForSome (home self.old key) (λ slot. KeepsOldest (oldest_in self.old slot.group) key self.new.puts)
+            → steps.new.count ≡ steps.old.count }
         ensures few { length self.old.groups ≤ 4096 → steps.new.count ≤ steps.old.count + (8 * rows_of self.old.geometry + 120) }
         ensures on { steps.old.count ≤ steps.new.count }
     {
-        let home = home_in(&self.units, key);
         self.puts = self.puts.saturating_add(1);
-        let changed = changed_by_stamp(&self.index, home, key, self.puts);
-        set_stamp(&mut self.units, key, self.puts);
+        let home = restamp(&mut self.units, key, self.puts);
+        let changed = home_to_refresh(&self.index, home, key, self.puts);
         refresh_home(
             &mut self.index,
             &self.groups,

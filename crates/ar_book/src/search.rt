@@ -74,12 +74,12 @@ impl Book {
         group.lowest_hole(slots_of(self.geometry, group.class()), steps)
     }
 
-    /// The lowest hole of a class: in the lowest group of the class that has one, its lowest.
+    /// The lowest hole of a class: in the lowest group of the class that has one, its lowest. A step is a slot of that group.
     pub fn hole(&self, class: Class, steps: &mut Steps) -> Option<Slot>
         ensures found { IfSome result (IsHole self.now class) }
         ensures least { IfSome result (λ slot. (other : Slot) → IsHole self.now class other → IsUpTo slot other) }
         ensures none { IfNone result ((other : Slot) → IsHole self.now class other → ⊥) }
-        ensures few { length self.now.groups ≤ 4096 → steps.new.count ≤ steps.old.count + (8 * rows_of self.now.geometry + 120) }
+        ensures few { steps.new.count ≤ steps.old.count + 3 * rows_of self.now.geometry }
         ensures on { steps.old.count ≤ steps.new.count }
     {
         let group = self.open(class)?;

@@ -89,14 +89,15 @@ pub(crate) fn set_home(units: &mut IndexMap<Addr, UnitTable>, key: Key, home: Op
     }
 }
 
-/// Gives a block of a unit another stamp.
-pub(crate) fn set_stamp(units: &mut IndexMap<Addr, UnitTable>, key: Key, stamp: u64)
+/// Gives a block of a unit another stamp, and answers its home: one look-up serves both.
+pub(crate) fn restamp(units: &mut IndexMap<Addr, UnitTable>, key: Key, stamp: u64) -> Option<Slot>
     requires { key.rb < length (unit_in units.old.entries key.addr).stamps }
-    ensures { units.new.entries ≡ restamped units.old.entries key stamp }
+    ensures home { result ≡ home_in units.old.entries key }
+    ensures stamp { units.new.entries ≡ restamped units.old.entries key stamp }
 {
-    if let Some(unit) = units.get_mut(&key.addr) {
-        unit.set_stamp(key.rb, stamp);
-    }
+    let unit = units.get_mut(&key.addr)?;
+    unit.set_stamp(key.rb, stamp);
+    unit.home(key.rb)
 }
 
 /// Makes a unit that is there longer and marks it. Without memory it stays as it was.

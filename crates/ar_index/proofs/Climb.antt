@@ -195,24 +195,6 @@ above_low h (suc k) i le = elim (cases_lt k h) [
   | inr under ↦ let r = above_low h k i under in let e : above k i / 2 ≤ above h i = omega arith in e
 ]
 
--- the climb begins at a leaf
-pub begun : (place : Addr → ℕ) (size : ℕ) (nodes : List Choices) (first : Change) (start steps : ℕ) → length nodes ≡ 2 * size → 0 < start → start < 2 * size
-    → AreJoinedAfter place size nodes first start → IsClimbing place size nodes nodes first first start start steps steps
-begun place size nodes first start steps twice low high joined = record {
-  twice = twice;
-  low = low;
-  high = high;
-  joined = joined;
-  leaves = refl;
-  few = subst (λ n. 2 ^ n * start ≤ start) (let e : 0 ≡ steps - steps = omega arith in e) (let e : 1 * start ≤ start = omega arith in e);
-  on = omega arith;
-  here = ap (λ n. above n start) (let e : 0 ≡ steps - steps = omega arith in e);
-  rest = λ i h. refl;
-  still = λ e. (refl, e);
-  passed = λ h from to. absurd (omega arith);
-  last = λ some on. absurd (omega arith);
-}
-
 pub climbed : (place : Addr → ℕ) (size : ℕ) (old nodes : List Choices) (start n before steps : ℕ) (first below change : Change) → below ≢ Nothing → 1 < n → IsClimbing place size old nodes first below start n before steps
     → IsChangedTo (node_at nodes (n / 2)) (node_at (joined_anew place nodes n) (n / 2)) change
     → IsClimbing place size old (joined_anew place nodes n) first change start (n / 2) before (steps + 1)
