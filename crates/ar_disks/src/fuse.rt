@@ -68,6 +68,8 @@ impl FuseDisk {
 }
 
 impl Disk for FuseDisk {
+    ghost use Rattle.ar_disks.specs.Fuse.{blown};
+
     ghost state = { λ fuse. fuse.disk };
 
     fn geometry(&self) -> Geometry {
@@ -83,9 +85,10 @@ impl Disk for FuseDisk {
         requires whole { length into.old ≡ block_len_of self.old.disk.geometry }
         ensures read { Reads self.old.disk self.new.disk ext row result into.new }
         ensures len { length into.new ≡ length into.old }
-        // It passes as many calls as the fuse has left.
+        // It passes as many calls as the fuse has left. Of another one the fault is counted, and what stands on the disk stays.
         ensures fuse { IsTrue result ↔ (0 < self.old.left) }
         ensures left { self.new.left ≡ self.old.left - 1 }
+        ensures blown { OnFalse result (self.new ≡ blown self.old) }
     {
         self.passes() && self.disk.read(ext, row, into)
     }
@@ -94,9 +97,10 @@ impl Disk for FuseDisk {
         requires place { HasPlace self.old.disk ext row }
         requires whole { length from.now ≡ block_len_of self.old.disk.geometry }
         ensures written { Writes self.old.disk self.new.disk ext row result from.now }
-        // It passes as many calls as the fuse has left.
+        // It passes as many calls as the fuse has left. Of another one the fault is counted, and what stands on the disk stays.
         ensures fuse { IsTrue result ↔ (0 < self.old.left) }
         ensures left { self.new.left ≡ self.old.left - 1 }
+        ensures blown { OnFalse result (self.new ≡ blown self.old) }
     {
         self.passes() && self.disk.write(ext, row, from)
     }
