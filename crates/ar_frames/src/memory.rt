@@ -1,5 +1,5 @@
 // Streams over memory.
-ghost use Rattle.std.specs.Prelude.{◌≡◌, ◌<◌, ◌≤◌, ◌+◌, ◌++◌, [], length, take, drop, min, Some, IfSome, is_none, is_some, IsSome, ◌↔◌, ◌==◌};
+ghost use Rattle.std.specs.Prelude.{◌≡◌, ◌<◌, ◌≤◌, ◌+◌, ◌++◌, [], length, take, drop, min, Some, IfSome, is_none, is_some, IsSome, IfNone, ◌↔◌, ◌==◌};
 ghost use Rattle.std.specs.Io.KnownBytes.{IsAtEnd};
 ghost use Rattle.ar_frames.specs.Stream.{Reading, Writing, moved};
 ghost use Rattle.ar_frames.specs.Memory.{mem_source, mem_sink};
@@ -128,6 +128,9 @@ impl Sink for MemSink {
         // It takes as many bytes as there are and fit, and faults exactly where there is no room.
         ensures all { IfSome result (λ n. n ≡ min (length self.old.room) (length from.now)) }
         ensures room { IsSome result ↔ (0 < length self.old.room) }
+        // It writes over the first of those that are there, and the others stay.
+        ensures behind { IfSome result (λ n. self.new.room ≡ drop n self.old.room) }
+        ensures full { IfNone result (self.new.room ≡ self.old.room) }
     {
         let room = self.bytes.len() - self.at;
         if room == 0 {
