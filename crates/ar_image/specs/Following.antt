@@ -10,7 +10,7 @@ use Rattle.ar_store.specs.Store.{StoreState}
 use Rattle.ar_store.specs.Slots.{AsksForSlot}
 use Rattle.ar_store.specs.Placing.{Puts, MayHavePrepared, SameUnits}
 use Rattle.ar_store.specs.Asking.{AsksToPut}
-use Rattle.ar_store.specs.Calls.{IsAccessed}
+use Rattle.ar_store.specs.Calls.{IsAccessed, LeavesZeros}
 use Rattle.ar_image.specs.Image.{ArrayState}
 
 -- what reads and writes of blocks leave of a store: its units, and no disk was lost without a fault
@@ -31,11 +31,13 @@ pub record ReadsStored (old : StoreState) (key : Key) (new : StoreState) : Type 
   pub asks : (slot : Slot) → home old.book key ≡ Some slot → AsksForSlot old new slot
   pub lost : old.disks.health ≡ Broken → new ≡ old
 
--- One block was put into a store, and the disks aren't broken: it went where the steps of a put lead, and no disk was asked but
--- those that its step asks.
+-- One block was put into a store, and the disks aren't broken: it went where the steps of a put lead, no disk was asked but those
+-- that its step asks, and no row was written but those of its slot; where the step is a squeeze, but those of the group that is
+-- opened, of which the slots behind the block's own hold zeros.
 pub record PutsStored (old : StoreState) (key : Key) (new : StoreState) : Type 0 where
   pub tables : Puts old.book key new.book
   pub asks : AsksToPut old key new
+  pub zeros : LeavesZeros old key new
   pub sound : is_broken new.disks.health ≡ false
 
 -- The put of one block ended on broken disks: the block has its old home, and the tables are at most made ready for it; no disk

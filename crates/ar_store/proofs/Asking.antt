@@ -1,5 +1,5 @@
--- Which disks are asked for a slot to be found, and at it, and which group is written.
-use Rattle.std.proofs.Common.{◌≡◌, ◌⊎◌, inl, inr, ℕ, ◌<◌, zero, suc, Bool, true, false, true≢false, Option, None, Some, refl, sym, ap, subst, ◌∙◌, arith}
+-- Which disks are asked for a slot to be found, and at it, and which rows are written.
+use Rattle.std.proofs.Common.{◌≡◌, ◌≢◌, ◌⊎◌, inl, inr, ℕ, ◌<◌, zero, suc, Bool, true, false, true≢false, Option, None, Some, refl, sym, ap, subst, ◌∙◌, arith}
 use Rattle.std.proofs.lemmas.Option.{none-some, same_Some}
 use Rattle.ar_disks.specs.declared.address.Key.{Key}
 use Rattle.ar_disks.specs.declared.address.Members.{Members}
@@ -7,10 +7,15 @@ use Rattle.ar_disks.specs.declared.address.Place.{Place}
 use Rattle.ar_disks.specs.declared.geometry.Geometry.{Geometry}
 use Rattle.ar_disks.specs.Members.{member}
 use Rattle.ar_extents.specs.Health.{is_lost}
-use Rattle.ar_extents.specs.Set.{SetState, IsSound}
+use Rattle.ar_extents.specs.Set.{SetState, content, IsSound}
 use Rattle.ar_extents.specs.Groups.{IsMember, IsOutside}
 use Rattle.ar_extents.specs.Follows.{Follows, Keeps, Anywhere, IsPlace, IsEither, WorksOn}
-use Rattle.ar_extents.proofs.Follows.{works_more}
+use Rattle.ar_extents.proofs.Follows.{keeps_refl, keeps_then, keeps_fewer, works_more}
+use Rattle.ar_mirror.specs.Calls.{IsInPair, KeepsButSlot}
+use Rattle.ar_parity.specs.Group.{KeepsButRow}
+use Rattle.ar_mirror.proofs.Frames.{keeps_outside as mirror_outside}
+use Rattle.ar_parity.proofs.Frames.{keeps_outside as parity_outside}
+use Rattle.ar_mirror.specs.Slots.{row_of as mirror_row_of}
 use Rattle.ar_book.specs.declared.class.Class.{Class}
 use Rattle.ar_book.specs.declared.class.Class.TheVariants.{Free, Mirrored, Parity}
 use Rattle.ar_book.specs.declared.class.Level.TheVariants.{Mirrored as MirroredLevel, Parity as ParityLevel}
@@ -28,7 +33,7 @@ use Rattle.ar_store.specs.declared.way.Way.TheVariants.{Home, Hole, Broken}
 use Rattle.ar_store.specs.Store.{StoreState, store_of, members_of, class_in}
 use Rattle.ar_store.specs.Slots.{NeedsIn, ReadsIn, WritesIn, first_in, AsksFor, AsksForSlot}
 use Rattle.ar_store.specs.Placing.{slot_at, moved_from, moved_first, squeezed, LeadsHome, LeadsToHole, Leads, HasNoWay}
-use Rattle.ar_store.specs.Asking.{WorksWithin, ReadsAt, WritesAt, MovesAt, MovesAll, ReadsPairs, AsksSlot, AsksSlots, AsksGroup, AsksGroups, AsksToPut, AsksToSqueeze, AsksOnWay, AsksWay}
+use Rattle.ar_store.specs.Asking.{WorksWithin, KeepsButRowsOf, WritesSlot, ReadsAt, WritesAt, MovesAt, MovesAll, ReadsPairs, AsksSlot, AsksSlots, AsksGroup, AsksGroups, AsksToPut, AsksToSqueeze, AsksOnWay, AsksWay}
 use Rattle.ar_store.specs.Spaces.{store_in}
 use Rattle.ar_store.proofs.Within.{within_same, within_then, within_more, within_read}
 use Rattle.ar_store.proofs.Squeezing.{IsSqueezing, same_full, same_free}
@@ -76,7 +81,7 @@ reads_in Free a b m i asks = works_more (NeedsIn Free a.geometry m i) (ReadsIn F
 reads_in Mirrored a b m i asks = reads_first Mirrored a b m i (inl refl) asks
 reads_in Parity a b m i asks = reads_first Parity a b m i (any_member m _) asks
 
-pub writes_parity : (a b : SetState) (m : Members) (i : ℕ) → WorksOn (IsMember m) a b
+writes_parity : (a b : SetState) (m : Members) (i : ℕ) → WorksOn (IsMember m) a b
     → (IsSound b (member m (data_position i)) → WorksOn (IsEither (member m (data_position i)) (member m (parity_position (parity_row_of i)))) a b)
     → WorksOn (WritesIn Parity b a.geometry m i) a b
 writes_parity a b m i works known =
@@ -92,6 +97,16 @@ writes_parity a b m i works known =
       | inr lost ↦
           works_more (IsMember m) (WritesIn Parity b a.geometry m i) a b (λ place is. (is, λ sound. absurd (true≢false (sym lost ∙ sound)))) works
     ]
+
+-- What a put to a slot of a mirrored group does, and to one of a group with parity, in one word each.
+pub wrote_mirrored : (a b : SetState) (m : Members) (i : ℕ) → WorksOn (IsInPair a.geometry m i) a b → KeepsButSlot m i a b → WritesSlot Mirrored a b m i
+wrote_mirrored a b m i works keeps = record { within = record { works = works; keeps = mirror_outside a b m i keeps }; rows = keeps }
+
+pub wrote_parity : (a b : SetState) (m : Members) (i : ℕ) → WorksOn (IsMember m) a b
+    → (IsSound b (member m (data_position i)) → WorksOn (IsEither (member m (data_position i)) (member m (parity_position (parity_row_of i)))) a b)
+    → KeepsButRow m (parity_row_of i) a b → WritesSlot Parity a b m i
+wrote_parity a b m i works known keeps =
+    record { within = record { works = writes_parity a b m i works known; keeps = parity_outside a b m i keeps }; rows = keeps }
 
 -- What was asked is asked still once more was done: what can be used at the end could be used before.
 reads_later : (c : Class) (b d : SetState) (g : Geometry) (m : Members) (i : ℕ) (place : Place) → Follows b d → ReadsIn c b g m i place → ReadsIn c d g m i place
@@ -115,9 +130,9 @@ squeezed_members t from to g = first_members (opened t to Parity) from to _ g �
 
 -- a write of a slot is work on its group
 pub slot_in_group : (a b : StoreState) (s : Slot) (class : Class) → AsksSlot class s a b → AsksGroup s.group a b
-slot_in_group a b s class works =
+slot_in_group a b s class writes =
     within_more (WritesIn class b.disks a.disks.geometry (members_of a s.group) s.slot) (IsMember (members_of a s.group)) (members_of a s.group) a.disks b.disks
-    (writes_member class b.disks a.disks.geometry (members_of a s.group) s.slot) works
+    (writes_member class b.disks a.disks.geometry (members_of a s.group) s.slot) writes.within
 
 -- What is asked where the blocks of a mirrored group move to another, over the members of both.
 abbrev MovesFrom : SetState → Geometry → Members → Members → Place → Type 0
@@ -186,14 +201,42 @@ pub only_opened : (a c : StoreState) (group : ℕ) → IsLowestFree a.book group
 only_opened a c group free works g is_g =
     let P : ℕ → Type 0 = λ n. AsksGroup n a c in subst P (same_free a.book group g free is_g) works
 
+-- no row was written at all
+pub rows_kept : (class : Class) (m : Members) (i : ℕ) (a b : SetState) → Keeps Anywhere a b → KeepsButRowsOf class m i a b
+rows_kept Free m i a b keeps = keeps
+rows_kept Mirrored m i a b keeps = record { rows = λ place row other. keeps.rows place tt row }
+rows_kept Parity m i a b keeps = record {
+  other_rows = λ place row other. keeps.rows place tt row;
+  other_places = keeps_fewer Anywhere (IsOutside m) a b (λ place is. tt) keeps;
+}
+
+-- no row but a slot's was written after rows were read
+pub rows_then : (class : Class) (m : Members) (i : ℕ) (a b c : SetState) → b.geometry ≡ a.geometry → Keeps Anywhere a b → KeepsButRowsOf class m i b c
+    → KeepsButRowsOf class m i a c
+rows_then Free m i a b c geometry keeps rows = keeps_then Anywhere a b c keeps rows
+rows_then Mirrored m i a b c geometry keeps rows =
+    let P : Geometry → Type 0 = λ g. (place : Place) (row : ℕ) → (IsInPair g m i place → row ≢ mirror_row_of g i) → content c place row ≡ content b place row in
+    record { rows = λ place row other. subst P geometry rows.rows place row other ∙ keeps.rows place tt row }
+rows_then Parity m i a b c geometry keeps rows = record {
+  other_rows = λ place row other. rows.other_rows place row other ∙ keeps.rows place tt row;
+  other_places = keeps_then (IsOutside m) a b c (keeps_fewer Anywhere (IsOutside m) a b (λ place is. tt) keeps) rows.other_places;
+}
+
+-- no slot was written
+slot_same : (class : Class) (a b : SetState) (m : Members) (i : ℕ) → b ≡ a → WritesSlot class a b m i
+slot_same class a b m i same = record {
+  within = within_same _ m a b same;
+  rows = subst (λ (x : SetState). KeepsButRowsOf class m i a x) (sym same) (rows_kept class m i a a (keeps_refl Anywhere a));
+}
+
 -- nothing was asked
 pub asks_still : (a c : StoreState) (k : Key) → c.disks ≡ a.disks → AsksToPut a k c
 asks_still a c k same = record {
-  mirrored = λ s at is. within_same _ _ a.disks c.disks same;
-  mirrored_hole = λ s low hole. within_same _ _ a.disks c.disks same;
-  opened_group = λ g low none many lowest. within_same _ _ a.disks c.disks same;
-  parity = λ s at is none few. within_same _ _ a.disks c.disks same;
-  parity_hole = λ s at none few hole. within_same _ _ a.disks c.disks same;
+  mirrored = λ s at is. slot_same _ a.disks c.disks _ _ same;
+  mirrored_hole = λ s low hole. slot_same _ a.disks c.disks _ _ same;
+  opened_group = λ g low none many lowest. slot_same _ a.disks c.disks _ _ same;
+  parity = λ s at is none few. slot_same _ a.disks c.disks _ _ same;
+  parity_hole = λ s at none few hole. slot_same _ a.disks c.disks _ _ same;
   squeezed_group = λ from to at none full few is_from is_to. within_same _ _ a.disks c.disks same;
 }
 
@@ -226,9 +269,9 @@ module _ (a b c : StoreState) (k : Key) where
   at_slot : (class : Class) (s r : Slot) → b.disks ≡ a.disks → s ≡ r → class_in b s.group ≡ class → members_of b s.group ≡ members_of a s.group
       → AsksSlot (class_in b s.group) s b c → AsksSlot class r a c
   at_slot class s r disks same is members asks =
-      let P : Class → Type 0 = λ x. WorksWithin (WritesIn x c.disks b.disks.geometry (members_of b s.group) s.slot) (members_of b s.group) b.disks c.disks in
-      let Q : Members → Type 0 = λ m. WorksWithin (WritesIn class c.disks b.disks.geometry m s.slot) m b.disks c.disks in
-      let R : SetState → Type 0 = λ x. WorksWithin (WritesIn class c.disks x.geometry (members_of a s.group) s.slot) (members_of a s.group) x c.disks in
+      let P : Class → Type 0 = λ x. WritesSlot x b.disks c.disks (members_of b s.group) s.slot in
+      let Q : Members → Type 0 = λ m. WritesSlot class b.disks c.disks m s.slot in
+      let R : SetState → Type 0 = λ x. WritesSlot class x c.disks (members_of a s.group) s.slot in
       let S : Slot → Type 0 = λ x. AsksSlot class x a c in
       subst S same (subst R disks (subst Q members (subst P is asks)))
 
@@ -294,7 +337,7 @@ module _ (a b c : StoreState) (k : Key) where
   squeeze_hole s leads needs first asks from to is_from is_to =
       let same = leads.squeezed_group from to needs.mirrored.none needs.parity needs.mirrored.few is_from is_to in
       within_then (MovesAll a c from to) (members_of a to) a.disks b.disks c.disks
-      (groups_later b.disks c.disks a.disks.geometry (members_of a from) (members_of a to) a.disks b.disks asks.works.follows (first from to is_from is_to))
+      (groups_later b.disks c.disks a.disks.geometry (members_of a from) (members_of a to) a.disks b.disks asks.within.works.follows (first from to is_from is_to))
       (after_squeeze from to s same.0 (ap (λ (x : Slot). x.group) same.1) asks)
 
   -- What a put asks: what was asked for a slot to be found, and then that slot's disks.
@@ -321,16 +364,23 @@ asks_both a b c one other book geometry read keeps wrote =
     (within_read (MovesAt a c one other) (members_of a other.group) a.disks b.disks
     (works_more (ReadsAt a b one) (MovesAt a c one other) a.disks b.disks
     (λ place reads.
-    inl (reads_later (class_in a one.group) b.disks c.disks a.disks.geometry (members_of a one.group) one.slot place wrote.works.follows reads))
+    inl (reads_later (class_in a one.group) b.disks c.disks a.disks.geometry (members_of a one.group) one.slot place wrote.within.works.follows reads))
     (reads_in (class_in a one.group) a.disks b.disks (members_of a one.group) one.slot read)) keeps)
     (within_more (WritesAt a c other) (MovesAt a c one other) (members_of a other.group) b.disks c.disks (λ place is. inr is)
-    (subst Q geometry (subst P book wrote)))
+    (subst Q geometry (subst P book wrote.within)))
 
 pub asks_one : (a b : StoreState) (one other : Slot) → AsksForSlot a b one → Keeps Anywhere a.disks b.disks → AsksSlots one other a b
 asks_one a b one other read keeps =
     within_read (MovesAt a b one other) (members_of a other.group) a.disks b.disks
     (works_more (ReadsAt a b one) (MovesAt a b one other) a.disks b.disks (λ place is. inl is)
     (reads_in (class_in a one.group) a.disks b.disks (members_of a one.group) one.slot read)) keeps
+
+-- no row was written but the new slot's
+pub move_rows : (a b c : StoreState) (other : Slot) → b.book ≡ a.book → b.disks.geometry ≡ a.disks.geometry → Keeps Anywhere a.disks b.disks
+    → AsksSlot (class_in b other.group) other b c → KeepsButRowsOf (class_in a other.group) (members_of a other.group) other.slot a.disks c.disks
+move_rows a b c other book geometry keeps wrote =
+    let P : Tables → Type 0 = λ x. KeepsButRowsOf (class_of x other.group) (group_in x.groups other.group).members other.slot b.disks c.disks in
+    rows_then (class_in a other.group) (members_of a other.group) other.slot a.disks b.disks c.disks geometry keeps (subst P book wrote.rows)
 
 -- a slot stands where a block has its home
 pub asks_from : (a b : StoreState) (key : Key) (from other : Slot) → home a.book key ≡ Some from → AsksSlots from other a b

@@ -16,7 +16,8 @@ use Rattle.ar_book.specs.declared.class.Class.TheVariants.{Free, Mirrored, Parit
 use Rattle.ar_book.specs.declared.class.Slot.{Slot}
 use Rattle.ar_book.specs.Tables.{Tables, slots_of, HasSlot}
 use Rattle.ar_store.specs.Store.{StoreState, store_of, members_of, class_in}
-use Rattle.ar_store.specs.Slots.{ClassHolds, SlotHolds, HoldsAny, CanWrite, IsWritten, NeedsIn, WritesIn, first_in, AsksFor, AllStand}
+use Rattle.ar_store.specs.Slots.{ClassHolds, SlotHolds, HoldsAny, CanWrite, IsWritten, NeedsIn, first_in, AsksFor, AllStand}
+use Rattle.ar_store.specs.Asking.{WritesSlot}
 use Rattle.ar_store.specs.Kept.{IsSpace}
 use Rattle.ar_disks.specs.Endings.{OnDone}
 use Rattle.ar_store.specs.Calls.{IsAccessed}
@@ -51,12 +52,12 @@ module _ (s : StoreState) (slot : Slot) (m : Members) (space : IsSpace s) (has :
       subst (λ (x : Members). AsksFor (class_in s slot.group) s.disks b x slot.slot) is_m
       (subst (λ (x : Class). AsksFor x s.disks b m slot.slot) is_c asks)
 
-  -- no disk was asked but those of the slot
-  pub wrote_in : (c : Class) (b : SetState) → c ≡ class_in s slot.group → WorksOn (WritesIn c b s.disks.geometry m slot.slot) s.disks b
-      → WorksOn (WritesIn (class_in s slot.group) b s.disks.geometry (members_of s slot.group) slot.slot) s.disks b
-  wrote_in c b is_c works =
-      subst (λ (x : Members). WorksOn (WritesIn (class_in s slot.group) b s.disks.geometry x slot.slot) s.disks b) is_m
-      (subst (λ (x : Class). WorksOn (WritesIn x b s.disks.geometry m slot.slot) s.disks b) is_c works)
+  -- no disk was asked but those of the slot, and no row was written but its own
+  pub wrote_in : (c : Class) (b : SetState) → c ≡ class_in s slot.group → WritesSlot c s.disks b m slot.slot
+      → WritesSlot (class_in s slot.group) s.disks b (members_of s slot.group) slot.slot
+  wrote_in c b is_c writes =
+      subst (λ (x : Members). WritesSlot (class_in s slot.group) s.disks b x slot.slot) is_m
+      (subst (λ (x : Class). WritesSlot x s.disks b m slot.slot) is_c writes)
 
   -- the slot was written
   written_in : (c : Class) (b : SetState) (block : List ℕ) → c ≡ class_in s slot.group → IsWritten c s.disks b m slot.slot block

@@ -1,5 +1,5 @@
 -- Which disks a call asks: those of the slots that it reads and writes, and of the groups that it opens and empties; and which
--- extents it leaves as they are: all but those of the one group that it writes.
+-- rows it leaves as they are: all but those of the one slot that it writes, or of the one group that it fills.
 use Rattle.std.specs.Prelude.{◌≡◌, ◌≢◌, ◌⊎◌, ℕ, ◌<◌, ◌≤◌, Some}
 use Rattle.ar_disks.specs.declared.address.Key.{Key}
 use Rattle.ar_disks.specs.declared.address.Members.{Members}
@@ -7,9 +7,12 @@ use Rattle.ar_disks.specs.declared.address.Place.{Place}
 use Rattle.ar_disks.specs.declared.geometry.Geometry.{Geometry}
 use Rattle.ar_extents.specs.Set.{SetState}
 use Rattle.ar_extents.specs.Groups.{IsMember, IsOutside}
-use Rattle.ar_extents.specs.Follows.{Keeps, WorksOn}
+use Rattle.ar_extents.specs.Follows.{Keeps, Anywhere, WorksOn}
+use Rattle.ar_mirror.specs.Calls.{KeepsButSlot}
+use Rattle.ar_parity.specs.Group.{KeepsButRow}
+use Rattle.ar_parity.specs.Row.{row_of as parity_row_of}
 use Rattle.ar_book.specs.declared.class.Class.{Class}
-use Rattle.ar_book.specs.declared.class.Class.TheVariants.{Mirrored, Parity}
+use Rattle.ar_book.specs.declared.class.Class.TheVariants.{Free, Mirrored, Parity}
 use Rattle.ar_book.specs.declared.class.Level.TheVariants.{Unplaced, Mirrored as MirroredLevel, Parity as ParityLevel}
 use Rattle.ar_book.specs.declared.class.Slot.{Slot}
 use Rattle.ar_book.specs.Tables.{home, level, slots_of, free_groups}
@@ -46,10 +49,20 @@ pub record ReadsPairs (new : SetState) (g : Geometry) (m : Members) (place : Pla
 abbrev pub MovesAll : StoreState → StoreState → ℕ → ℕ → Place → Type 0
 MovesAll old new from to place = ReadsPairs new.disks old.disks.geometry (members_of old from) place ⊎ IsMember (members_of old to) place
 
--- no disk was asked but those that a write of the slot asks, where its group is used so, and no other group was written
+-- no row may have other content but the slot's: of its pair, or with parity of its group
+abbrev pub KeepsButRowsOf : Class → Members → ℕ → SetState → SetState → Type 0
+KeepsButRowsOf Free m i old new = Keeps Anywhere old new
+KeepsButRowsOf Mirrored m i old new = KeepsButSlot m i old new
+KeepsButRowsOf Parity m i old new = KeepsButRow m (parity_row_of i) old new
+
+-- One slot of four extents was written: no disk was asked but those that this asks, and no row was written but the slot's.
+pub record WritesSlot (class : Class) (old new : SetState) (m : Members) (i : ℕ) : Type 0 where
+  pub within : WorksWithin (WritesIn class new old.geometry m i) m old new
+  pub rows : KeepsButRowsOf class m i old new
+
+-- the same of a slot of a store, where its group is used so
 abbrev pub AsksSlot : Class → Slot → StoreState → StoreState → Type 0
-AsksSlot class slot old new =
-    WorksWithin (WritesIn class new.disks old.disks.geometry (members_of old slot.group) slot.slot) (members_of old slot.group) old.disks new.disks
+AsksSlot class slot old new = WritesSlot class old.disks new.disks (members_of old slot.group) slot.slot
 
 -- none but those that a block's move from one slot to another asks, and no group was written but the other's
 abbrev pub AsksSlots : Slot → Slot → StoreState → StoreState → Type 0
@@ -69,7 +82,7 @@ abbrev pub AsksGroups : ℕ → ℕ → StoreState → StoreState → Type 0
 AsksGroups from to old new = WorksWithin (MovesAll old new from to) (members_of old to) old.disks new.disks
 
 -- Which disks a put asks, by the steps of `Puts`: those that a write of its slot asks, and where it squeezes, those of a squeeze;
--- and which group it writes.
+-- and which rows it writes: the slot's, and where it squeezes, those of the group that is opened.
 pub record AsksToPut (old : StoreState) (k : Key) (new : StoreState) : Type 0 where
   pub mirrored : (s : Slot) → level old.book k ≡ MirroredLevel → home old.book k ≡ Some s → AsksSlot Mirrored s old new
   pub mirrored_hole : (s : Slot) → level old.book k ≢ MirroredLevel → IsLowestHole old.book Mirrored s → AsksSlot Mirrored s old new

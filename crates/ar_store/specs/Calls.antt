@@ -1,19 +1,24 @@
 -- What calls answer, and what they leave as it was.
-use Rattle.std.specs.Prelude.{◌≡◌, ℕ, ◌*◌, ◌≤◌, ◌<◌, ◌⊎◌}
+use Rattle.std.specs.Prelude.{◌≡◌, ℕ, ◌+◌, ◌*◌, ◌≤◌, ◌<◌, ◌⊎◌, None}
 use Rattle.ar_disks.specs.Block.{zeros}
 use Rattle.ar_disks.specs.Geometry.{rows_of, block_len_of}
+use Rattle.ar_disks.specs.declared.address.Key.{Key}
 use Rattle.ar_extents.specs.Set.{SetState, IsLost}
 use Rattle.ar_extents.specs.Follows.{Follows, Keeps}
 use Rattle.ar_extents.specs.declared.health.Health.TheVariants.{Broken as AllBroken}
 use Rattle.ar_book.specs.declared.class.Class.{Class}
-use Rattle.ar_book.specs.Tables.{Tables, free_groups}
+use Rattle.ar_book.specs.declared.class.Class.TheVariants.{Mirrored, Parity}
+use Rattle.ar_book.specs.declared.class.Slot.{Slot}
+use Rattle.ar_book.specs.Tables.{Tables, home, slots_of, free_groups}
 use Rattle.ar_book.specs.Changes.{opened}
-use Rattle.ar_book.specs.Choices.{IsLowestFree}
+use Rattle.ar_book.specs.Choices.{IsFullMirrored, IsLowestFree}
 use Rattle.ar_store.specs.declared.open.Opening.{Opening}
 use Rattle.ar_store.specs.declared.open.Opening.TheVariants.{Opened, Idle, Broken as NotOpened}
-use Rattle.ar_store.specs.Store.{StoreState}
-use Rattle.ar_store.specs.Slots.{SlotHolds}
-use Rattle.ar_store.specs.Placing.{slot_at}
+use Rattle.ar_store.specs.declared.way.Way.{Way}
+use Rattle.ar_store.specs.declared.way.Way.TheVariants.{Home, Hole, Broken as NoWay}
+use Rattle.ar_store.specs.Store.{StoreState, class_in}
+use Rattle.ar_store.specs.Slots.{SlotHolds, BesideHold}
+use Rattle.ar_store.specs.Placing.{slot_at, HasNoHole, HasNoWay}
 
 -- Rows were read and written: no disk was lost without a cause, and what is loose stays so. An extent that isn't used, of a disk
 -- that is out or isn't rebuilt so far, keeps what stands in its rows: the rebuild alone writes them.
@@ -41,6 +46,33 @@ pub record IsCutShort (old new : StoreState) (class : Class) : Type 0 where
 -- each slot of a group with parity holds the zero block
 pub record HoldsZeros (s : StoreState) (group : ℕ) : Type 0 where
   pub slots : (i : ℕ) → i < 3 * rows_of s.disks.geometry → SlotHolds s (slot_at group i) (zeros (block_len_of s.disks.geometry))
+
+-- each slot of a group with parity, from one on, holds the zero block
+pub record HoldsZerosFrom (s : StoreState) (group first : ℕ) : Type 0 where
+  pub slots : (i : ℕ) → first ≤ i → i < 3 * rows_of s.disks.geometry → SlotHolds s (slot_at group i) (zeros (block_len_of s.disks.geometry))
+
+-- A put that needed a squeeze filled the group that it opened with zeros: each slot behind the block's own holds the zero block.
+pub record LeavesZeros (old : StoreState) (k : Key) (new : StoreState) : Type 0 where
+  pub behind :
+      (from to : ℕ) → home old.book k ≡ None → HasNoHole old.book Mirrored → HasNoHole old.book Parity → free_groups old.book < 2
+      → IsFullMirrored old.book from → IsLowestFree old.book to → HoldsZerosFrom new to (slots_of old.book.geometry Mirrored + 1)
+
+-- the slot is in a group with parity, of which each slot from this one on holds the zero block
+pub record IsZerosFrom (s : StoreState) (slot : Slot) : Type 0 where
+  pub parity : class_in s slot.group ≡ Parity
+  pub zeros : HoldsZerosFrom s slot.group slot.slot
+
+-- the slot that was found for a block that had no way without a squeeze is such a one
+abbrev pub IsZerosOnWay : Tables → Key → StoreState → Way → Type 0
+IsZerosOnWay t k new (Home s) = Unit {0}
+IsZerosOnWay t k new (Hole s) = HasNoWay t k t → IsZerosFrom new s
+IsZerosOnWay t k new NoWay = Unit {0}
+
+-- where a hole was written, each other slot of its group that held a block holds it
+abbrev pub BesideWay : Way → StoreState → StoreState → Type 0
+BesideWay (Home s) old new = Unit {0}
+BesideWay (Hole s) old new = BesideHold old new s
+BesideWay NoWay old new = Unit {0}
 
 -- what is said of the group that was opened, if one was
 abbrev pub IfOpened : Opening → (ℕ → Type 0) → Type 0

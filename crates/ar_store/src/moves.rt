@@ -15,8 +15,9 @@ impl<D: Disk> Space<D> {
     ghost use Rattle.ar_book.specs.Changes.{assigned, stamped};
     ghost use Rattle.ar_store.specs.Slots.{stands, AllStand, OthersStand, BesideHold};
     ghost use Rattle.ar_store.specs.Placing.{IsVacant, IsReadyFor, placed_by};
-    ghost use Rattle.ar_store.specs.Store.{class_in};
-    ghost use Rattle.ar_store.specs.Asking.{AsksSlot, AsksSlots, AsksWay};
+    ghost use Rattle.ar_store.specs.Store.{class_in, members_of};
+    ghost use Rattle.ar_store.specs.Asking.{AsksSlot, AsksSlots, AsksWay, KeepsButRowsOf};
+    ghost use Rattle.ar_store.specs.Calls.{BesideWay};
     ghost use Rattle.ar_store.specs.Spaces.{store_in, IsReady, Stays};
 
     /// Moves a block to a slot that names none, by way of `block`. The new slot is written before the old one is left.
@@ -34,6 +35,7 @@ impl<D: Disk> Space<D> {
         ensures stand { AllStand (store_in self.old) (store_in self.new) }
         ensures beside { BesideHold (store_in self.old) (store_in self.new) to }
         ensures asks { (from : Slot) → home self.old.book key ≡ Some from → AsksSlots from to (store_in self.old) (store_in self.new) }
+        ensures rows { KeepsButRowsOf (class_in (store_in self.old) to.group) (members_of (store_in self.old) to.group) to.slot self.old.disks self.new.disks }
         ensures stays { Stays self.old self.new }
         ensures len { length block.new ≡ length block.old }
     {
@@ -87,6 +89,7 @@ impl<D: Disk> Space<D> {
 
         ensures here { result ≡ Completion.Done → stands (store_in self.new) key ≡ from.now }
         ensures others { OthersStand (store_in self.old) (store_in self.new) key }
+        ensures beside { BesideWay way (store_in self.old) (store_in self.new) }
         ensures asks { AsksWay way (store_in self.old) (store_in self.new) }
         ensures stays { Stays self.old self.new }
     {
@@ -113,6 +116,7 @@ impl<D: Disk> Space<D> {
 
         ensures here { result ≡ Completion.Done → stands (store_in self.new) key ≡ from.now }
         ensures others { OthersStand (store_in self.old) (store_in self.new) key }
+        ensures beside { BesideWay way (store_in self.old) (store_in self.new) }
         ensures asks { AsksWay way (store_in self.old) (store_in self.new) }
         ensures stays { Stays self.old self.new }
     {

@@ -69,6 +69,7 @@ impl<D: Disk> Space<D> {
         requires free { free_groups self.old.book ≡ 1 }
         ensures lowest { IsLowestFree self.old.book result }
         ensures opened { self.new.book ≡ opened self.old.book result Parity }
+        ensures zeros { HoldsZeros (store_in self.new) result }
         ensures stand { AllStand (store_in self.old) (store_in self.new) }
         ensures asks { AsksGroup result (store_in self.old) (store_in self.new) }
         ensures stays { Stays self.old self.new }

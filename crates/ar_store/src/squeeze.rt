@@ -15,6 +15,7 @@ impl<D: Disk> Space<D> {
     ghost use Rattle.ar_book.specs.Tables.{home, class_of, slots_of, free_groups};
     ghost use Rattle.ar_book.specs.Choices.{IsWaiting};
     ghost use Rattle.ar_store.specs.Slots.{AllStand};
+    ghost use Rattle.ar_store.specs.Calls.{HoldsZeros, HoldsZerosFrom, IsZerosFrom};
     ghost use Rattle.ar_store.specs.Asking.{AsksGroups, AsksToSqueeze};
     ghost use Rattle.ar_store.specs.Placing.{slot_at, moved_first, IsVacant, IsSqueezed, HasNoHole, CanMove, HasMovedSome, HasBegunSqueeze};
     ghost use Rattle.ar_store.specs.Spaces.{store_in, IsReady, Stays};
@@ -31,6 +32,7 @@ impl<D: Disk> Space<D> {
 
         ensures squeezed { IfSome result (IsSqueezed self.old.book self.new.book) }
         ensures free { IfSome result (λ _. 0 < free_groups self.new.book) }
+        ensures zeros { IfSome result (IsZerosFrom (store_in self.new)) }
         ensures none { IfNone result (self.new.disks.health ≡ Broken) }
         ensures begun { HasBegunSqueeze self.old.book self.new.book }
 
@@ -65,6 +67,9 @@ impl<D: Disk> Space<D> {
         ensures some { HasMovedSome self.old.book from to self.new.book }
         ensures moved { result ≡ Completion.Done → self.new.book ≡ moved_first self.old.book from to (slots_of self.old.book.geometry Mirrored) }
         ensures emptied { result ≡ Completion.Done → class_of self.new.book from ≡ Free }
+        ensures opened { result ≡ Completion.Done → class_of self.new.book to ≡ Parity }
+        ensures zeros { result ≡ Completion.Done → HoldsZeros (store_in self.old) to
+            → HoldsZerosFrom (store_in self.new) to (slots_of self.old.book.geometry Mirrored) }
         ensures hole { result ≡ Completion.Done → IsVacant self.new.book (slot_at to (slots_of self.old.book.geometry Mirrored)) }
 
         ensures unplaced { (k : Key) → home self.old.book k ≡ None → home self.new.book k ≡ None }

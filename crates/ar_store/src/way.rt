@@ -7,6 +7,7 @@ ghost use Rattle.ar_book.specs.declared.class.Class.TheVariants.{Mirrored};
 ghost use Rattle.ar_book.specs.Tables.{home, free_groups, HasBlock};
 ghost use Rattle.ar_store.specs.Slots.{AllStand};
 ghost use Rattle.ar_store.specs.Asking.{AsksOnWay};
+ghost use Rattle.ar_store.specs.Calls.{IsZerosOnWay};
 ghost use Rattle.ar_store.specs.Placing.{Leads, IsReadyFor, MayOpen, WantsGroup, MayHavePrepared, IsMirroredHole, HasNoMirroredHole, HasNoHole, IsWayIn, HasNoWay};
 ghost use Rattle.ar_store.specs.Spaces.{store_in, IsReady, Stays};
 
@@ -38,6 +39,7 @@ impl<D: Disk> Space<D> {
         ensures leads { Leads self.old.book key self.new.book result }
         ensures way { IsReadyFor (store_in self.new) key result }
         ensures prepared { MayHavePrepared self.old.book key self.new.book }
+        ensures zeros { IsZerosOnWay self.old.book key (store_in self.new) result }
 
         ensures home { home self.new.book key ≡ home self.old.book key }
         ensures free { self.new.disks.health ≢ Broken → 0 < free_groups self.new.book }

@@ -9,6 +9,7 @@ use Rattle.ar_store.specs.Asking.{AsksToSqueeze}
 use Rattle.ar_store.specs.Spaces.{store_in}
 use Rattle.ar_store.proofs.Fills.{accessed_refl}
 use Rattle.ar_store.proofs.Openings.{after_opening}
+use Rattle.ar_store.proofs.Zeros.{zeros_unneeded}
 use Rattle.ar_store.proofs.Ways.{no_way, prepared_in, ready_there, waits, leads_squeezed}
 use Rattle.ar_store.proofs.space.Space.find_way.Goals as goal
 
@@ -25,6 +26,7 @@ returns-in-Some g c =
       leads = found.way.leads;
       way = ready_there s.disks u c.args.key c.in-Some.way found.way.there;
       prepared = prepared_in s.book u c.args.key found.opens found.wanted;
+      zeros = zeros_unneeded (store_of s.disks u) s.book u c.args.key c.in-Some.way found.way found.opens;
       home = after.homes c.args.key;
       free = λ _. after.free c.requires.free;
       stand = after.stand;
@@ -71,6 +73,7 @@ returns-in-Some-squeeze g c =
       leads = leads_squeezed t u new.book c.args.key c.in-Some-squeeze.slot none.unplaced still none.mirrored none.parity squeezed.squeezed;
       way = squeezed.squeezed.empty;
       prepared = inr (inr (no_way t u c.args.key none, subst (λ (x : Tables). HasBegunSqueeze x new.book) same squeezed.begun));
+      zeros = λ _. squeezed.zeros;
       home = still ∙ sym none.unplaced;
       free = λ _. squeezed.free;
       stand = subst (λ (x : Tables). AllStand (store_of s.disks x) (store_in new)) same squeezed.stand;
@@ -97,6 +100,7 @@ returns-in-None-squeeze g c =
       leads = tt;
       way = squeezed.none;
       prepared = inr (inr (no_way t u c.args.key none, subst (λ (x : Tables). HasBegunSqueeze x new.book) same squeezed.begun));
+      zeros = tt;
       home = still ∙ sym none.unplaced;
       free = λ sound. absurd (sound squeezed.none);
       stand = subst (λ (x : Tables). AllStand (store_of s.disks x) (store_in new)) same squeezed.stand;

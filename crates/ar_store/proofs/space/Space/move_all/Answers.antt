@@ -1,4 +1,4 @@
-use Rattle.std.proofs.Common.{◌≡◌, Option, IsSome, refl, sym, ap, subst, ◌∙◌, arith}
+use Rattle.std.proofs.Common.{◌≡◌, ◌<◌, Option, IsSome, refl, sym, ap, subst, ◌∙◌, arith}
 use Rattle.ar_disks.specs.declared.address.Key.{Key}
 use Rattle.ar_disks.specs.Geometry.{block_len_of}
 use Rattle.ar_book.specs.declared.class.Class.TheVariants.{Mirrored}
@@ -6,6 +6,9 @@ use Rattle.ar_book.specs.Tables.{Tables, home, slots_of}
 use Rattle.ar_book.proofs.Homes.{key_home}
 use Rattle.ar_extents.proofs.Outcomes.{done_sound, sound_done}
 use Rattle.ar_store.specs.Placing.{slot_at, moved_first, IsVacant}
+use Rattle.ar_store.specs.Calls.{HoldsZerosFrom}
+use Rattle.ar_store.specs.Spaces.{store_in}
+use Rattle.ar_store.proofs.Zeros.{zeros_all, zeros_later}
 use Rattle.ar_store.proofs.Options.{some_is, none_not_some}
 use Rattle.ar_store.proofs.Within.{within_refl}
 use Rattle.ar_store.proofs.Asking.{step_asks}
@@ -18,6 +21,7 @@ pub loop-slot-init : goal.loop-slot-init
 loop-slot-init g c = record {
   squeezing = squeezing_start c.args.self.now c.args.from c.args.to c.requires.ready c.requires.can c.requires.sound;
   asks = within_refl _ _ c.args.self.now.disks;
+  zeros = zeros_all (store_in c.args.self.now) c.args.to;
   whole = refl;
 }
 
@@ -58,6 +62,10 @@ loop-slot-preserved g c =
           (done_sound new.disks.health (sym c.in-Done.is ∙ moved.outcome));
       asks = step_asks c.args.self.now c.loop-slot.self new c.args.from c.args.to c.loop-slot.slot c.in-Some.key so_far.squeezing (omega arith) so_far.asks
           (sym c.key_at.ensures ∙ c.in-Some.is) moved.asks;
+      zeros = λ filled.
+          zeros_later (store_in c.loop-slot.self) (store_in new) (slot_at c.args.to c.loop-slot.slot) so_far.squeezing.stays.ready.space
+          (subst (λ n. c.args.to < n) (sym so_far.squeezing.moving.units.groups) c.requires.can.to_there) so_far.squeezing.moving.opened
+          moved.stays.accessed.follows moved.beside (so_far.zeros filled);
       whole = moved.len ∙ so_far.whole;
     }
 
@@ -77,6 +85,8 @@ returns-in-Broken g c =
       };
       moved = λ done. absurd (done_not_broken (sym done));
       emptied = λ done. absurd (done_not_broken (sym done));
+      opened = λ done. absurd (done_not_broken (sym done));
+      zeros = λ done. absurd (done_not_broken (sym done));
       hole = λ done. absurd (done_not_broken (sym done));
       unplaced = λ k is. ap (λ (x : Tables). home x k) (moved.unmoved c.in-Broken.is) ∙ now.moving.unplaced k is;
       stand = all_then c.args.self.now c.loop-slot.self c.move_block.new.self moved.stays now.stand moved.stand;
@@ -99,6 +109,8 @@ returns g c =
       some = record { moved = c.loop-slot.slot; within = omega arith; tables = now.moving.tables };
       moved = λ _. subst (λ n. u ≡ moved_first t c.args.from c.args.to n) all now.moving.tables;
       emptied = λ _. now.moving.freed (omega arith);
+      opened = λ _. now.moving.opened;
+      zeros = λ _ filled. subst (λ n. HoldsZerosFrom (store_in c.loop-slot.self) c.args.to n) all (so_far.zeros filled);
       hole = λ _. subst (λ n. IsVacant u (slot_at c.args.to n)) all
           (moving_end t u c.args.from c.args.to c.loop-slot.slot c.requires.can now.moving all);
       unplaced = now.moving.unplaced;

@@ -1,5 +1,6 @@
 use Rattle.std.proofs.Common.{◌≡◌, length}
 use Rattle.ar_store.specs.Asking.{AsksGroups}
+use Rattle.ar_store.specs.Calls.{HoldsZeros, HoldsZerosFrom}
 use Rattle.ar_store.specs.Spaces.{store_in}
 use Rattle.ar_store.proofs.Squeezing.{IsSqueezing}
 use Rattle.ar_store.proofs.space.Space.move_all.Given as goal
@@ -8,5 +9,6 @@ abbrev pub invariant-loop-slot : goal.invariant-loop-slot
 invariant-loop-slot g l = record {
   squeezing : IsSqueezing l.initial.self l.self l.from l.to l.slot;
   asks : AsksGroups l.from l.to (store_in l.initial.self) (store_in l.self);
+  zeros : HoldsZeros (store_in l.initial.self) l.to → HoldsZerosFrom (store_in l.self) l.to l.slot;
   whole : length l.block ≡ length l.initial.block;
 }

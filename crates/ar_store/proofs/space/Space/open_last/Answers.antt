@@ -33,6 +33,7 @@ returns g c =
     record {
       lowest = opening.lowest;
       opened = opening.opened;
+      zeros = zeros.zeros_in;
       stand = zeros.stand;
       asks = opened_asks s.disks b s.book c.open_last-group.new.self c.open_last-group.result Parity c.members-members.result opening.opened
           c.members-members.ensures zero.works zero.keeps;

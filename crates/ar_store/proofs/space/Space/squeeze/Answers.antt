@@ -1,6 +1,9 @@
-use Rattle.std.proofs.Common.{◌*◌, ◌<◌, sym, subst, ap, ◌∙◌, refl, arith}
+use Rattle.std.proofs.Common.{◌≡◌, ◌*◌, ◌<◌, sym, subst, ap, ◌∙◌, refl, arith}
 use Rattle.ar_disks.specs.Geometry.{block_len_of}
-use Rattle.ar_book.specs.Tables.{Tables}
+use Rattle.ar_disks.specs.declared.geometry.Geometry.{Geometry}
+use Rattle.ar_book.specs.declared.class.Class.TheVariants.{Mirrored}
+use Rattle.ar_book.specs.Tables.{Tables, slots_of}
+use Rattle.ar_store.specs.Calls.{HoldsZerosFrom}
 use Rattle.ar_extents.proofs.Outcomes.{broken_is}
 use Rattle.ar_store.specs.Placing.{CanMove}
 use Rattle.ar_store.specs.Spaces.{store_in}
@@ -53,6 +56,15 @@ returns-in-Done g c =
           (moved.hole c.in-Done.is);
       free = free_counted new.book from both.ready.space.tables (subst (λ n. from < n) (sym both.units.groups) c.full_mirrored-from.ensures.there)
           (moved.emptied c.in-Done.is);
+      zeros =
+          (let slot = slots_end c.rows.result c.geometry.result t.geometry c.rows.ensures
+          (c.geometry.ensures ∙ both.accessed.follows.geometry ∙ sym c.requires.ready.space.geometry) in
+          let same : mid.book.geometry ≡ t.geometry = ap (λ (x : Tables). x.geometry) opening.opened in
+          record {
+            parity = moved.opened c.in-Done.is;
+            zeros = subst (λ n. HoldsZerosFrom (store_in new) to n) (ap (λ (g : Geometry). slots_of g Mirrored) same ∙ sym slot)
+                (moved.zeros c.in-Done.is opening.zeros);
+          });
       none = tt;
       begun = begun_squeeze t mid.book new.book from to c.full_mirrored-from.ensures opening.lowest opening.opened moved.some;
       unplaced = λ k is. moved.unplaced k (homes_opened t mid.book to k opening.opened is);
@@ -73,6 +85,7 @@ returns-in-Broken-move_all g c =
     record {
       squeezed = tt;
       free = tt;
+      zeros = tt;
       none = broken_is new.disks.health (sym c.in-Broken-move_all.is ∙ moved.outcome);
       begun = begun_squeeze s.book mid.book new.book c.full_mirrored-from.result c.open_last-to.result c.full_mirrored-from.ensures opening.lowest
           opening.opened moved.some;
@@ -90,6 +103,7 @@ returns-in-Broken g c =
     record {
       squeezed = tt;
       free = tt;
+      zeros = tt;
       none = sym c.health.ensures.same ∙ c.in-Broken.is;
       begun = record {
         from = c.full_mirrored-from.result;

@@ -1,7 +1,10 @@
 use Rattle.std.proofs.Common.{◌≤◌, sym, ap, subst, ◌∙◌}
 use Rattle.ar_book.specs.Tables.{Tables, free_groups}
 use Rattle.ar_book.specs.Changes.{stamped}
+use Rattle.ar_store.specs.Store.{store_of}
+use Rattle.ar_store.specs.Calls.{BesideWay}
 use Rattle.ar_store.specs.Spaces.{store_in}
+use Rattle.ar_store.proofs.Zeros.{beside_stamped}
 use Rattle.ar_store.proofs.Changes.{block_then}
 use Rattle.ar_store.proofs.Fills.{stamped_then, done_not_broken}
 use Rattle.ar_store.proofs.Asking.{asks_stamped}
@@ -27,6 +30,8 @@ returns-in-Done g c =
       free = subst (λ (x : Tables). free_groups s.book ≤ free_groups x) (sym c.stamp.ensures.stamped) wrote.free;
       here = λ _. stamps.here;
       others = stamps.others;
+      beside = subst (λ (x : Tables). BesideWay c.args.way (store_in s) (store_of new.disks x)) (sym c.stamp.ensures.stamped)
+          (beside_stamped (store_in s) new.disks new.book c.args.key c.args.way wrote.beside);
       asks = asks_stamped (store_in s) new.disks new.book c.stamp.new.self c.args.way wrote.asks;
       stays = record {
         ready = record { space = stamps.space; scratch = wrote.stays.ready.scratch };
@@ -45,6 +50,7 @@ returns-in-Broken g c =
       free = wrote.free;
       here = λ done. absurd (done_not_broken (sym done));
       others = wrote.others;
+      beside = wrote.beside;
       asks = wrote.asks;
       stays = wrote.stays;
     }

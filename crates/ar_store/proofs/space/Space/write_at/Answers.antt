@@ -7,7 +7,7 @@ use Rattle.ar_store.specs.Spaces.{store_in}
 use Rattle.ar_store.proofs.Changes.{units_refl}
 use Rattle.ar_store.proofs.Fills.{accessed_work}
 use Rattle.ar_store.proofs.Spaces.{slots_written, space_written}
-use Rattle.ar_store.proofs.Asking.{writes_parity}
+use Rattle.ar_store.proofs.Asking.{wrote_mirrored, wrote_parity}
 use Rattle.ar_store.proofs.SlotCalls.{asked_group, asked_slot, never_free, written_mirrored, written_parity, wrote_in}
 use Rattle.ar_store.proofs.space.Space.write_at.Goals as goal
 
@@ -40,11 +40,8 @@ returns-in-Mirrored g c =
       here = written.here;
       others = slots_written s.disks b s.book c.args.slot c.args.from.now c.requires.ready.space c.requires.slot put.works.follows written;
       book = refl;
-      asks = record {
-        works = wrote_in s c.args.slot c.members-members.result c.requires.ready.space c.requires.slot c.members-members.ensures Mirrored b
-            (sym c.in-Mirrored.is ∙ c.class.ensures) put.works;
-        keeps = written.outside;
-      };
+      asks = wrote_in s c.args.slot c.members-members.result c.requires.ready.space c.requires.slot c.members-members.ensures Mirrored b
+          (sym c.in-Mirrored.is ∙ c.class.ensures) (wrote_mirrored s.disks b c.members-members.result c.args.slot.slot put.works put.keeps);
       stays = record {
         ready = record {
           space = space_written s.disks b s.book c.args.slot c.args.from.now c.requires.ready.space c.requires.slot access c.requires.whole written;
@@ -80,11 +77,8 @@ returns-in-Parity g c =
       here = written.here;
       others = slots_written s.disks b s.book c.args.slot c.args.from.now c.requires.ready.space c.requires.slot put.works.follows written;
       book = refl;
-      asks = record {
-        works = wrote_in s c.args.slot c.members-members.result c.requires.ready.space c.requires.slot c.members-members.ensures Parity b
-            (sym c.in-Parity.is ∙ c.class.ensures) (writes_parity s.disks b c.members-members.result c.args.slot.slot put.works put.known);
-        keeps = written.outside;
-      };
+      asks = wrote_in s c.args.slot c.members-members.result c.requires.ready.space c.requires.slot c.members-members.ensures Parity b
+          (sym c.in-Parity.is ∙ c.class.ensures) (wrote_parity s.disks b c.members-members.result c.args.slot.slot put.works put.known put.keeps);
       stays = record {
         ready = record {
           space = space_written s.disks b s.book c.args.slot c.args.from.now c.requires.ready.space c.requires.slot access c.requires.whole written;

@@ -9,6 +9,7 @@ use Rattle.ar_store.specs.Slots.{stands, OtherSlotsHold, OthersStand, SlotHolds}
 use Rattle.ar_store.specs.Kept.{IsSpace}
 use Rattle.ar_store.specs.Placing.{IsReadyFor, placed_by}
 use Rattle.ar_store.specs.Asking.{AsksWay}
+use Rattle.ar_store.specs.Calls.{BesideWay}
 use Rattle.ar_store.specs.Spaces.{store_in}
 use Rattle.ar_store.proofs.Fills.{rewritten, none_stands, done_not_broken, same_free}
 use Rattle.ar_store.proofs.Stays.{stays_refl}
@@ -43,6 +44,7 @@ returns-in-Home g c =
       here = λ done.
           ap (λ (x : StoreState). stands x c.args.key) now ∙ writes.here (done_sound new.disks.health (sym done ∙ wrote.outcome));
       others = subst (λ (x : StoreState). OthersStand (store_in s) x c.args.key) (sym now) writes.others;
+      beside = subst (λ (w : Way). BesideWay w (store_in s) (store_in new)) (sym c.in-Home.is) tt;
       asks = subst (λ (w : Way). AsksWay w (store_in s) (store_in new)) (sym c.in-Home.is) wrote.asks;
       stays = wrote.stays;
     }
@@ -65,6 +67,7 @@ returns-in-Hole g c =
       free = fill.free;
       here = fill.here;
       others = fill.others;
+      beside = subst (λ (w : Way). BesideWay w (store_in c.args.self.now) (store_in c.fill.new.self)) (sym c.in-Hole.is) fill.beside;
       asks = subst (λ (w : Way). AsksWay w (store_in c.args.self.now) (store_in c.fill.new.self)) (sym c.in-Hole.is) fill.asks;
       stays = fill.stays;
     }
@@ -80,6 +83,7 @@ returns-in-Broken g c =
       free = same_free s.book s.book refl;
       here = λ done. absurd (done_not_broken (sym done));
       others = none_stands (store_in s) (store_in s) c.args.key broken;
+      beside = subst (λ (w : Way). BesideWay w (store_in s) (store_in s)) (sym c.in-Broken.is) tt;
       asks = subst (λ (w : Way). AsksWay w (store_in s) (store_in s)) (sym c.in-Broken.is) refl;
       stays = stays_refl s c.requires.ready;
     }

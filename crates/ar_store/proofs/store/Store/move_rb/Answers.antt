@@ -1,5 +1,8 @@
 use Rattle.std.proofs.Common.{IsSome, refl, sym, ap, subst, ◌∙◌}
 use Rattle.ar_extents.specs.Groups.{outcome_of}
+use Rattle.ar_extents.specs.Follows.{Anywhere}
+use Rattle.ar_extents.proofs.Follows.{keeps_refl}
+use Rattle.ar_store.proofs.Asking.{rows_kept}
 use Rattle.ar_store.proofs.Within.{within_refl}
 use Rattle.ar_book.specs.Tables.{home}
 use Rattle.ar_store.specs.Store.{StoreState}
@@ -43,6 +46,7 @@ returns-in-Broken g c =
       beside = record { slots = λ slot block there same ne holds. holds };
       units = units_refl s.book;
       asks = λ from is. within_refl _ _ s.disks;
+      rows = rows_kept _ _ c.args.slot.slot s.disks s.disks (keeps_refl Anywhere s.disks);
       accessed = accessed_refl s.disks;
       broken = λ _. refl;
     }

@@ -8,7 +8,7 @@ use Rattle.ar_book.specs.Tables.{Tables, home, HasBlock}
 use Rattle.ar_store.specs.Store.{StoreState}
 use Rattle.ar_store.specs.Slots.{AllStand}
 use Rattle.ar_store.specs.Placing.{Puts, SameUnits, MayHavePrepared}
-use Rattle.ar_store.specs.Calls.{IsAccessed}
+use Rattle.ar_store.specs.Calls.{IsAccessed, LeavesZeros}
 use Rattle.ar_store.specs.Asking.{AsksToPut}
 use Rattle.ar_store.specs.Spaces.{store_in}
 use Rattle.ar_store.proofs.Standing.{was_sound}
@@ -17,6 +17,7 @@ use Rattle.ar_store.proofs.Fills.{accessed_refl, done_not_broken}
 use Rattle.ar_store.proofs.Stays.{stays_then}
 use Rattle.ar_store.proofs.Fields.{ready_in, fields_stay, put_others, way_sound, placed_stand, written_home}
 use Rattle.ar_store.proofs.Ways.{puts_way}
+use Rattle.ar_store.proofs.Zeros.{zeros_put}
 use Rattle.ar_store.proofs.Asking.{asks_way, asks_still}
 use Rattle.ar_store.proofs.store.Store.place.Goals as goal
 
@@ -85,6 +86,10 @@ returns g c =
       prepared = λ broke.
           subst (λ (s : StoreState). MayHavePrepared s.book c.args.key d.book) view
           (subst (λ (x : Tables). MayHavePrepared a.book c.args.key x) (sym (wrote.unwritten broke)) way.prepared);
+      zeros = λ done. subst (λ (s : StoreState). LeavesZeros s c.args.key (store_in d)) view
+          (zeros_put (store_in a) (store_in b) (store_in d) c.args.key c.find_way-way.result way.stays.ready.space wrote.stays.accessed.follows way.leads way.way
+          (way_sound (store_in b) d.disks c.args.key c.find_way-way.result way.way wrote.stays.accessed.follows (done_sound d.disks.health (sym done ∙ wrote.outcome)))
+          way.zeros wrote.beside);
       units = subst (λ (s : StoreState). SameUnits s.book d.book) view both.units;
       asks = subst (λ (s : StoreState). AsksToPut s c.args.key (store_in d)) view
           (asks_way (store_in a) (store_in b) (store_in d) c.args.key c.find_way-way.result way.leads way.asks wrote.asks);
@@ -103,6 +108,7 @@ returns-in-Broken g c =
       stands = record { blocks = λ _ k. refl };
       unmoved = λ _. refl;
       prepared = λ _. inl refl;
+      zeros = λ done. absurd (done_not_broken (sym done));
       units = units_refl s.book;
       asks = asks_still s s c.args.key refl;
       accessed = accessed_refl s.disks;
