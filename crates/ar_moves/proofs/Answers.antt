@@ -8,7 +8,7 @@ use Rattle.ar_book.proofs.AfterAssign.{assigned_free_groups}
 use Rattle.ar_extents.specs.declared.health.Health.TheVariants.{Broken as AllBroken}
 use Rattle.ar_book.specs.declared.class.Class.TheVariants.{Parity}
 use Rattle.ar_store.specs.Store.{StoreState}
-use Rattle.ar_store.specs.Slots.{AllStand}
+use Rattle.ar_store.specs.Slots.{AllStand, BesideHold}
 use Rattle.ar_store.specs.Placing.{SameUnits, slot_at, IsLowestHole, HasNoHole}
 use Rattle.ar_store.specs.Calls.{IsAccessed, IsOpened}
 use Rattle.ar_store.proofs.Changes.{units_then}
@@ -79,3 +79,9 @@ pub ready_for : (t new : Tables) (key : Key) → IsOldestMirrored t key → HasN
 ready_for t new key oldest none (inl same) = inl same
 ready_for t new key oldest none (inr opening) =
     inr (key, slot_at opening.0 0, record { oldest = oldest; slot = inr (record { none = none; group = opening.0; opened = opening.1; first = refl }) })
+
+-- the other slots of the group that the block went to hold what they held
+pub moved_beside : (old new : StoreState) (m : Move) (t u : Tables) (key : Key) (to : Slot) → IfMoved m (IsMovedTo t key to u) → BesideHold old new to
+    → IfMoved m (λ k s. BesideHold old new s)
+moved_beside old new m t u key to moved beside =
+    if_moved_then m (IsMovedTo t key to u) (λ k s. BesideHold old new s) moved (λ k s has. subst (λ x. BesideHold old new x) (sym has.slot_is) beside)

@@ -1,12 +1,12 @@
 -- The slots that are named are holes, and the blocks have homes.
-use Rattle.std.proofs.Common.{◌≡◌, ℕ, ◌<◌, ◌*◌, Option, Some, IsSome, refl, sym, ap, subst, inl, inr, arith}
+use Rattle.std.proofs.Common.{◌≡◌, ℕ, ◌<◌, ◌*◌, Option, Some, IsSome, refl, sym, ap, subst, ◌∙◌, inl, inr, arith}
 use Rattle.ar_disks.specs.Block.{zeros}
 use Rattle.ar_disks.specs.Geometry.{rows_of, block_len_of}
 use Rattle.ar_disks.specs.declared.address.Key.{Key}
 use Rattle.ar_disks.specs.declared.geometry.Geometry.{Geometry}
 use Rattle.ar_disks.specs.declared.geometry.Geometry.TheVariants.{Paper, Small}
 use Rattle.ar_book.specs.declared.class.Class.{Class}
-use Rattle.ar_book.specs.declared.class.Class.TheVariants.{Mirrored, Parity}
+use Rattle.ar_book.specs.declared.class.Class.TheVariants.{Free, Mirrored, Parity}
 use Rattle.ar_book.specs.declared.class.Slot.{Slot}
 use Rattle.ar_book.specs.Tables.{Tables, home, slots_of}
 use Rattle.ar_book.specs.Changes.{opened}
@@ -14,8 +14,8 @@ use Rattle.ar_book.specs.Choices.{IsHole}
 use Rattle.ar_book.specs.Book.{TablesAgree}
 use Rattle.ar_book.proofs.AfterOpen.{opened_hole}
 use Rattle.ar_book.proofs.Homes.{hole_slot, key_home}
-use Rattle.ar_store.specs.Store.{StoreState}
-use Rattle.ar_store.specs.Slots.{SlotHolds, BesideHold}
+use Rattle.ar_store.specs.Store.{StoreState, members_of, class_in}
+use Rattle.ar_store.specs.Slots.{ClassHolds, SlotHolds, BesideHold}
 use Rattle.ar_store.specs.Kept.{IsKept}
 use Rattle.ar_store.specs.Placing.{slot_at, IsVacant}
 use Rattle.ar_store.specs.Calls.{IsOpened, HoldsZeros}
@@ -69,4 +69,12 @@ zeros_beside old mid new g kept opening holds beside first second = record {
       subst (λ x. SlotHolds new (slot_at g i) (zeros (block_len_of x))) (sym second)
       (beside.slots (slot_at g i) (zeros (block_len_of mid.disks.geometry)) (opened_holes old.book mid.book g i kept.space.tables opening inside).there refl
       (λ same. ne (ap (λ (s : Slot). s.slot) same)) (holds.slots i lt_mid));
+}
+
+-- a group that was free held no block
+pub free_beside : (old new : StoreState) (g : ℕ) → class_in old g ≡ Free → BesideHold old new (slot_at g 0)
+free_beside old new g free = record {
+  slots = λ slot block there here ne holds.
+      absurd (subst (λ (c : Class). ClassHolds c old.disks (members_of old slot.group) slot.slot block)
+      (ap (λ n. class_in old n) here ∙ free) holds);
 }

@@ -2,6 +2,7 @@
 ghost use Rattle.std.specs.Prelude.{◌≡◌, ◌↔◌};
 ghost use Rattle.ar_book.specs.declared.class.Class.TheVariants.{Parity};
 ghost use Rattle.ar_store.specs.Kept.{IsKept};
+ghost use Rattle.ar_store.specs.Slots.{BesideHold};
 ghost use Rattle.ar_store.specs.Placing.{HasNoHole};
 ghost use Rattle.ar_moves.specs.Moves.{IfMoved, LeavesBlocks, IsLeft};
 ghost use Rattle.ar_moves.specs.Demotion.{IsOldestMirrored, Demotes, DemotesTo, NamesNoSlot, NamesNoDemotion};
@@ -17,8 +18,8 @@ use ar_store::{Opening, Store};
 
 /// Demotes a block: the mirrored one with the least stamp goes to the lowest parity hole. Where there is none and two groups
 /// are free, the lowest is opened for parity with zeros, and the block goes to its first slot; else nothing is done. The block
-/// keeps its stamp, and no block changes. No disk is asked but those that the block's move asks, and those of the group that is
-/// opened. No memory is taken.
+/// keeps its stamp, and no block changes; the other slots of the group that it goes to hold what they held. No disk is asked but
+/// those that the block's move asks, and those of the group that is opened. No memory is taken.
 ///
 /// `Broken` says that the disks are. The group may have been opened then, and every block has its old home; of a store that
 /// was broken before nothing has changed.
@@ -28,6 +29,7 @@ pub fn demote_one<D: Disk>(store: &mut Store<D>) -> Move
     ensures broken { (result ≡ Move.Broken) ↔ (store.new.disks.health ≡ Health.Broken) }
     ensures opened { result ≡ Move.Broken → MayHaveOpened store.old.book store.new.book }
     ensures zeros { IfMoved result (λ key to. HasNoHole store.old.book Parity → HoldsZerosBeside store.new to) }
+    ensures beside { IfMoved result (λ key to. BesideHold store.old store.new to) }
     ensures asks { AsksToDemote store.old store.new }
     ensures leaves { LeavesBlocks store.old store.new }
 {
@@ -49,6 +51,7 @@ fn demote<D: Disk>(store: &mut Store<D>, key: Key) -> Move
     ensures broken { (result ≡ Move.Broken) ↔ (store.new.disks.health ≡ Health.Broken) }
     ensures opened { result ≡ Move.Broken → MayHaveOpened store.old.book store.new.book }
     ensures zeros { IfMoved result (λ key to. HasNoHole store.old.book Parity → HoldsZerosBeside store.new to) }
+    ensures beside { IfMoved result (λ key to. BesideHold store.old store.new to) }
     ensures asks { AsksToDemote store.old store.new }
     ensures leaves { LeavesBlocks store.old store.new }
 {
@@ -70,6 +73,7 @@ fn demote_to_new<D: Disk>(store: &mut Store<D>, key: Key) -> Move
 
     ensures opened { result ≡ Move.Broken → MayHaveOpened store.old.book store.new.book }
     ensures zeros { IfMoved result (λ key to. HoldsZerosBeside store.new to) }
+    ensures beside { IfMoved result (λ key to. BesideHold store.old store.new to) }
     ensures asks { AsksToDemote store.old store.new }
     ensures leaves { LeavesBlocks store.old store.new }
 {

@@ -4,7 +4,7 @@ use Rattle.ar_book.specs.Tables.{Tables, home}
 use Rattle.ar_store.specs.Asking.{AsksSlots}
 use Rattle.ar_moves.specs.Moves.{IsMovedTo}
 use Rattle.ar_moves.specs.Cleaning.{NamesCleaning, Cleans, cleaning_left}
-use Rattle.ar_moves.proofs.Answers.{if_moved_then, named_cleaned, moved_free}
+use Rattle.ar_moves.proofs.Answers.{if_moved_then, named_cleaned, moved_free, moved_beside}
 use Rattle.ar_moves.proofs.Readiness.{cleaning_ready}
 use Rattle.ar_moves.proofs.Ending.{cleans_fall}
 use Rattle.ar_moves.proofs.Single.{cleaned_single}
@@ -32,6 +32,7 @@ returns-in-Some g c =
       free = moved_free c.move_to.result t new c.in-Some.key c.in-Some.to moves.moved moves.idle moves.unmoved;
       less = if_moved_then c.move_to.result (IsMovedTo t c.in-Some.key c.in-Some.to new) (λ k s. cleaning_left new < cleaning_left t) moves.moved
           (λ k s moved. cleans_fall t new k s c.health.ensures.kept.space.tables (named_cleaned t new c.in-Some.key c.in-Some.to names k s moved));
+      beside = moved_beside c.args.store.now c.move_to.new.store c.move_to.result t new c.in-Some.key c.in-Some.to moves.moved moves.beside;
       asks = λ key from to named placed.
           let same = cleaned_single t c.in-Some.key key c.in-Some.to to names named in
           (let P : Slot → Type 0 = λ x. AsksSlots from x c.args.store.now c.move_to.new.store in

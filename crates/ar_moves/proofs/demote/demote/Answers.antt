@@ -4,7 +4,7 @@ use Rattle.ar_book.specs.Tables.{Tables}
 use Rattle.ar_store.specs.Placing.{IsLowestHole}
 use Rattle.ar_moves.specs.Moves.{IsMovedTo}
 use Rattle.ar_moves.specs.Demotion.{DemotesTo}
-use Rattle.ar_moves.proofs.Answers.{if_moved_then, hole_there}
+use Rattle.ar_moves.proofs.Answers.{if_moved_then, hole_there, moved_beside}
 use Rattle.ar_moves.proofs.Asking.{asks_there}
 use Rattle.ar_moves.proofs.demote.demote.Goals as goal
 
@@ -22,3 +22,8 @@ returns-in-Some-clause-asks g c =
     let found = c.in-Some.ensures in
     let lowest = subst (λ (x : Tables). IsLowestHole x Parity c.in-Some.to) c.book.ensures (record { hole = found.found; least = found.least }) in
     asks_there c.args.store.now c.move_to.new.store c.args.key c.in-Some.to c.requires.kept.space.tables c.requires.oldest lowest c.move_to.ensures.asks
+
+pub returns-in-Some-clause-beside : goal.returns-in-Some-clause-beside
+returns-in-Some-clause-beside g c =
+    moved_beside c.args.store.now c.move_to.new.store c.move_to.result c.args.store.now.book c.move_to.new.store.book c.args.key c.in-Some.to
+    c.move_to.ensures.moved c.move_to.ensures.beside

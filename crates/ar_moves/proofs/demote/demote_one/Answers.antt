@@ -19,6 +19,7 @@ returns-in-Some g c =
       broken = demoted.broken;
       opened = demoted.opened;
       zeros = demoted.zeros;
+      beside = demoted.beside;
       asks = demoted.asks;
       leaves = demoted.leaves;
     }

@@ -3,9 +3,9 @@ use Rattle.ar_store.specs.Placing.{slot_at}
 use Rattle.ar_moves.specs.Moves.{IsMovedTo}
 use Rattle.ar_book.specs.Tables.{Tables}
 use Rattle.ar_moves.specs.Demotion.{DemotesTo, HoldsZerosBeside, MayHaveOpened}
-use Rattle.ar_moves.proofs.Answers.{if_moved_then, leaves_then, hole_made, ready_for}
+use Rattle.ar_moves.proofs.Answers.{if_moved_then, leaves_then, hole_made, ready_for, moved_beside}
 use Rattle.ar_moves.proofs.Asking.{asks_made, asks_nothing, asks_opened}
-use Rattle.ar_moves.proofs.Readiness.{opened_first, zeros_beside}
+use Rattle.ar_moves.proofs.Readiness.{opened_first, zeros_beside, free_beside}
 use Rattle.ar_moves.proofs.demote.demote_to_new.Goals as goal
 
 pub move_to-requires-clause-hole : goal.move_to-requires-clause-hole
@@ -22,6 +22,12 @@ returns-in-Opened-clause-zeros g c =
     c.open_group.ensures.accessed.follows.geometry c.move_to.ensures.leaves.accessed.follows.geometry in
     if_moved_then c.move_to.result (IsMovedTo mid.book c.args.key to new.book) (λ k s. HoldsZerosBeside new s) c.move_to.ensures.moved
     (λ k s moved. subst (λ x. HoldsZerosBeside new x) (sym moved.slot_is) rest)
+
+pub returns-in-Opened-clause-beside : goal.returns-in-Opened-clause-beside
+returns-in-Opened-clause-beside g c =
+    moved_beside c.args.store.now c.move_to.new.store c.move_to.result c.open_group.new.self.book c.move_to.new.store.book c.args.key
+    (slot_at c.in-Opened.group 0) c.move_to.ensures.moved
+    (free_beside c.args.store.now c.move_to.new.store c.in-Opened.group c.in-Opened.ensures.opens.lowest.free)
 
 pub returns-in-Opened-clause-moved : goal.returns-in-Opened-clause-moved
 returns-in-Opened-clause-moved g c =
