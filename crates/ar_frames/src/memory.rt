@@ -56,6 +56,8 @@ impl Source for MemSource {
         ensures end { IfSome result (λ n. n ≡ 0 → 0 < length into.new → IsAtEnd (mem_source self.new).left) }
         // It never faults, and gives as many bytes as there are and fit.
         ensures all { result ≡ Some (min (length self.old) (length into.old)) }
+        // The piece behind them stays.
+        ensures behind { IfSome result (λ n. drop n into.new ≡ drop n into.old) }
     {
         let next = (self.bytes.len() - self.at).min(into.len());
         into[..next].copy_from_slice(&self.bytes[self.at..self.at + next]);
