@@ -1,5 +1,5 @@
 -- Why the login's answer opens a session or ends it.
-use Rattle.std.proofs.Common.{◌≡◌, ℕ, ◌<◌, ◌≤◌, true, false, List, [], ◌∷◌, ◌++◌, refl, sym, ap, subst, ◌∙◌, append-nil, take-append-drop, drop-cons, length, take, drop, slice_index, arith, inl, inr}
+use Rattle.std.proofs.Common.{◌≡◌, ℕ, ◌+◌, ◌<◌, ◌≤◌, true, false, List, [], ◌∷◌, ◌++◌, refl, sym, ap, subst, ◌∙◌, append-nil, take-append-drop, drop-cons, length, take, drop, slice_index, arith, inl, inr}
 use Rattle.std.proofs.lemmas.Bool.{cases_lt}
 use Rattle.std.proofs.lemmas.List.{drop_all}
 use Rattle.std.specs.Io.KnownBytes.{IsAtEnd}
@@ -86,6 +86,7 @@ pub told : {P : Type 0} (logins : Logins P) (commands : Commands P) (source sour
     (login : List ℕ) (admission : Admission) (entry : Entry) → Reading source source' login false
     → Opening logins port login (greeting_of admission ∷ []) (stage_of admission) port' → Tells sink sink' admission entry
     → Enters logins commands source source' sink sink' port port' entry
+unfolding no_frames
 told logins commands source source' sink sink' port port' login admission (EntryAdmitted host) read opening tells = record {
   login = login;
   opening = subst (λ (a : Admission). Opening logins port login (greeting_of a ∷ []) (stage_of a) port') tells.0 opening;
@@ -135,7 +136,10 @@ told logins commands source source' sink sink' port port' login admission (Entry
   closes = (unsent_stage admission, refl);
   read = Reading-same source source' login (login ++ []) false (sym (append-nil login)) read;
   ended = tt;
-  written = record { n = 0; proper = omega arith; written = tells };
+  written =
+      let greeting : List ℕ = greeting_of admission ∷ [] in
+      let whole : length (greeting ++ []) ≤ 0 + length greeting = omega (arith, ap length (append-nil greeting)) in
+      record { part = record { n = 0; proper = omega arith; written = tells }; whole = whole };
 }
 told logins commands source source' sink sink' port port' login admission (EntryEnded why.End) read opening tells = absurd tells
 told logins commands source source' sink sink' port port' login admission (EntryEnded (why.TooShort n)) read opening tells = absurd tells

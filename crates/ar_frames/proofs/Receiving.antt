@@ -46,7 +46,7 @@ stops_cut a b front body cut some read end = record {
   closes = λ frames below. ((below, cut), λ _. some);
   read = read;
   ended = end;
-  unwritten = Writing-none;
+  unwritten = λ sink last. Writing-none sink;
 }
 
 -- a read faulted inside a frame, or before it
@@ -56,5 +56,5 @@ stops_read a b front body cut read = record {
   closes = λ frames below. (below, cut);
   read = read;
   ended = tt;
-  unwritten = Writing-none;
+  unwritten = λ sink last. Writing-none sink;
 }

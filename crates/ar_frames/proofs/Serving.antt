@@ -1,5 +1,5 @@
 -- How the frames of a session join: one more at the end of those served so far.
-use Rattle.std.proofs.Common.{◌≡◌, ℕ, ◌+◌, ◌<◌, true, false, List, [], ◌∷◌, ◌++◌, refl, sym, ap, subst, ◌∙◌, append_assoc, append-nil, length, length-append, take, arith}
+use Rattle.std.proofs.Common.{◌≡◌, ℕ, ◌+◌, ◌<◌, ◌≤◌, true, false, List, [], ◌∷◌, ◌++◌, refl, sym, ap, subst, ◌∙◌, append_assoc, append-nil, length, length-append, take, arith, le_refl}
 use Rattle.ar_scsi.specs.declared.reply.Reply.{Reply}
 use Rattle.ar_frames.specs.declared.frame.Request.{Request}
 use Rattle.ar_frames.specs.declared.turn.Turn.TheVariants.{Answered, Unsent}
@@ -7,10 +7,10 @@ use Rattle.ar_frames.specs.declared.end.Why.{Why}
 use Rattle.ar_frames.specs.declared.end.Why.TheVariants as why
 use Rattle.ar_frames.specs.declared.end.SessionEnd.{SessionEnd}
 use Rattle.ar_frames.specs.Stream.{SourceState, SinkState, Writing}
-use Rattle.ar_frames.specs.Frame.{IsFrame, IsReplyFrame}
-use Rattle.ar_frames.specs.Talk.{Commands, Answers, Talk, AreFrames, AreReplyFrames, Conversation}
+use Rattle.ar_frames.specs.Frame.{IsFrame, IsReplyFrame, status_byte, sense_bytes}
+use Rattle.ar_frames.specs.Talk.{Commands, Answers, Talk, AreFrames, AreReplyFrames, Conversation, reply_len, last_len}
 use Rattle.ar_frames.specs.Port.{Logins}
-use Rattle.ar_frames.specs.Session.{admitted, most_frames, is_read, WritesAnswers, WritesPart, Session}
+use Rattle.ar_frames.specs.Session.{admitted, most_frames, is_read, WritesAnswers, WritesPart, WritesAllButLast, Session}
 use Rattle.ar_frames.specs.Turn.{ServesFrame, EndsTurn, Served, ServesAll}
 use Rattle.ar_frames.specs.Entry.{IsAdmitted}
 use Rattle.ar_frames.proofs.Streams.{Reading-trans, Reading-same, Reading-none, Writing-trans, Writing-same, Writing-none, take-append_more}
@@ -101,22 +101,49 @@ part_after a b c xs ys first part = record {
       (Writing-trans a b c xs (take part.n ys) true first part.written);
 }
 
+-- and then answers whose last one has so many bytes
+but_last_after : (a b c : SinkState) (xs ys : List ℕ) (last least : ℕ) → last ≤ least → Writing a b xs false → WritesAllButLast b c ys last
+    → WritesAllButLast a c (xs ++ ys) least
+unfolding part_after
+but_last_after a b c xs ys last least fits first rest =
+    let whole : length (xs ++ ys) ≤ (length xs + rest.part.n) + least = omega (arith, length-append xs ys, rest.whole, fits) in
+    record { part = part_after a b c xs ys first rest.part; whole = whole }
+
 -- what was written whole, and then answers as far as the end says
-pub answers_after : (end : Why) (a b c : SinkState) (xs ys : List ℕ) → Writing a b xs false → WritesAnswers end b c ys → WritesAnswers end a c (xs ++ ys)
-answers_after why.End a b c xs ys first rest = Writing-trans a b c xs ys false first rest
-answers_after why.BadLogin a b c xs ys first rest = Writing-trans a b c xs ys false first rest
-answers_after why.HostInUse a b c xs ys first rest = Writing-trans a b c xs ys false first rest
-answers_after (why.TooShort n) a b c xs ys first rest = Writing-trans a b c xs ys false first rest
-answers_after (why.TooLong n) a b c xs ys first rest = Writing-trans a b c xs ys false first rest
-answers_after why.Cut a b c xs ys first rest = Writing-trans a b c xs ys false first rest
-answers_after why.Read a b c xs ys first rest = Writing-trans a b c xs ys false first rest
-answers_after why.Write a b c xs ys first rest = part_after a b c xs ys first rest
-answers_after why.Bound a b c xs ys first rest = Writing-trans a b c xs ys false first rest
+pub answers_after : (end : Why) (a b c : SinkState) (xs ys : List ℕ) (last least : ℕ) → last ≤ least → Writing a b xs false
+    → WritesAnswers end b c ys last → WritesAnswers end a c (xs ++ ys) least
+answers_after why.End a b c xs ys last least fits first rest = Writing-trans a b c xs ys false first rest
+answers_after why.BadLogin a b c xs ys last least fits first rest = Writing-trans a b c xs ys false first rest
+answers_after why.HostInUse a b c xs ys last least fits first rest = Writing-trans a b c xs ys false first rest
+answers_after (why.TooShort n) a b c xs ys last least fits first rest = Writing-trans a b c xs ys false first rest
+answers_after (why.TooLong n) a b c xs ys last least fits first rest = Writing-trans a b c xs ys false first rest
+answers_after why.Cut a b c xs ys last least fits first rest = Writing-trans a b c xs ys false first rest
+answers_after why.Read a b c xs ys last least fits first rest = Writing-trans a b c xs ys false first rest
+answers_after why.Write a b c xs ys last least fits first rest = but_last_after a b c xs ys last least fits first rest
+answers_after why.Bound a b c xs ys last least fits first rest = Writing-trans a b c xs ys false first rest
+
+-- the last frame of replies and one more
+last_len_more : (len : ℕ) (replies : List Reply) (reply : Reply) → last_len len (replies ++ reply ∷ []) ≡ reply_len reply
+last_len_more len [] reply = refl
+last_len_more len (r ∷ rs) reply = last_len_more (reply_len r) rs reply
+
+-- the frame of a reply has its length
+frame_len : (tag : ℕ) (reply : Reply) (frame : List ℕ) → IsReplyFrame tag reply frame → length frame ≡ reply_len reply
+frame_len tag reply frame is =
+    let sense = sense_bytes reply.sense in
+    let tail = status_byte reply.status ∷ (length sense ∷ (sense ++ reply.payload)) in
+    omega (arith, ap length is.layout, length-append is.count (is.name ++ tail), length-append is.name tail, length-append sense reply.payload, is.count_len, is.name_len)
+
+-- an answer before the frames may be longer than none
+last_len_grows : (len : ℕ) (replies : List Reply) → last_len 0 replies ≤ last_len len replies
+last_len_grows len [] = omega arith
+last_len_grows len (r ∷ rs) = le_refl (last_len (reply_len r) rs)
 
 -- the reply to the last frame wasn't written whole
 pub serves_unsent : {P : Type 0} (commands : Commands P) (s0 s1 s2 : SourceState) (w0 w1 w2 : SinkState) (p0 p1 p2 : P) (count : ℕ)
     → Served commands s0 s1 w0 w1 p0 p1 count → count < most_frames → ServesFrame commands s1 s2 w1 w2 p1 p2 Unsent
     → ServesAll commands s0 s2 w0 w2 p0 p2 (record { frames = count + 1; why = why.Write })
+unfolding part_after talks_more
 serves_unsent commands s0 s1 s2 w0 w1 w2 p0 p1 p2 count served below turn = record {
   frames = served.frames ++ turn.reads.body;
   answers = served.answers ++ turn.answers.frame;
@@ -127,24 +154,36 @@ serves_unsent commands s0 s1 s2 w0 w1 w2 p0 p1 p2 count served below turn = reco
   read = Reading-same s0 s2 _ _ false (sym (append-nil (served.frames ++ turn.reads.body)))
       (Reading-trans s0 s1 s2 served.frames turn.reads.body false served.read turn.reads.read);
   ended = tt;
-  written = part_after w0 w1 w2 served.answers turn.answers.frame served.written turn.answers.written;
+  written =
+      let part = turn.answers.written in
+      let whole : length (served.answers ++ turn.answers.frame) ≤ (length served.answers + part.n) + last_len 0 (served.conversation.replies ++ turn.answers.reply ∷ []) =
+      omega (
+        arith,
+        length-append served.answers turn.answers.frame,
+        frame_len turn.request.tag turn.answers.reply turn.answers.frame turn.answers.is_frame,
+        last_len_more 0 served.conversation.replies turn.answers.reply,
+      ) in
+      record { part = part_after w0 w1 w2 served.answers turn.answers.frame served.written part; whole = whole };
 }
 
 -- no whole frame came after those served
 pub serves_ended : {P : Type 0} (commands : Commands P) (s0 s1 s2 : SourceState) (w0 w1 w2 : SinkState) (p0 p1 p2 : P) (count : ℕ) (end : Why)
     → Served commands s0 s1 w0 w1 p0 p1 count → count < most_frames → EndsTurn s1 s2 w1 w2 p1 p2 end
     → ServesAll commands s0 s2 w0 w2 p0 p2 (record { frames = count; why = end })
-serves_ended commands s0 s1 s2 w0 w1 w2 p0 p1 p2 count end served below turn = record {
-  frames = served.frames;
-  answers = served.answers;
-  rest = turn.stops.body;
-  conversation = subst (λ p. Conversation commands p0 p served.frames served.answers count) (sym turn.same_port) served.conversation;
-  closes = turn.stops.closes count below;
-  read = Reading-trans s0 s1 s2 served.frames turn.stops.body (is_read end) served.read turn.stops.read;
-  ended = turn.stops.ended;
-  written = subst (λ (l : List ℕ). WritesAnswers end w0 w2 l) (append-nil served.answers)
-      (answers_after end w0 w1 w2 served.answers [] served.written (subst (λ (w : SinkState). WritesAnswers end w1 w []) (sym turn.same_sink) (turn.stops.unwritten w1)));
-}
+serves_ended commands s0 s1 s2 w0 w1 w2 p0 p1 p2 count end served below turn =
+    let talk = subst (λ p. Conversation commands p0 p served.frames served.answers count) (sym turn.same_port) served.conversation in
+    record {
+      frames = served.frames;
+      answers = served.answers;
+      rest = turn.stops.body;
+      conversation = talk;
+      closes = turn.stops.closes count below;
+      read = Reading-trans s0 s1 s2 served.frames turn.stops.body (is_read end) served.read turn.stops.read;
+      ended = turn.stops.ended;
+      written = subst (λ (l : List ℕ). WritesAnswers end w0 w2 l (last_len 0 talk.replies)) (append-nil served.answers)
+          (answers_after end w0 w1 w2 served.answers [] 0 (last_len 0 talk.replies) (omega arith) served.written
+          (subst (λ (w : SinkState). WritesAnswers end w1 w [] 0) (sym turn.same_sink) (turn.stops.unwritten w1 0)));
+    }
 
 -- as many frames as may come were served
 pub serves_bound : {P : Type 0} (commands : Commands P) (s0 s1 : SourceState) (w0 w1 : SinkState) (p0 p1 : P) (count : ℕ)
@@ -177,5 +216,6 @@ session_of logins commands s0 s1 s2 w0 w1 w2 p0 p1 p2 end entry all = record {
   closes = all.closes;
   read = Reading-trans s0 s1 s2 entry.login (all.frames ++ all.rest) (is_read end.why) entry.read all.read;
   ended = all.ended;
-  written = answers_after end.why w0 w1 w2 (0x00 ∷ []) all.answers entry.written all.written;
+  written = answers_after end.why w0 w1 w2 (0x00 ∷ []) all.answers (last_len 0 all.conversation.replies) (last_len 1 all.conversation.replies)
+      (last_len_grows 1 all.conversation.replies) entry.written all.written;
 }

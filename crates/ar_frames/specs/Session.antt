@@ -8,7 +8,7 @@ use Rattle.ar_frames.specs.declared.end.Why.TheVariants as why
 use Rattle.ar_frames.specs.declared.end.SessionEnd.{SessionEnd}
 use Rattle.ar_frames.specs.Stream.{SourceState, SinkState, Reading, Writing}
 use Rattle.ar_frames.specs.Frame.{IsCutRequest, most_data}
-use Rattle.ar_frames.specs.Talk.{Commands, Conversation}
+use Rattle.ar_frames.specs.Talk.{Commands, Conversation, last_len}
 use Rattle.ar_frames.specs.Port.{Logins}
 
 -- the most frames of a session
@@ -112,17 +112,23 @@ pub record WritesPart (old new : SinkState) (answers : List ℕ) : Type 0 where
   pub proper : n < length answers
   pub written : Writing old new (take n answers) true
 
--- all answers that are due are written, and at a write's fault a proper prefix of them
-abbrev pub WritesAnswers : Why → SinkState → SinkState → List ℕ → Type 0
-WritesAnswers why.End old new answers = Writing old new answers false
-WritesAnswers why.BadLogin old new answers = Writing old new answers false
-WritesAnswers why.HostInUse old new answers = Writing old new answers false
-WritesAnswers (why.TooShort n) old new answers = Writing old new answers false
-WritesAnswers (why.TooLong n) old new answers = Writing old new answers false
-WritesAnswers why.Cut old new answers = Writing old new answers false
-WritesAnswers why.Read old new answers = Writing old new answers false
-WritesAnswers why.Write old new answers = WritesPart old new answers
-WritesAnswers why.Bound old new answers = Writing old new answers false
+-- the same of several answers, of which the last one has so many bytes: all before it were written whole
+pub record WritesAllButLast (old new : SinkState) (answers : List ℕ) (last : ℕ) : Type 0 where
+  pub part : WritesPart old new answers
+  pub whole : length answers ≤ part.n + last
+
+-- all answers that are due are written, and at a write's fault a proper prefix of them, from which nothing but a part of the last
+-- one is missing: it has so many bytes
+abbrev pub WritesAnswers : Why → SinkState → SinkState → List ℕ → ℕ → Type 0
+WritesAnswers why.End old new answers last = Writing old new answers false
+WritesAnswers why.BadLogin old new answers last = Writing old new answers false
+WritesAnswers why.HostInUse old new answers last = Writing old new answers false
+WritesAnswers (why.TooShort n) old new answers last = Writing old new answers false
+WritesAnswers (why.TooLong n) old new answers last = Writing old new answers false
+WritesAnswers why.Cut old new answers last = Writing old new answers false
+WritesAnswers why.Read old new answers last = Writing old new answers false
+WritesAnswers why.Write old new answers last = WritesAllButLast old new answers last
+WritesAnswers why.Bound old new answers last = Writing old new answers false
 
 -- A whole session, from the streams and the port before it to those after it: it reads a login, so many frames and a rest,
 -- and writes the answer to the login and the frames of the port's replies.
@@ -140,4 +146,4 @@ pub record Session {P : Type 0} (logins : Logins P) (commands : Commands P) (sou
   pub closes : Closes end.why stage end.frames rest
   pub read : Reading source source' (login ++ (frames ++ rest)) (is_read end.why)
   pub ended : EndsInput end.why source'.left
-  pub written : WritesAnswers end.why sink sink' (greeting ++ answers)
+  pub written : WritesAnswers end.why sink sink' (greeting ++ answers) (last_len (length greeting) conversation.replies)

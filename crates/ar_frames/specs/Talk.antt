@@ -1,9 +1,9 @@
 -- What a port may answer, frame by frame.
-use Rattle.std.specs.Prelude.{◌≡◌, ◌<◌, ◌⊎◌, ℕ, List, [], ◌∷◌, ◌++◌, length}
+use Rattle.std.specs.Prelude.{◌≡◌, ◌<◌, ◌⊎◌, ◌+◌, ℕ, List, [], ◌∷◌, ◌++◌, length}
 use Rattle.ar_scsi.specs.declared.reply.Reply.{Reply}
 use Rattle.ar_scsi.specs.Reply.{busy}
 use Rattle.ar_frames.specs.declared.frame.Request.{Request}
-use Rattle.ar_frames.specs.Frame.{IsFrame, IsReplyFrame}
+use Rattle.ar_frames.specs.Frame.{IsFrame, IsReplyFrame, sense_bytes}
 
 -- a port's own relation of a command: the port before, the LUN, the command block, the data, the reply, the port after
 abbrev pub Commands : Type 0 → Type 1
@@ -37,6 +37,15 @@ AreReplyFrames (request ∷ requests) (reply ∷ replies) bytes =
     × AreReplyFrames requests replies rest
 AreReplyFrames [] (reply ∷ replies) bytes = ⊥
 AreReplyFrames (request ∷ requests) [] bytes = ⊥
+
+-- how many bytes the frame of a reply has
+abbrev pub reply_len : Reply → ℕ
+reply_len reply = 14 + (length (sense_bytes reply.sense) + length reply.payload)
+
+-- how many bytes the last of these replies' frames has, or what was answered before them, which has so many, where there is none
+abbrev pub last_len : ℕ → List Reply → ℕ
+last_len len [] = len
+last_len len (reply ∷ replies) = last_len (reply_len reply) replies
 
 -- So many whole frames were read and answered: the bytes read are theirs, the bytes of the answers are those of the replies.
 pub record Conversation {P : Type 0} (commands : Commands P) (old new : P)

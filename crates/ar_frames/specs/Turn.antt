@@ -13,7 +13,7 @@ use Rattle.ar_frames.specs.declared.end.Why.{Why}
 use Rattle.ar_frames.specs.declared.end.SessionEnd.{SessionEnd}
 use Rattle.ar_frames.specs.Stream.{SourceState, SinkState, Reading, Writing, Sending}
 use Rattle.ar_frames.specs.Frame.{IsFrame, IsReplyFrame}
-use Rattle.ar_frames.specs.Talk.{Commands, Answers, Conversation}
+use Rattle.ar_frames.specs.Talk.{Commands, Answers, Conversation, last_len}
 use Rattle.ar_frames.specs.Session.{admitted, most_frames, Closes, EndsInput, WritesAnswers, WritesPart, is_read}
 
 -- after these first bytes of a frame the rest of it was read
@@ -35,7 +35,7 @@ pub record StopsAfter (front : List ℕ) (source source' : SourceState) (end : W
   pub closes : (frames : ℕ) → frames < most_frames → Closes end admitted frames (front ++ body)
   pub read : Reading source source' body (is_read end)
   pub ended : EndsInput end source'.left
-  pub unwritten : (sink : SinkState) → WritesAnswers end sink sink []
+  pub unwritten : (sink : SinkState) (last : ℕ) → WritesAnswers end sink sink [] last
 
 -- what came after these first bytes of a frame
 abbrev pub Receives : List ℕ → SourceState → SourceState → Incoming → Type 0
@@ -115,4 +115,4 @@ pub record ServesAll {P : Type 0} (commands : Commands P) (source source' : Sour
   pub closes : Closes end.why admitted end.frames rest
   pub read : Reading source source' (frames ++ rest) (is_read end.why)
   pub ended : EndsInput end.why source'.left
-  pub written : WritesAnswers end.why sink sink' answers
+  pub written : WritesAnswers end.why sink sink' answers (last_len 0 conversation.replies)
