@@ -1,7 +1,8 @@
 // The next line, which may have to be waited for.
 ghost use Rattle.std.specs.Prelude.{◌≡◌, ◌==◌, IsSome, IfErr, OnOk, OnErr, true, [], length};
 ghost use Rattle.std.specs.List.{position};
-ghost use Rattle.std.specs.Io.Buffered.{reader_buffer};
+ghost use Rattle.std.specs.Io.Buffered.{reader_buffer, writer_contents};
+ghost use Rattle.std.specs.Io.KnownBytes.{Keeps};
 ghost use Rattle.ar_orders.specs.Lines.{Took, IsFirst, IsUnasked, is_given, StopsAt, IsOfNext, IsReached, IsNumbered};
 ghost use Rattle.ar_orders.specs.Left.{bytes_read, lines_begun, lines_left, IsAwaited, IsStopped, GoesOn};
 
@@ -9,7 +10,8 @@ use crate::{Fault, FaultKind, Lines};
 use std::io::{BufWriter, Read, Write};
 
 /// Goes on to the next line, and says whether there is one. The input is asked only where what was read of it tells no line, and
-/// then `out` is written first, so that no answer is held back meanwhile. After a fault the line is still the next one.
+/// then `out` is written first, so that no answer is held back meanwhile. No answer is added to those, and none of them is lost:
+/// what couldn't be written is still in the buffer. After a fault the line is still the next one.
 pub fn next_line<R: Read + Drop, W: Write + Drop>(
     lines: &mut Lines<R>,
     out: &mut BufWriter<W>,
@@ -20,6 +22,7 @@ pub fn next_line<R: Read + Drop, W: Write + Drop>(
     ensures buffered { IsSome (position (λ byte. byte == 10) (reader_buffer lines.old.source)) → is_given result ≡ true
         → IsFirst lines.old.is_at_end (bytes_read lines.old) lines.new.line.items (bytes_read lines.new) }
     ensures ended { lines.old.is_at_end ≡ true → IsUnasked lines.old.source lines.new.source }
+    ensures answers { Keeps (writer_contents W.contents out.old) (writer_contents W.contents out.new) }
 {
     if lines.advance()? {
         return Ok(true);
@@ -36,7 +39,8 @@ fn await_line<R: Read + Drop, W: Write + Drop>(
     out: &mut BufWriter<W>,
 ) -> Result<bool, Fault>
     requires { IsAwaited lines.old }
-    ensures { GoesOn lines.old result lines.new }
+    ensures goes_on { GoesOn lines.old result lines.new }
+    ensures answers { Keeps (writer_contents W.contents out.old) (writer_contents W.contents out.new) }
 {
     for _ in 0..u32::MAX {
         wait(lines, out)?;
@@ -57,6 +61,7 @@ fn wait<R: Read + Drop, W: Write + Drop>(
     out: &mut BufWriter<W>,
 ) -> Result<(), Fault>
     requires { IsAwaited lines.old }
+    ensures answers { Keeps (writer_contents W.contents out.old) (writer_contents W.contents out.new) }
     ensures kept { Took (lines_left lines.old) (lines_left lines.new) [] }
     ensures same { (lines.new.line.items ≡ lines.old.line.items) × (lines.new.is_begun ≡ lines.old.is_begun)
         × (lines.new.given ≡ lines.old.given) }

@@ -4,8 +4,8 @@ use Rattle.ar_orders.specs.Left.{lines_left}
 use Rattle.ar_orders.proofs.Going.{goes_given, goes_refused, goes_later, took_later}
 use Rattle.ar_orders.proofs.next.await_line.Goals as goal
 
-pub returns-in_err-advance : goal.returns-in_err-advance
-returns-in_err-advance g c =
+pub returns-in_err-advance-clause-goes_on : goal.returns-in_err-advance-clause-goes_on
+returns-in_err-advance-clause-goes_on g c =
     let old = c.args.lines.now in
     let mid = c.wait.new.lines in
     let new = c.advance.new.self in
@@ -17,8 +17,8 @@ returns-in_err-advance g c =
     goes_later old mid new result kept (c.wait.ensures.same.2 ∙ c.loop.invariant.count)
     (goes_refused mid new fault result told c.advance.ensures.unasked c.advance.ensures.ended (c.advance.ensures.kept none) (search rules) c.in_err-advance.ensures.refused)
 
-pub returns-then-branch : goal.returns-then-branch
-returns-then-branch g c =
+pub returns-then-branch-clause-goes_on : goal.returns-then-branch-clause-goes_on
+returns-then-branch-clause-goes_on g c =
     let old = c.args.lines.now in
     let mid = c.wait.new.lines in
     let new = c.advance.new.self in
