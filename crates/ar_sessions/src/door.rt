@@ -1,9 +1,9 @@
 // Where connections come from.
-ghost use Rattle.std.specs.Prelude.{◌≡◌, ◌<◌, ◌+◌, ℕ, length};
+ghost use Rattle.std.specs.Prelude.{◌≡◌, ◌<◌, ◌+◌, ◌++◌, ℕ, length};
+ghost use Rattle.std.specs.Option.{option_to_list};
 
 use ar_frames::{Sink, Source};
 use std::collections::VecDeque;
-use std::marker::Model;
 
 /// Opens connections, so many in all.
 pub trait Door {
@@ -32,18 +32,10 @@ pub struct MemDoor<R: Source + Send + Drop, W: Sink + Send + Drop> {
     pairs: VecDeque<(R, W)>,
 }
 
-impl<R: Source + Send + Drop, W: Sink + Send + Drop> Model for MemDoor<R, W> {
-    ghost use Rattle.std.specs.Prelude.{ℕ, length};
-
-    ghost Value = { ℕ };
-
-    ghost view = { λ door. length door.pairs.items };
-}
-
 impl<R: Source + Send + Drop, W: Sink + Send + Drop> MemDoor<R, W> {
     /// A door that opens these connections in their order.
     pub fn new(pairs: VecDeque<(R, W)>) -> MemDoor<R, W>
-        ensures { result ≡ length pairs.items }
+        ensures { result.pairs ≡ pairs }
     {
         MemDoor { pairs }
     }
@@ -54,13 +46,18 @@ impl<R: Source + Send + Drop, W: Sink + Send + Drop> Door for MemDoor<R, W> {
 
     type Writer = W;
 
-    ghost to_come = { λ door. door };
+    ghost to_come = { λ door. length door.pairs.items };
 
     fn left(&self) -> usize {
         self.pairs.len()
     }
 
-    fn accept(&mut self) -> Option<(R, W)> {
+    fn accept(&mut self) -> Option<(R, W)>
+        requires { 0 < length self.old.pairs.items }
+        ensures count { length self.new.pairs.items + 1 ≡ length self.old.pairs.items }
+        // The first of them.
+        ensures first { self.old.pairs.items ≡ option_to_list result ++ self.new.pairs.items }
+    {
         self.pairs.pop_front()
     }
 }
