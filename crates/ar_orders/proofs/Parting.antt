@@ -1,16 +1,17 @@
 -- A line and the bytes that it is read from.
-use Rattle.std.proofs.Common.{◌≡◌, ◌≢◌, ◌∙◌, ◌+◌, ◌-◌, ◌<◌, ◌&&◌, ◌++◌, ℕ, zero, suc, Bool, true, false, not, cond, eqb, ltb, List, [], ◌∷◌, length, take, drop, get_or, Some, None, refl, sym, ap, subst, append_assoc, append-nil, length-append, length-take-le, take-append-drop, get_or-take, ◌==◌, ne_eqb, eqb-true, eq-eqb, arith}
-use Rattle.std.proofs.lemmas.List.{take-append-le, take_more, get_or_default, drop_all}
+use Rattle.std.proofs.Common.{◌≡◌, ◌≢◌, ◌∙◌, ◌+◌, ◌-◌, ◌<◌, ◌≤◌, ◌&&◌, ◌++◌, ℕ, zero, suc, Bool, true, false, not, cond, eqb, ltb, List, [], ◌∷◌, length, take, drop, get_or, Option, Some, None, is_some, Bor, refl, sym, ap, subst, append_assoc, append-nil, length-append, length-take-le, take-append-drop, ◌==◌, ne_eqb, eq-eqb, arith}
+use Rattle.std.specs.Prelude.{IfSome}
+use Rattle.std.proofs.lemmas.List.{take-append-le, take_all, take_more, drop_all}
 use Rattle.std.proofs.lemmas.List.Elements.{All-head, All-tail, All-append}
 use Rattle.std.proofs.lemmas.List.Folds.{list_all-append}
-use Rattle.std.proofs.lemmas.List.Sums.{AllPass-from_list_all, prefix_len_passes}
+use Rattle.std.proofs.lemmas.List.Sums.{AllPass-from_list_all, prefix_len_stops, prefix_len-le-length}
 use Rattle.std.proofs.lemmas.Bool.{ltb-true, ltb-false, lt-ltb}
+use Rattle.std.specs.Option.{option_copied}
 use Rattle.bytes.proofs.Ranges.{take-append_past}
-use Rattle.std.proofs.lemmas.List.Quantifiers.{position-Some}
-use Rattle.std.specs.List.{list_all, position}
+use Rattle.std.specs.List.{list_all, position_or_len, prefix_len}
 use Rattle.ar_orders.specs.declared.fault.FaultKind.{FaultKind}
 use Rattle.ar_orders.specs.declared.fault.FaultKind.TheVariants.{LineTooLong, BadCharacter}
-use Rattle.ar_orders.specs.Lines.{with_byte, lines_in, first_of, HasNoEnd, IsPart, is_printable, IsLine, part_fault, line_fault, IsFaultFrom}
+use Rattle.ar_orders.specs.Lines.{with_byte, lines_in, first_of, HasNoEnd, IsPart, is_printable, IsLine, part_fault, line_fault, IsFaultFrom, is_bad_next, with_bad}
 
 -- ---- a line is before its end
 
@@ -60,55 +61,130 @@ printed x shown = λ e. let no : is_printable 10 ≡ true = subst (λ y. is_prin
 pub printable_has_no_end : (bytes : List ℕ) → list_all is_printable bytes ≡ true → HasNoEnd bytes
 printable_has_no_end bytes shown = λ k d within. printed _ (AllPass-from_list_all is_printable bytes shown k d within)
 
--- ---- a part is before the first end
+-- ---- a part is what is printable at the front
 
-apart_of : (x : ℕ) → eqb x 10 ≡ false → x ≢ 10
-apart_of x apart = λ e. let same : eqb x 10 ≡ true = eq-eqb x 10 e in cc
+passed : (bytes : List ℕ) → list_all is_printable (take (prefix_len is_printable bytes) bytes) ≡ true
+passed [] = refl
+passed (x ∷ xs) = at (is_printable x) refl (passed xs)
+  where
+    len : ℕ
+    len = prefix_len is_printable xs
 
-pub parted : (bytes : List ℕ) (end : ℕ) → position (λ byte. byte == 10) bytes ≡ Some end → IsPart bytes (take end bytes) true
-parted bytes end at =
-    let found = position-Some (λ byte. byte == 10) bytes end 0 at in
-    let front = length-take-le end bytes (omega (arith, found.0)) in
-    let here : get_or bytes end 0 ≡ 10 = eqb-true _ _ found.1 in (
-      (λ k d within.
-          let before : k < end = omega (arith, front) in
-          let apart : eqb (get_or bytes k 0) 10 ≡ false = found.2 k before in
-          let same : get_or (take end bytes) k d ≡ get_or bytes k 0 = get_or-take end bytes k d before ∙ get_or_default bytes k d 0 (omega (arith, found.0)) in
-          subst (λ byte. byte ≢ 10) (sym same) (apart_of _ apart)),
-      ap (λ n. take (n + 1) bytes) front ∙ take_more bytes end 0 found.0 ∙ ap (λ byte. take end bytes ++ byte ∷ []) here,
+    at : (shown : Bool) → is_printable x ≡ shown → list_all is_printable (take len xs) ≡ true → list_all is_printable (take (cond shown (1 + len) 0) (x ∷ xs)) ≡ true
+    at true is more =
+        let count : 1 + len ≡ suc len = omega arith in
+        ap (λ n. list_all is_printable (take n (x ∷ xs))) count ∙ ap (λ b. b && list_all is_printable (take len xs)) is ∙ more
+    at false is more = refl
+
+-- the printable characters at the front, and what a look at the place behind them finds
+pub parted : (bytes : List ℕ) (len : ℕ) (found : Option (Bor ℕ)) → len ≡ prefix_len is_printable bytes → is_some found ≡ ltb len (length bytes)
+    → IfSome found (λ byte. byte.now ≡ get_or bytes len byte.now) → IsPart bytes (take len bytes) (option_copied found)
+parted bytes len None front some same =
+    let past = ltb-false _ _ (sym some) in
+    (subst (λ n. list_all is_printable (take n bytes) ≡ true) (sym front) (passed bytes), sym (take_all len bytes past))
+parted bytes len (Some byte) front some same =
+    let inside = ltb-true _ _ (sym some) in
+    let within : prefix_len is_printable bytes < length bytes = omega (arith, front, inside) in
+    let at : get_or bytes (prefix_len is_printable bytes) byte.now ≡ byte.now = ap (λ n. get_or bytes n byte.now) (sym front) ∙ sym same in
+    let cut = length-take-le len bytes (omega (arith, inside)) in (
+      subst (λ n. list_all is_printable (take n bytes) ≡ true) (sym front) (passed bytes),
+      subst (λ x. is_printable x ≡ false) at (prefix_len_stops is_printable bytes byte.now within),
+      ap (λ n. take (n + 1) bytes) cut ∙ take_more bytes len byte.now inside ∙ ap (λ x. take len bytes ++ x ∷ []) (sym same),
     )
 
-pub whole_part : (bytes : List ℕ) → position (λ byte. byte == 10) bytes ≡ None → IsPart bytes bytes false
-whole_part bytes at = (none, refl)
+-- ---- what is wrong with a part and the byte behind it
+
+not_shown : (part : List ℕ) (next : ℕ) → is_printable next ≡ false → list_all is_printable (part ++ next ∷ []) ≡ false
+not_shown part next hidden = list_all-append is_printable part (next ∷ []) ∙ last (list_all is_printable part) (is_printable next) hidden
   where
-    beyond : (b : Bool) (end : ℕ) → cond b (Some end) None ≡ None → b ≡ false
-    beyond true end h = absurd (cc)
-    beyond false end h = refl
+    last : (a b : Bool) → b ≡ false → (a && (b && true)) ≡ false
+    last true true h = absurd (cc)
+    last true false h = refl
+    last false b h = refl
 
-    passes : (x : ℕ) (b : Bool) → eqb x 10 ≡ b → not b ≡ true → x ≢ 10
-    passes x true is h = absurd (cc)
-    passes x false is h = apart_of x is
+long_part : (room : ℕ) (part behind : List ℕ) → list_all is_printable part ≡ true → room ≤ length part → room < length (part ++ behind)
+    → part_fault room (part ++ behind) ≡ Some LineTooLong
+long_part room part behind shown full over =
+    let front = take-append-le room part behind full in
+    let split = list_all-append is_printable (take room part) (drop room part) in
+    let whole : list_all is_printable (take room part ++ drop room part) ≡ true = ap (list_all is_printable) (take-append-drop room part) ∙ shown in
+    let first : list_all is_printable (take room part) ≡ true = both _ _ (sym split ∙ whole) in
+    ap (λ b. cond b (cond (ltb room (length (part ++ behind))) (Some LineTooLong) None) (Some BadCharacter)) (ap (list_all is_printable) front ∙ first)
+    ∙ ap (λ b. cond b (Some LineTooLong) None) (lt-ltb _ _ over)
+  where
+    both : (a b : Bool) → (a && b) ≡ true → a ≡ true
+    both true b h = refl
+    both false b h = absurd (cc)
 
-    none : HasNoEnd bytes
-    none k d within =
-        let all = ltb-false _ _ (beyond _ _ at) in
-        passes (get_or bytes k d) (eqb (get_or bytes k d) 10) refl (prefix_len_passes (λ x. not (eqb x 10)) bytes k d (omega arith))
+-- a bad character is told while it has room, and else that the line is too long
+pub bad_part : (room : ℕ) (part : List ℕ) (next : Option ℕ) → list_all is_printable part ≡ true → IfSome next (λ byte. is_printable byte ≡ false)
+    → is_bad_next next ≡ true → part_fault room (with_bad part next) ≡ Some (cond (ltb (length part) room) BadCharacter LineTooLong)
+bad_part room part None shown hidden bad = absurd (cc)
+bad_part room part (Some next) shown hidden bad = known (eqb next 10) bad
+  where
+    all : List ℕ
+    all = part ++ next ∷ []
+
+    told : (short : Bool) → ltb (length part) room ≡ short → part_fault room all ≡ Some (cond short BadCharacter LineTooLong)
+    told true is =
+        let fits = ltb-true _ _ is in
+        let whole : take room all ≡ all = take_all room all (omega (arith, length-append part (next ∷ []))) in
+        ap (λ b. cond b (cond (ltb room (length all)) (Some LineTooLong) None) (Some BadCharacter))
+        (ap (list_all is_printable) whole ∙ not_shown part next hidden)
+    told false is =
+        let full = ltb-false _ _ is in
+        long_part room part (next ∷ []) shown full (omega (arith, length-append part (next ∷ [])))
+
+    known : (ends : Bool) → not ends ≡ true → part_fault room (cond ends part all) ≡ Some (cond (ltb (length part) room) BadCharacter LineTooLong)
+    known true h = absurd (cc)
+    known false h = told (ltb (length part) room) refl
+
+-- where there is none, the length is told
+pub too_long : (room : ℕ) (part : List ℕ) (next : Option ℕ) → list_all is_printable part ≡ true → is_bad_next next ≡ false → room < length part
+    → part_fault room (with_bad part next) ≡ Some LineTooLong
+too_long room part next shown good over =
+    ap (part_fault room) (plain next good ∙ sym (append-nil part))
+    ∙ long_part room part [] shown (omega arith) (omega (arith, length-append part []))
+  where
+    ended : (ends : Bool) (other : List ℕ) → not ends ≡ false → cond ends part other ≡ part
+    ended true other h = refl
+    ended false other h = absurd (cc)
+
+    plain : (next : Option ℕ) → is_bad_next next ≡ false → with_bad part next ≡ part
+    plain None h = refl
+    plain (Some next) h = ended (eqb next 10) _ h
+
+-- how many are printable at the front, where that is what a search for another one finds
+abbrev pub is_hidden : ℕ → Bool
+is_hidden byte = not (is_printable byte)
+
+pub shown_front : (bytes : List ℕ) → position_or_len is_hidden bytes ≡ prefix_len is_printable bytes
+shown_front [] = refl
+shown_front (byte ∷ bytes) = at (is_printable byte) ∙ ap (λ n. cond (is_printable byte) (1 + n) 0) (shown_front bytes)
+  where
+    at : (shown : Bool) → cond (not (not shown)) (1 + position_or_len is_hidden bytes) 0 ≡ cond shown (1 + position_or_len is_hidden bytes) 0
+    at true = refl
+    at false = refl
+
+pub hidden_within : (bytes : List ℕ) → position_or_len is_hidden bytes ≤ length bytes
+hidden_within bytes = prefix_len-le-length _ bytes
 
 -- ---- a part of a line
 
 -- a part and the end behind it leave the rest
-pub part_taken : (line buffered part rest : List ℕ) (has_end : Bool) → IsPart buffered part has_end → rest ≡ drop (length part + cond has_end 1 0) buffered
-    → line ++ buffered ≡ (line ++ part) ++ cond has_end (10 ∷ rest) []
-part_taken line buffered part rest true parts is =
-    ap (λ l. line ++ l) (sym (take-append-drop (length part + 1) buffered) ∙ ap (λ l. l ++ drop (length part + 1) buffered) parts.1 ∙ append_assoc part (10 ∷ []) (drop (length part + 1) buffered))
-    ∙ sym (append_assoc line part (10 ∷ drop (length part + 1) buffered)) ∙ ap (λ l. (line ++ part) ++ 10 ∷ l) (sym is)
-part_taken line buffered part rest false parts is = ap (λ l. line ++ l) parts.1 ∙ sym (append-nil (line ++ part))
+pub part_taken : (line buffered part rest : List ℕ) (next : Option ℕ) → IsPart buffered part next → IfSome next (λ byte. byte ≡ 10)
+    → rest ≡ drop (length part + cond (is_some next) 1 0) buffered → line ++ buffered ≡ (line ++ part) ++ cond (is_some next) (10 ∷ rest) []
+part_taken line buffered part rest (Some next) parts ends is =
+    let after = drop (length part + 1) buffered in
+    ap (λ l. line ++ l) (sym (take-append-drop (length part + 1) buffered) ∙ ap (λ l. l ++ after) parts.2 ∙ ap (λ byte. (part ++ byte ∷ []) ++ after) ends ∙ append_assoc part (10 ∷ []) after)
+    ∙ sym (append_assoc line part (10 ∷ after)) ∙ ap (λ l. (line ++ part) ++ 10 ∷ l) (sym is)
+part_taken line buffered part rest None parts ends is = ap (λ l. line ++ l) parts.1 ∙ sym (append-nil (line ++ part))
 
--- and nothing, where no end is behind it
-pub part_drained : (buffered part rest : List ℕ) (has_end : Bool) → IsPart buffered part has_end → rest ≡ drop (length part + cond has_end 1 0) buffered
-    → has_end ≡ false → rest ≡ []
-part_drained buffered part rest true parts is none = absurd (cc)
-part_drained buffered part rest false parts is none = is ∙ drop_all (length part + 0) buffered (omega (arith, ap length parts.1))
+-- and nothing, where no byte is behind it
+pub part_drained : (buffered part rest : List ℕ) (next : Option ℕ) → IsPart buffered part next → rest ≡ drop (length part + cond (is_some next) 1 0) buffered
+    → is_some next ≡ false → rest ≡ []
+part_drained buffered part rest (Some next) parts is none = absurd (cc)
+part_drained buffered part rest None parts is none = is ∙ drop_all (length part + 0) buffered (omega (arith, ap length parts.1))
 
 and_false : (a b d : Bool) → (a && b) ≡ false → (b ≡ false → d ≡ false) → (a && d) ≡ false
 and_false true b d h more = more h
@@ -152,23 +228,40 @@ fault_of line part more kind whole wrong =
         ∙ ap (λ b. cond b (Some LineTooLong) None) (lt-ltb _ _ long) ∙ h
 
 -- a part that begins these bytes
-rest_of : (buffered part : List ℕ) (has_end : Bool) → IsPart buffered part has_end → (rest : List ℕ) × (buffered ≡ part ++ rest)
-rest_of buffered part true parts =
-    let after = drop (length part + 1) buffered in
-    (10 ∷ after, sym (take-append-drop (length part + 1) buffered) ∙ ap (λ l. l ++ after) parts.1 ∙ append_assoc part (10 ∷ []) after)
-rest_of buffered part false parts = ([], parts.1 ∙ sym (append-nil part))
+rest_of : (buffered part : List ℕ) (next : Option ℕ) → IsPart buffered part next → (rest : List ℕ) × (buffered ≡ with_bad part next ++ rest)
+rest_of buffered part None parts = ([], parts.1 ∙ sym (append-nil part))
+rest_of buffered part (Some next) parts = at (eqb next 10)
+  where
+    after : List ℕ
+    after = drop (length part + 1) buffered
 
-no_end : (buffered part : List ℕ) (has_end : Bool) → IsPart buffered part has_end → HasNoEnd part
-no_end buffered part true parts = parts.0
-no_end buffered part false parts = parts.0
+    split : buffered ≡ (part ++ next ∷ []) ++ after
+    split = sym (take-append-drop (length part + 1) buffered) ∙ ap (λ l. l ++ after) parts.2
+
+    at : (ends : Bool) → (rest : List ℕ) × (buffered ≡ cond ends part (part ++ next ∷ []) ++ rest)
+    at true = (next ∷ after, split ∙ append_assoc part (next ∷ []) after)
+    at false = (after, split)
+
+no_end : (buffered part : List ℕ) (next : Option ℕ) → IsPart buffered part next → HasNoEnd (with_bad part next)
+no_end buffered part None parts = printable_has_no_end part parts.0
+no_end buffered part (Some next) parts = at (eqb next 10) refl
+  where
+    one : next ≢ 10 → HasNoEnd (next ∷ [])
+    one apart zero d within = apart
+    one apart (suc k) d within = absurd (omega arith)
+
+    at : (ends : Bool) → eqb next 10 ≡ ends → HasNoEnd (cond ends part (part ++ next ∷ []))
+    at true is = printable_has_no_end part parts.0
+    at false is = All-append (λ byte. byte ≢ 10) part (next ∷ []) (printable_has_no_end part parts.0) (one (λ e. let same : eqb next 10 ≡ true = eq-eqb next 10 e in cc))
 
 -- what is wrong with a part is wrong with the line that begins so
-pub fault_from : (line buffered part : List ℕ) (has_end : Bool) (kind : FaultKind) → IsPart buffered part has_end → IsLine line
-    → part_fault (4096 - length line) part ≡ Some kind → IsFaultFrom (line ++ buffered) kind
-fault_from line buffered part has_end kind parts whole wrong = λ behind.
-    let rest = (rest_of buffered part has_end parts).0 in
-    let split : (line ++ buffered) ++ behind ≡ (line ++ part) ++ (rest ++ behind) =
-    ap (λ l. (line ++ l) ++ behind) (rest_of buffered part has_end parts).1 ∙ ap (λ l. l ++ behind) (sym (append_assoc line part rest)) ∙ append_assoc (line ++ part) rest behind in
-    let none = All-append (λ byte. byte ≢ 10) line part (printable_has_no_end line whole.printable) (no_end buffered part has_end parts) in
-    ap (λ l. line_fault (first_of (lines_in l))) split ∙ ap line_fault (first_of-append (line ++ part) (rest ++ behind) none)
-    ∙ fault_of line part (first_of (lines_in (rest ++ behind))) kind whole wrong
+pub fault_from : (line buffered part : List ℕ) (next : Option ℕ) (kind : FaultKind) → IsPart buffered part next → IsLine line
+    → part_fault (4096 - length line) (with_bad part next) ≡ Some kind → IsFaultFrom (line ++ buffered) kind
+fault_from line buffered part next kind parts whole wrong = λ behind.
+    let known = with_bad part next in
+    let rest = (rest_of buffered part next parts).0 in
+    let split : (line ++ buffered) ++ behind ≡ (line ++ known) ++ (rest ++ behind) =
+    ap (λ l. (line ++ l) ++ behind) (rest_of buffered part next parts).1 ∙ ap (λ l. l ++ behind) (sym (append_assoc line known rest)) ∙ append_assoc (line ++ known) rest behind in
+    let none = All-append (λ byte. byte ≢ 10) line known (printable_has_no_end line whole.printable) (no_end buffered part next parts) in
+    ap (λ l. line_fault (first_of (lines_in l))) split ∙ ap line_fault (first_of-append (line ++ known) (rest ++ behind) none)
+    ∙ fault_of line known (first_of (lines_in (rest ++ behind))) kind whole wrong

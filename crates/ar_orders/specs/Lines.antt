@@ -41,11 +41,6 @@ front_of false line = []
 abbrev pub HasNoEnd : List ℕ → Type 0
 HasNoEnd bytes = All (λ byte. byte ≢ 10) bytes
 
--- The part stands before the first of these bytes that ends a line, or it is all of them, and none does.
-abbrev pub IsPart : List ℕ → List ℕ → Bool → Type 0
-IsPart bytes part true = HasNoEnd part × (take (length part + 1) bytes ≡ part ++ 10 ∷ [])
-IsPart bytes part false = HasNoEnd part × (bytes ≡ part)
-
 -- These lines were taken, the first of those that were left.
 abbrev pub Took : Option (List (List ℕ)) → Option (List (List ℕ)) → List (List ℕ) → Type 0
 Took None left lines = ⊤
@@ -60,6 +55,22 @@ IsAllTaken (Some left) = left ≡ []
 -- a printable character of ASCII, space to ~
 abbrev pub is_printable : ℕ → Bool
 is_printable byte = nat_le 32 byte && nat_le byte 126
+
+-- The part is the printable characters at the front of these bytes. The next byte stands behind it, or it is all of them.
+abbrev pub IsPart : List ℕ → List ℕ → Option ℕ → Type 0
+IsPart bytes part None = IsTrue (list_all is_printable part) × (bytes ≡ part)
+IsPart bytes part (Some next) =
+    IsTrue (list_all is_printable part) × (is_printable next ≡ false) × (take (length part + 1) bytes ≡ part ++ next ∷ [])
+
+-- whether a byte is there, and doesn't end a line
+abbrev pub is_bad_next : Option ℕ → Bool
+is_bad_next None = false
+is_bad_next (Some next) = not (next == 10)
+
+-- a part, and the byte behind it where that doesn't end the line
+abbrev pub with_bad : List ℕ → Option ℕ → List ℕ
+with_bad part None = part
+with_bad part (Some next) = if next == 10 then part else part ++ next ∷ []
 
 -- at most 4,096 bytes, each printable
 pub record IsLine (line : List ℕ) : Type 0 where

@@ -1,8 +1,8 @@
 // The lines of a script, read in large pieces.
-ghost use Rattle.std.specs.Prelude.{◌≡◌, ◌+◌, if◌then◌else◌, IfOk, ◌≢◌, ◌==◌, ◌&&◌, ◌||◌, not, true, false, length, ◌-◌, ◌≤◌, ◌<◌, ◌++◌, [], ◌∷◌, None, OnOk, IfErr, OnErr, unwrap_or, vec_len, vec_capacity};
-ghost use Rattle.std.specs.List.{list_all, position};
+ghost use Rattle.std.specs.Prelude.{◌≡◌, ◌+◌, if◌then◌else◌, IfOk, IfSome, IsTrue, is_some, ◌≢◌, ◌==◌, ◌&&◌, ◌||◌, not, true, false, length, ◌-◌, ◌≤◌, ◌<◌, ◌++◌, [], ◌∷◌, None, OnOk, IfErr, OnErr, unwrap_or, vec_len, vec_capacity};
+ghost use Rattle.std.specs.List.{list_all, prefix_len};
 ghost use Rattle.std.specs.Io.Buffered.{reader_buffer, reader_inner, writer_buffer};
-ghost use Rattle.ar_orders.specs.Lines.{lines_of, Took, IsPart, IsFirst, IsLacking, IsFaultFrom, IsUnasked, is_printable, IsLine, front_of, is_given, is_lacking, part_fault};
+ghost use Rattle.ar_orders.specs.Lines.{lines_of, Took, IsPart, IsFirst, IsLacking, IsFaultFrom, IsUnasked, is_printable, IsLine, front_of, is_bad_next, is_given, is_lacking, part_fault, with_bad};
 
 use crate::{Fault, FaultKind};
 use std::alloc::Global;
@@ -195,46 +195,49 @@ fn take_part<R: Read + Drop>(
     ensures whole { IsLine line.new.items }
     ensures room { 4096 ≤ vec_capacity line.new }
 {
-    let (part, has_end) = part_of(source.buffer());
-    add_part(line, part)?;
+    let (part, next) = part_of(source.buffer());
+    add_part(line, part, next)?;
+    let has_end = next.is_some();
     let used = part.len() + usize::from(has_end);
     source.consume(used);
     Ok(has_end)
 }
 
-// The bytes before the one that ends a line, and whether there is one.
-fn part_of(bytes: &[u8]) -> (&[u8], bool)
+// The printable characters at the front of what was read, and the byte behind them, where there is one.
+fn part_of(bytes: &[u8]) -> (&[u8], Option<u8>)
     ensures parts { IsPart bytes.now result.0.now result.1 }
-    ensures room { length result.0.now + (if result.1 then 1 else 0) ≤ length bytes.now }
+    ensures room { length result.0.now + (if is_some result.1 then 1 else 0) ≤ length bytes.now }
 {
-    match end_in(bytes) {
-        Some(end) => (&bytes[..end], true),
-        None => (bytes, false),
-    }
+    let len = printable_len(bytes);
+    (&bytes[..len], bytes.get(len).copied())
 }
 
-// Where the first of the bytes is that ends a line.
-fn end_in(bytes: &[u8]) -> Option<usize>
-    ensures { result ≡ position (λ byte. byte == 10) bytes.now }
+// How many bytes at the front are printable characters.
+fn printable_len(bytes: &[u8]) -> usize
+    ensures { result ≡ prefix_len is_printable bytes.now }
 {
-    bytes.iter().position(|byte| *byte == b'\n')
+    bytes
+        .iter()
+        .position(|byte| !(*byte >= b' ' && *byte <= b'~'))
+        .unwrap_or(bytes.len())
 }
 
-// Adds a part to a line. Of what fits, each byte has to be a printable character.
-fn add_part(line: &mut Vec<u8>, part: &[u8]) -> Result<(), FaultKind>
+// Adds printable characters to a line. A byte that was read behind them has to be the one that ends it.
+fn add_part(line: &mut Vec<u8>, part: &[u8], next: Option<u8>) -> Result<(), FaultKind>
     requires whole { IsLine line.old.items }
     requires room { 4096 ≤ vec_capacity line.old }
+    requires printable { IsTrue (list_all is_printable part.now) }
+    requires stop { IfSome next (λ byte. is_printable byte ≡ false) }
     ensures taken { OnOk result (line.new.items ≡ line.old.items ++ part.now) }
-    ensures fits { OnOk result (part_fault (4096 - vec_len line.old) part.now ≡ None) }
-    ensures refused { IfErr result (λ kind. part_fault (4096 - vec_len line.old) part.now ≡ Some kind) }
+    ensures ended { OnOk result (IfSome next (λ byte. byte ≡ 10)) }
+    ensures refused { IfErr result (λ kind. part_fault (4096 - vec_len line.old) (with_bad part.now next) ≡ Some kind) }
     ensures unchanged { OnErr result (line.new.items ≡ line.old.items) }
     ensures whole { IsLine line.new.items }
     ensures room { 4096 ≤ vec_capacity line.new }
 {
     let room = LINE_MAX - line.len();
-    let fitting = &part[..part.len().min(room)];
-    if !all_printable(fitting) {
-        return Err(FaultKind::BadCharacter);
+    if is_bad(next) {
+        return Err(bad_fault(part.len() < room));
     }
     if part.len() > room {
         return Err(FaultKind::LineTooLong);
@@ -246,8 +249,23 @@ fn add_part(line: &mut Vec<u8>, part: &[u8]) -> Result<(), FaultKind>
     Ok(())
 }
 
-fn all_printable(bytes: &[u8]) -> bool
-    ensures { result ≡ list_all is_printable bytes.now }
+// What is told of a bad character, which is among the bytes that have room in the line or isn't.
+fn bad_fault(has_room: bool) -> FaultKind
+    ensures { result ≡ (if has_room then FaultKind.BadCharacter else FaultKind.LineTooLong) }
 {
-    bytes.iter().all(|byte| *byte >= b' ' && *byte <= b'~')
+    if has_room {
+        FaultKind::BadCharacter
+    } else {
+        FaultKind::LineTooLong
+    }
+}
+
+// Whether a byte is there, and doesn't end a line.
+fn is_bad(next: Option<u8>) -> bool
+    ensures { result ≡ is_bad_next next }
+{
+    match next {
+        Some(byte) => byte != b'\n',
+        None => false,
+    }
 }

@@ -1,9 +1,11 @@
-use Rattle.std.proofs.Common.{◌∙◌, sym}
-use Rattle.ar_orders.proofs.Parting.{parted, whole_part}
+use Rattle.std.proofs.Common.{◌≡◌, take, sym, subst}
+use Rattle.ar_orders.specs.Lines.{IsPart}
+use Rattle.ar_orders.proofs.Parting.{parted}
 use Rattle.ar_orders.proofs.lines.part_of.Goals as goal
 
-pub returns-in-Some-clause-parts : goal.returns-in-Some-clause-parts
-returns-in-Some-clause-parts c = parted c.args.bytes.now c.in-Some.end (sym c.end_in.ensures ∙ c.in-Some.is)
-
-pub returns-in-None-clause-parts : goal.returns-in-None-clause-parts
-returns-in-None-clause-parts c = whole_part c.args.bytes.now (sym c.end_in.ensures ∙ c.in-None.is)
+pub returns-clause-parts : goal.returns-clause-parts
+returns-clause-parts c =
+    let bytes = c.args.bytes.now in
+    let len = c.printable_len-len.result in
+    let found = c.get.ensures.lookup in
+    subst (IsPart bytes (take len bytes)) (sym c.copied.ensures) (parted bytes len c.get.result c.printable_len-len.ensures found.0 found.1)
