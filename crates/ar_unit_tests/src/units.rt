@@ -150,6 +150,17 @@ fn ranges_end_with_the_unit(rt: HostRuntime) {
     );
 }
 
+// The bytes of this reply are the most that one has.
+#[test]
+fn the_longest_read_is_answered(rt: HostRuntime) {
+    let longest = [0x28, 0, 0, 0, 0, 0, 0, 0xFF, 0xFF, 0, 0, 0, 0, 0, 0, 0];
+    play(
+        &rt,
+        rt.alloc(),
+        &[Make(65_535), Command(longest, Runs(&[(33_553_920, 0x00)]))],
+    );
+}
+
 #[test]
 fn blocks_of_sixteen_bytes(rt: HostRuntime) {
     let write_16 = [0x8A, 0, 0, 0, 0, 0, 0, 0, 0, 2, 0, 0, 0, 1, 0, 0];
