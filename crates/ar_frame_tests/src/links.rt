@@ -94,3 +94,23 @@ fn interruptions_and_writes_of_no_byte(rt: HostRuntime) {
         ends(&rt, alloc, reads, writes, most, why);
     }
 }
+
+// A stream is asked to move the whole piece at once, after interruptions too, and what it answers is told.
+#[test]
+fn whole_pieces(rt: HostRuntime) {
+    moves(&rt, 0, 500);
+    moves(&rt, 3, 40);
+}
+
+fn moves(rt: &impl Abort, interruptions: u32, most: usize) {
+    let piece = [b'x'; 100];
+    let mut linked = make_noisy(&piece, interruptions, most);
+    let mut into = [0; 100];
+    let given = linked.read(&mut into);
+    let taken = linked.write(&piece);
+    let wanted = Some(most.min(100));
+    assert!(rt;
+        (given, taken) == (wanted, wanted),
+        "{given:?} and {taken:?} of {most}"
+    );
+}
