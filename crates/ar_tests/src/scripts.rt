@@ -274,6 +274,48 @@ fn ends_flushed<R: Abort + AllocGlobal>(rt: &R, fails: u32, end: Result<(), Faul
     assert!(rt; done == end, "flush {fails}: {done:?}");
 }
 
+// Takes all bytes, but none of those of one call, by its number from 0, which fails.
+#[derive(Clone, Copy)]
+struct RefusingWriter {
+    fails: u32,
+    calls: u32,
+}
+
+impl Write for RefusingWriter {
+    fn write(&mut self, buf: &[u8]) -> io::Result<usize> {
+        let call = self.calls;
+        self.calls = self.calls.saturating_add(1);
+        if call == self.fails {
+            return Err(io::Error::from(io::ErrorKind::BrokenPipe));
+        }
+        Ok(buf.len())
+    }
+
+    fn flush(&mut self) -> io::Result<()> {
+        Ok(())
+    }
+}
+
+// The answer to the second line is longer than the buffer, so that the first write comes within it, and the second at the end.
+// One that fails is told, though the next would not fail.
+#[test]
+fn single_writes_that_fail(rt: HostRuntime) {
+    for (fails, end) in [
+        (0, at(2, FaultKind::WriteFault)),
+        (1, at(3, FaultKind::WriteFault)),
+        (2, Ok(())),
+    ] {
+        ends_refused(&rt, fails, end);
+    }
+}
+
+fn ends_refused<R: Abort + AllocGlobal>(rt: &R, fails: u32, end: Result<(), Fault>) {
+    let script = b"make 0 0 20000\nlevels 0 0\ntur 0 0\n".as_slice();
+    let writer = RefusingWriter { fails, calls: 0 };
+    let done = run_script(rt.alloc(), script, writer, LARGE);
+    assert!(rt; done == end, "write {fails}: {done:?}");
+}
+
 #[test]
 fn arrays_that_do_not_start(rt: HostRuntime) {
     for (disks, extents, cache) in [
