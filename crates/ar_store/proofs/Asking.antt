@@ -1,5 +1,5 @@
 -- Which disks are asked for a slot to be found, and at it, and which rows are written.
-use Rattle.std.proofs.Common.{◌≡◌, ◌≢◌, ◌⊎◌, inl, inr, ℕ, ◌<◌, zero, suc, Bool, true, false, true≢false, Option, None, Some, refl, sym, ap, subst, ◌∙◌, arith}
+use Rattle.std.proofs.Common.{◌≡◌, ◌≢◌, ◌⊎◌, inl, inr, ℕ, List, ◌<◌, zero, suc, Bool, true, false, true≢false, Option, None, Some, refl, sym, ap, subst, ◌∙◌, arith}
 use Rattle.std.proofs.lemmas.Option.{none-some, same_Some}
 use Rattle.ar_disks.specs.declared.address.Key.{Key}
 use Rattle.ar_disks.specs.declared.address.Members.{Members}
@@ -11,8 +11,8 @@ use Rattle.ar_extents.specs.Set.{SetState, content, IsSound}
 use Rattle.ar_extents.specs.Groups.{IsMember, IsOutside}
 use Rattle.ar_extents.specs.Follows.{Follows, Keeps, Anywhere, IsPlace, IsEither, WorksOn}
 use Rattle.ar_extents.proofs.Follows.{keeps_refl, keeps_then, keeps_fewer, works_more}
-use Rattle.ar_mirror.specs.Calls.{IsInPair, KeepsButSlot}
-use Rattle.ar_parity.specs.Group.{KeepsButRow}
+use Rattle.ar_mirror.specs.Calls.{IsInPair, OtherSlotsHold as OtherMirrorSlotsHold, KeepsButSlot}
+use Rattle.ar_parity.specs.Group.{Holds as ParityHolds, KeepsButRow}
 use Rattle.ar_mirror.proofs.Frames.{keeps_outside as mirror_outside}
 use Rattle.ar_parity.proofs.Frames.{keeps_outside as parity_outside}
 use Rattle.ar_mirror.specs.Slots.{row_of as mirror_row_of}
@@ -31,7 +31,7 @@ use Rattle.ar_store.specs.declared.space.Space.{Space}
 use Rattle.ar_store.specs.declared.way.Way.{Way}
 use Rattle.ar_store.specs.declared.way.Way.TheVariants.{Home, Hole, Broken}
 use Rattle.ar_store.specs.Store.{StoreState, store_of, members_of, class_in}
-use Rattle.ar_store.specs.Slots.{NeedsIn, ReadsIn, WritesIn, first_in, AsksFor, AsksForSlot}
+use Rattle.ar_store.specs.Slots.{ClassHolds, NeedsIn, ReadsIn, WritesIn, first_in, AsksFor, AsksForSlot}
 use Rattle.ar_store.specs.Placing.{slot_at, moved_from, moved_first, squeezed, LeadsHome, LeadsToHole, Leads, HasNoWay}
 use Rattle.ar_store.specs.Asking.{WorksWithin, KeepsButRowsOf, WritesSlot, ReadsAt, WritesAt, MovesAt, MovesAll, ReadsPairs, AsksSlot, AsksSlots, AsksGroup, AsksGroups, AsksToPut, AsksToSqueeze, AsksOnWay, AsksWay}
 use Rattle.ar_store.specs.Spaces.{store_in}
@@ -99,14 +99,23 @@ writes_parity a b m i works known =
     ]
 
 -- What a put to a slot of a mirrored group does, and to one of a group with parity, in one word each.
-pub wrote_mirrored : (a b : SetState) (m : Members) (i : ℕ) → WorksOn (IsInPair a.geometry m i) a b → KeepsButSlot m i a b → WritesSlot Mirrored a b m i
-wrote_mirrored a b m i works keeps = record { within = record { works = works; keeps = mirror_outside a b m i keeps }; rows = keeps }
+pub wrote_mirrored : (a b : SetState) (m : Members) (i : ℕ) → WorksOn (IsInPair a.geometry m i) a b → OtherMirrorSlotsHold m i a b → KeepsButSlot m i a b
+    → WritesSlot Mirrored a b m i
+wrote_mirrored a b m i works slots keeps = record {
+  within = record { works = works; keeps = mirror_outside a b m i keeps };
+  rows = keeps;
+  beside = λ k block inside ne has. slots.slots k inside ne block has;
+}
 
 pub wrote_parity : (a b : SetState) (m : Members) (i : ℕ) → WorksOn (IsMember m) a b
     → (IsSound b (member m (data_position i)) → WorksOn (IsEither (member m (data_position i)) (member m (parity_position (parity_row_of i)))) a b)
-    → KeepsButRow m (parity_row_of i) a b → WritesSlot Parity a b m i
-wrote_parity a b m i works known keeps =
-    record { within = record { works = writes_parity a b m i works known; keeps = parity_outside a b m i keeps }; rows = keeps }
+    → ((k : ℕ) → k ≢ i → (block : List ℕ) → ParityHolds a m k block → ParityHolds b m k block) → KeepsButRow m (parity_row_of i) a b
+    → WritesSlot Parity a b m i
+wrote_parity a b m i works known others keeps = record {
+  within = record { works = writes_parity a b m i works known; keeps = parity_outside a b m i keeps };
+  rows = keeps;
+  beside = λ k block inside ne has. others k ne block has;
+}
 
 -- What was asked is asked still once more was done: what can be used at the end could be used before.
 reads_later : (c : Class) (b d : SetState) (g : Geometry) (m : Members) (i : ℕ) (place : Place) → Follows b d → ReadsIn c b g m i place → ReadsIn c d g m i place
@@ -227,6 +236,7 @@ slot_same : (class : Class) (a b : SetState) (m : Members) (i : ℕ) → b ≡ a
 slot_same class a b m i same = record {
   within = within_same _ m a b same;
   rows = subst (λ (x : SetState). KeepsButRowsOf class m i a x) (sym same) (rows_kept class m i a a (keeps_refl Anywhere a));
+  beside = λ k block inside ne has. subst (λ (x : SetState). ClassHolds class x m k block) (sym same) has;
 }
 
 -- nothing was asked

@@ -1,6 +1,6 @@
 -- Which disks a call asks: those of the slots that it reads and writes, and of the groups that it opens and empties; and which
 -- rows it leaves as they are: all but those of the one slot that it writes, or of the one group that it fills.
-use Rattle.std.specs.Prelude.{◌≡◌, ◌≢◌, ◌⊎◌, ℕ, ◌<◌, ◌≤◌, Some}
+use Rattle.std.specs.Prelude.{◌≡◌, ◌≢◌, ◌⊎◌, ℕ, List, ◌<◌, ◌≤◌, Some}
 use Rattle.ar_disks.specs.declared.address.Key.{Key}
 use Rattle.ar_disks.specs.declared.address.Members.{Members}
 use Rattle.ar_disks.specs.declared.address.Place.{Place}
@@ -20,7 +20,7 @@ use Rattle.ar_book.specs.Choices.{IsLowestFree, IsFullMirrored}
 use Rattle.ar_store.specs.declared.way.Way.{Way}
 use Rattle.ar_store.specs.declared.way.Way.TheVariants.{Home, Hole, Broken}
 use Rattle.ar_store.specs.Store.{StoreState, members_of, class_in}
-use Rattle.ar_store.specs.Slots.{ReadsIn, WritesIn}
+use Rattle.ar_store.specs.Slots.{ClassHolds, ReadsIn, WritesIn}
 use Rattle.ar_store.specs.Placing.{slot_at, HasNoHole, HasNoWay, IsLowestHole}
 
 -- No disk was asked but for the extents that are named first, and each extent outside four members has the rows that it had.
@@ -55,10 +55,12 @@ KeepsButRowsOf Free m i old new = Keeps Anywhere old new
 KeepsButRowsOf Mirrored m i old new = KeepsButSlot m i old new
 KeepsButRowsOf Parity m i old new = KeepsButRow m (parity_row_of i) old new
 
--- One slot of four extents was written: no disk was asked but those that this asks, and no row was written but the slot's.
+-- One slot of four extents was written: no disk was asked but those that this asks, no row was written but the slot's, and each
+-- other slot that held a block holds it.
 pub record WritesSlot (class : Class) (old new : SetState) (m : Members) (i : ℕ) : Type 0 where
   pub within : WorksWithin (WritesIn class new old.geometry m i) m old new
   pub rows : KeepsButRowsOf class m i old new
+  pub beside : (k : ℕ) (block : List ℕ) → k < slots_of old.geometry class → k ≢ i → ClassHolds class old m k block → ClassHolds class new m k block
 
 -- the same of a slot of a store, where its group is used so
 abbrev pub AsksSlot : Class → Slot → StoreState → StoreState → Type 0
