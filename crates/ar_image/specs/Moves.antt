@@ -19,7 +19,7 @@ pub record MovesBlock (old : ArrayState) (answer : Move) (new : ArrayState) : Ty
 
 -- The block that the rule of demotion names went to the slot that it names, in a group that was opened for it where the rule says
 -- so; or the rule names nothing, and nothing has changed. Where the array broke, a group may have been opened. Each other slot of
--- the block's new group that held a block holds it, and no disk was asked but those that this asks.
+-- the block's new group that held a block holds it; no disk was asked but those that this asks, and no row written.
 pub record DemotesOne (old : ArrayState) (answer : Move) (new : ArrayState) : Type 0 where
   pub moves : MovesBlock old answer new
   pub moved : IfMoved answer (λ key to. Demotes old.store.book key to new.store.book)
@@ -30,8 +30,8 @@ pub record DemotesOne (old : ArrayState) (answer : Move) (new : ArrayState) : Ty
   pub asks : AsksToDemote old.store new.store
 
 -- The block that the rule of cleaning names went to the slot that it names, and less is left to be cleaned; or the rule names
--- nothing, and nothing has changed. No group is opened. Each other slot of the block's new group that held a block holds it, and no
--- disk was asked but those that this move asks.
+-- nothing, and nothing has changed. No group is opened. Each other slot of the block's new group that held a block holds it; no
+-- disk was asked but those that this move asks, and no row was written but the slot's.
 pub record CleansOne (old : ArrayState) (answer : Move) (new : ArrayState) : Type 0 where
   pub moves : MovesBlock old answer new
   pub moved : IfMoved answer (λ key to. Cleans old.store.book key to new.store.book)

@@ -20,7 +20,7 @@ use Rattle.ar_store.specs.Placing.{slot_at, IsLowestHole, HasNoHole}
 use Rattle.ar_store.specs.Calls.{IsOpened}
 use Rattle.ar_store.specs.Asking.{WorksWithin, ReadsAt, MovesAt, AsksSlots, AsksOpened, AsksGroup}
 use Rattle.ar_store.proofs.Within.{within_refl, within_then, within_more}
-use Rattle.ar_store.proofs.Asking.{writes_member}
+use Rattle.ar_store.proofs.Asking.{writes_member, slots_still}
 use Rattle.ar_store.proofs.Changes.{named_apart}
 use Rattle.ar_moves.specs.Demotion.{IsOldestMirrored, AsksToDemote}
 use Rattle.ar_moves.proofs.Single.{oldest_single, slot_single, free_single}
@@ -28,7 +28,7 @@ use Rattle.ar_moves.proofs.Single.{oldest_single, slot_single, free_single}
 -- nothing was asked
 pub asks_none : (s : StoreState) → AsksToDemote s s
 asks_none s = record {
-  there = λ key from to oldest placed lowest. within_refl _ _ s.disks;
+  there = λ key from to oldest placed lowest. slots_still s from to;
   made = λ key from group oldest placed none many lowest. within_refl _ _ s.disks;
 }
 
@@ -67,7 +67,7 @@ moved_asks a b c key from g space opening geometry placed opened moved =
       | inr second ↦
           inr (subst (λ (x : Members). IsMember x place) (members g)
           (writes_member (class_in b g) c.disks b.disks.geometry (members_of b g) 0 place second))
-    ]) moved))
+    ]) moved.within))
 
 pub asks_made : (a b c : StoreState) (key : Key) (g : ℕ) → IsSpace a → IsOldestMirrored a.book key → HasNoHole a.book Parity → IsOpened a.book b.book Parity g
     → b.disks.geometry ≡ a.disks.geometry → ((k : Key) → home b.book k ≡ home a.book k) → AsksGroup g a b

@@ -40,7 +40,7 @@ pub record Cleans (t : Tables) (key : Key) (to : Slot) (new : Tables) : Type 0 w
   pub names : NamesCleaning t key to
   pub moved : Moved t key to new
 
--- no disk was asked but those that the block's move to the slot that the rule names asks, and no group was written but the slot's
+-- no disk was asked but those that the block's move to the slot that the rule names asks, and no row was written but the slot's
 abbrev pub AsksToClean : StoreState → StoreState → Type 0
 AsksToClean old new = (key : Key) (from to : Slot) → NamesCleaning old.book key to → home old.book key ≡ Some from → AsksSlots from to old new
 

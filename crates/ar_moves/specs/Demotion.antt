@@ -69,8 +69,8 @@ MayHaveOpened t new = (new ≡ t) ⊎ ((key : Key) × (to : Slot) × NamesDemoti
 pub record HoldsZerosBeside (s : StoreState) (to : Slot) : Type 0 where
   pub slots : (i : ℕ) → i < 3 * rows_of s.disks.geometry → i ≢ to.slot → SlotHolds s (slot_at to.group i) (zeros (block_len_of s.disks.geometry))
 
--- No disk was asked but those that the block's move to the slot that the rule names asks; or, where a group is opened for it, that
--- group's. And no group was written but the slot's.
+-- No disk was asked but those that the block's move to the slot that the rule names asks, and no row was written but the
+-- slot's; or, where a group is opened for it, that group's disks were asked too, and no other group was written.
 pub record AsksToDemote (old new : StoreState) : Type 0 where
   pub there :
       (key : Key) (from to : Slot) → IsOldestMirrored old.book key → home old.book key ≡ Some from → IsLowestHole old.book Parity to

@@ -16,8 +16,8 @@ use ar_store::Store;
 /// groups, the one with the fewest is taken, the lowest of several. Its block in the lowest slot goes to the lowest hole of
 /// the other mirrored groups. Where there is no such group the same is tried among the groups with parity; else nothing is
 /// done. The block keeps its stamp, and no block changes; the other slots of the group that it goes to hold what they held. A
-/// group is free once its last block has gone, and none is opened. No disk is asked but those that the block's move asks. No
-/// memory is taken.
+/// group is free once its last block has gone, and none is opened. No disk is asked but those that the block's move asks, and no
+/// row is written but the slot's. No memory is taken.
 ///
 /// `Broken` says that the disks are: the tables are as they were, and of a store that was broken before nothing has changed.
 pub fn clean_one<D: Disk>(store: &mut Store<D>) -> Move

@@ -19,7 +19,8 @@ use ar_store::{Opening, Store};
 /// Demotes a block: the mirrored one with the least stamp goes to the lowest parity hole. Where there is none and two groups
 /// are free, the lowest is opened for parity with zeros, and the block goes to its first slot; else nothing is done. The block
 /// keeps its stamp, and no block changes; the other slots of the group that it goes to hold what they held. No disk is asked but
-/// those that the block's move asks, and those of the group that is opened. No memory is taken.
+/// those that the block's move asks, and those of the group that is opened; and no row is written but the slot's, or those of the
+/// group that is opened. No memory is taken.
 ///
 /// `Broken` says that the disks are. The group may have been opened then, and every block has its old home; of a store that
 /// was broken before nothing has changed.

@@ -35,7 +35,7 @@ use Rattle.ar_store.specs.Slots.{ClassHolds, NeedsIn, ReadsIn, WritesIn, first_i
 use Rattle.ar_store.specs.Placing.{slot_at, moved_from, moved_first, squeezed, LeadsHome, LeadsToHole, Leads, HasNoWay}
 use Rattle.ar_store.specs.Asking.{WorksWithin, KeepsButRowsOf, WritesSlot, ReadsAt, WritesAt, MovesAt, MovesAll, ReadsPairs, AsksSlot, AsksSlots, AsksGroup, AsksGroups, AsksToPut, AsksToSqueeze, AsksOnWay, AsksWay}
 use Rattle.ar_store.specs.Spaces.{store_in}
-use Rattle.ar_store.proofs.Within.{within_same, within_then, within_more, within_read}
+use Rattle.ar_store.proofs.Within.{within_refl, within_same, within_then, within_more, within_read}
 use Rattle.ar_store.proofs.Squeezing.{IsSqueezing, same_full, same_free}
 use Rattle.ar_store.proofs.Ways.{nowhere, parity_not_mirrored, unplaced_not_mirrored, unplaced_not_parity}
 
@@ -168,7 +168,7 @@ slots_in_groups a b one other mirrored below works =
         reads = subst (λ (c : Class). ReadsIn c b.disks a.disks.geometry (members_of a one.group) one.slot place) mirrored reads;
       })
       | inr writes ↦ inr (writes_member (class_in a other.group) b.disks a.disks.geometry (members_of a other.group) other.slot place writes)
-    ]) works
+    ]) works.within
 
 -- The blocks move from one group to another, whose members and geometry stay.
 groups_same : (a b c : StoreState) (from to : ℕ) → ((g : ℕ) → members_of b g ≡ members_of a g) → b.disks.geometry ≡ a.disks.geometry
@@ -361,6 +361,13 @@ module _ (a b c : StoreState) (k : Key) where
       let P : SetState → Type 0 = λ x. WorksWithin (MovesFrom x a.disks.geometry (members_of a from) (members_of a to)) (members_of a to) a.disks x in
       subst P (sym asks) (squeeze.1 from to is_from is_to))
 
+-- no row was written but the new slot's
+move_rows : (a b c : StoreState) (other : Slot) → b.book ≡ a.book → b.disks.geometry ≡ a.disks.geometry → Keeps Anywhere a.disks b.disks
+    → AsksSlot (class_in b other.group) other b c → KeepsButRowsOf (class_in a other.group) (members_of a other.group) other.slot a.disks c.disks
+move_rows a b c other book geometry keeps wrote =
+    let P : Tables → Type 0 = λ x. KeepsButRowsOf (class_of x other.group) (group_in x.groups other.group).members other.slot b.disks c.disks in
+    rows_then (class_in a other.group) (members_of a other.group) other.slot a.disks b.disks c.disks geometry keeps (subst P book wrote.rows)
+
 -- A slot was read and then another written, where the tables stayed.
 pub asks_both : (a b c : StoreState) (one other : Slot) → b.book ≡ a.book → b.disks.geometry ≡ a.disks.geometry
     → AsksForSlot a b one → Keeps Anywhere a.disks b.disks → AsksSlot (class_in b other.group) other b c → AsksSlots one other a c
@@ -370,27 +377,33 @@ asks_both a b c one other book geometry read keeps wrote =
     (group_in x.groups other.group).members b.disks c.disks in
     let Q : Geometry → Type 0 = λ x.
     WorksWithin (WritesIn (class_in a other.group) c.disks x (members_of a other.group) other.slot) (members_of a other.group) b.disks c.disks in
-    within_then (MovesAt a c one other) (members_of a other.group) a.disks b.disks c.disks
-    (within_read (MovesAt a c one other) (members_of a other.group) a.disks b.disks
-    (works_more (ReadsAt a b one) (MovesAt a c one other) a.disks b.disks
-    (λ place reads.
-    inl (reads_later (class_in a one.group) b.disks c.disks a.disks.geometry (members_of a one.group) one.slot place wrote.within.works.follows reads))
-    (reads_in (class_in a one.group) a.disks b.disks (members_of a one.group) one.slot read)) keeps)
-    (within_more (WritesAt a c other) (MovesAt a c one other) (members_of a other.group) b.disks c.disks (λ place is. inr is)
-    (subst Q geometry (subst P book wrote.within)))
+    record {
+      within = within_then (MovesAt a c one other) (members_of a other.group) a.disks b.disks c.disks
+          (within_read (MovesAt a c one other) (members_of a other.group) a.disks b.disks
+          (works_more (ReadsAt a b one) (MovesAt a c one other) a.disks b.disks
+          (λ place reads.
+          inl (reads_later (class_in a one.group) b.disks c.disks a.disks.geometry (members_of a one.group) one.slot place wrote.within.works.follows reads))
+          (reads_in (class_in a one.group) a.disks b.disks (members_of a one.group) one.slot read)) keeps)
+          (within_more (WritesAt a c other) (MovesAt a c one other) (members_of a other.group) b.disks c.disks (λ place is. inr is)
+          (subst Q geometry (subst P book wrote.within)));
+      rows = move_rows a b c other book geometry keeps wrote;
+    }
 
+-- a slot was read, and the other one wasn't written
 pub asks_one : (a b : StoreState) (one other : Slot) → AsksForSlot a b one → Keeps Anywhere a.disks b.disks → AsksSlots one other a b
-asks_one a b one other read keeps =
-    within_read (MovesAt a b one other) (members_of a other.group) a.disks b.disks
-    (works_more (ReadsAt a b one) (MovesAt a b one other) a.disks b.disks (λ place is. inl is)
-    (reads_in (class_in a one.group) a.disks b.disks (members_of a one.group) one.slot read)) keeps
+asks_one a b one other read keeps = record {
+  within = within_read (MovesAt a b one other) (members_of a other.group) a.disks b.disks
+      (works_more (ReadsAt a b one) (MovesAt a b one other) a.disks b.disks (λ place is. inl is)
+      (reads_in (class_in a one.group) a.disks b.disks (members_of a one.group) one.slot read)) keeps;
+  rows = rows_kept (class_in a other.group) (members_of a other.group) other.slot a.disks b.disks keeps;
+}
 
--- no row was written but the new slot's
-pub move_rows : (a b c : StoreState) (other : Slot) → b.book ≡ a.book → b.disks.geometry ≡ a.disks.geometry → Keeps Anywhere a.disks b.disks
-    → AsksSlot (class_in b other.group) other b c → KeepsButRowsOf (class_in a other.group) (members_of a other.group) other.slot a.disks c.disks
-move_rows a b c other book geometry keeps wrote =
-    let P : Tables → Type 0 = λ x. KeepsButRowsOf (class_of x other.group) (group_in x.groups other.group).members other.slot b.disks c.disks in
-    rows_then (class_in a other.group) (members_of a other.group) other.slot a.disks b.disks c.disks geometry keeps (subst P book wrote.rows)
+-- nothing was asked
+pub slots_still : (s : StoreState) (one other : Slot) → AsksSlots one other s s
+slots_still s one other = record {
+  within = within_refl (MovesAt s s one other) (members_of s other.group) s.disks;
+  rows = rows_kept (class_in s other.group) (members_of s other.group) other.slot s.disks s.disks (keeps_refl Anywhere s.disks);
+}
 
 -- a slot stands where a block has its home
 pub asks_from : (a b : StoreState) (key : Key) (from other : Slot) → home a.book key ≡ Some from → AsksSlots from other a b

@@ -5,7 +5,7 @@ use Rattle.ar_disks.specs.declared.completion.Completion.{Completion}
 use Rattle.ar_disks.specs.declared.completion.Completion.TheVariants.{Done, Broken}
 use Rattle.ar_extents.specs.Set.{SetState}
 use Rattle.ar_extents.specs.Groups.{IsGroup}
-use Rattle.ar_extents.specs.Follows.{Keeps, Anywhere, IsPlace, WorksOn}
+use Rattle.ar_extents.specs.Follows.{Keeps, Anywhere, IsPlace}
 use Rattle.ar_extents.proofs.Follows.{works_refl}
 use Rattle.ar_mirror.specs.Calls.{Gives, KeepsButSlot, OtherSlotsHold as OtherMirrorSlotsHold}
 use Rattle.ar_mirror.specs.Holds.{Holds as MirrorHolds}

@@ -18,7 +18,7 @@ use Rattle.ar_extents.specs.Set.{SetState}
 use Rattle.ar_store.specs.Store.{store_of}
 use Rattle.ar_store.specs.declared.way.Way.{Way}
 use Rattle.ar_store.specs.declared.way.Way.TheVariants.{Home, Hole, Broken}
-use Rattle.ar_store.specs.Placing.{slot_at, HasNoHole, IsLowestHole, LeadsHome, LeadsToHole, Leads, Puts, IsMirroredHole, HasNoMirroredHole, HasNoWay, WantsGroup, HasOpened, MayHavePrepared, IsSqueezed, IsVacant, IsThere, IsWayIn, MayOpen, IsReadyFor, placed_by, put_in}
+use Rattle.ar_store.specs.Placing.{slot_at, HasNoHole, IsLowestHole, LeadsHome, LeadsToHole, Leads, Puts, IsMirroredHole, HasNoMirroredHole, HasNoWay, WantsGroup, MayHavePrepared, IsSqueezed, IsVacant, IsThere, IsWayIn, MayOpen, IsReadyFor, placed_by, put_in}
 
 -- the level, as a number
 rank : Level → ℕ

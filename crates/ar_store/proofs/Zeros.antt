@@ -1,5 +1,5 @@
 -- What a squeeze leaves behind the blocks that it moves: zeros.
-use Rattle.std.proofs.Common.{◌≡◌, ◌≢◌, ◌⊎◌, inl, inr, ℕ, ◌+◌, ◌*◌, ◌<◌, ◌≤◌, length, None, refl, sym, ap, subst, ◌∙◌, arith}
+use Rattle.std.proofs.Common.{◌≡◌, ◌≢◌, inl, inr, ℕ, ◌+◌, ◌*◌, ◌<◌, length, refl, sym, ap, subst, ◌∙◌, arith}
 use Rattle.std.proofs.lemmas.Option.{none-some}
 use Rattle.ar_disks.specs.Block.{zeros}
 use Rattle.ar_disks.specs.Geometry.{rows_of, block_len_of}
@@ -17,8 +17,8 @@ use Rattle.ar_store.specs.declared.way.Way.TheVariants.{Home, Hole, Broken}
 use Rattle.ar_store.specs.Store.{StoreState, store_of, class_in}
 use Rattle.ar_store.specs.Slots.{SlotHolds, BesideHold}
 use Rattle.ar_store.specs.Kept.{IsSpace}
-use Rattle.ar_store.specs.Placing.{slot_at, HasNoHole, HasNoWay, IsVacant, IsReadyFor, IsWayIn, Leads, MayOpen}
-use Rattle.ar_store.specs.Calls.{HoldsZeros, HoldsZerosFrom, LeavesZeros, IsZerosFrom, IsZerosOnWay, BesideWay}
+use Rattle.ar_store.specs.Placing.{slot_at, HasNoHole, IsVacant, IsReadyFor, IsWayIn, Leads, MayOpen}
+use Rattle.ar_store.specs.Calls.{HoldsZeros, HoldsZerosFrom, LeavesZeros, IsZerosOnWay, BesideWay}
 
 -- a group that was just filled
 pub zeros_all : (s : StoreState) (group : ℕ) → HoldsZeros s group → HoldsZerosFrom s group 0

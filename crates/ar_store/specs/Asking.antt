@@ -66,9 +66,11 @@ pub record WritesSlot (class : Class) (old new : SetState) (m : Members) (i : �
 abbrev pub AsksSlot : Class → Slot → StoreState → StoreState → Type 0
 AsksSlot class slot old new = WritesSlot class old.disks new.disks (members_of old slot.group) slot.slot
 
--- none but those that a block's move from one slot to another asks, and no group was written but the other's
-abbrev pub AsksSlots : Slot → Slot → StoreState → StoreState → Type 0
-AsksSlots from to old new = WorksWithin (MovesAt old new from to) (members_of old to.group) old.disks new.disks
+-- A block moved from one slot to another: no disk was asked but those that this asks, and no row was written but the other
+-- slot's.
+pub record AsksSlots (from to : Slot) (old new : StoreState) : Type 0 where
+  pub within : WorksWithin (MovesAt old new from to) (members_of old to.group) old.disks new.disks
+  pub rows : KeepsButRowsOf (class_in old to.group) (members_of old to.group) to.slot old.disks new.disks
 
 -- none but those that a block's move to a group asks that is opened for it, and no other group was written
 abbrev pub AsksOpened : Slot → ℕ → StoreState → StoreState → Type 0

@@ -35,7 +35,6 @@ impl<D: Disk> Space<D> {
         ensures stand { AllStand (store_in self.old) (store_in self.new) }
         ensures beside { BesideHold (store_in self.old) (store_in self.new) to }
         ensures asks { (from : Slot) → home self.old.book key ≡ Some from → AsksSlots from to (store_in self.old) (store_in self.new) }
-        ensures rows { KeepsButRowsOf (class_in (store_in self.old) to.group) (members_of (store_in self.old) to.group) to.slot self.old.disks self.new.disks }
         ensures stays { Stays self.old self.new }
         ensures len { length block.new ≡ length block.old }
     {

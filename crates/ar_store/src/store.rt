@@ -38,11 +38,10 @@ impl<D: Disk> Store<D> {
     ghost use Rattle.ar_book.specs.Tables.{home, HasBlock};
     ghost use Rattle.ar_book.specs.Changes.{Moved};
     ghost use Rattle.ar_book.specs.Choices.{IsLowestFree};
-    ghost use Rattle.ar_store.specs.Store.{class_in, members_of};
     ghost use Rattle.ar_store.specs.Slots.{stands, AllStand, OthersStand, BesideHold, AsksForSlot, SurvivesLossOf};
     ghost use Rattle.ar_store.specs.Kept.{IsKept};
     ghost use Rattle.ar_store.specs.Placing.{Puts, SameUnits, IsVacant, MayHavePrepared};
-    ghost use Rattle.ar_store.specs.Asking.{AsksToPut, AsksSlots, AsksGroup, KeepsButRowsOf};
+    ghost use Rattle.ar_store.specs.Asking.{AsksToPut, AsksSlots, AsksGroup};
     ghost use Rattle.ar_store.specs.Calls.{IsAccessed, Opens, IfOpened, HoldsZeros, LeavesZeros};
 
     /// The health of the disks, with what the store keeps true.
@@ -105,10 +104,10 @@ impl<D: Disk> Store<D> {
     }
 
     /// Writes a block of a unit, from a block of the store's length, and gives it the next stamp. It is never refused for room:
-    /// where it goes, `Puts` says, and which disks are asked and which rows are written for that, `AsksToPut`; a group that is opened
-    /// for a squeeze is filled with zeros first. `Broken` says that the disks are: the block has its old home then, other blocks'
-    /// homes have changed only as far as a squeeze came, as `MayHavePrepared` says, and of a store that was broken before nothing
-    /// has.
+    /// where it goes, `Puts` says, and which disks are asked and which rows are written for that, `AsksToPut`; a group that is
+    /// opened for a squeeze is filled with zeros first. `Broken` says that the disks are: the block has its old home then,
+    /// other blocks' homes have changed only as far as a squeeze came, as `MayHavePrepared` says, and of a store that was
+    /// broken before nothing has.
     pub fn put(&mut self, key: Key, from: &[u8]) -> Completion
         requires block { HasBlock self.old.book key }
         requires whole { length from.now ≡ block_len_of self.old.disks.geometry }
@@ -133,8 +132,8 @@ impl<D: Disk> Store<D> {
         self.space.write(key, way, from)
     }
 
-    /// Gives a unit's block that has no home one, by writing zeros: it goes where `put` would put it, and reads as before. No disk
-    /// is asked that a put doesn't ask. After `Broken` it has none.
+    /// Gives a unit's block that has no home one, by writing zeros: it goes where `put` would put it, and reads as before. No
+    /// disk is asked that a put doesn't ask. After `Broken` it has none.
     pub fn place(&mut self, key: Key) -> Completion
         requires block { HasBlock self.old.book key }
         requires unplaced { home self.old.book key ≡ None }
@@ -161,9 +160,9 @@ impl<D: Disk> Store<D> {
     }
 
     /// Moves a block from its home to a slot that names none. The new slot is written before the old one is left; the stamp
-    /// stays, and so does what the other slots of the new one's group hold. No disk is asked but those that a read of the one slot
-    /// and a write of the other ask, and no row is written but the new slot's. After `Broken` the block has its old home; of a store
-    /// that was broken before nothing has changed.
+    /// stays, and so does what the other slots of the new one's group hold. No disk is asked but those that a read of the one
+    /// slot and a write of the other ask, and no row is written but the new slot's. After `Broken` the block has its old home;
+    /// of a store that was broken before nothing has changed.
     pub fn move_rb(&mut self, key: Key, slot: Slot) -> Completion
         requires placed { IsSome (home self.old.book key) }
         requires hole { IsVacant self.old.book slot }
@@ -176,7 +175,6 @@ impl<D: Disk> Store<D> {
         ensures beside { BesideHold self.old self.new slot }
         ensures units { SameUnits self.old.book self.new.book }
         ensures asks { (from : Slot) → home self.old.book key ≡ Some from → AsksSlots from slot self.old self.new }
-        ensures rows { KeepsButRowsOf (class_in self.old slot.group) (members_of self.old slot.group) slot.slot self.old.disks self.new.disks }
         ensures accessed { IsAccessed self.old.disks self.new.disks }
         ensures broken { self.old.disks.health ≡ Health.Broken → self.new ≡ self.old }
     {
@@ -187,8 +185,8 @@ impl<D: Disk> Store<D> {
     }
 
     /// Opens the lowest free group for mirrored blocks or for parity, while two are free. A group that is opened for parity is
-    /// filled with zeros; no disk is asked but those of the group, and no other group is written. `Broken` says that the disks are:
-    /// the group may have been opened then, but of a store that was broken before nothing has changed.
+    /// filled with zeros; no disk is asked but those of the group, and no other group is written. `Broken` says that the disks
+    /// are: the group may have been opened then, but of a store that was broken before nothing has changed.
     pub fn open_group(&mut self, class: Class) -> Opening
         requires { class ≢ Class.Free }
 

@@ -9,7 +9,7 @@ use Rattle.ar_store.specs.Spaces.{store_in}
 use Rattle.ar_store.proofs.Fills.{moved_stand, beside_then, beside_read, done_not_broken, same_free}
 use Rattle.ar_store.proofs.Options.{none_not_some}
 use Rattle.ar_store.proofs.Stays.{stays_then}
-use Rattle.ar_store.proofs.Asking.{asks_both, asks_one, asks_from, move_rows, rows_kept}
+use Rattle.ar_store.proofs.Asking.{asks_both, asks_one, asks_from}
 use Rattle.ar_store.proofs.space.Space.move_block.Goals as goal
 
 pub read_at-requires : goal.read_at-requires
@@ -52,7 +52,6 @@ returns-in-Done g c =
       beside = beside_then s.disks mid.disks s.book mid.book (store_in new) c.args.to read.book read.stays.accessed.follows read.keeps fill.beside;
       asks = asks_from (store_in s) (store_in new) c.args.key c.in-Some.from c.args.to (sym c.home.ensures ∙ c.in-Some.is)
           (asks_both (store_in s) (store_in mid) (store_in new) c.in-Some.from c.args.to read.book read.stays.accessed.follows.geometry read.asks read.keeps fill.asks);
-      rows = move_rows (store_in s) (store_in mid) (store_in new) c.args.to read.book read.stays.accessed.follows.geometry read.keeps fill.asks;
       stays = stays_then s mid new read.stays fill.stays;
       len = read.len;
     }
@@ -70,7 +69,6 @@ returns-in-Broken g c =
       beside = beside_read c.args.self.now.disks mid.disks c.args.self.now.book mid.book c.args.to read.book read.stays.accessed.follows read.keeps;
       asks = asks_from (store_in c.args.self.now) (store_in mid) c.args.key c.in-Some.from c.args.to (sym c.home.ensures ∙ c.in-Some.is)
           (asks_one (store_in c.args.self.now) (store_in mid) c.in-Some.from c.args.to read.asks read.keeps);
-      rows = rows_kept _ _ c.args.to.slot c.args.self.now.disks mid.disks read.keeps;
       stays = read.stays;
       len = read.len;
     }

@@ -1,9 +1,6 @@
 use Rattle.std.proofs.Common.{IsSome, refl, sym, ap, subst, ◌∙◌}
 use Rattle.ar_extents.specs.Groups.{outcome_of}
-use Rattle.ar_extents.specs.Follows.{Anywhere}
-use Rattle.ar_extents.proofs.Follows.{keeps_refl}
-use Rattle.ar_store.proofs.Asking.{rows_kept}
-use Rattle.ar_store.proofs.Within.{within_refl}
+use Rattle.ar_store.proofs.Asking.{slots_still}
 use Rattle.ar_book.specs.Tables.{home}
 use Rattle.ar_store.specs.Store.{StoreState}
 use Rattle.ar_store.specs.Placing.{IsVacant}
@@ -45,8 +42,7 @@ returns-in-Broken g c =
       stands = record { blocks = λ _ k. refl };
       beside = record { slots = λ slot block there same ne holds. holds };
       units = units_refl s.book;
-      asks = λ from is. within_refl _ _ s.disks;
-      rows = rows_kept _ _ c.args.slot.slot s.disks s.disks (keeps_refl Anywhere s.disks);
+      asks = λ from is. slots_still s from c.args.slot;
       accessed = accessed_refl s.disks;
       broken = λ _. refl;
     }
