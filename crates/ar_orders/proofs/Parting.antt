@@ -1,5 +1,5 @@
 -- A line and the bytes that it is read from.
-use Rattle.std.proofs.Common.{◌≡◌, ◌≢◌, ◌∙◌, ◌+◌, ◌-◌, ◌<◌, ◌≤◌, ◌&&◌, ◌++◌, ℕ, zero, suc, Bool, true, false, not, cond, eqb, ltb, List, [], ◌∷◌, length, take, drop, get_or, Option, Some, None, is_some, Bor, refl, sym, ap, subst, append_assoc, append-nil, length-append, length-take-le, take-append-drop, ◌==◌, ne_eqb, eq-eqb, arith}
+use Rattle.std.proofs.Common.{◌≡◌, ◌≢◌, ◌∙◌, ◌+◌, ◌-◌, ◌<◌, ◌≤◌, ◌&&◌, ◌++◌, ℕ, zero, suc, Bool, true, false, not, cond, eqb, ltb, List, [], ◌∷◌, length, take, drop, get_or, Option, Some, None, is_some, Bor, refl, sym, ap, subst, append_assoc, append-nil, length-append, length-take-le, take-append-drop, ne_eqb, eq-eqb, arith}
 use Rattle.std.specs.Prelude.{IfSome}
 use Rattle.std.proofs.lemmas.List.{take-append-le, take_all, take_more, drop_all}
 use Rattle.std.proofs.lemmas.List.Elements.{All-head, All-tail, All-append}

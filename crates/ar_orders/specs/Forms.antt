@@ -8,7 +8,7 @@ use Rattle.ar_disks.specs.declared.address.Addr.{Addr}
 use Rattle.ar_scsi.specs.declared.command.Command.{Command}
 use Rattle.ar_scsi.specs.declared.command.Command.TheVariants.{TestReady, Inquiry, Capacity, Read, Write}
 use Rattle.ar_scsi.specs.Block.{Says}
-use Rattle.ar_scsi.specs.Field.{operation_code}
+use Rattle.ar_orders.specs.Blocks.{test_unit_ready_block, inquiry_block, read_capacity_block, read_10_block, read_16_block, write_10_block, write_16_block}
 use Rattle.ar_orders.specs.Words.{IsNumber, IsBytePair, IsBlockWord}
 use Rattle.ar_orders.specs.declared.fault.FaultKind.{FaultKind}
 use Rattle.ar_orders.specs.declared.fault.FaultKind.TheVariants.{BadArgument, UnknownWord}
@@ -75,16 +75,10 @@ NamesUnit words addr = IsAddress (word words 0) (word words 1) addr
 abbrev pub AboutUnit : Words → (Addr → Order) → Order → Type 0
 AboutUnit words order_at order = (addr : Addr) × NamesUnit words addr × (order ≡ order_at addr)
 
--- a command to that unit, with these data
-abbrev pub Commands : Words → Command → Data → Notation → Order → Type 0
-Commands words command sent notation order =
-    (addr : Addr) × (cdb : List ℕ) × NamesUnit words addr × Says cdb command × (order ≡ Act (actions.Command addr cdb sent notation))
-
--- the same by a block of this operation code, where blocks of two say such a command
-abbrev pub CommandsBy : ℕ → Words → Command → Data → Notation → Order → Type 0
-CommandsBy code words command sent notation order =
-    (addr : Addr) × (cdb : List ℕ) × NamesUnit words addr × (operation_code cdb ≡ code) × Says cdb command
-    × (order ≡ Act (actions.Command addr cdb sent notation))
+-- a command to that unit: this block, which says this command, with these data
+abbrev pub Commands : Words → List ℕ → Command → Data → Notation → Order → Type 0
+Commands words cdb command sent notation order =
+    (addr : Addr) × NamesUnit words addr × Says cdb command × (order ≡ Act (actions.Command addr cdb sent notation))
 
 -- no data
 abbrev pub nothing : Data
@@ -104,15 +98,15 @@ AsksDrop words = AboutUnit words (λ addr. Act (actions.Remove addr))
 
 -- `tur H L`
 abbrev pub AsksTur : Words → Order → Type 0
-AsksTur words = Commands words TestReady nothing Bytes
+AsksTur words = Commands words test_unit_ready_block TestReady nothing Bytes
 
 -- `inquiry H L LEN`
 abbrev pub AsksInquiry : Words → Order → Type 0
-AsksInquiry words = Commands words (Inquiry (value (word words 2))) nothing Bytes
+AsksInquiry words = Commands words (inquiry_block (value (word words 2))) (Inquiry (value (word words 2))) nothing Bytes
 
 -- `capacity H L`
 abbrev pub AsksCapacity : Words → Order → Type 0
-AsksCapacity words = Commands words Capacity nothing Bytes
+AsksCapacity words = Commands words read_capacity_block Capacity nothing Bytes
 
 -- a unit, an address and a number of sectors
 pub record HasSectors (Lba : List ℕ → Type 0) (words : Words) : Type 0 where
@@ -121,9 +115,10 @@ pub record HasSectors (Lba : List ℕ → Type 0) (words : Words) : Type 0 where
   pub lba : Lba (word words 2)
   pub sectors : IsNumberOf 16 (word words 3)
 
--- `read H L LBA COUNT` and `read16 H L LBA COUNT`, by the operation code of READ (10) and of READ (16)
-abbrev pub AsksRead : ℕ → Words → Order → Type 0
-AsksRead code words = CommandsBy code words (Read (value (word words 2)) (value (word words 3))) nothing Runs
+-- `read H L LBA COUNT` and `read16 H L LBA COUNT`, by the blocks of READ (10) and of READ (16)
+abbrev pub AsksRead : (ℕ → ℕ → List ℕ) → Words → Order → Type 0
+AsksRead block words =
+    Commands words (block (value (word words 2)) (value (word words 3))) (Read (value (word words 2)) (value (word words 3))) nothing Runs
 
 -- the words of a WRITE, which `fua` may end
 abbrev pub IsForced : Words → Type 0
@@ -137,12 +132,12 @@ pub record HasWritten (Lba : List ℕ → Type 0) (words : Words) : Type 0 where
   pub sectors : IsNumberOf 16 (word words 3)
   pub filled : IsBytePair (word words 4)
 
--- `write H L LBA COUNT BYTE`, and the same with `fua`, by the operation code of WRITE (10); `write16` likewise, by that of WRITE
--- (16)
-abbrev pub AsksWrite : ℕ → Words → Order → Type 0
-AsksWrite code words order =
+-- `write H L LBA COUNT BYTE`, and the same with `fua`, by the block of WRITE (10); `write16` likewise, by that of WRITE (16)
+abbrev pub AsksWrite : (ℕ → ℕ → Bool → List ℕ) → Words → Order → Type 0
+AsksWrite block words order =
     (byte : ℕ) × IsByte (word words 4) byte
-    × CommandsBy code words (Write (value (word words 2)) (value (word words 3)) (length words == 6)) (record { len = value (word words 3) * 512; byte = byte }) Runs order
+    × Commands words (block (value (word words 2)) (value (word words 3)) (length words == 6))
+    (Write (value (word words 2)) (value (word words 3)) (length words == 6)) (record { len = value (word words 3) * 512; byte = byte }) Runs order
 
 -- a unit and a command block, and perhaps a number of bytes and their value
 pub record HasBlock (words : Words) : Type 0 where
@@ -237,10 +232,10 @@ ReadsCommand name words result =
     MatchBool (bytes_eq name (codes "tur")) (Answers (HasUnit words) (AsksTur words) result) (
     MatchBool (bytes_eq name (codes "inquiry")) (Answers (HasUnitAndNumber 16 words) (AsksInquiry words) result) (
     MatchBool (bytes_eq name (codes "capacity")) (Answers (HasUnit words) (AsksCapacity words) result) (
-    MatchBool (bytes_eq name (codes "read")) (Answers (HasSectors (IsNumberOf 32) words) (AsksRead 0x28 words) result) (
-    MatchBool (bytes_eq name (codes "write")) (Answers (HasWritten (IsNumberOf 32) words) (AsksWrite 0x2A words) result) (
-    MatchBool (bytes_eq name (codes "read16")) (Answers (HasSectors IsNumber words) (AsksRead 0x88 words) result) (
-    MatchBool (bytes_eq name (codes "write16")) (Answers (HasWritten IsNumber words) (AsksWrite 0x8A words) result) (
+    MatchBool (bytes_eq name (codes "read")) (Answers (HasSectors (IsNumberOf 32) words) (AsksRead read_10_block words) result) (
+    MatchBool (bytes_eq name (codes "write")) (Answers (HasWritten (IsNumberOf 32) words) (AsksWrite write_10_block words) result) (
+    MatchBool (bytes_eq name (codes "read16")) (Answers (HasSectors IsNumber words) (AsksRead read_16_block words) result) (
+    MatchBool (bytes_eq name (codes "write16")) (Answers (HasWritten IsNumber words) (AsksWrite write_16_block words) result) (
     MatchBool (bytes_eq name (codes "cdb")) (Answers (HasBlock words) (AsksBlock words) result) (
     ReadsArrayOrder name words result))))))))
 

@@ -1,60 +1,63 @@
 // Command blocks for the commands that have a word of their own.
-ghost use Rattle.std.specs.Prelude.{◌≡◌, if◌then◌else◌};
+ghost use Rattle.std.specs.Prelude.{◌≡◌};
 ghost use Rattle.ar_scsi.specs.Block.{Says};
-ghost use Rattle.ar_scsi.specs.Field.{operation_code};
-ghost use Rattle.ar_orders.specs.Blocks.{inquiry_block, block_10, block_16};
+ghost use Rattle.ar_orders.specs.Blocks.{test_unit_ready_block, inquiry_block, read_capacity_block, block_10, block_16, flags_of};
+ghost use Rattle.ar_orders.specs.Blocks.{read_10_block, read_16_block, write_10_block, write_16_block};
 
 use ar_scsi::Command;
 
 /// TEST UNIT READY.
 pub fn test_unit_ready() -> [u8; 16]
-    ensures { Says result Command.TestReady }
+    ensures block { result ≡ test_unit_ready_block }
+    ensures says { Says result Command.TestReady }
 {
     [0; 16]
 }
 
 /// INQUIRY for so many bytes at most.
 pub fn inquiry(allocation_length: u16) -> [u8; 16]
-    ensures { Says result (Command.Inquiry allocation_length) }
+    ensures block { result ≡ inquiry_block allocation_length }
+    ensures says { Says result (Command.Inquiry allocation_length) }
 {
     inquiry_fields(allocation_length)
 }
 
 /// READ CAPACITY (10) of the whole unit.
 pub fn read_capacity() -> [u8; 16]
-    ensures { Says result Command.Capacity }
+    ensures block { result ≡ read_capacity_block }
+    ensures says { Says result Command.Capacity }
 {
     [0x25, 0, 0, 0, 0, 0, 0, 0, 0, 0, 0, 0, 0, 0, 0, 0]
 }
 
 /// READ (10) of so many sectors from `lba` on.
 pub fn read_10(lba: u32, count: u16) -> [u8; 16]
+    ensures block { result ≡ read_10_block lba count }
     ensures says { Says result (Command.Read lba count) }
-    ensures coded { operation_code result ≡ 0x28 }
 {
     transfer_10(0x28, 0, lba, count)
 }
 
 /// WRITE (10) of so many sectors from `lba` on, with FORCE UNIT ACCESS or without.
 pub fn write_10(lba: u32, count: u16, fua: bool) -> [u8; 16]
+    ensures block { result ≡ write_10_block lba count fua }
     ensures says { Says result (Command.Write lba count fua) }
-    ensures coded { operation_code result ≡ 0x2A }
 {
     transfer_10(0x2A, flags(fua), lba, count)
 }
 
 /// READ (16) of so many sectors from `lba` on.
 pub fn read_16(lba: u64, count: u16) -> [u8; 16]
+    ensures block { result ≡ read_16_block lba count }
     ensures says { Says result (Command.Read lba count) }
-    ensures coded { operation_code result ≡ 0x88 }
 {
     transfer_16(0x88, 0, lba, count)
 }
 
 /// WRITE (16) of so many sectors from `lba` on, with FORCE UNIT ACCESS or without.
 pub fn write_16(lba: u64, count: u16, fua: bool) -> [u8; 16]
+    ensures block { result ≡ write_16_block lba count fua }
     ensures says { Says result (Command.Write lba count fua) }
-    ensures coded { operation_code result ≡ 0x8A }
 {
     transfer_16(0x8A, flags(fua), lba, count)
 }
@@ -68,7 +71,7 @@ fn inquiry_fields(allocation_length: u16) -> [u8; 16]
 
 // Byte 1 of a WRITE.
 fn flags(fua: bool) -> u8
-    ensures { result ≡ (if fua then 8 else 0) }
+    ensures { result ≡ flags_of fua }
 {
     if fua { 0x08 } else { 0 }
 }

@@ -1,6 +1,7 @@
 // The words of a line, read as what they ask for.
 ghost use Rattle.std.specs.Prelude.{◌≡◌, ◌≢◌, ◌⊎◌, true, false, ℕ, ◌+◌, ◌-◌, ◌*◌, ◌<◌, codes, length, IfErr};
 ghost use Rattle.std.specs.Option.{SomeIff};
+ghost use Rattle.ar_orders.specs.Blocks.{read_10_block, read_16_block, write_10_block, write_16_block};
 ghost use Rattle.ar_orders.specs.Words.{IsNumber};
 ghost use Rattle.ar_orders.specs.Forms.{word, value, IsNumberOf, AreAddress, IsAddress, NamesUnit, HasUnit, HasUnitAndNumber, HasSectors, HasWritten, HasBlock, HasRow, HasDisk, Gives, Reads, ReadsCommand, ReadsArrayOrder, ReadsNamed, ReadsLine, nothing};
 ghost use Rattle.ar_orders.specs.Parts.{AreSpan, IsSpan, NamesSpan, SaysWritten, AreData, IsData, AreBlock, AsksBlockWith};
@@ -158,7 +159,7 @@ fn capacity(arguments: &[&str]) -> Option<Order>
 }
 
 fn read(arguments: &[&str]) -> Option<Order>
-    ensures { Gives (HasSectors (IsNumberOf 32) arguments.now) (AsksRead 0x28 arguments.now) result }
+    ensures { Gives (HasSectors (IsNumberOf 32) arguments.now) (AsksRead read_10_block arguments.now) result }
 {
     let span = sectors(arguments)?;
     let lba = u32::try_from(span.lba).ok()?;
@@ -167,7 +168,7 @@ fn read(arguments: &[&str]) -> Option<Order>
 }
 
 fn read_16(arguments: &[&str]) -> Option<Order>
-    ensures { Gives (HasSectors IsNumber arguments.now) (AsksRead 0x88 arguments.now) result }
+    ensures { Gives (HasSectors IsNumber arguments.now) (AsksRead read_16_block arguments.now) result }
 {
     let span = sectors(arguments)?;
     let cdb = blocks::read_16(span.lba, span.count);
@@ -175,7 +176,7 @@ fn read_16(arguments: &[&str]) -> Option<Order>
 }
 
 fn write(arguments: &[&str]) -> Option<Order>
-    ensures { Gives (HasWritten (IsNumberOf 32) arguments.now) (AsksWrite 0x2A arguments.now) result }
+    ensures { Gives (HasWritten (IsNumberOf 32) arguments.now) (AsksWrite write_10_block arguments.now) result }
 {
     let to = written_in(arguments)?;
     let lba = u32::try_from(to.span.lba).ok()?;
@@ -184,7 +185,7 @@ fn write(arguments: &[&str]) -> Option<Order>
 }
 
 fn write_16(arguments: &[&str]) -> Option<Order>
-    ensures { Gives (HasWritten IsNumber arguments.now) (AsksWrite 0x8A arguments.now) result }
+    ensures { Gives (HasWritten IsNumber arguments.now) (AsksWrite write_16_block arguments.now) result }
 {
     let to = written_in(arguments)?;
     let cdb = blocks::write_16(to.span.lba, to.span.count, to.fua);

@@ -1,4 +1,4 @@
-use Rattle.std.proofs.Common.{◌≡◌, take, sym, subst}
+use Rattle.std.proofs.Common.{take, sym, subst}
 use Rattle.ar_orders.specs.Lines.{IsPart}
 use Rattle.ar_orders.proofs.Parting.{parted}
 use Rattle.ar_orders.proofs.lines.part_of.Goals as goal

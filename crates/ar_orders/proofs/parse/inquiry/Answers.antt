@@ -2,4 +2,4 @@ use Rattle.std.proofs.Common.{rules}
 use Rattle.ar_orders.proofs.parse.inquiry.Goals as goal
 
 pub returns : goal.returns
-returns c = (search rules, (c.in_ok-addr.addr, c.inquiry.result, search rules, search rules, search rules))
+returns c = (search rules, (c.in_ok-addr.addr, search rules, search rules, search rules))

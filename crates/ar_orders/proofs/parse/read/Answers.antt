@@ -2,4 +2,4 @@ use Rattle.std.proofs.Common.{rules}
 use Rattle.ar_orders.proofs.parse.read.Goals as goal
 
 pub returns : goal.returns
-returns c = (search rules, (c.in_ok-span.span.addr, c.read_10-cdb.result, search rules, search rules, search rules, search rules))
+returns c = (search rules, (c.in_ok-span.span.addr, search rules, search rules, search rules))

@@ -7,6 +7,6 @@ returns c = (
   (
     c.in_ok-to.to.byte,
     search rules,
-    (c.in_ok-to.to.span.addr, c.write_10-cdb.result, search rules, search rules, search rules, search rules),
+    (c.in_ok-to.to.span.addr, search rules, search rules, search rules),
   ),
 )
