@@ -10,7 +10,7 @@ use Rattle.ar_index.specs.declared.choices.Change.{Change}
 use Rattle.ar_index.specs.declared.choices.Change.TheVariants.{Nothing, Oldest, Anything}
 use Rattle.ar_index.specs.declared.choices.Choices.{Choices}
 use Rattle.ar_index.specs.Choices.{nothing, join, HaveSameNumbers, IsChangedTo}
-use Rattle.ar_index.specs.Tree.{node_at, IsJoined, HasJoinedNumbers, AreJoinedBut, AreJoinedAfter, IsTree, above, HaveChanged}
+use Rattle.ar_index.specs.Tree.{node_at, IsJoined, HasJoinedNumbers, AreJoinedBut, AreJoinedAfter, IsTree, above, HaveChanged, HaveStayed}
 use Rattle.ar_index.proofs.Joins.{same_choices}
 use Rattle.ar_index.proofs.Leaves.{put_here}
 
@@ -251,3 +251,27 @@ module _ (size leaf steps : ℕ) (old new : List Choices) (c : Choices) (there :
   put_changed changed (suc h) from to = λ e.
       let le = above_low 1 (suc h) (size + leaf) (omega arith) in
       changed (suc h) (omega arith) to (e ∙ sym (get_or-set_other old (size + leaf) (above (suc h) (size + leaf)) c nothing (let ne : above (suc h) (size + leaf) ≢ size + leaf = omega arith in ne)))
+
+-- the higher above a node, the lower the number
+pub above_lower : (n h i : ℕ) → n < h → 0 < above n i → above h i < above n i
+above_lower n zero i less some = absurd (omega arith)
+above_lower n (suc k) i less some =
+    elim (cases_eq n k) [
+      | inl e ↦ (let same = ap (λ x. above x i) e in omega arith)
+      | inr other ↦ (let under = above_lower n k i (omega arith) some in omega arith)
+    ]
+
+-- no node above those that were counted has changed
+pub climb_stayed : (place : Addr → ℕ) (size : ℕ) (old nodes : List Choices) (first change : Change) (start node before steps : ℕ)
+    → IsClimbing place size old nodes first change start node before steps → HaveStayed old nodes start (steps - before)
+climb_stayed place size old nodes first change start node before steps climbing h less =
+    let here = climbing.here in
+    let low = climbing.low in
+    let under = above_lower (steps - before) h start less (omega arith) in
+    climbing.rest (above h start) (omega arith)
+
+-- nor where a leaf was put before
+pub put_stayed : (old new : List Choices) (n : ℕ) (c : Choices) (levels : ℕ) → 0 < n → HaveStayed (set old n c) new n levels → HaveStayed old new n levels
+put_stayed old new n c levels some stayed h less =
+    let under = above_lower 0 h n (omega arith) some in
+    stayed h less ∙ get_or-set_other old n (above h n) c nothing (omega arith)

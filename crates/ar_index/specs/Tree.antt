@@ -41,6 +41,10 @@ above (suc h) i = above h i / 2
 abbrev pub HaveChanged : List Choices → List Choices → ℕ → ℕ → ℕ → Type 0
 HaveChanged old new i from to = (h : ℕ) → from ≤ h → h < to → node_at new (above h i) ≢ node_at old (above h i)
 
+-- each node above this one is as it was, higher than so many levels
+abbrev pub HaveStayed : List Choices → List Choices → ℕ → ℕ → Type 0
+HaveStayed old new i levels = (h : ℕ) → levels < h → node_at new (above h i) ≡ node_at old (above h i)
+
 -- so many leaves stand behind as many inner nodes, each the join of its children
 pub record IsTree (place : Addr → ℕ) (size : ℕ) (nodes : List Choices) : Type 0 where
   pub twice : length nodes ≡ 2 * size

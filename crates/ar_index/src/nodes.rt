@@ -4,7 +4,7 @@ ghost use Rattle.std.specs.Prelude.{◌≡◌, ℕ, ◌+◌, ◌-◌, ◌*◌, �
 ghost use Rattle.ar_index.specs.Choices.{place_in, nothing, IsChangedTo};
 ghost use Rattle.ar_index.specs.Tree as spec;
 ghost use Rattle.ar_index.specs.declared.choices.Change.{Change};
-ghost use Rattle.ar_index.specs.Tree.{HasJoinedNumbers, IsJoinedAt, AreJoinedAfter, HaveChanged, IsTree, IsGrown, leaves_in};
+ghost use Rattle.ar_index.specs.Tree.{HasJoinedNumbers, IsJoinedAt, AreJoinedAfter, HaveChanged, HaveStayed, IsTree, IsGrown, leaves_in};
 
 use crate::choices::Change;
 use crate::{Age, Choices, Steps};
@@ -79,6 +79,7 @@ fn climb<V>(
     ensures leaves { drop size nodes.new.items ≡ drop size nodes.old.items }
     ensures still { change ≡ Change.Nothing → steps.new.count ≡ steps.old.count }
     ensures changed { HaveChanged nodes.old.items nodes.new.items (size + leaf) 1 (steps.new.count - steps.old.count) }
+    ensures counted { HaveStayed nodes.old.items nodes.new.items (size + leaf) (steps.new.count - steps.old.count) }
     ensures few { 2 ^ (steps.new.count - steps.old.count) ≤ size + leaf }
     ensures on { steps.old.count ≤ steps.new.count }
 {
@@ -106,6 +107,7 @@ pub(crate) fn put<V>(
     ensures leaves { drop size nodes.new.items ≡ slice_set (drop size nodes.old.items) leaf choices }
     ensures still { spec.node_at nodes.old.items (size + leaf) ≡ choices → steps.new.count ≡ steps.old.count }
     ensures changed { HaveChanged nodes.old.items nodes.new.items (size + leaf) 0 (steps.new.count - steps.old.count) }
+    ensures counted { HaveStayed nodes.old.items nodes.new.items (size + leaf) (steps.new.count - steps.old.count) }
     ensures few { 2 ^ (steps.new.count - steps.old.count) ≤ size + leaf }
     ensures on { steps.old.count ≤ steps.new.count }
 {

@@ -2,7 +2,7 @@
 ghost use Rattle.std.specs.Prelude.{◌≡◌, ℕ, ◌+◌, ◌-◌, ◌^◌, ◌<◌, ◌≤◌, true, cond, length, [], ◌∷◌, ◌++◌, slice_index_or, slice_set, OnOk, OnErr};
 ghost use Rattle.ar_disks.specs.declared.address.Addr.{Addr};
 ghost use Rattle.ar_index.specs.Choices.{place_in, nothing, is_nothing, search_all};
-ghost use Rattle.ar_index.specs.Tree.{leaves, free_in, HaveChanged, IsRight};
+ghost use Rattle.ar_index.specs.Tree.{leaves, free_in, HaveChanged, HaveStayed, IsRight};
 
 use crate::nodes::{make_room, node_at, put};
 use crate::{Age, Choices, Steps};
@@ -114,8 +114,8 @@ impl Tree {
         node_at(&self.nodes, 1)
     }
 
-    /// Changes the choices of one group. A step is a node that is joined: there is none above a node that stays as it was, and
-    /// there are at most 14 where there are at most 4,096 groups.
+    /// Changes the choices of one group. A step is a node that is joined: there is none above a node that stays as it was, each
+    /// is counted that changes a node, and there are at most 14 where there are at most 4,096 groups.
     pub fn set<V>(
         &mut self,
         leaf: usize,
@@ -129,6 +129,7 @@ impl Tree {
         ensures right { IsRight (place_in units.now.entries) self.new }
         ensures still { slice_index_or (leaves self.old) leaf nothing ≡ choices → steps.new.count ≡ steps.old.count }
         ensures changed { HaveChanged self.old.nodes self.new.nodes (self.old.size + leaf) 0 (steps.new.count - steps.old.count) }
+        ensures counted { HaveStayed self.old.nodes self.new.nodes (self.old.size + leaf) (steps.new.count - steps.old.count) }
         ensures few { length (leaves self.old) ≤ 4096 → steps.new.count ≤ steps.old.count + 14 }
         ensures on { steps.old.count ≤ steps.new.count }
     {

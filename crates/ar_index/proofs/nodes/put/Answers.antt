@@ -2,7 +2,7 @@ use Rattle.std.proofs.Common.{◌+◌, ◌∙◌, sym, arith}
 use Rattle.std.proofs.lemmas.List.{drop-set-add}
 use Rattle.ar_index.specs.Choices.{place_in}
 use Rattle.ar_index.specs.Tree.{node_at}
-use Rattle.ar_index.proofs.Climb.{put_joined, none_told, put_changed}
+use Rattle.ar_index.proofs.Climb.{put_joined, none_told, put_changed, put_stayed}
 use Rattle.ar_index.proofs.nodes.put.Goals as goal
 
 pub climb-requires-clause-joined : goal.climb-requires-clause-joined
@@ -21,3 +21,7 @@ pub returns-clause-changed : goal.returns-clause-changed
 returns-clause-changed g c =
     put_changed c.args.size c.args.leaf _ c.args.nodes.now.items c.climb.new.nodes.items c.args.choices c.requires.there c.requires.tree.twice (returns-clause-leaves g c)
     (λ same. let none = returns-clause-still g c same in omega arith) c.climb.ensures.changed
+
+pub returns-clause-counted : goal.returns-clause-counted
+returns-clause-counted g c =
+    put_stayed c.args.nodes.now.items c.climb.new.nodes.items (c.args.size + c.args.leaf) c.args.choices _ (omega arith) c.climb.ensures.counted

@@ -2,7 +2,7 @@ use Rattle.std.proofs.Common.{◌+◌, ◌-◌, get_or, ◌≡◌, ◌∙◌, �
 use Rattle.std.specs.Prelude.{slice_set}
 use Rattle.ar_index.proofs.Leaves.{one_if_free, seen_inside, leaf_at, set_kept, put_leaves, few_steps, leaves_count}
 use Rattle.ar_index.specs.Choices.{place_in, nothing}
-use Rattle.ar_index.specs.Tree.{TreeState, node_at, leaves, HaveChanged, IsRight}
+use Rattle.ar_index.specs.Tree.{TreeState, node_at, leaves, HaveChanged, HaveStayed, IsRight}
 use Rattle.ar_index.specs.contracts.tree.Tree.{the_view}
 use Rattle.ar_index.proofs.tree.Tree.set.Goals as goal
 
@@ -42,3 +42,7 @@ returns-clause-still g c = λ same.
 pub returns-clause-changed : goal.returns-clause-changed
 returns-clause-changed g c =
     subst (λ (t : TreeState). HaveChanged t.nodes c.put.new.nodes.items (t.size + c.args.leaf) 0 (c.put.new.steps.count - c.args.steps.now.count)) c.self.view_is c.put.ensures.changed
+
+pub returns-clause-counted : goal.returns-clause-counted
+returns-clause-counted g c =
+    subst (λ (t : TreeState). HaveStayed t.nodes c.put.new.nodes.items (t.size + c.args.leaf) (c.put.new.steps.count - c.args.steps.now.count)) c.self.view_is c.put.ensures.counted
