@@ -142,3 +142,165 @@ fn a_stream_that_is_full_is_told(rt: HostRuntime) {
         assert!(rt; written == wanted, "{left} bytes: {written:?}");
     }
 }
+
+// The SVG of a plan without any block.
+fn svg_of_plan(alloc: Global, plan: Plan<'_>) -> io::Result<Vec<u8>> {
+    let picture = picture_of(alloc, plan, &[])?;
+    let mut out = Vec::new(alloc);
+    write_svg(&mut out, &picture)?;
+    Ok(out)
+}
+
+// Asserts how often texts stand in the SVG of an array.
+fn drawn<R: Abort + AllocGlobal>(rt: &R, plan: Plan<'_>, parts: &[(&str, usize)]) {
+    let out = svg_of_plan(rt.alloc(), plan).expect(rt, "a picture");
+    let text = str::from_utf8(&out).expect(rt, "text");
+    for (part, wanted) in parts {
+        stands(rt, text, part, *wanted);
+    }
+}
+
+// An array of so many disks and extents.
+fn bare(disks: u8, extents: u16, health: Health) -> Plan<'static> {
+    Plan {
+        disks,
+        extents,
+        health,
+        groups: &[],
+        units: &[],
+    }
+}
+
+#[test]
+fn an_svg_tells_the_health_of_disks(rt: HostRuntime) {
+    drawn(
+        &rt,
+        bare(4, 4, Health::Whole),
+        &[(">All disks are sound.</text>", 1), ("class='down'", 0)],
+    );
+    drawn(
+        &rt,
+        bare(4, 4, Health::Rebuilding(2, 3)),
+        &[
+            (">Disk 2 is new: 3 of its 4 extents are rebuilt.</text>", 1),
+            ("class='down'", 1),
+            (">3 rebuilt</text>", 1),
+        ],
+    );
+    drawn(
+        &rt,
+        bare(4, 4, Health::Broken),
+        &[
+            (
+                ">Two disks were lost at one moment, and the data with them.</text>",
+                1,
+            ),
+            ("class='down'", 0),
+        ],
+    );
+}
+
+#[test]
+fn an_svg_of_many_extents(rt: HostRuntime) {
+    let groups = [mirrored(across(0), 3)];
+    let plan = Plan {
+        disks: 4,
+        extents: 20,
+        health: Health::Whole,
+        groups: &groups,
+        units: &[],
+    };
+    // Every eighth has its number, none has words, and each stands below the one before.
+    drawn(
+        &rt,
+        plan,
+        &[
+            ("<text class='number' ", 3),
+            (">0</text>", 1),
+            (">8</text>", 1),
+            (">16</text>", 1),
+            (">0: 3 of 4</text>", 0),
+            ("y='124' width='80' height='12'", 4),
+            ("y='138' width='80' height='12'", 4),
+            ("y='390' width='80' height='12'", 4),
+        ],
+    );
+    // It is as tall as its last extent asks: 124 + 3 * 1,024 and an edge of 24.
+    drawn(
+        &rt,
+        bare(12, 1_024, Health::Whole),
+        &[
+            (" height='3220' viewBox='0 0 1452 3220'>", 1),
+            ("<text class='number' ", 8),
+        ],
+    );
+}
+
+#[test]
+fn each_unit_has_a_line_and_a_colour(rt: HostRuntime) {
+    let mut units = [UNITS[0]; 32];
+    for place in 0..32u8 {
+        units[place as usize] = Unit {
+            host: place / 8,
+            lun: place % 8,
+            blocks: 1,
+            placed: 0,
+        };
+    }
+    let plan = Plan {
+        units: &units,
+        ..bare(4, 4, Health::Whole)
+    };
+    let out = svg_of_plan(rt.alloc(), plan).expect(&rt, "a picture");
+    let text = str::from_utf8(&out).expect(&rt, "text");
+    stands(&rt, text, ">unit ", 32);
+    let mut lines = text.split(" height='15' fill='").skip(1);
+    for _ in 0..32 {
+        let line = lines.next().expect(&rt, "a line");
+        let colour = line.get(0..7).expect(&rt, "a colour");
+        stands(&rt, text, colour, 1);
+    }
+}
+
+// How long the SVG of the array is, and its map.
+fn lengths(alloc: Global) -> io::Result<(usize, usize)> {
+    let picture = picture(alloc, &[])?;
+    let folds = picture.folds(alloc)?;
+    let mut svg = Vec::new(alloc);
+    write_svg(&mut svg, &picture)?;
+    let mut map = Vec::new(alloc);
+    write_map(&mut map, &picture, &folds)?;
+    Ok((svg.len(), map.len()))
+}
+
+#[test]
+fn each_byte_that_is_not_taken_is_told(rt: HostRuntime) {
+    let (svg, map) = lengths(rt.alloc()).expect(&rt, "a picture");
+    for (left, wanted) in [
+        (svg.saturating_sub(1), (false, true)),
+        (svg, (true, true)),
+        (map.saturating_sub(1), (false, false)),
+        (map, (false, true)),
+    ] {
+        let written = are_written(rt.alloc(), left).expect(&rt, "a picture");
+        assert!(rt; written == wanted, "{left} bytes: {written:?}");
+    }
+}
+
+#[test]
+fn a_unit_is_listed_in_the_colour_of_its_blocks(rt: HostRuntime) {
+    let out = svg_of(rt.alloc(), &[held(1, 2)]).expect(&rt, "a picture");
+    let text = str::from_utf8(&out).expect(&rt, "text");
+    stands(
+        &rt,
+        text,
+        "<rect x='1' width='2' height='1' fill='#99D8C7'/></svg>",
+        4,
+    );
+    stands(
+        &rt,
+        text,
+        " fill='#99D8C7'/>\n<text x='580' y='306'>unit 2 1: 2 of 2</text>",
+        1,
+    );
+}
