@@ -23,6 +23,10 @@ lines_left {reads = reads} lines =
 abbrev pub lines_begun : {R : Type 0} {reads : Ghosts R} → Lines R reads → ℕ
 lines_begun lines = lines.given + (if lines.is_begun then 1 else 0)
 
+-- a line is begun only where something of it was read
+pub record IsBegunByByte {R : Type 0} {reads : Ghosts R} (lines : Lines R reads) : Type 0 where
+  pub some : lines.is_begun ≡ true → bytes_read lines ≢ []
+
 -- no line was read or asked for
 pub record IsFresh {R : Type 0} {reads : Ghosts R} (lines : Lines R reads) : Type 0 where
   pub none : lines.given ≡ 0

@@ -3,7 +3,7 @@ use Rattle.std.proofs.Common.{◌≡◌, ◌≤◌, [], length}
 use Rattle.std.specs.Io.Buffered.{writer_contents}
 use Rattle.std.specs.Io.KnownBytes.{Keeps}
 use Rattle.ar_orders.specs.Lines.{Took, front_of}
-use Rattle.ar_orders.specs.Left.{lines_left, IsAwaited}
+use Rattle.ar_orders.specs.Left.{lines_left, IsAwaited, IsBegunByByte}
 use Rattle.ar_orders.proofs.next.await_line.Given as goal
 
 abbrev pub invariant-loop : goal.invariant-loop
@@ -12,6 +12,7 @@ invariant-loop g l =
       awaited : IsAwaited l.lines;
       answers : Keeps (writer_contents g.W.Write.contents l.initial.out) (writer_contents g.W.Write.contents l.out);
       kept : Took (lines_left l.initial.lines) (lines_left l.lines) [];
+      begun : IsBegunByByte l.initial.lines → IsBegunByByte l.lines;
       count : l.lines.given ≡ l.initial.lines.given;
       grown : l.counter ≤ length (front_of l.lines.is_begun l.lines.line.items);
     }

@@ -30,3 +30,8 @@ pub returns-clause-buffered : goal.returns-clause-buffered
 returns-clause-buffered g c =
     let old = c.args.lines.now in
     λ some. absurd (no_end_there (front_of old.is_begun old.line.items) (reader_buffer old.source) (search rules) some)
+
+pub returns-clause-untouched : goal.returns-clause-untouched
+returns-clause-untouched g c =
+    let old = c.args.lines.now in
+    λ some. absurd (no_end_there (front_of old.is_begun old.line.items) (reader_buffer old.source) (search rules) some)
