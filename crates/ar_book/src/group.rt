@@ -129,6 +129,7 @@ impl Group {
         ensures found { IfSome result (λ i. (i < end) × (slice_index_or self.now.slots i None ≡ None)) }
         ensures least { IfSome result (λ i. (j : ℕ) → j < i → IsSome (slice_index_or self.now.slots j None)) }
         ensures none { IfNone result ((j : ℕ) → j < end → IsSome (slice_index_or self.now.slots j None)) }
+        ensures counted { IfSome result (λ i. steps.new.count ≡ steps.old.count + i + 1) }
         ensures few { steps.new.count ≤ steps.old.count + end }
         ensures on { steps.old.count ≤ steps.new.count }
     {

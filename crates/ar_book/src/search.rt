@@ -67,6 +67,7 @@ impl Book {
         ensures found { IfSome result (IsHoleOf self.now group) }
         ensures least { IfSome result (λ slot. (i : ℕ) → IsHoleOf self.now group i → slot ≤ i) }
         ensures none { IfNone result ((i : ℕ) → IsHoleOf self.now group i → ⊥) }
+        ensures counted { IfSome result (λ slot. steps.new.count ≡ steps.old.count + slot + 1) }
         ensures few { steps.new.count ≤ steps.old.count + 3 * rows_of self.now.geometry }
         ensures on { steps.old.count ≤ steps.new.count }
     {
@@ -74,11 +75,14 @@ impl Book {
         group.lowest_hole(slots_of(self.geometry, group.class()), steps)
     }
 
-    /// The lowest hole of a class: in the lowest group of the class that has one, its lowest. A step is a slot of that group.
+    /// The lowest hole of a class: in the lowest group of the class that has one, its lowest. A step is a slot of that group, from
+    /// the first to the hole.
     pub fn hole(&self, class: Class, steps: &mut Steps) -> Option<Slot>
         ensures found { IfSome result (IsHole self.now class) }
         ensures least { IfSome result (λ slot. (other : Slot) → IsHole self.now class other → IsUpTo slot other) }
         ensures none { IfNone result ((other : Slot) → IsHole self.now class other → ⊥) }
+        ensures counted { IfSome result (λ slot. steps.new.count ≡ steps.old.count + slot.slot + 1) }
+        ensures still { IfNone result (steps.new.count ≡ steps.old.count) }
         ensures few { steps.new.count ≤ steps.old.count + 3 * rows_of self.now.geometry }
         ensures on { steps.old.count ≤ steps.new.count }
     {
