@@ -1,5 +1,5 @@
 // How READ and WRITE move sectors, block by block.
-ghost use Rattle.std.specs.Prelude.{◌≡◌, ◌≢◌, ◌⊎◌, ◌+◌, ◌*◌, ◌-◌, ◌/◌, ◌%◌, ◌<◌, ◌≤◌, ◌==◌, ◌++◌, ℕ, false, IsTrue, length, vec_len, vec_capacity};
+ghost use Rattle.std.specs.Prelude.{◌≡◌, ◌≢◌, ◌⊎◌, ◌+◌, ◌*◌, ◌-◌, ◌/◌, ◌%◌, ◌<◌, ◌≤◌, ◌==◌, ◌++◌, ℕ, false, IsTrue, List, length, vec_len, vec_capacity};
 ghost use Rattle.std.specs.List.{concat};
 ghost use Rattle.ar_disks.specs.declared.address.Key.{Key};
 ghost use Rattle.ar_disks.specs.Geometry.{sectors_of, block_len_of};
@@ -35,6 +35,7 @@ fn read_part<B: Backing>(
     ensures done { result ≡ Transfer.Done → out.new.items ≡ out.old.items ++ sectors_at (B.block_at blocks.old key) first count }
     ensures many { result ≡ Transfer.Done → length out.new.items ≡ length out.old.items + 512 * count }
     ensures broken { result ≡ Transfer.Broken → IsTrue (B.is_broken blocks.new) }
+    ensures failed { result ≢ Transfer.Done → out.new.items ≡ out.old.items }
 
     ensures sound { result ≢ Transfer.Broken → B.is_broken blocks.new ≡ false }
     ensures blocks { result ≢ Transfer.Broken → SameBlocks (B.block_at blocks.old) (B.block_at blocks.new) }
@@ -55,7 +56,8 @@ fn read_part<B: Backing>(
 }
 
 /// Appends `count` sectors of a unit from number `lba` on to `out`. Their blocks are read once each, in ascending order, until
-/// one can't be. NoMemory says that `out` had no room for them all, and got none.
+/// one can't be. NoMemory says that `out` had no room for them all, and got none. What stood in `out` before stays, whatever is
+/// answered.
 pub fn read_sectors<B: Backing>(
     blocks: &mut B,
     geometry: Geometry,
@@ -75,6 +77,7 @@ pub fn read_sectors<B: Backing>(
         ++ concat (sectors_in geometry (unit_block (B.block_at blocks.old) addr) lba count) }
     ensures many { result ≡ Transfer.Done → length out.new.items ≡ length out.old.items + 512 * count }
     ensures broken { result ≡ Transfer.Broken → IsTrue (B.is_broken blocks.new) }
+    ensures front { (more : List ℕ) × (out.new.items ≡ out.old.items ++ more) }
 
     ensures sound { result ≢ Transfer.Broken → B.is_broken blocks.new ≡ false }
     ensures blocks { result ≢ Transfer.Broken → SameBlocks (B.block_at blocks.old) (B.block_at blocks.new) }
