@@ -1,37 +1,36 @@
-// Streams of std: interruptions, and a write that takes no byte.
+// Streams of std: interruptions, other errors, and a write that takes no byte.
 use crate::fakes::Fake;
 use ar_frames::{Linked, Sink, Source, Why, serve};
 use std::alloc::Global;
 use std::io::{self, ErrorKind, Read, Write};
 use std::process::Abort;
 
-// Is interrupted so many times before each read and write, and then gives one byte or takes as many as it may.
+// Has an error of this kind so many times before each read and write, and then gives or takes as many bytes as it may.
 #[derive(Drop)]
 struct Noisy<'a> {
     bytes: &'a [u8],
     most: usize,
-    interruptions: u32,
+    kind: ErrorKind,
+    errors: u32,
     left: u32,
 }
 
 impl Noisy<'_> {
-    // Whether this call is interrupted.
-    fn is_interrupted(&mut self) -> bool {
+    // The error of this call, if it has one.
+    fn error(&mut self) -> io::Result<()> {
         if self.left == 0 {
-            self.left = self.interruptions;
-            false
+            self.left = self.errors;
+            Ok(())
         } else {
             self.left -= 1;
-            true
+            Err(io::Error::from(self.kind))
         }
     }
 }
 
 impl Read for Noisy<'_> {
     fn read(&mut self, into: &mut [u8]) -> io::Result<usize> {
-        if self.is_interrupted() {
-            return Err(io::Error::from(ErrorKind::Interrupted));
-        }
+        self.error()?;
         let few = self.bytes.len().min(self.most);
         let mut first = &self.bytes[..few];
         let count = first.read(into)?;
@@ -42,9 +41,7 @@ impl Read for Noisy<'_> {
 
 impl Write for Noisy<'_> {
     fn write(&mut self, from: &[u8]) -> io::Result<usize> {
-        if self.is_interrupted() {
-            return Err(io::Error::from(ErrorKind::Interrupted));
-        }
+        self.error()?;
         Ok(from.len().min(self.most))
     }
 
@@ -54,11 +51,16 @@ impl Write for Noisy<'_> {
 }
 
 fn make_noisy(bytes: &[u8], interruptions: u32, most: usize) -> Linked<Noisy<'_>> {
+    make_failing(bytes, ErrorKind::Interrupted, interruptions, most)
+}
+
+fn make_failing(bytes: &[u8], kind: ErrorKind, errors: u32, most: usize) -> Linked<Noisy<'_>> {
     Linked::new(Noisy {
         bytes,
         most,
-        interruptions,
-        left: interruptions,
+        kind,
+        errors,
+        left: errors,
     })
 }
 
@@ -112,5 +114,41 @@ fn moves(rt: &impl Abort, interruptions: u32, most: usize) {
     assert!(rt;
         (given, taken) == (wanted, wanted),
         "{given:?} and {taken:?} of {most}"
+    );
+}
+
+// An error other than an interruption is a fault at once, though the next call would do.
+#[test]
+fn other_errors(rt: HostRuntime) {
+    for kind in [
+        ErrorKind::WouldBlock,
+        ErrorKind::TimedOut,
+        ErrorKind::ConnectionReset,
+        ErrorKind::Other,
+    ] {
+        fails(&rt, kind);
+    }
+}
+
+fn fails(rt: &impl Abort, kind: ErrorKind) {
+    let piece = [b'x'; 10];
+    let mut into = [0; 10];
+    let mut reader = make_failing(&piece, kind, 1, 10);
+    let mut writer = make_failing(b"", kind, 1, 10);
+    let given = reader.read(&mut into);
+    let taken = writer.write(&piece);
+    assert!(rt;
+        (given, taken) == (None, None),
+        "{given:?} and {taken:?} after {kind:?}"
+    );
+    assert!(rt;
+        (Source::faults(&reader), Sink::faults(&writer)) == (1, 1),
+        "{kind:?}"
+    );
+    let given = reader.read(&mut into);
+    let taken = writer.write(&piece);
+    assert!(rt;
+        (given, taken) == (Some(10), Some(10)),
+        "{given:?} and {taken:?} behind {kind:?}"
     );
 }

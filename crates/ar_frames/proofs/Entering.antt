@@ -14,7 +14,7 @@ use Rattle.ar_frames.specs.Stream.{SourceState, SinkState, Reading}
 use Rattle.ar_frames.specs.Talk.{Commands, Conversation}
 use Rattle.ar_frames.specs.Port.{Logins}
 use Rattle.ar_frames.specs.Session.{silent, refused, in_use, admitted, Opening, cut, bad_host, host_in_use, taken, login_name, login_bytes, IsUnsent, Session}
-use Rattle.ar_frames.specs.Entry.{Tells, Enters, stage_of, greeting_of}
+use Rattle.ar_frames.specs.Entry.{Names, Tells, Enters, stage_of, greeting_of}
 use Rattle.ar_frames.proofs.Streams.{Reading-same, Writing-none}
 
 -- a login of the right name is that of the host in its last byte
@@ -84,16 +84,18 @@ unsent_stage HostInUse = refl
 -- a whole login was answered, or its answer couldn't be written
 pub told : {P : Type 0} (logins : Logins P) (commands : Commands P) (source source' : SourceState) (sink sink' : SinkState) (port port' : P)
     (login : List ℕ) (admission : Admission) (entry : Entry) → Reading source source' login false
-    → Opening logins port login (greeting_of admission ∷ []) (stage_of admission) port' → Tells sink sink' admission entry
+    → Opening logins port login (greeting_of admission ∷ []) (stage_of admission) port'
+    → ((host : Host) → admission ≡ Admitted host → Names host login) → Tells sink sink' admission entry
     → Enters logins commands source source' sink sink' port port' entry
 unfolding no_frames
-told logins commands source source' sink sink' port port' login admission (EntryAdmitted host) read opening tells = record {
+told logins commands source source' sink sink' port port' login admission (EntryAdmitted host) read opening named tells = record {
   login = login;
+  names = named host tells.0;
   opening = subst (λ (a : Admission). Opening logins port login (greeting_of a ∷ []) (stage_of a) port') tells.0 opening;
   read = read;
   written = tells.1;
 }
-told logins commands source source' sink sink' port port' login admission (EntryEnded why.BadLogin) read opening tells = record {
+told logins commands source source' sink sink' port port' login admission (EntryEnded why.BadLogin) read opening named tells = record {
   stage = refused;
   login = login;
   greeting = 0x01 ∷ [];
@@ -108,7 +110,7 @@ told logins commands source source' sink sink' port port' login admission (Entry
   ended = tt;
   written = tells.1;
 }
-told logins commands source source' sink sink' port port' login admission (EntryEnded why.HostInUse) read opening tells = record {
+told logins commands source source' sink sink' port port' login admission (EntryEnded why.HostInUse) read opening named tells = record {
   stage = in_use;
   login = login;
   greeting = 0x01 ∷ [];
@@ -123,7 +125,7 @@ told logins commands source source' sink sink' port port' login admission (Entry
   ended = tt;
   written = tells.1;
 }
-told logins commands source source' sink sink' port port' login admission (EntryEnded why.Write) read opening tells = record {
+told logins commands source source' sink sink' port port' login admission (EntryEnded why.Write) read opening named tells = record {
   stage = stage_of admission;
   login = login;
   greeting = greeting_of admission ∷ [];
@@ -141,12 +143,12 @@ told logins commands source source' sink sink' port port' login admission (Entry
       let whole : length (greeting ++ []) ≤ 0 + length greeting = omega (arith, ap length (append-nil greeting)) in
       record { part = record { n = 0; proper = omega arith; written = tells }; whole = whole };
 }
-told logins commands source source' sink sink' port port' login admission (EntryEnded why.End) read opening tells = absurd tells
-told logins commands source source' sink sink' port port' login admission (EntryEnded (why.TooShort n)) read opening tells = absurd tells
-told logins commands source source' sink sink' port port' login admission (EntryEnded (why.TooLong n)) read opening tells = absurd tells
-told logins commands source source' sink sink' port port' login admission (EntryEnded why.Cut) read opening tells = absurd tells
-told logins commands source source' sink sink' port port' login admission (EntryEnded why.Read) read opening tells = absurd tells
-told logins commands source source' sink sink' port port' login admission (EntryEnded why.Bound) read opening tells = absurd tells
+told logins commands source source' sink sink' port port' login admission (EntryEnded why.End) read opening named tells = absurd tells
+told logins commands source source' sink sink' port port' login admission (EntryEnded (why.TooShort n)) read opening named tells = absurd tells
+told logins commands source source' sink sink' port port' login admission (EntryEnded (why.TooLong n)) read opening named tells = absurd tells
+told logins commands source source' sink sink' port port' login admission (EntryEnded why.Cut) read opening named tells = absurd tells
+told logins commands source source' sink sink' port port' login admission (EntryEnded why.Read) read opening named tells = absurd tells
+told logins commands source source' sink sink' port port' login admission (EntryEnded why.Bound) read opening named tells = absurd tells
 
 -- what the port said of a login of the right name
 pub opens_bad_host : {P : Type 0} (logins : Logins P) (port port' : P) (login : List ℕ) → length login ≡ 9 → take 8 login ≡ login_name

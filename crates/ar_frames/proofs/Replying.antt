@@ -1,5 +1,5 @@
 -- How the parts of a reply that were read one after the other join.
-use Rattle.std.proofs.Common.{◌≡◌, ℕ, ◌+◌, ◌<◌, ◌≤◌, Bool, true, false, List, ◌++◌, sym, ap, subst, ◌∙◌, append_assoc, length, length-append, arith, inr}
+use Rattle.std.proofs.Common.{◌≡◌, ℕ, ◌+◌, ◌<◌, ◌≤◌, Bool, true, false, List, ◌++◌, sym, ap, subst, ◌∙◌, append_assoc, length, length-append, arith, ◌⊎◌, inl, inr}
 use Rattle.std.specs.Prelude.{Result, Ok, Err}
 use Rattle.byteorder.specs.Endian.{big_number}
 use Rattle.byteorder.specs.Numbers.{big_from-append}
@@ -57,10 +57,10 @@ judged a b tag count head body (Err fault.BadFrame) count_len head_len count_is 
     record { bytes = body; are = inr (record { low = omega (arith, n); high = omega (arith, n, fits); whole = all ∙ ap (λ (k : ℕ). 4 + k) (sym n); none = judges }); read = read }
 judged a b tag count head body (Err fault.NoMemory) count_len head_len count_is fits judges read = absurd judges
 
--- no memory, and no more than the frame was read
+-- no memory, and N and ten bytes were read or the whole frame was
 pub held_up : (count head body : List ℕ) (len : ℕ) → length count ≡ 4 → length head ≡ 10 → big_number 4 count ≡ 10 + len → len ≤ 33553920
-    → 0 < len → length body ≤ len → IsHeldUp ((count ++ head) ++ body)
-held_up count head body len count_len head_len count_is fits some within =
+    → 0 < len → (length body ≡ 0) ⊎ (length body ≡ len) → IsHeldUp ((count ++ head) ++ body)
+held_up count head body len count_len head_len count_is fits some parts =
     let n = number_front count head body count_len ∙ count_is in
     let all : length ((count ++ head) ++ body) ≡ 4 + (10 + length body) =
     length-append (count ++ head) body ∙ omega (arith, length-append count head, count_len, head_len) in
@@ -68,7 +68,7 @@ held_up count head body len count_len head_len count_is fits some within =
       counted = omega (arith, all);
       low = omega (arith, n, some);
       high = omega (arith, n, fits);
-      within = omega (arith, n, all, within);
+      at = elim parts [ inl none ↦ inl (omega (arith, all, none)) | inr whole ↦ inr (omega (arith, n, all, whole)) ];
     }
 
 -- a cut frame of which N came and less than what follows

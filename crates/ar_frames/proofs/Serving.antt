@@ -12,6 +12,7 @@ use Rattle.ar_frames.specs.Talk.{Commands, Answers, Talk, AreFrames, AreReplyFra
 use Rattle.ar_frames.specs.Port.{Logins}
 use Rattle.ar_frames.specs.Session.{admitted, most_frames, is_read, WritesAnswers, WritesPart, WritesAllButLast, Session}
 use Rattle.ar_frames.specs.Turn.{ServesFrame, EndsTurn, Served, ServesAll}
+use Rattle.ar_disks.specs.declared.address.Host.{Host}
 use Rattle.ar_frames.specs.Entry.{IsAdmitted}
 use Rattle.ar_frames.proofs.Streams.{Reading-trans, Reading-same, Reading-none, Writing-trans, Writing-same, Writing-none, take-append_more}
 use Rattle.ar_frames.proofs.Entering.{no_frames}
@@ -201,9 +202,9 @@ serves_bound commands s0 s1 w0 w1 p0 p1 count served all = record {
 }
 
 -- a login, and then frames
-pub session_of : {P : Type 0} (logins : Logins P) (commands : Commands P) (s0 s1 s2 : SourceState) (w0 w1 w2 : SinkState) (p0 p1 p2 : P) (end : SessionEnd)
-    → IsAdmitted logins s0 s1 w0 w1 p0 p1 → ServesAll commands s1 s2 w1 w2 p1 p2 end → Session logins commands s0 s2 w0 w2 p0 p2 end
-session_of logins commands s0 s1 s2 w0 w1 w2 p0 p1 p2 end entry all = record {
+pub session_of : {P : Type 0} (logins : Logins P) (commands : Commands P) (s0 s1 s2 : SourceState) (w0 w1 w2 : SinkState) (p0 p1 p2 : P) (end : SessionEnd) (host : Host)
+    → IsAdmitted host logins s0 s1 w0 w1 p0 p1 → ServesAll commands s1 s2 w1 w2 p1 p2 end → Session logins commands s0 s2 w0 w2 p0 p2 end
+session_of logins commands s0 s1 s2 w0 w1 w2 p0 p1 p2 end host entry all = record {
   stage = admitted;
   login = entry.login;
   greeting = 0x00 ∷ [];

@@ -58,12 +58,12 @@ abbrev pub IsBadReply : List ℕ → Type 0
 IsBadReply bytes =
     ((length bytes ≡ 4) × ((big_number 4 bytes < 10) ⊎ (10 + most_data < big_number 4 bytes))) ⊎ IsNoReply bytes
 
--- N came, that of a reply with sense data or payload, for which alone memory is asked, and no more than the bytes that it counts
+-- memory is asked for sense data and payload alone: of a reply that has some the head was read, or the whole frame
 pub record IsHeldUp (bytes : List ℕ) : Type 0 where
   pub counted : 4 ≤ length bytes
   pub low : 10 < big_number 4 bytes
   pub high : big_number 4 bytes ≤ 10 + most_data
-  pub within : length bytes ≤ 4 + big_number 4 bytes
+  pub at : (length bytes ≡ 14) ⊎ (length bytes ≡ 4 + big_number 4 bytes)
 
 -- what is read where no reply is given: these bytes
 pub record ReadsOf (old new : SourceState) (Is : List ℕ → Type 0) (faulted : Bool) : Type 0 where

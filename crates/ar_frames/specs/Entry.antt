@@ -1,5 +1,6 @@
 -- How a login is answered.
 use Rattle.std.specs.Prelude.{◌≡◌, ℕ, true, false, List, [], ◌∷◌}
+use Rattle.ar_disks.specs.declared.address.Host.{Host}
 use Rattle.ar_frames.specs.declared.login.Admission.{Admission}
 use Rattle.ar_frames.specs.declared.login.Admission.TheVariants.{Admitted, BadLogin, HostInUse}
 use Rattle.ar_frames.specs.declared.login.Entry.{Entry}
@@ -8,7 +9,7 @@ use Rattle.ar_frames.specs.declared.end.Why.TheVariants as why
 use Rattle.ar_frames.specs.Stream.{SourceState, SinkState, Reading, Writing}
 use Rattle.ar_frames.specs.Talk.{Commands}
 use Rattle.ar_frames.specs.Port.{Logins}
-use Rattle.ar_frames.specs.Session.{Stage, refused, in_use, admitted, Opening, Session}
+use Rattle.ar_frames.specs.Session.{Stage, refused, in_use, admitted, login_bytes, Opening, Session}
 
 -- the stage that an admission leads to
 abbrev pub stage_of : Admission → Stage
@@ -28,6 +29,10 @@ entry_after (Admitted host) = EntryAdmitted host
 entry_after BadLogin = EntryEnded why.BadLogin
 entry_after HostInUse = EntryEnded why.HostInUse
 
+-- a login is that of this host: its last byte is the host's number
+abbrev pub Names : Host → List ℕ → Type 0
+Names host login = login ≡ login_bytes host.number
+
 -- an admission was told, or wasn't: one byte
 abbrev pub Tells : SinkState → SinkState → Admission → Entry → Type 0
 Tells old new admission (EntryAdmitted host) = (admission ≡ Admitted host) × Writing old new (0x00 ∷ []) false
@@ -41,15 +46,17 @@ Tells old new admission (EntryEnded why.Cut) = ⊥
 Tells old new admission (EntryEnded why.Read) = ⊥
 Tells old new admission (EntryEnded why.Bound) = ⊥
 
--- a login was taken, and that was told
-pub record IsAdmitted {P : Type 0} (logins : Logins P) (source source' : SourceState) (sink sink' : SinkState) (port port' : P) : Type 0 where
+-- the login of this host was taken, and that was told
+pub record IsAdmitted {P : Type 0} (host : Host) (logins : Logins P) (source source' : SourceState) (sink sink' : SinkState)
+    (port port' : P) : Type 0 where
   pub login : List ℕ
+  pub names : Names host login
   pub opening : Opening logins port login (0x00 ∷ []) admitted port'
   pub read : Reading source source' login false
   pub written : Writing sink sink' (0x00 ∷ []) false
 
 -- a login was taken, or the session is over
 abbrev pub Enters : {P : Type 0} → Logins P → Commands P → SourceState → SourceState → SinkState → SinkState → P → P → Entry → Type 0
-Enters logins commands source source' sink sink' port port' (EntryAdmitted host) = IsAdmitted logins source source' sink sink' port port'
+Enters logins commands source source' sink sink' port port' (EntryAdmitted host) = IsAdmitted host logins source source' sink sink' port port'
 Enters logins commands source source' sink sink' port port' (EntryEnded end) =
     Session logins commands source source' sink sink' port port' (record { frames = 0; why = end })

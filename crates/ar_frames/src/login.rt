@@ -1,7 +1,7 @@
 // The login of a session.
 ghost use Rattle.std.specs.Prelude.{◌≡◌, ◌↔◌, ◌<◌, IsTrue, take, ◌∷◌, [], false, true};
 ghost use Rattle.ar_frames.specs.Session.{Opening, login_name};
-ghost use Rattle.ar_frames.specs.Entry.{Enters, Tells, stage_of, greeting_of, entry_after};
+ghost use Rattle.ar_frames.specs.Entry.{Enters, Names, Tells, stage_of, greeting_of, entry_after};
 ghost use Rattle.ar_disks.specs.declared.address.Host.{Host};
 
 use crate::end::Why;
@@ -47,6 +47,7 @@ pub fn enter<R: Source, W: Sink, P: Port>(reader: &mut R, writer: &mut W, port: 
 fn admit<P: Port>(port: &mut P, login: &[u8; 9]) -> Admission
     requires { P.has_login port.old ≡ false }
     ensures opening { Opening P.logins port.old login.now (greeting_of result ∷ []) (stage_of result) port.new }
+    ensures named { (host : Host) → result ≡ Admission.Admitted host → Names host login.now }
     ensures logged { (host : Host) → result ≡ Admission.Admitted host → P.has_login port.new ≡ true }
 {
     if !has_name(login) {
@@ -70,7 +71,7 @@ fn has_name(login: &[u8; 9]) -> bool
 // The host of a number that a port has taken.
 fn admitted(number: u8) -> Admission
     requires { number < 4 }
-    ensures { (host : Host) × (result ≡ Admission.Admitted host) }
+    ensures { (host : Host) × (result ≡ Admission.Admitted host) × (host.number ≡ number) }
 {
     match Host::new(number) {
         Some(host) => Admission::Admitted(host),

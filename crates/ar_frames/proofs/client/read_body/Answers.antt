@@ -1,4 +1,4 @@
-use Rattle.std.proofs.Common.{ℕ, [], ◌+◌, ◌∙◌, ap, sym, arith}
+use Rattle.std.proofs.Common.{ℕ, [], ◌+◌, ◌∙◌, ap, sym, refl, inl, inr, arith}
 use Rattle.ar_frames.proofs.Streams.{Reading-unmoved}
 use Rattle.ar_frames.proofs.Replying.{judged, held_up, cut_after}
 use Rattle.ar_frames.proofs.client.read_body.Goals as goal
@@ -11,7 +11,7 @@ returns-in-Kept g c = λ count count_len count_is.
 pub returns-in-Refused : goal.returns-in-Refused
 returns-in-Refused g c = λ count count_len count_is. record {
   bytes = [];
-  are = held_up count c.args.head.now [] c.args.len count_len c.told-head count_is c.requires c.in-Refused.ensures.0 (omega arith);
+  are = held_up count c.args.head.now [] c.args.len count_len c.told-head count_is c.requires c.in-Refused.ensures.0 (inl refl);
   read = Reading-unmoved _ _ c.in-Refused.ensures.1;
 }
 
@@ -20,7 +20,7 @@ returns-in-Lost g c = λ count count_len count_is.
     let came = c.in-Lost.ensures.1 in
     record {
       bytes = came.bytes;
-      are = held_up count c.args.head.now came.bytes c.args.len count_len c.told-head count_is c.requires c.in-Lost.ensures.0 (omega (arith, came.len));
+      are = held_up count c.args.head.now came.bytes c.args.len count_len c.told-head count_is c.requires c.in-Lost.ensures.0 (inr came.len);
       read = came.read;
     }
 
