@@ -1,5 +1,5 @@
 -- What a kept array keeps: its history, of which the array is what the history makes.
-use Rattle.std.specs.Prelude.{◌≡◌, ℕ, Bool, false, if◌then◌else◌, Ok, List, [], ◌∷◌}
+use Rattle.std.specs.Prelude.{◌≡◌, ◌⊎◌, ◌+◌, max, ℕ, Bool, false, if◌then◌else◌, Ok, List, [], ◌∷◌}
 use Rattle.ar_scsi.specs.declared.reply.Reply.{Reply}
 use Rattle.ar_unit.specs.Unit.{UnitState, Absent, Present}
 use Rattle.ar_unit.specs.Broken.{shape_of}
@@ -19,6 +19,10 @@ pub record KeptState : Type 0 where
   pub array : ArrayState
   pub history : List Entry
   pub room : ℕ
+
+-- a list keeps its places, or gets as many again and at least four
+abbrev pub MayDouble : ℕ → ℕ → Type 0
+MayDouble old new = (new ≡ old) ⊎ (new ≡ old + max old 4)
 
 -- both units are there and as long, or neither is there
 pub record SameLength (one other : UnitState) : Type 0 where

@@ -3,7 +3,7 @@ ghost use Rattle.std.specs.Prelude.{◌≡◌, ◌≢◌, ◌⊎◌, ◌+◌, �
 ghost use Rattle.ar_image.specs.Image.{is_broken};
 ghost use Rattle.ar_scsi.specs.Reply.{busy};
 ghost use Rattle.ar_core.specs.Step.{Steps, is_busy};
-ghost use Rattle.ar_history.specs.Kept.{exchange_of};
+ghost use Rattle.ar_history.specs.Kept.{MayDouble, exchange_of};
 ghost use Rattle.ar_history.specs.Serving.{Serves, Begins, DoesCommand, HasPlace, LeavesBlocks, GrowsNothing, IsBusyFor, with_reply};
 
 use crate::entry::shared;
@@ -48,9 +48,11 @@ impl<D: Disk + Drop, L: Ledger> Kept<D, L> {
         ensures busy { is_busy result.reply.status ≡ true → LeavesBlocks self.old.array self.new.array }
         ensures lost { is_broken self.old.array ≡ true → GrowsNothing self.old seat.old self.new seat.new }
 
-        // A list that has a place asks for no other.
+        // A list that has a place asks for no other, and one that has none asks for as many again.
         ensures placed { length self.old.history < self.old.room → self.new.room ≡ self.old.room }
         ensures seat_placed { length seat.old.transcript < seat.old.room → seat.new.room ≡ seat.old.room }
+        ensures grown { MayDouble self.old.room self.new.room }
+        ensures seat_grown { MayDouble seat.old.room seat.new.room }
     {
         if is_lost(&self.array) {
             return self.unrecorded(seat.host, lun, cdb, payload);
@@ -89,6 +91,8 @@ impl<D: Disk + Drop, L: Ledger> Kept<D, L> {
         ensures granted { HasPlace self.old seat.old payload.now → IsOk result }
         ensures placed { length self.old.history < self.old.room → self.new.room ≡ self.old.room }
         ensures seat_placed { length seat.old.transcript < seat.old.room → seat.new.room ≡ seat.old.room }
+        ensures grown { MayDouble self.old.room self.new.room }
+        ensures seat_grown { MayDouble seat.old.room seat.new.room }
 
         ensures array { self.new.array ≡ self.old.array }
         ensures history { self.new.history ≡ self.old.history }

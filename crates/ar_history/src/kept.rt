@@ -14,8 +14,8 @@ use std::sync::ledger::{Blank, Book, Ledger, Share};
 /// An array with its stored history. The ledger counts the commands in it, and each seat's share those of its host.
 ///
 /// Nothing is ever taken out of a history. An entry is 136 bytes long, and a command is 128 bytes more in its host's transcript;
-/// both lists double their places when they are full. Beside that a command keeps the data that came with it and the bytes of its
-/// reply, each once, whoever else holds them: a READ or WRITE of n sectors keeps 512 n bytes.
+/// both lists double their places when they are full, from four on. Beside that a command keeps the data that came with it and the
+/// bytes of its reply, each once, whoever else holds them: a READ or WRITE of n sectors keeps 512 n bytes.
 #[derive(Drop)]
 pub struct Kept<D: Disk, L: Ledger> {
     pub(crate) alloc: Global,

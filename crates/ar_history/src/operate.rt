@@ -3,7 +3,7 @@ ghost use Rattle.std.specs.Prelude.{◌≡◌, ◌⊎◌, ◌<◌, ◌++◌, tru
 ghost use Rattle.ar_image.specs.Image.{is_broken, image};
 ghost use Rattle.ar_image.specs.Sectors.{Address};
 ghost use Rattle.ar_core.specs.Step.{Steps, is_quiet};
-ghost use Rattle.ar_history.specs.Kept.{entry_of};
+ghost use Rattle.ar_history.specs.Kept.{MayDouble, entry_of};
 ghost use Rattle.ar_history.specs.Operations.{Does, event_of, event_in, entry_asked, is_done};
 
 use crate::{Entry, Kept, Operation, OperationOf, Task};
@@ -13,6 +13,9 @@ use std::alloc::AllocError;
 use std::sync::ledger::Ledger;
 
 const NO_MEMORY: Refusal = Refusal::Unit(UnitRefusal::NoMemory);
+
+// How many places a list gets that has none.
+const FIRST_PLACES: usize = 4;
 
 impl<D: Disk + Drop, L: Ledger> Kept<D, L> {
     /// Does one operation, and answers it as the array does. A making, a growth or a removal for which the history can't grow is
@@ -26,6 +29,7 @@ impl<D: Disk + Drop, L: Ledger> Kept<D, L> {
         // Want of memory is told only where the history has no place for an entry, or by the array.
         ensures begun { length self.old.history < self.old.room → Steps self.old.array (event_of operation) result self.new.array }
         ensures placed { length self.old.history < self.old.room → self.new.room ≡ self.old.room }
+        ensures grown { MayDouble self.old.room self.new.room }
         ensures unasked { entry_asked (event_of operation) ≡ None → self.new.room ≡ self.old.room }
         ensures lost { is_broken self.old.array ≡ true → self.new.room ≡ self.old.room }
     {
@@ -61,6 +65,7 @@ impl<D: Disk + Drop, L: Ledger> Kept<D, L> {
         ensures recorded { self.new.history ≡ self.old.history ++ entry_of (EventOf.Make addr sectors) result }
         ensures begun { length self.old.history < self.old.room → Steps self.old.array (EventOf.Make addr sectors) result self.new.array }
         ensures placed { length self.old.history < self.old.room → self.new.room ≡ self.old.room }
+        ensures grown { MayDouble self.old.room self.new.room }
         ensures lost { is_broken self.old.array ≡ true → self.new.room ≡ self.old.room }
     {
         if !self.can_record() {
@@ -74,6 +79,7 @@ impl<D: Disk + Drop, L: Ledger> Kept<D, L> {
         ensures recorded { self.new.history ≡ self.old.history ++ entry_of (EventOf.Grow addr sectors) result }
         ensures begun { length self.old.history < self.old.room → Steps self.old.array (EventOf.Grow addr sectors) result self.new.array }
         ensures placed { length self.old.history < self.old.room → self.new.room ≡ self.old.room }
+        ensures grown { MayDouble self.old.room self.new.room }
         ensures lost { is_broken self.old.array ≡ true → self.new.room ≡ self.old.room }
     {
         if !self.can_record() {
@@ -87,6 +93,7 @@ impl<D: Disk + Drop, L: Ledger> Kept<D, L> {
         ensures recorded { self.new.history ≡ self.old.history ++ entry_of (EventOf.Remove addr) result }
         ensures begun { length self.old.history < self.old.room → Steps self.old.array (EventOf.Remove addr) result self.new.array }
         ensures placed { length self.old.history < self.old.room → self.new.room ≡ self.old.room }
+        ensures grown { MayDouble self.old.room self.new.room }
         ensures lost { is_broken self.old.array ≡ true → self.new.room ≡ self.old.room }
     {
         if !self.can_record() {
@@ -130,22 +137,24 @@ impl<D: Disk + Drop, L: Ledger> Kept<D, L> {
         ensures sound { result ≡ false → is_broken self.old.array ≡ false }
         ensures granted { length self.old.history < self.old.room → result ≡ true }
         ensures placed { length self.old.history < self.old.room → self.new.room ≡ self.old.room }
+        ensures grown { MayDouble self.old.room self.new.room }
         ensures lost { is_broken self.old.array ≡ true → self.new.room ≡ self.old.room }
     {
         is_lost(&self.array) || reserve_place(&mut self.history).is_ok()
     }
 }
 
-// Makes room for one more in a list that is full. One with a place stays as it is.
+// Makes room for one more in a list that is full, by as many places again. One with a place stays as it is.
 pub(crate) fn reserve_place<T>(list: &mut Vec<T>) -> Result<(), AllocError>
     ensures items { list.new.items ≡ list.old.items }
     ensures place { OnOk result (vec_len list.new < vec_capacity list.new) }
     ensures placed { vec_len list.old < vec_capacity list.old → IsOk result × (vec_capacity list.new ≡ vec_capacity list.old) }
+    ensures grown { MayDouble (vec_capacity list.old) (vec_capacity list.new) }
 {
     if list.len() < list.capacity() {
         return Ok(());
     }
-    list.reserve(1)
+    list.reserve_exact(list.len().max(FIRST_PLACES))
 }
 
 // Whether an array has lost its data.
