@@ -148,14 +148,14 @@ run-isolated old turns states run = record {
 }
 
 -- one more turn
-run-more : (turns : List Turn) (states : List ArrayState) (old : ArrayState) (turn : Turn) (new : ArrayState)
+pub run-more : (turns : List Turn) (states : List ArrayState) (old : ArrayState) (turn : Turn) (new : ArrayState)
     → Run old turns states → Meets (last_of old states) turn new → Run old (turns ++ turn ∷ []) (states ++ new ∷ [])
 run-more [] [] old turn new run meets = (meets, tt)
 run-more (t ∷ turns) (s ∷ states) old turn new run meets = (run.0, run-more turns states s turn new run.1 meets)
 run-more [] (s ∷ states) old turn new run meets = absurd run
 run-more (t ∷ turns) [] old turn new run meets = absurd run
 
-last_of-more : (states : List ArrayState) (old new : ArrayState) → last_of old (states ++ new ∷ []) ≡ new
+pub last_of-more : (states : List ArrayState) (old new : ArrayState) → last_of old (states ++ new ∷ []) ≡ new
 last_of-more [] old new = refl
 last_of-more (s ∷ states) old new = last_of-more states s new
 

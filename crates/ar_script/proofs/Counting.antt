@@ -1,10 +1,10 @@
 -- Blocks that are counted at the groups of their homes, and the units that are listed.
-use Rattle.std.proofs.Common.{◌≡◌, ◌≢◌, ◌⊎◌, inl, inr, ◌∙◌, refl, sym, ap, subst, ℕ, suc, ◌+◌, ◌*◌, ◌/◌, ◌%◌, ◌<◌, ◌≤◌, Bool, true, false, not, if◌then◌else◌, cond, leb, eqb, List, [], ◌∷◌, ◌++◌, length, get_or, set, take, map, replicate, Option, Some, None, is_some, unwrap_or, count_by, arith, eq-eqb, length-set, length-take-le, take_all, true≢false, leb-true}
+use Rattle.std.proofs.Common.{◌≡◌, ◌≢◌, inl, inr, ◌∙◌, refl, sym, ap, subst, ℕ, ◌+◌, ◌*◌, ◌/◌, ◌%◌, ◌<◌, ◌≤◌, Bool, true, false, not, if◌then◌else◌, leb, eqb, List, [], ◌∷◌, ◌++◌, length, get_or, set, take, map, replicate, Option, Some, None, is_some, unwrap_or, count_by, arith, eq-eqb, length-set, length-take-le, take_all, true≢false, leb-true}
 use Rattle.std.specs.List.{range_with_len, filter_map, cons_option}
 use Rattle.std.specs.Option.{option_to_list}
 use Rattle.std.specs.Map.{lookup}
 use Rattle.std.proofs.Math.ListN.{get_or-eq_default}
-use Rattle.std.proofs.lemmas.Bool.{eqb-true, cases_lt, cases_eq, leb-false}
+use Rattle.std.proofs.lemmas.Bool.{cases_lt, cases_eq, leb-false}
 use Rattle.std.proofs.lemmas.Grind.{common_steps}
 use Rattle.std.proofs.lemmas.List.{get_or-set_same, get_or-set_other, get_or-replicate, length-replicate}
 use Rattle.std.proofs.lemmas.List.Elements.{filter_map-append}

@@ -130,12 +130,13 @@ plays_ended script left rest old new n begun done next none few most =
       most = (let all = done.all in omega arith);
     }
 
-near : (met n m : ℕ) → met ≡ n → (m ≡ n) ⊎ (m ≡ n + 1) → (m ≡ met) ⊎ (m ≡ met + 1)
-near met n m same is = subst (λ k. (m ≡ k) ⊎ (m ≡ k + 1)) (sym same) is
+-- the line after the last of so many, or that one, where an answer was lost
+abbrev IsNear : ℕ → ℕ → FaultKind → Type 0
+IsNear n m kind = (m ≡ n + 1) ⊎ ((m ≡ n) × IsLost kind)
 
--- at a fault that is told of the last line that was met, or of the next
+-- at a fault that is told of the line after the last that was met, or of that one
 pub plays_stopped : (script left : Option (List (List ℕ))) (old new : ArrayState) (n begun m : ℕ) (kind : FaultKind) (fault : Fault) → PlaysAll script left old new n
-    → fault ≡ Line m kind → (m ≡ n) ⊎ (m ≡ n + 1) → IsSo script m kind → n ≤ begun → begun ≤ n + 1 → PlaysTo script (Err fault) old new begun
+    → fault ≡ Line m kind → IsNear n m kind → IsSo script m kind → n ≤ begun → begun ≤ n + 1 → PlaysTo script (Err fault) old new begun
 plays_stopped script left old new n begun m kind fault done is after so few most =
     subst (λ (f : Fault). PlaysTo script (Err f) old new begun) (sym is)
     (record {
@@ -144,20 +145,20 @@ plays_stopped script left old new n begun m kind fault done is after so few most
         plays = done.plays;
         first = taken_first script left done.lines done.took;
         whole = tt;
-        told = (near (length done.lines) n m done.all after, so);
+        told = (subst (λ k. IsNear k m kind) (sym done.all) after, so);
       };
       few = (let all = done.all in omega arith);
       most = (let all = done.all in omega arith);
     })
 
 -- that answers couldn't be written is told of the last line that was met, or of the next
-near_begun : (n begun : ℕ) → n ≤ begun → begun ≤ n + 1 → (max begun 1 ≡ n) ⊎ (max begun 1 ≡ n + 1)
-near_begun zero begun few most = inr (omega arith)
-near_begun (suc n) begun few most = at (begun - suc n) refl
+near_begun : (n begun : ℕ) (kind : FaultKind) → n ≤ begun → begun ≤ n + 1 → IsLost kind → IsNear n (max begun 1) kind
+near_begun zero begun kind few most lost = inl (omega arith)
+near_begun (suc n) begun kind few most lost = at (begun - suc n) refl
   where
-    at : (d : ℕ) → begun - suc n ≡ d → (max begun 1 ≡ suc n) ⊎ (max begun 1 ≡ suc n + 1)
-    at zero is = inl (omega arith)
-    at (suc d) is = inr (omega arith)
+    at : (d : ℕ) → begun - suc n ≡ d → IsNear (suc n) (max begun 1) kind
+    at zero is = inr (omega arith, lost)
+    at (suc d) is = inl (omega arith)
 
 -- where the next line couldn't be taken
 unread : (script left : Option (List (List ℕ))) (old new : ArrayState) (n begun : ℕ) (fault : Fault) → PlaysAll script left old new n → StopsAt left fault → IsOfNext n begun fault
@@ -165,9 +166,9 @@ unread : (script left : Option (List (List ℕ))) (old new : ArrayState) (n begu
 unread script left old new n begun Start done stops next numbered few most = absurd stops
 unread script left old new n begun (Line m kind) done stops (inl next) numbered few most =
     let so = so_next script left done.lines n kind done.took done.all (λ many. sym next.1 ∙ numbered.2 many) stops in
-    plays_stopped script left old new n begun m kind (Line m kind) done refl (inr next.1) (subst (λ k. IsSo script k kind) (sym next.1) so) few most
+    plays_stopped script left old new n begun m kind (Line m kind) done refl (inl next.1) (subst (λ k. IsSo script k kind) (sym next.1) so) few most
 unread script left old new n begun (Line m kind) done stops (inr write) numbered few most =
-    plays_stopped script left old new n begun m kind (Line m kind) done refl (subst (λ k. (k ≡ n) ⊎ (k ≡ n + 1)) (sym write.1) (near_begun n begun few most))
+    plays_stopped script left old new n begun m kind (Line m kind) done refl (subst (λ k. IsNear n k kind) (sym write.1) (near_begun n begun kind few most (inr write.0)))
     (so_outside script m kind (inr (inr write.0))) few most
 
 pub plays_unread : (script left : Option (List (List ℕ))) (old new : ArrayState) (n begun : ℕ) (result : Result (Unit {0}) Fault) → PlaysAll script left old new n → IsErr result
@@ -185,23 +186,23 @@ plays_fault script left rest old mid new n line kind fault before next line_met 
     let is_next = is ∙ ap (λ m. Line m kind) same in
     elim (met_or_not before.lines old mid new line line_met.read kind before.plays line_met.sound line_met.reads line_met.meets) [
       | inl unmet ↦
-          plays_stopped script left old new n (suc n) (n + 1) kind fault (record { lines = before.lines; plays = unmet; all = before.all; took = before.took }) is_next (inr refl) so
+          plays_stopped script left old new n (suc n) (n + 1) kind fault (record { lines = before.lines; plays = unmet; all = before.all; took = before.took }) is_next (inl refl) so
           (omega arith) (omega arith)
       | inr met ↦
           plays_stopped script rest old new (suc n) (suc n) (n + 1) kind fault
           (record {
             lines = before.lines ++ line ∷ [];
-            plays = met;
+            plays = met.0;
             all = one_taken before.lines line n before.all;
             took = took_more script left rest before.lines (line ∷ []) before.took next;
           })
-          is_next (inl (omega arith)) so (omega arith) (omega arith)
+          is_next (inr (omega arith, met.1)) so (omega arith) (omega arith)
     ]
 
 -- no line, where memory was refused before the first
 pub none_begun : (script : Option (List (List ℕ))) (s : ArrayState) (fault : Fault) → fault ≡ Line (max 1 1) NoMemory → PlaysScript script (Err fault) s s
 none_begun script s fault is =
-    (plays_stopped script script s s 0 0 1 NoMemory fault (plays_none script s) is (inr refl) (so_outside script 1 NoMemory (inl refl)) (le_refl 0) (omega arith)).plays
+    (plays_stopped script script s s 0 0 1 NoMemory fault (plays_none script s) is (inl refl) (so_outside script 1 NoMemory (inl refl)) (le_refl 0) (omega arith)).plays
 
 -- ---- how many lines were begun
 

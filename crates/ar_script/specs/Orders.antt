@@ -1,5 +1,5 @@
 -- What an array is asked for, and what answering leaves of it.
-use Rattle.std.specs.Prelude.{◌≡◌, ◌⊎◌, ℕ, false, List, Option, Some, None, Result, Ok, Err, replicate}
+use Rattle.std.specs.Prelude.{◌≡◌, ◌⊎◌, ℕ, false, List, Option, Some, None, Result, Ok, Err, IfErr, replicate}
 use Rattle.ar_disks.specs.declared.address.Addr.{Addr}
 use Rattle.ar_disks.specs.declared.address.Place.{Place}
 use Rattle.ar_core.specs.Events.{Event, Outcome}
@@ -74,7 +74,7 @@ IsLost kind = (kind ≡ NoMemory) ⊎ (kind ≡ WriteFault)
 -- what a line leaves that was read so: the array as it was, where the line asks for nothing or can't be read
 abbrev pub Meets : Result (Option Order) FaultKind → ArrayState → Result (Unit {0}) FaultKind → ArrayState → Type 0
 Meets (Ok None) old result new = (result ≡ Ok tt) × (new ≡ old)
-Meets (Ok (Some order)) old result new = Leaves order old result new
+Meets (Ok (Some order)) old result new = Leaves order old result new × IfErr result IsLost
 Meets (Err kind) old result new = (result ≡ Err kind) × (new ≡ old)
 
 -- what a line without a fault leaves of an array

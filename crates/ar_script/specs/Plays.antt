@@ -12,20 +12,20 @@ use Rattle.ar_orders.specs.declared.order.Order.{Order}
 use Rattle.ar_orders.specs.declared.order.Order.TheVariants.{Act, Ask}
 use Rattle.ar_orders.specs.Forms.{ReadsLine}
 use Rattle.ar_orders.specs.Lines.{line_fault, line_at, IsLine, Took}
-use Rattle.ar_script.specs.Orders.{event_in}
+use Rattle.ar_script.specs.Orders.{event_in, Looks, IsLost}
 
--- the order is met in this turn by an array of this shape: an action is its event, and a question a look
-abbrev pub IsTurn : ArrayState → Order → Turn → Type 0
-IsTurn s (Act action) (Did event outcome) = event ≡ event_in s action
-IsTurn s (Ask question) Looked = Unit {0}
-IsTurn s order turn = ⊥
+-- the order is met in this turn, which left the array so: an action is its event, and a question a look at what it asks for alone
+abbrev pub IsTurn : Order → ArrayState → Turn → ArrayState → Type 0
+IsTurn (Act action) old (Did event outcome) new = event ≡ event_in old action
+IsTurn (Ask question) old Looked new = Looks question old new
+IsTurn order old turn new = ⊥
 
 -- the line has no fault and asks for something, and that is met in this turn
-pub record AsksFor (s : ArrayState) (line : List ℕ) (turn : Turn) : Type 0 where
+pub record AsksFor (line : List ℕ) (old : ArrayState) (turn : Turn) (new : ArrayState) : Type 0 where
   pub sound : IsLine line
   pub order : Order
   pub reads : ReadsLine line (Ok (Some order))
-  pub met : IsTurn s order turn
+  pub met : IsTurn order old turn new
 
 -- the line has no fault and asks for nothing
 pub record AsksNothing (line : List ℕ) : Type 0 where
@@ -37,19 +37,21 @@ pub record SaysWrong (line : List ℕ) (kind : FaultKind) : Type 0 where
   pub sound : IsLine line
   pub reads : ReadsLine line (Err kind)
 
--- these lines are met in these turns, in their order: each that asks for something in one turn, and no other turn is there
-abbrev pub AreMet : ArrayState → List (List ℕ) → List Turn → Type 0
-AreMet s [] [] = Unit {0}
-AreMet s [] (turn ∷ turns) = ⊥
-AreMet s (line ∷ lines) [] = AsksNothing line × AreMet s lines []
-AreMet s (line ∷ lines) (turn ∷ turns) = (AsksNothing line × AreMet s lines (turn ∷ turns)) ⊎ (AsksFor s line turn × AreMet s lines turns)
+-- These lines are met in these turns, in their order: each that asks for something in one turn, and no other turn is there. The
+-- array, as it was at first, is left in these states in turn.
+abbrev pub AreMet : List (List ℕ) → ArrayState → List Turn → List ArrayState → Type 0
+AreMet [] old [] [] = Unit {0}
+AreMet (line ∷ lines) old [] [] = AsksNothing line × AreMet lines old [] []
+AreMet (line ∷ lines) old (turn ∷ turns) (new ∷ states) =
+    (AsksNothing line × AreMet lines old (turn ∷ turns) (new ∷ states)) ⊎ (AsksFor line old turn new × AreMet lines new turns states)
+AreMet lines old turns states = ⊥
 
 -- The array met these lines, one after another, and was left so. The isolation theorem holds of their turns (`IsRun`): each unit
 -- answered as one plain list of sectors that its own lines alone change. The shape of its disks stays.
 pub record Plays (lines : List (List ℕ)) (old new : ArrayState) : Type 0 where
   pub turns : List Turn
-  pub met : AreMet old lines turns
   pub run : IsRun old turns new
+  pub met : AreMet lines old turns run.states
   pub geometry : geometry_of new ≡ geometry_of old
   pub extents : new.store.disks.extents ≡ old.store.disks.extents
 
@@ -75,10 +77,10 @@ IsSo (Some script) n kind =
     IsOutside kind ⊎ (line_fault (line_at script n) ≡ Some kind) ⊎ SaysWrong (line_at script n) kind
     ⊎ ((kind ≡ TooManyLines) × (1000000 < length script))
 
--- it is told at the last of the lines that were met, or at the next
+-- it is told at the line after the last that was met, or at that one, where an answer was lost
 abbrev pub IsToldAfter : Option (List (List ℕ)) → ℕ → Fault → Type 0
 IsToldAfter script met Start = ⊥
-IsToldAfter script met (Line n kind) = ((n ≡ met) ⊎ (n ≡ met + 1)) × IsSo script n kind
+IsToldAfter script met (Line n kind) = ((n ≡ met + 1) ⊎ ((n ≡ met) × IsLost kind)) × IsSo script n kind
 
 -- The array met the first lines of a script, each once and in their order: all of them, where the script ended without a fault.
 pub record PlaysScript (script : Option (List (List ℕ))) (result : Result (Unit {0}) Fault) (old new : ArrayState) : Type 0 where

@@ -1,7 +1,6 @@
-use Rattle.std.proofs.Common.{arith, rules, ◌≡◌, ◌∙◌, sym, ap, subst, ℕ, ◌+◌, ◌<◌, ◌≤◌, length, Some}
+use Rattle.std.proofs.Common.{arith, ◌∙◌, sym, ap, subst, ◌+◌, Some}
 use Rattle.ar_book.specs.Tables.{unit_in}
-use Rattle.ar_picture.specs.declared.picture.Held.{Held}
-use Rattle.ar_script.specs.Pictures.{unit_at, addr_at, held_at, AddsHomes}
+use Rattle.ar_script.specs.Pictures.{unit_at, AddsHomes}
 use Rattle.ar_script.proofs.Counting.{Counts, counts_none, counts_unplaced, counts_placed, counts_all, absent_empty, outside_over, unplaced_inside, placed_inside, shown_is, homes_few, homed_few, held_few}
 use Rattle.ar_script.proofs.drawing.unit_at.Goals.{in-Unplaced, in-At}
 use Rattle.ar_script.proofs.drawing.unit_at.Goals as goal

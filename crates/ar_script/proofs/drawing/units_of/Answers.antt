@@ -1,4 +1,4 @@
-use Rattle.std.proofs.Common.{arith, ◌≡◌, ◌<◌, ◌≤◌, ℕ}
+use Rattle.std.proofs.Common.{arith}
 use Rattle.ar_script.proofs.Counting.{listed_none, listed_next, listed_all}
 use Rattle.ar_script.proofs.drawing.units_of.Goals as goal
 
