@@ -45,6 +45,8 @@ impl<D: Disk + Drop, L: Ledger> Kept<D, L> {
 
         // Want of memory, and what BUSY leaves.
         ensures begun { HasPlace self.old seat.old payload → Begins self.old.array seat.old.host lun cdb payload result.reply self.new.array }
+        ensures unbegun { self.new.room ≡ length self.old.history → is_broken self.old.array ≡ false → self.new.array ≡ self.old.array }
+        ensures seat_unbegun { seat.new.room ≡ length seat.old.transcript → is_broken self.old.array ≡ false → self.new.array ≡ self.old.array }
         ensures busy { is_busy result.reply.status ≡ true → LeavesBlocks self.old.array self.new.array }
         ensures lost { is_broken self.old.array ≡ true → GrowsNothing self.old seat.old self.new seat.new }
 

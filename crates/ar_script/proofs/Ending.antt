@@ -114,14 +114,15 @@ plays_line script left rest old mid new n line answer before next is line_met = 
 
 -- after the last line
 pub plays_ended : (script left rest : Option (List (List ℕ))) (old new : ArrayState) (n begun : ℕ) → PlaysAll script left old new n → Took left rest [] → IsAllTaken rest
-    → n ≤ begun → begun ≤ n + 1 → PlaysTo script (Ok tt) old new begun
-plays_ended script left rest old new n begun done next none few most =
+    → n ≤ begun → begun ≤ n + 1 → begun ≤ 1000000 → PlaysTo script (Ok tt) old new begun
+plays_ended script left rest old new n begun done next none few most within =
     let took = took_more script left rest done.lines [] done.took next in
     let took_all : Took script rest done.lines = subst (λ (l : List (List ℕ)). Took script rest l) (append-nil done.lines) took in
     record {
       plays = record {
         lines = done.lines;
         plays = done.plays;
+        few = (let all = done.all in omega arith);
         first = taken_first script rest done.lines took_all;
         whole = taken_all script rest done.lines took_all none;
         told = tt;
@@ -136,13 +137,14 @@ IsNear n m kind = (m ≡ n + 1) ⊎ ((m ≡ n) × IsLost kind)
 
 -- at a fault that is told of the line after the last that was met, or of that one
 pub plays_stopped : (script left : Option (List (List ℕ))) (old new : ArrayState) (n begun m : ℕ) (kind : FaultKind) (fault : Fault) → PlaysAll script left old new n
-    → fault ≡ Line m kind → IsNear n m kind → IsSo script m kind → n ≤ begun → begun ≤ n + 1 → PlaysTo script (Err fault) old new begun
-plays_stopped script left old new n begun m kind fault done is after so few most =
+    → fault ≡ Line m kind → IsNear n m kind → IsSo script m kind → n ≤ begun → begun ≤ n + 1 → begun ≤ 1000000 → PlaysTo script (Err fault) old new begun
+plays_stopped script left old new n begun m kind fault done is after so few most within =
     subst (λ (f : Fault). PlaysTo script (Err f) old new begun) (sym is)
     (record {
       plays = record {
         lines = done.lines;
         plays = done.plays;
+        few = (let all = done.all in omega arith);
         first = taken_first script left done.lines done.took;
         whole = tt;
         told = (subst (λ k. IsNear k m kind) (sym done.all) after, so);
@@ -162,32 +164,32 @@ near_begun (suc n) begun kind few most lost = at (begun - suc n) refl
 
 -- where the next line couldn't be taken
 unread : (script left : Option (List (List ℕ))) (old new : ArrayState) (n begun : ℕ) (fault : Fault) → PlaysAll script left old new n → StopsAt left fault → IsOfNext n begun fault
-    → IsNumbered fault → n ≤ begun → begun ≤ n + 1 → PlaysTo script (Err fault) old new begun
-unread script left old new n begun Start done stops next numbered few most = absurd stops
-unread script left old new n begun (Line m kind) done stops (inl next) numbered few most =
+    → IsNumbered fault → n ≤ begun → begun ≤ n + 1 → begun ≤ 1000000 → PlaysTo script (Err fault) old new begun
+unread script left old new n begun Start done stops next numbered few most within = absurd stops
+unread script left old new n begun (Line m kind) done stops (inl next) numbered few most within =
     let so = so_next script left done.lines n kind done.took done.all (λ many. sym next.1 ∙ numbered.2 many) stops in
-    plays_stopped script left old new n begun m kind (Line m kind) done refl (inl next.1) (subst (λ k. IsSo script k kind) (sym next.1) so) few most
-unread script left old new n begun (Line m kind) done stops (inr write) numbered few most =
+    plays_stopped script left old new n begun m kind (Line m kind) done refl (inl next.1) (subst (λ k. IsSo script k kind) (sym next.1) so) few most within
+unread script left old new n begun (Line m kind) done stops (inr write) numbered few most within =
     plays_stopped script left old new n begun m kind (Line m kind) done refl (subst (λ k. IsNear n k kind) (sym write.1) (near_begun n begun kind few most (inr write.0)))
-    (so_outside script m kind (inr (inr write.0))) few most
+    (so_outside script m kind (inr (inr write.0))) few most within
 
 pub plays_unread : (script left : Option (List (List ℕ))) (old new : ArrayState) (n begun : ℕ) (result : Result (Unit {0}) Fault) → PlaysAll script left old new n → IsErr result
-    → IfErr result (StopsAt left) → IfErr result (IsOfNext n begun) → IfErr result IsNumbered → n ≤ begun → begun ≤ n + 1 → PlaysTo script result old new begun
-plays_unread script left old new n begun (Ok done) before is stops next numbered few most = absurd (cc)
-plays_unread script left old new n begun (Err fault) before is stops next numbered few most = unread script left old new n begun fault before stops next numbered few most
+    → IfErr result (StopsAt left) → IfErr result (IsOfNext n begun) → IfErr result IsNumbered → n ≤ begun → begun ≤ n + 1 → begun ≤ 1000000 → PlaysTo script result old new begun
+plays_unread script left old new n begun (Ok done) before is stops next numbered few most within = absurd (cc)
+plays_unread script left old new n begun (Err fault) before is stops next numbered few most within = unread script left old new n begun fault before stops next numbered few most within
 
 -- at a line that was answered with a fault
 pub plays_fault : (script left rest : Option (List (List ℕ))) (old mid new : ArrayState) (n : ℕ) (line : List ℕ) (kind : FaultKind) (fault : Fault)
     → PlaysAll script left old mid n → Took left rest (line ∷ []) → MeetsLine line mid (Err kind) new → IsLost kind ⊎ SaysWrong line kind
-    → fault ≡ Line (max (suc n) 1) kind → PlaysTo script (Err fault) old new (suc n)
-plays_fault script left rest old mid new n line kind fault before next line_met told is =
+    → fault ≡ Line (max (suc n) 1) kind → suc n ≤ 1000000 → PlaysTo script (Err fault) old new (suc n)
+plays_fault script left rest old mid new n line kind fault before next line_met told is within =
     let same : max (suc n) 1 ≡ n + 1 = omega arith in
     let so = so_answered script left rest before.lines line n kind before.took before.all next told in
     let is_next = is ∙ ap (λ m. Line m kind) same in
     elim (met_or_not before.lines old mid new line line_met.read kind before.plays line_met.sound line_met.reads line_met.meets) [
       | inl unmet ↦
           plays_stopped script left old new n (suc n) (n + 1) kind fault (record { lines = before.lines; plays = unmet; all = before.all; took = before.took }) is_next (inl refl) so
-          (omega arith) (omega arith)
+          (omega arith) (omega arith) within
       | inr met ↦
           plays_stopped script rest old new (suc n) (suc n) (n + 1) kind fault
           (record {
@@ -196,13 +198,13 @@ plays_fault script left rest old mid new n line kind fault before next line_met 
             all = one_taken before.lines line n before.all;
             took = took_more script left rest before.lines (line ∷ []) before.took next;
           })
-          is_next (inr (omega arith, met.1)) so (omega arith) (omega arith)
+          is_next (inr (omega arith, met.1)) so (omega arith) (omega arith) within
     ]
 
 -- no line, where memory was refused before the first
 pub none_begun : (script : Option (List (List ℕ))) (s : ArrayState) (fault : Fault) → fault ≡ Line (max 1 1) NoMemory → PlaysScript script (Err fault) s s
 none_begun script s fault is =
-    (plays_stopped script script s s 0 0 1 NoMemory fault (plays_none script s) is (inl refl) (so_outside script 1 NoMemory (inl refl)) (le_refl 0) (omega arith)).plays
+    (plays_stopped script script s s 0 0 1 NoMemory fault (plays_none script s) is (inl refl) (so_outside script 1 NoMemory (inl refl)) (le_refl 0) (omega arith) (omega arith)).plays
 
 -- ---- how many lines were begun
 

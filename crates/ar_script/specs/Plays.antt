@@ -86,6 +86,8 @@ IsToldAfter script met (Line n kind) = ((n ≡ met + 1) ⊎ ((n ≡ met) × IsLo
 pub record PlaysScript (script : Option (List (List ℕ))) (result : Result (Unit {0}) Fault) (old new : ArrayState) : Type 0 where
   pub lines : List (List ℕ)
   pub plays : Plays lines old new
+  -- no more than a million lines are met
+  pub few : length lines ≤ 1000000
   pub first : AreFirst script lines
   pub whole : OnOk result (AreAll script lines)
   pub told : IfErr result (IsToldAfter script (length lines))

@@ -9,14 +9,18 @@ use Rattle.ar_sessions.specs.declared.sessions.ConnectionEnd.{ConnectionEnd}
 use Rattle.ar_sessions.specs.declared.sessions.ConnectionEnd.TheVariants.{Served, NoThread}
 use Rattle.ar_sessions.specs.Port.{TakesSeat, AsksKept}
 
--- A session ended so: over some streams, and from a port without a seat, whose answers were those of a port to the kept array.
-pub record WasServed (end : SessionEnd) : Type 0 where
-  pub source : SourceState
+-- A session over streams in these states ended so: from a port without a seat, whose answers were those of a port to the kept array.
+pub record IsServed (source : SourceState) (sink : SinkState) (end : SessionEnd) : Type 0 where
   pub source' : SourceState
-  pub sink : SinkState
   pub sink' : SinkState
   pub port : Option SeatState
   pub session : Session TakesSeat AsksKept source source' sink sink' None port end
+
+-- the same, over some streams
+pub record WasServed (end : SessionEnd) : Type 0 where
+  pub source : SourceState
+  pub sink : SinkState
+  pub served : IsServed source sink end
 
 -- the end of a connection that could not be opened
 abbrev pub unopened : SessionEnd

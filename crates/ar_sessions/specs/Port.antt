@@ -9,8 +9,8 @@ use Rattle.ar_history.specs.Serving.{Serves, DoesCommand}
 use Rattle.ar_frames.specs.declared.port.Login.{Login}
 use Rattle.ar_frames.specs.declared.port.Login.TheVariants.{Taken, BadHost, InUse}
 
--- A host's command was done at one moment by the kept array: there was a state of it before and one after it, between which it
--- is served as `Kept::host` serves it.
+-- A host's command was done at one moment by a kept array: there was a state of one before and one after it, between which it is
+-- served as `Kept::host` serves it. Which array that was, behind its lock, the transcript's entry alone tells (`Enters`).
 pub record AtOneMoment (before : SeatState) (lun : ℕ) (cdb payload : List ℕ) (reply : Reply) (after : SeatState) : Type 0 where
   pub old : KeptState
   pub new : KeptState

@@ -1,14 +1,20 @@
 -- Work in the background.
-use Rattle.std.specs.Prelude.{◌≡◌, ℕ, Bool, true, false, nat_lt}
+use Rattle.std.specs.Prelude.{◌≡◌, ℕ, ◌+◌, ◌*◌, Bool, true, false, nat_lt, min, if◌then◌else◌, Option, Some, None}
 use Rattle.ar_book.specs.Tables.{free_groups}
 use Rattle.ar_image.specs.Image.{is_broken, image}
 use Rattle.ar_image.specs.Sectors.{Address}
 use Rattle.ar_core.specs.Events.{Outcome}
 use Rattle.ar_core.specs.Step.{Steps}
+use Rattle.ar_core.specs.declared.event.OutcomeOf.TheVariants as outcomes
+use Rattle.ar_cache.specs.declared.answers.Flush.TheVariants as flush
+use Rattle.ar_moves.specs.declared.step.Move.TheVariants as move
+use Rattle.ar_balance.specs.declared.step.Balance.TheVariants as balance
+use Rattle.ar_rebuild.specs.declared.step.Rebuild.TheVariants as rebuild
 use Rattle.ar_history.specs.declared.operation.Task.{Task}
 use Rattle.ar_history.specs.declared.operation.Task.TheVariants.{Flush, Rebuild, Clean, Balance, Demote}
 use Rattle.ar_history.specs.Kept.{KeptState}
 use Rattle.ar_history.specs.Operations.{event_in}
+use Rattle.ar_sessions.specs.declared.background.Idleness.{Idleness}
 
 -- what comes after a task, round and round
 abbrev pub task_after : Task → Task
@@ -25,6 +31,33 @@ is_due Rebuild free = true
 is_due Clean free = true
 is_due Balance free = true
 is_due Demote free = nat_lt free 3
+
+-- how long nothing was done, behind a turn: a round of five in which nothing was done makes the next pause twice as long, up to 16
+-- milliseconds
+abbrev pub idle_after : Idleness → Bool → Idleness
+idle_after idle true = record { turns = 0; pause = 1 }
+idle_after idle false =
+    if nat_lt (idle.turns + 1) 5 then record idle { turns = idle.turns + 1 } else record { turns = 0; pause = min (idle.pause * 2) 16 }
+
+-- for how many milliseconds the work pauses behind a turn, if at all
+abbrev pub pause_after : Idleness → Bool → Option ℕ
+pause_after idle true = None
+pause_after idle false = if nat_lt (idle.turns + 1) 5 then None else Some idle.pause
+
+-- whether a task found nothing to do, or could do nothing, by what it answers
+abbrev pub is_idle : Outcome → Bool
+is_idle (outcomes.Flush flush.Idle) = true
+is_idle (outcomes.Flush flush.Broken) = true
+is_idle (outcomes.Demote move.Idle) = true
+is_idle (outcomes.Demote move.Broken) = true
+is_idle (outcomes.Clean move.Idle) = true
+is_idle (outcomes.Clean move.Broken) = true
+is_idle (outcomes.Balance balance.Idle) = true
+is_idle (outcomes.Balance balance.NoMemory) = true
+is_idle (outcomes.Balance balance.Broken) = true
+is_idle (outcomes.Rebuild rebuild.Idle) = true
+is_idle (outcomes.Rebuild rebuild.Broken) = true
+is_idle outcome = false
 
 -- the task's event was one step of the array
 pub record DoesTask (old : KeptState) (task : Task) (new : KeptState) : Type 0 where

@@ -1,6 +1,6 @@
 // The work in the background.
 ghost use Rattle.std.specs.Prelude.{◌≡◌, nat_lt};
-ghost use Rattle.ar_sessions.specs.Work.{task_after, is_due, TakesTurn};
+ghost use Rattle.ar_sessions.specs.Work.{idle_after, pause_after, task_after, is_due, is_idle, TakesTurn};
 ghost use Rattle.ar_book.specs.Tables.{free_groups};
 
 use ar_core::{Balance, Flush, Move, Outcome, OutcomeOf, Rebuild};
@@ -63,7 +63,10 @@ impl Idleness {
     };
 
     // Counts a turn, and says for how many milliseconds to pause before the next one, if at all.
-    fn after_turn(&mut self, has_worked: bool) -> Option<u64> {
+    fn after_turn(&mut self, has_worked: bool) -> Option<u64>
+        ensures next { self.new ≡ idle_after self.old has_worked }
+        ensures pause { result ≡ pause_after self.old has_worked }
+    {
         if has_worked {
             *self = Idleness::NONE;
             return None;
@@ -114,7 +117,9 @@ fn is_due(task: Task, free: u32) -> bool
 }
 
 // Whether nothing was done.
-fn is_idle<D: Disk>(outcome: &Outcome<D>) -> bool {
+fn is_idle<D: Disk>(outcome: &Outcome<D>) -> bool
+    ensures { result ≡ is_idle outcome.now }
+{
     matches!(
         outcome,
         OutcomeOf::Flush(Flush::Idle | Flush::Broken)

@@ -1,7 +1,7 @@
 // Sessions in threads.
 ghost use Rattle.std.specs.Prelude.{◌≡◌, ◌≢◌, ◌+◌, ◌<◌, ◌≤◌, All, IfOk, OnOk, OnErr, vec_len, vec_capacity, length};
 ghost use Rattle.std.specs.VecDeque.{deque_len, deque_capacity};
-ghost use Rattle.ar_sessions.specs.Ends.{WasServed, IsEnd};
+ghost use Rattle.ar_sessions.specs.Ends.{IsServed, WasServed, IsEnd};
 
 use crate::{Desk, Door, LockPort, run_background};
 use ar_disks::Disk;
@@ -301,7 +301,7 @@ impl<R: Wait, D: Disk + Drop, L: Ledger, G: Gate, S: Source + Drop, W: Sink + Dr
 > {
     // Serves the connection's session. The seat lies on the desk again before the streams are let go.
     fn serve(self) -> SessionEnd
-        ensures { WasServed result }
+        ensures { IsServed (S.state self.entry.reader) (W.state self.entry.writer) result }
     {
         let Connection {
             hall,

@@ -1,4 +1,4 @@
-use Rattle.std.proofs.Common.{rules, ◌≡◌, ◌∙◌, max, suc, true, false, ◌+◌, Ok, Err, IfErr, add-zero, sym, ap, subst, arith}
+use Rattle.std.proofs.Common.{rules, ◌≡◌, ◌∙◌, max, suc, true, false, ◌+◌, ◌≤◌, Ok, Err, IfErr, add-zero, sym, ap, subst, arith}
 use Rattle.ar_orders.specs.declared.fault.Fault.TheVariants.{Line}
 use Rattle.ar_orders.specs.Left.{lines_left, lines_begun}
 use Rattle.ar_orders.specs.Lines.{StopsAt, IsOfNext, IsNumbered, is_given, is_lacking}
@@ -25,7 +25,7 @@ returns-in_err-next_line-clause-plays g c =
     let numbered : IfErr c.from_residual.result IsNumbered = search rules in
     let within = begun_within given new.given new.is_begun same in
     plays_unread (lines_left c.args.lines.now) left c.args.runner.now c.loop.runner given (lines_begun new) c.from_residual.result
-    c.loop.invariant.1 c.from_residual.ensures.0 stops next numbered within.0 within.1
+    c.loop.invariant.1 c.from_residual.ensures.0 stops next numbered within.0 within.1 new.few
 
 pub returns-then-not-branch-clause-plays : goal.returns-then-not-branch-clause-plays
 returns-then-not-branch-clause-plays g c =
@@ -37,7 +37,7 @@ returns-then-not-branch-clause-plays g c =
     let same : new.given ≡ given = search rules in
     let within = begun_within given new.given new.is_begun same in
     plays_ended (lines_left c.args.lines.now) (lines_left c.loop.lines) (lines_left new) c.args.runner.now c.loop.runner given (lines_begun new) c.loop.invariant.1
-    (goes.kept none) (goes.none lacking) within.0 within.1
+    (goes.kept none) (goes.none lacking) within.0 within.1 new.few
 
 pub returns-in-Err-clause-plays : goal.returns-in-Err-clause-plays
 returns-in-Err-clause-plays g c =
@@ -51,7 +51,7 @@ returns-in-Err-clause-plays g c =
     let is = c.fault_at.ensures.same ∙ ap (λ m. Line (max m 1) c.in-Err.kind) (c.number.ensures.number ∙ begun) in
     subst (λ n. PlaysTo script (Err c.fault_at.result) c.args.runner.now c.answer_line.new.runner n) (sym begun)
     (plays_fault script (lines_left c.loop.lines) (lines_left new) c.args.runner.now c.loop.runner c.answer_line.new.runner c.loop.lines.given line c.in-Err.kind c.fault_at.result
-    c.loop.invariant.1 (goes.taken one) c.in-Err.ensures.meets c.in-Err.ensures.told is)
+    c.loop.invariant.1 (goes.taken one) c.in-Err.ensures.meets c.in-Err.ensures.told is (subst (λ n. n ≤ 1000000) begun new.few))
 
 pub loop-preserved : goal.loop-preserved
 loop-preserved g c =

@@ -6,9 +6,7 @@ use Rattle.ar_sessions.proofs.sessions.Connection.serve.Goals as goal
 
 pub returns : goal.returns
 returns g c = record {
-  source = g.S.Source.state c.args.self.reader;
   source' = g.S.Source.state c.serve_gated-end.new.reader;
-  sink = g.W.Sink.state c.args.self.writer;
   sink' = g.W.Sink.state c.serve_gated-end.new.writer;
   port = c.serve_gated-end.new.port;
   session =
