@@ -6,10 +6,10 @@ use Rattle.ar_image.specs.Image.{ArrayState}
 use Rattle.ar_orders.specs.declared.fault.Fault.{Fault}
 use Rattle.ar_orders.specs.declared.fault.Fault.TheVariants.{Start, Line}
 use Rattle.ar_orders.specs.declared.fault.FaultKind.{FaultKind}
-use Rattle.ar_orders.specs.declared.fault.FaultKind.TheVariants.{TooManyLines, NoMemory}
+use Rattle.ar_orders.specs.declared.fault.FaultKind.TheVariants.{TooManyLines, NoMemory, WriteFault}
 use Rattle.ar_orders.specs.Lines.{Took, IsAllTaken, first_of, line_at, line_fault, IsToldOfNext, StopsAt, IsNumbered, IsOfNext}
 use Rattle.ar_script.specs.Orders.{IsLost, Meets, MeetsLine}
-use Rattle.ar_script.specs.Plays.{IsOutside, AreFirst, AreAll, SaysWrong, IsSo, PlaysScript, PlaysAll, PlaysTo}
+use Rattle.ar_script.specs.Plays.{IsLostAt, IsOutside, AreFirst, AreAll, SaysWrong, IsSo, PlaysScript, PlaysAll, PlaysTo}
 use Rattle.ar_script.proofs.Playing.{none_played, met_all, met_or_not}
 
 -- ---- lines that were taken
@@ -131,13 +131,13 @@ plays_ended script left rest old new n begun done next none few most within =
       most = (let all = done.all in omega arith);
     }
 
--- the line after the last of so many, or that one, where an answer was lost
-abbrev IsNear : ℕ → ℕ → FaultKind → Type 0
-IsNear n m kind = (m ≡ n + 1) ⊎ ((m ≡ n) × IsLost kind)
+-- the line after the last of these, or that one, where an answer was lost
+abbrev IsNear : List (List ℕ) → ℕ → FaultKind → Type 0
+IsNear met m kind = (m ≡ length met + 1) ⊎ ((m ≡ length met) × IsLostAt (line_at met m) kind)
 
 -- at a fault that is told of the line after the last that was met, or of that one
-pub plays_stopped : (script left : Option (List (List ℕ))) (old new : ArrayState) (n begun m : ℕ) (kind : FaultKind) (fault : Fault) → PlaysAll script left old new n
-    → fault ≡ Line m kind → IsNear n m kind → IsSo script m kind → n ≤ begun → begun ≤ n + 1 → begun ≤ 1000000 → PlaysTo script (Err fault) old new begun
+pub plays_stopped : (script left : Option (List (List ℕ))) (old new : ArrayState) (n begun m : ℕ) (kind : FaultKind) (fault : Fault)
+    → (done : PlaysAll script left old new n) → fault ≡ Line m kind → IsNear done.lines m kind → IsSo script m kind → n ≤ begun → begun ≤ n + 1 → begun ≤ 1000000 → PlaysTo script (Err fault) old new begun
 plays_stopped script left old new n begun m kind fault done is after so few most within =
     subst (λ (f : Fault). PlaysTo script (Err f) old new begun) (sym is)
     (record {
@@ -147,20 +147,28 @@ plays_stopped script left old new n begun m kind fault done is after so few most
         few = (let all = done.all in omega arith);
         first = taken_first script left done.lines done.took;
         whole = tt;
-        told = (subst (λ k. IsNear k m kind) (sym done.all) after, so);
+        told = (after, so);
       };
       few = (let all = done.all in omega arith);
       most = (let all = done.all in omega arith);
     })
 
 -- that answers couldn't be written is told of the last line that was met, or of the next
-near_begun : (n begun : ℕ) (kind : FaultKind) → n ≤ begun → begun ≤ n + 1 → IsLost kind → IsNear n (max begun 1) kind
-near_begun zero begun kind few most lost = inl (omega arith)
-near_begun (suc n) begun kind few most lost = at (begun - suc n) refl
+begun_near : (n begun : ℕ) → n ≤ begun → begun ≤ n + 1 → (max begun 1 ≡ n + 1) ⊎ (max begun 1 ≡ n)
+begun_near zero begun few most = inl (omega arith)
+begun_near (suc n) begun few most = at (begun - suc n) refl
   where
-    at : (d : ℕ) → begun - suc n ≡ d → IsNear (suc n) (max begun 1) kind
-    at zero is = inr (omega arith, lost)
+    at : (d : ℕ) → begun - suc n ≡ d → (max begun 1 ≡ suc n + 1) ⊎ (max begun 1 ≡ suc n)
+    at zero is = inr (omega arith)
     at (suc d) is = inl (omega arith)
+
+near_begun : (met : List (List ℕ)) (n begun m : ℕ) (kind : FaultKind) → length met ≡ n → n ≤ begun → begun ≤ n + 1 → kind ≡ WriteFault → m ≡ max begun 1
+    → IsNear met m kind
+near_begun met n begun m kind all few most write is =
+    elim (begun_near n begun few most) [
+      | inl next ↦ inl (is ∙ next ∙ ap (λ k. k + 1) (sym all))
+      | inr same ↦ inr (is ∙ same ∙ sym all, inl write)
+    ]
 
 -- where the next line couldn't be taken
 unread : (script left : Option (List (List ℕ))) (old new : ArrayState) (n begun : ℕ) (fault : Fault) → PlaysAll script left old new n → StopsAt left fault → IsOfNext n begun fault
@@ -168,9 +176,9 @@ unread : (script left : Option (List (List ℕ))) (old new : ArrayState) (n begu
 unread script left old new n begun Start done stops next numbered few most within = absurd stops
 unread script left old new n begun (Line m kind) done stops (inl next) numbered few most within =
     let so = so_next script left done.lines n kind done.took done.all (λ many. sym next.1 ∙ numbered.2 many) stops in
-    plays_stopped script left old new n begun m kind (Line m kind) done refl (inl next.1) (subst (λ k. IsSo script k kind) (sym next.1) so) few most within
+    plays_stopped script left old new n begun m kind (Line m kind) done refl (inl (next.1 ∙ ap (λ k. k + 1) (sym done.all))) (subst (λ k. IsSo script k kind) (sym next.1) so) few most within
 unread script left old new n begun (Line m kind) done stops (inr write) numbered few most within =
-    plays_stopped script left old new n begun m kind (Line m kind) done refl (subst (λ k. IsNear n k kind) (sym write.1) (near_begun n begun kind few most (inr write.0)))
+    plays_stopped script left old new n begun m kind (Line m kind) done refl (near_begun done.lines n begun m kind done.all few most write.0 write.1)
     (so_outside script m kind (inr (inr write.0))) few most within
 
 pub plays_unread : (script left : Option (List (List ℕ))) (old new : ArrayState) (n begun : ℕ) (result : Result (Unit {0}) Fault) → PlaysAll script left old new n → IsErr result
@@ -186,9 +194,13 @@ plays_fault script left rest old mid new n line kind fault before next line_met 
     let same : max (suc n) 1 ≡ n + 1 = omega arith in
     let so = so_answered script left rest before.lines line n kind before.took before.all next told in
     let is_next = is ∙ ap (λ m. Line m kind) same in
+    let lines = before.lines ++ line ∷ [] in
+    let taken : length lines ≡ suc n = one_taken before.lines line n before.all in
+    let last : line_at lines (n + 1) ≡ line = next_at lines before.lines (line ∷ []) n refl before.all in
     elim (met_or_not before.lines old mid new line line_met.read kind before.plays line_met.sound line_met.reads line_met.meets) [
       | inl unmet ↦
-          plays_stopped script left old new n (suc n) (n + 1) kind fault (record { lines = before.lines; plays = unmet; all = before.all; took = before.took }) is_next (inl refl) so
+          plays_stopped script left old new n (suc n) (n + 1) kind fault (record { lines = before.lines; plays = unmet; all = before.all; took = before.took }) is_next
+          (inl (ap (λ k. k + 1) (sym before.all))) so
           (omega arith) (omega arith) within
       | inr met ↦
           plays_stopped script rest old new (suc n) (suc n) (n + 1) kind fault
@@ -198,13 +210,14 @@ plays_fault script left rest old mid new n line kind fault before next line_met 
             all = one_taken before.lines line n before.all;
             took = took_more script left rest before.lines (line ∷ []) before.took next;
           })
-          is_next (inr (omega arith, met.1)) so (omega arith) (omega arith) within
+          is_next (inr (omega arith, subst (λ (l : List ℕ). IsLostAt l kind) (sym last) met.1)) so (omega arith) (omega arith) within
     ]
 
 -- no line, where memory was refused before the first
 pub none_begun : (script : Option (List (List ℕ))) (s : ArrayState) (fault : Fault) → fault ≡ Line (max 1 1) NoMemory → PlaysScript script (Err fault) s s
 none_begun script s fault is =
-    (plays_stopped script script s s 0 0 1 NoMemory fault (plays_none script s) is (inl refl) (so_outside script 1 NoMemory (inl refl)) (le_refl 0) (omega arith) (omega arith)).plays
+    let none = plays_none script s in
+    (plays_stopped script script s s 0 0 1 NoMemory fault none is (inl (ap (λ k. k + 1) (sym none.all))) (so_outside script 1 NoMemory (inl refl)) (le_refl 0) (omega arith) (omega arith)).plays
 
 -- ---- how many lines were begun
 

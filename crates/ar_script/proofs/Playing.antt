@@ -15,7 +15,7 @@ use Rattle.ar_orders.specs.declared.order.Question.TheVariants.{Levels, Home, Gr
 use Rattle.ar_orders.specs.Forms.{ReadsLine}
 use Rattle.ar_orders.specs.Lines.{IsLine}
 use Rattle.ar_script.specs.Orders.{event_in, Acts, IsLost, Leaves, Looks, Meets}
-use Rattle.ar_script.specs.Plays.{AsksFor, AsksNothing, AreMet, Plays}
+use Rattle.ar_script.specs.Plays.{AsksFor, AsksNothing, AreMet, IsLostAt, Plays}
 
 -- no line at all
 pub none_played : (s : ArrayState) → Plays [] s s
@@ -130,19 +130,24 @@ met_all lines old mid new line (Err kind) before sound reads meets = let no = me
 -- an action for which memory was refused is none, and one whose answer couldn't be written was done
 unacted : (lines : List (List ℕ)) (old mid new : ArrayState) (line : List ℕ) (action : Action) (kind : FaultKind) → Plays lines old mid
     → IsLine line → ReadsLine line (Ok (Some (Act action))) → Leaves (Act action) mid (Err kind) new → IsLost kind
-    → Plays lines old new ⊎ Plays (lines ++ line ∷ []) old new
+    → Plays lines old new ⊎ (Plays (lines ++ line ∷ []) old new × IsLostAt line kind)
 unacted lines old mid new line action kind before sound reads leaves lost =
     let P : FaultKind → Type 0 = λ k. Leaves (Act action) mid (Err k) new in
     elim lost [
       | inl memory ↦ inl (unchanged lines old mid new before (subst P memory leaves))
-      | inr write ↦ inr (acted lines old mid new line action before sound reads (subst P write leaves))
+      | inr write ↦ inr (acted lines old mid new line action before sound reads (subst P write leaves), inl write)
     ]
+
+-- the answer to a question is lost where memory for it was refused, or it could not be written
+unseen : (line : List ℕ) (question : Question) (kind : FaultKind) → IsLine line → ReadsLine line (Ok (Some (Ask question))) → IsLost kind → IsLostAt line kind
+unseen line question kind sound reads lost =
+    elim lost [ inl memory ↦ inr (memory, record { sound = sound; question = question; reads = reads }) | inr write ↦ inl write ]
 
 -- a line that was answered with a fault was met and its answer lost, or nothing was done
 pub met_or_not : (lines : List (List ℕ)) (old mid new : ArrayState) (line : List ℕ) (read : Result (Option Order) FaultKind) (kind : FaultKind) → Plays lines old mid
-    → IsLine line → ReadsLine line read → Meets read mid (Err kind) new → Plays lines old new ⊎ (Plays (lines ++ line ∷ []) old new × IsLost kind)
+    → IsLine line → ReadsLine line read → Meets read mid (Err kind) new → Plays lines old new ⊎ (Plays (lines ++ line ∷ []) old new × IsLostAt line kind)
 met_or_not lines old mid new line (Ok None) kind before sound reads meets = let no = meets.0 in absurd (cc)
-met_or_not lines old mid new line (Ok (Some (Ask question))) kind before sound reads meets = inr (asked lines old mid new line question before sound reads meets.0, meets.1)
+met_or_not lines old mid new line (Ok (Some (Ask question))) kind before sound reads meets = inr (asked lines old mid new line question before sound reads meets.0, unseen line question kind sound reads meets.1)
 met_or_not lines old mid new line (Ok (Some (Act action))) kind before sound reads meets =
-    elim (unacted lines old mid new line action kind before sound reads meets.0 meets.1) [ inl none ↦ inl none | inr done ↦ inr (done, meets.1) ]
+    unacted lines old mid new line action kind before sound reads meets.0 meets.1
 met_or_not lines old mid new line (Err other) kind before sound reads meets = inl (unchanged lines old mid new before meets.1)

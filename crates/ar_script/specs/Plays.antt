@@ -10,9 +10,10 @@ use Rattle.ar_orders.specs.declared.fault.FaultKind.{FaultKind}
 use Rattle.ar_orders.specs.declared.fault.FaultKind.TheVariants.{TooManyLines, NoMemory, ReadFault, WriteFault}
 use Rattle.ar_orders.specs.declared.order.Order.{Order}
 use Rattle.ar_orders.specs.declared.order.Order.TheVariants.{Act, Ask}
+use Rattle.ar_orders.specs.declared.order.Question.{Question}
 use Rattle.ar_orders.specs.Forms.{ReadsLine}
 use Rattle.ar_orders.specs.Lines.{line_fault, line_at, IsLine, Took}
-use Rattle.ar_script.specs.Orders.{event_in, Looks, IsLost}
+use Rattle.ar_script.specs.Orders.{event_in, Looks}
 
 -- the order is met in this turn, which left the array so: an action is its event, and a question a look at what it asks for alone
 abbrev pub IsTurn : Order → ArrayState → Turn → ArrayState → Type 0
@@ -77,10 +78,21 @@ IsSo (Some script) n kind =
     IsOutside kind ⊎ (line_fault (line_at script n) ≡ Some kind) ⊎ SaysWrong (line_at script n) kind
     ⊎ ((kind ≡ TooManyLines) × (1000000 < length script))
 
+-- the line has no fault, and what it asks for is a question, no action
+pub record AsksToSee (line : List ℕ) : Type 0 where
+  pub sound : IsLine line
+  pub question : Question
+  pub reads : ReadsLine line (Ok (Some (Ask question)))
+
+-- the answer to a line that was met is lost so: it could not be written, or memory for it was refused, to a question alone
+abbrev pub IsLostAt : List ℕ → FaultKind → Type 0
+IsLostAt line kind = (kind ≡ WriteFault) ⊎ ((kind ≡ NoMemory) × AsksToSee line)
+
 -- it is told at the line after the last that was met, or at that one, where an answer was lost
-abbrev pub IsToldAfter : Option (List (List ℕ)) → ℕ → Fault → Type 0
+abbrev pub IsToldAfter : Option (List (List ℕ)) → List (List ℕ) → Fault → Type 0
 IsToldAfter script met Start = ⊥
-IsToldAfter script met (Line n kind) = ((n ≡ met + 1) ⊎ ((n ≡ met) × IsLost kind)) × IsSo script n kind
+IsToldAfter script met (Line n kind) =
+    ((n ≡ length met + 1) ⊎ ((n ≡ length met) × IsLostAt (line_at met n) kind)) × IsSo script n kind
 
 -- The array met the first lines of a script, each once and in their order: all of them, where the script ended without a fault.
 pub record PlaysScript (script : Option (List (List ℕ))) (result : Result (Unit {0}) Fault) (old new : ArrayState) : Type 0 where
@@ -90,7 +102,7 @@ pub record PlaysScript (script : Option (List (List ℕ))) (result : Result (Uni
   pub few : length lines ≤ 1000000
   pub first : AreFirst script lines
   pub whole : OnOk result (AreAll script lines)
-  pub told : IfErr result (IsToldAfter script (length lines))
+  pub told : IfErr result (IsToldAfter script lines)
 
 -- so many lines were taken from a script, and the array met each; these are left
 pub record PlaysAll (script left : Option (List (List ℕ))) (old new : ArrayState) (begun : ℕ) : Type 0 where
