@@ -19,7 +19,8 @@ pub record MovesBlock (old : ArrayState) (answer : Move) (new : ArrayState) : Ty
 
 -- The block that the rule of demotion names went to the slot that it names, in a group that was opened for it where the rule says
 -- so; or the rule names nothing, and nothing has changed. Where the array broke, a group may have been opened. Each other slot of
--- the block's new group that held a block holds it; no disk was asked but those that this asks, and no row written.
+-- the block's new group that held a block holds it; no disk was asked but those that this asks, and no row was written but the
+-- slot's, or those of the group that was opened.
 pub record DemotesOne (old : ArrayState) (answer : Move) (new : ArrayState) : Type 0 where
   pub moves : MovesBlock old answer new
   pub moved : IfMoved answer (λ key to. Demotes old.store.book key to new.store.book)

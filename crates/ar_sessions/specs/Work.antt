@@ -1,5 +1,5 @@
 -- Work in the background.
-use Rattle.std.specs.Prelude.{◌≡◌, ℕ, ◌+◌, ◌*◌, Bool, true, false, nat_lt, min, if◌then◌else◌, Option, Some, None}
+use Rattle.std.specs.Prelude.{◌≡◌, ℕ, ◌+◌, ◌*◌, Bool, true, false, not, nat_lt, min, if◌then◌else◌, Option, Some, None}
 use Rattle.ar_book.specs.Tables.{free_groups}
 use Rattle.ar_image.specs.Image.{is_broken, image}
 use Rattle.ar_image.specs.Sectors.{Address}
@@ -59,14 +59,16 @@ is_idle (outcomes.Rebuild rebuild.Idle) = true
 is_idle (outcomes.Rebuild rebuild.Broken) = true
 is_idle outcome = false
 
--- the task's event was one step of the array
-pub record DoesTask (old : KeptState) (task : Task) (new : KeptState) : Type 0 where
+-- the task's event was one step of the array, and that it did something is told exactly where its answer says so
+pub record DoesTask (old : KeptState) (task : Task) (told : Bool) (new : KeptState) : Type 0 where
   pub outcome : Outcome
   pub steps : Steps old.array (event_in task) outcome new.array
+  pub worked : told ≡ not (is_idle outcome)
 
--- A turn: a task that is due is one step, one that isn't is nothing. The history stays, and until the data are lost every unit.
-pub record TakesTurn (old : KeptState) (task : Task) (new : KeptState) : Type 0 where
-  pub due : is_due task (free_groups old.array.store.book) ≡ true → DoesTask old task new
-  pub idle : is_due task (free_groups old.array.store.book) ≡ false → new ≡ old
+-- A turn, and whether it is told to have done something: a task that is due is one step, one that isn't is nothing. The history
+-- stays, and until the data are lost every unit.
+pub record TakesTurn (old : KeptState) (task : Task) (told : Bool) (new : KeptState) : Type 0 where
+  pub due : is_due task (free_groups old.array.store.book) ≡ true → DoesTask old task told new
+  pub idle : is_due task (free_groups old.array.store.book) ≡ false → (told ≡ false) × (new ≡ old)
   pub history : new.history ≡ old.history
   pub images : is_broken new.array ≡ false → (a : Address) → image new.array a ≡ image old.array a

@@ -97,7 +97,7 @@ fn next(task: Task) -> Task
 
 // Does a task if it is due, and says whether it did anything.
 fn take_turn<D: Disk + Drop, L: Ledger>(kept: &mut Kept<D, L>, task: Task) -> bool
-    ensures { TakesTurn kept.old task kept.new }
+    ensures { TakesTurn kept.old task result kept.new }
 {
     if !is_due(task, kept.free_groups()) {
         return false;
