@@ -38,12 +38,17 @@ fn picture(alloc: Global, blocks: &[Held]) -> Result<Picture, AllocError> {
     picture_of(alloc, plan, blocks)
 }
 
+// The SVG of a picture.
+fn svg_of_picture(alloc: Global, picture: &Picture) -> io::Result<Vec<u8>> {
+    let mut out = Vec::new(alloc);
+    write_svg(&mut out, picture)?;
+    Ok(out)
+}
+
 // The SVG of the array.
 fn svg_of(alloc: Global, blocks: &[Held]) -> io::Result<Vec<u8>> {
     let picture = picture(alloc, blocks)?;
-    let mut out = Vec::new(alloc);
-    write_svg(&mut out, &picture)?;
-    Ok(out)
+    svg_of_picture(alloc, &picture)
 }
 
 // Asserts how often a text stands in another.
@@ -146,9 +151,7 @@ fn a_stream_that_is_full_is_told(rt: HostRuntime) {
 // The SVG of a plan without any block.
 fn svg_of_plan(alloc: Global, plan: Plan<'_>) -> io::Result<Vec<u8>> {
     let picture = picture_of(alloc, plan, &[])?;
-    let mut out = Vec::new(alloc);
-    write_svg(&mut out, &picture)?;
-    Ok(out)
+    svg_of_picture(alloc, &picture)
 }
 
 // Asserts how often texts stand in the SVG of an array.
@@ -266,8 +269,7 @@ fn each_unit_has_a_line_and_a_colour(rt: HostRuntime) {
 fn lengths(alloc: Global) -> io::Result<(usize, usize)> {
     let picture = picture(alloc, &[])?;
     let folds = picture.folds(alloc)?;
-    let mut svg = Vec::new(alloc);
-    write_svg(&mut svg, &picture)?;
+    let svg = svg_of_picture(alloc, &picture)?;
     let mut map = Vec::new(alloc);
     write_map(&mut map, &picture, &folds)?;
     Ok((svg.len(), map.len()))
