@@ -117,7 +117,7 @@ fn moves(rt: &impl Abort, interruptions: u32, most: usize) {
     );
 }
 
-// An error other than an interruption is a fault at once, though the next call would do.
+// An error other than an interruption is a fault at once, though the next call would do. Faults of reads are none of writes.
 #[test]
 fn other_errors(rt: HostRuntime) {
     for kind in [
@@ -144,6 +144,10 @@ fn fails(rt: &impl Abort, kind: ErrorKind) {
     assert!(rt;
         (Source::faults(&reader), Sink::faults(&writer)) == (1, 1),
         "{kind:?}"
+    );
+    assert!(rt;
+        (Source::faults(&writer), Sink::faults(&reader)) == (0, 0),
+        "{kind:?} the other way"
     );
     let given = reader.read(&mut into);
     let taken = writer.write(&piece);

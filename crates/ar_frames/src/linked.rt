@@ -6,11 +6,13 @@ use crate::stream::{Sink, Source};
 use std::io::{ErrorKind, Read, Write};
 
 /// A source over what std reads from, or a sink over what it writes to. Its faults are an error other than an
-/// interruption, the 1,001st interruption in a row, and a write that takes no byte of a piece that has some.
+/// interruption, the 1,001st interruption in a row, and a write that takes no byte of a piece that has some. Those of reads
+/// and those of writes are counted apart.
 #[derive(Drop)]
 pub struct Linked<S> {
     stream: S,
-    faults: u64,
+    read_faults: u64,
+    write_faults: u64,
 }
 
 /// How many interruptions in a row are tried again.
@@ -20,65 +22,77 @@ impl<S> Linked<S> {
     /// A source or sink over this stream.
     pub fn new(stream: S) -> Linked<S>
         ensures stream { result.stream ≡ stream }
-        ensures faults { result.faults ≡ 0 }
+        ensures sound { (result.read_faults ≡ 0) × (result.write_faults ≡ 0) }
     {
-        Linked { stream, faults: 0 }
+        Linked {
+            stream,
+            read_faults: 0,
+            write_faults: 0,
+        }
     }
 
     /// The stream below.
     pub fn into_inner(self) -> S
         ensures { result ≡ self.stream }
     {
-        let Linked { stream, faults: _ } = self;
+        let Linked { stream, .. } = self;
         stream
     }
 
-    // Counts a fault.
-    fn fault(&mut self) -> Option<usize>
+    // Counts a fault of a read.
+    fn read_fault(&mut self) -> Option<usize>
         ensures none { result ≡ None }
-        ensures stream { self.new.stream ≡ self.old.stream }
-        ensures counted { self.new.faults ≡ counted self.old.faults }
+        ensures counted { self.new ≡ record self.old { read_faults = counted self.old.read_faults } }
     {
-        self.faults = self.faults.saturating_add(1);
+        self.read_faults = self.read_faults.saturating_add(1);
+        None
+    }
+
+    // Counts a fault of a write.
+    fn write_fault(&mut self) -> Option<usize>
+        ensures none { result ≡ None }
+        ensures counted { self.new ≡ record self.old { write_faults = counted self.old.write_faults } }
+    {
+        self.write_faults = self.write_faults.saturating_add(1);
         None
     }
 }
 
 impl<R: Read> Source for Linked<R> {
-    ghost state = { λ linked. record { left = R.remaining linked.stream; faults = linked.faults } };
+    ghost state = { λ linked. record { left = R.remaining linked.stream; faults = linked.read_faults } };
 
     fn read(&mut self, into: &mut [u8]) -> Option<usize> {
         for _ in 0..=INTERRUPTIONS {
             match self.stream.read(into) {
                 Ok(n) => return Some(n),
                 Err(error) if error.kind() == ErrorKind::Interrupted => {}
-                Err(_) => return self.fault(),
+                Err(_) => return self.read_fault(),
             }
         }
-        self.fault()
+        self.read_fault()
     }
 
     fn faults(&self) -> u64 {
-        self.faults
+        self.read_faults
     }
 }
 
 impl<W: Write> Sink for Linked<W> {
-    ghost state = { λ linked. record { taken = W.contents linked.stream; faults = linked.faults } };
+    ghost state = { λ linked. record { taken = W.contents linked.stream; faults = linked.write_faults } };
 
     fn write(&mut self, from: &[u8]) -> Option<usize> {
         for _ in 0..=INTERRUPTIONS {
             match self.stream.write(from) {
-                Ok(0) if !from.is_empty() => return self.fault(),
+                Ok(0) if !from.is_empty() => return self.write_fault(),
                 Ok(n) => return Some(n),
                 Err(error) if error.kind() == ErrorKind::Interrupted => {}
-                Err(_) => return self.fault(),
+                Err(_) => return self.write_fault(),
             }
         }
-        self.fault()
+        self.write_fault()
     }
 
     fn faults(&self) -> u64 {
-        self.faults
+        self.write_faults
     }
 }

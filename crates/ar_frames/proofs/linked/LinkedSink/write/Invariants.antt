@@ -6,5 +6,5 @@ use Rattle.ar_frames.proofs.linked.LinkedSink.write.Given as goal
 abbrev pub invariant-loop : goal.invariant-loop
 invariant-loop g l = record {
   kept : Keeps (g.W.Write.contents l.initial.self.stream) (g.W.Write.contents l.self.stream);
-  faults : l.self.faults ≡ l.initial.self.faults;
+  faults : l.self.write_faults ≡ l.initial.self.write_faults;
 }

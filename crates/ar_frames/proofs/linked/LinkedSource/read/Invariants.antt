@@ -6,5 +6,5 @@ use Rattle.ar_frames.proofs.linked.LinkedSource.read.Given as goal
 abbrev pub invariant-loop : goal.invariant-loop
 invariant-loop g l = record {
   kept : Keeps (g.R.Read.remaining l.initial.self.stream) (g.R.Read.remaining l.self.stream);
-  faults : l.self.faults ≡ l.initial.self.faults;
+  faults : l.self.read_faults ≡ l.initial.self.read_faults;
 }
