@@ -1,5 +1,7 @@
 -- The next line, from what was read to what a reader has left.
-use Rattle.std.proofs.Common.{◌≡◌, ◌≢◌, ◌∙◌, ◌++◌, ◌+◌, ◌≤◌, ◌⊎◌, add-zero, ℕ, take, length, nat_lt, Result, Ok, Err, IfErr, arith, Bool, true, false, cond, List, [], ◌∷◌, ◌&&◌, Option, Some, None, option_map, IsSome, ◌==◌, eqb-true, refl, sym, ap, subst, inl, inr, append_assoc, append-nil}
+use Rattle.std.proofs.Common.{◌≡◌, ◌≢◌, ◌∙◌, ◌++◌, ◌+◌, ◌≤◌, ◌⊎◌, add-zero, ℕ, take, length, nat_lt, Result, Ok, Err, IfErr, arith, Bool, true, false, cond, List, [], ◌∷◌, ◌&&◌, Option, Some, None, option_map, IsSome, ◌==◌, eqb-true, refl, sym, ap, subst, inl, inr, append_assoc, append-nil, length-append}
+use Rattle.std.proofs.lemmas.Bool.{le-ltb}
+use Rattle.std.proofs.lemmas.List.{take_all}
 use Rattle.std.proofs.lemmas.List.Folds.{list_all-append}
 use Rattle.std.proofs.lemmas.List.Quantifiers.{position-Some}
 use Rattle.std.specs.List.{list_all, position}
@@ -11,8 +13,8 @@ use Rattle.ar_orders.specs.declared.fault.FaultKind.TheVariants.{LineTooLong, To
 use Rattle.ar_orders.specs.declared.fault.Fault.{Fault}
 use Rattle.ar_orders.specs.declared.fault.Fault.TheVariants.{Start, Line}
 use Rattle.ar_orders.specs.declared.lines.Lines.{Lines}
-use Rattle.ar_orders.specs.Lines.{lines_in, lines_of, first_of, bytes_left, Took, HasNoEnd, is_printable, IsLine, IsFirst, IsFaultFrom, IsUnasked, IsToldOfFirst, IsToldOfNext, StopsAt, is_given, IsReached, IsNumbered, IsOfNext}
-use Rattle.ar_orders.specs.Left.{bytes_read, lines_begun, lines_left, IsRefused, GoesOn}
+use Rattle.ar_orders.specs.Lines.{lines_in, lines_of, first_of, front_of, line_fault, bytes_left, Took, HasNoEnd, is_printable, IsLine, IsFirst, AreThere, IsFaultFrom, IsUnasked, IsToldOfFirst, IsToldOfNext, StopsAt, is_given, IsReached, IsNumbered, IsOfNext}
+use Rattle.ar_orders.specs.Left.{bytes_read, lines_begun, lines_left, IsBegunByByte, IsRefused, GoesOn}
 use Rattle.ar_orders.proofs.Parting.{lines_in-ended, lines_in-last, some_line, printable_has_no_end}
 
 -- what comes behind the bytes that were read: nothing, where the end was met
@@ -244,3 +246,57 @@ no_end_there front buffered whole some = at (position (λ byte. byte == 10) buff
     at (Some end) is found =
         let there = position-Some (λ byte. byte == 10) buffered end 0 is in
         none end 0 there.0 (eqb-true _ _ there.1)
+
+-- bytes without a fault tell none
+sound_line : (line : List ℕ) → IsLine line → line_fault line ≡ None
+sound_line line whole =
+    let all : take 4096 line ≡ line = take_all 4096 line whole.short in
+    ap (λ l. cond (list_all is_printable l) (cond (nat_lt 4096 (length line)) (Some LineTooLong) None) (Some BadCharacter)) all
+    ∙ ap (λ b. cond b (cond (nat_lt 4096 (length line)) (Some LineTooLong) None) (Some BadCharacter)) whole.printable
+    ∙ ap (λ b. cond b (Some LineTooLong) None) (le-ltb 4096 (length line) whole.short)
+
+pub no_fault_there : (bytes : List ℕ) (kind : FaultKind) → IsLine bytes → IsFaultFrom bytes kind → ⊥
+no_fault_there [] kind whole is = let no = is [] in cc
+no_fault_there (x ∷ xs) kind whole is =
+    let line = x ∷ xs in
+    let one = ap lines_in (append-nil line) ∙ lines_in-last x xs (printable_has_no_end line whole.printable) in
+    let no = sym (is []) ∙ ap (λ l. line_fault (first_of l)) one ∙ sound_line line whole in
+    cc
+
+-- behind a million lines nothing of one is read that isn't refused
+pub none_behind : {R : Type 0} {reads : Ghosts R} (old new : Lines R reads) → old.given ≡ 1000000 → bytes_read old ≢ [] → new.given ≡ old.given
+    → bytes_read new ≡ bytes_read old → reader_buffer new.source ≡ [] → ⊥
+none_behind old new many some given same drained = at new.is_begun refl
+  where
+    at : (b : Bool) → new.is_begun ≡ b → ⊥
+    at true is = let few = subst (λ b. new.given + cond b 1 0 ≤ 1000000) is new.few in omega arith
+    at false is = some (sym same ∙ ap (λ b. front_of b new.line.items ++ reader_buffer new.source) is ∙ drained)
+
+-- ---- a line that was begun is there
+
+-- these bytes begin a line of those that are left
+pub some_there : (read : List ℕ) (more : Option (List ℕ)) → read ≢ [] → AreThere (lines_of (prepend_known read more)) 1
+some_there read None some = tt
+some_there [] (Some xs) some = absurd (some refl)
+some_there (x ∷ read) (Some xs) some = at (lines_in (x ∷ (read ++ xs))) (some_line (x ∷ (read ++ xs)) (λ e. cc))
+  where
+    at : (lines : List (List ℕ)) → lines ≢ [] → 1 ≤ length lines
+    at [] none = absurd (none refl)
+    at (line ∷ lines) none = omega arith
+
+pub none_there : (script : Option (List (List ℕ))) → AreThere script 0
+none_there None = tt
+none_there (Some lines) = omega arith
+
+pub begun_there : {R : Type 0} {reads : Ghosts R} (lines : Lines R reads) → IsBegunByByte lines → AreThere (lines_left lines) (cond lines.is_begun 1 0)
+begun_there lines begun = at lines.is_begun refl
+  where
+    at : (b : Bool) → lines.is_begun ≡ b → AreThere (lines_left lines) (cond b 1 0)
+    at true is = subst (λ l. AreThere l 1) (sym (left_of lines)) (some_there (bytes_read lines) (beyond lines) (begun.some is))
+    at false is = none_there (lines_left lines)
+
+-- behind lines that were taken
+pub there_behind : (script left : Option (List (List ℕ))) (lines : List (List ℕ)) (n : ℕ) → Took script left lines → AreThere left n → AreThere script (length lines + n)
+there_behind None left lines n took there = tt
+there_behind (Some all) None lines n took there = absurd took
+there_behind (Some all) (Some left) lines n took there = let len = ap (λ (l : List (List ℕ)). length l) took ∙ length-append lines left in omega arith

@@ -31,7 +31,9 @@ pub record IsBegunByByte {R : Type 0} {reads : Ghosts R} (lines : Lines R reads)
 pub record IsFresh {R : Type 0} {reads : Ghosts R} (lines : Lines R reads) : Type 0 where
   pub none : lines.given ≡ 0
   pub unbegun : lines.is_begun ≡ false
+  pub empty : lines.line.items ≡ []
   pub unread : reader_buffer lines.source ≡ []
+  pub unasked : lines.is_awaited ≡ false
   pub more : lines.is_at_end ≡ false
 
 -- Why the next line isn't given: a million were, and something is there behind them, of which no line is begun; or it is begun,
@@ -43,10 +45,12 @@ IsRefused lines begun (Line n kind) =
     × (((kind ≡ TooManyLines) × (lines.given ≡ 1000000) × (bytes_read lines ≢ []) × (begun ≡ false))
     ⊎ (IsFaultFrom (bytes_read lines) kind × (begun ≡ true)))
 
--- What ends the reading of lines, whatever the reader tells: a stream faulted while the next line was waited for, or it is refused.
+-- What ends the reading of lines, whatever the reader tells: a stream faulted while the next line was waited for, as the input hadn't
+-- ended, or it is refused.
 abbrev pub IsStopped : {R : Type 0} {reads : Ghosts R} → Lines R reads → Fault → Type 0
 IsStopped lines Start = ⊥
-IsStopped lines (Line n kind) = (IsOfStream kind × (lines.is_awaited ≡ true)) ⊎ IsRefused lines lines.is_begun (Line n kind)
+IsStopped lines (Line n kind) =
+    (IsOfStream kind × (lines.is_awaited ≡ true) × (lines.is_at_end ≡ false)) ⊎ IsRefused lines lines.is_begun (Line n kind)
 
 -- The next line has to be waited for: nothing that was read is left but the front of it, and the input hasn't ended.
 pub record IsAwaited {R : Type 0} {reads : Ghosts R} (lines : Lines R reads) : Type 0 where

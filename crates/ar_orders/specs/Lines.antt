@@ -47,6 +47,11 @@ Took None left lines = ⊤
 Took (Some all) None lines = ⊥
 Took (Some all) (Some left) lines = all ≡ lines ++ left
 
+-- at least so many lines are there
+abbrev pub AreThere : Option (List (List ℕ)) → ℕ → Type 0
+AreThere None n = ⊤
+AreThere (Some lines) n = n ≤ length lines
+
 -- no line is left
 abbrev pub IsAllTaken : Option (List (List ℕ)) → Type 0
 IsAllTaken None = ⊤

@@ -104,6 +104,7 @@ impl<R: Read + Drop> Lines<R> {
         ensures begun { OnOk result ((self.new.is_begun ≡ true) × (self.new.line.items ≡ front_of self.old.is_begun self.old.line.items)) }
         ensures full { IfErr result (λ fault. (fault ≡ Fault.Line 1000001 FaultKind.TooManyLines) × (self.old.given ≡ 1000000)) }
         ensures unbegun { OnErr result ((self.old.is_begun ≡ false) × (self.new.is_begun ≡ false)) }
+        ensures room { vec_capacity self.new.line ≡ vec_capacity self.old.line }
     {
         if self.is_begun {
             return Ok(());

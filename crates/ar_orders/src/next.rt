@@ -1,9 +1,9 @@
 // The next line, which may have to be waited for.
-ghost use Rattle.std.specs.Prelude.{◌≡◌, ◌==◌, ◌⊎◌, IsSome, IfErr, OnOk, OnErr, true, false, [], length};
+ghost use Rattle.std.specs.Prelude.{◌≡◌, ◌≢◌, ◌==◌, ◌⊎◌, IsSome, IfErr, OnOk, true, false, [], length};
 ghost use Rattle.std.specs.List.{position};
 ghost use Rattle.std.specs.Io.Buffered.{reader_buffer, writer_buffer, writer_contents};
 ghost use Rattle.std.specs.Io.KnownBytes.{Keeps};
-ghost use Rattle.ar_orders.specs.Lines.{Took, IsFirst, IsUnasked, is_given, StopsAt, IsOfNext, IsReached, IsNumbered};
+ghost use Rattle.ar_orders.specs.Lines.{Took, IsFirst, IsFaultFrom, IsUnasked, is_given, StopsAt, IsOfNext, IsReached, IsNumbered};
 ghost use Rattle.ar_orders.specs.Left.{bytes_read, lines_begun, lines_left, IsAwaited, IsBegunByByte, IsStopped, GoesOn};
 
 use crate::{Fault, FaultKind, Lines};
@@ -33,6 +33,12 @@ pub fn next_line<R: Read + Drop, W: Write + Drop>(
     ensures untouched { IsSome (position (λ byte. byte == 10) (reader_buffer lines.old.source)) → out.new ≡ out.old }
     ensures over { lines.old.is_at_end ≡ true → out.new ≡ out.old }
     ensures written { OnOk result (IsUnasked lines.old.source lines.new.source ⊎ (writer_buffer out.new ≡ [])) }
+
+    // Neither is done where what was read tells a fault: the line's own, or that it is one too many.
+    ensures faulty { (kind : FaultKind) → IsFaultFrom (bytes_read lines.old) kind
+        → IsUnasked lines.old.source lines.new.source × (out.new ≡ out.old) }
+    ensures too_many { lines.old.given ≡ 1000000 → bytes_read lines.old ≢ []
+        → IsUnasked lines.old.source lines.new.source × (out.new ≡ out.old) }
 {
     if lines.advance()? {
         return Ok(true);

@@ -1,7 +1,8 @@
 use Rattle.std.proofs.Common.{rules, ◌≡◌, Err, true, false}
 use Rattle.std.specs.Io.Buffered.{reader_buffer}
 use Rattle.ar_orders.specs.Lines.{front_of, is_given}
-use Rattle.ar_orders.proofs.Going.{goes_given, goes_refused, no_end_there}
+use Rattle.ar_orders.specs.Left.{bytes_read}
+use Rattle.ar_orders.proofs.Going.{goes_given, goes_refused, no_end_there, no_fault_there, none_behind}
 use Rattle.ar_orders.proofs.next.next_line.Goals as goal
 
 pub returns-in_err-advance-clause-goes_on : goal.returns-in_err-advance-clause-goes_on
@@ -35,3 +36,9 @@ pub returns-clause-untouched : goal.returns-clause-untouched
 returns-clause-untouched g c =
     let old = c.args.lines.now in
     λ some. absurd (no_end_there (front_of old.is_begun old.line.items) (reader_buffer old.source) (search rules) some)
+
+pub returns-clause-faulty : goal.returns-clause-faulty
+returns-clause-faulty g c = λ kind is. absurd (no_fault_there (bytes_read c.args.lines.now) kind (search rules) is)
+
+pub returns-clause-too_many : goal.returns-clause-too_many
+returns-clause-too_many g c = λ many some. absurd (none_behind c.args.lines.now c.advance.new.self many some (search rules) (search rules) (search rules))
