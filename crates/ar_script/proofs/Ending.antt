@@ -1,15 +1,17 @@
 -- The lines of a script, taken one after another, and how it ends.
-use Rattle.std.proofs.Common.{◌≡◌, ◌≢◌, ◌⊎◌, inl, inr, ℕ, zero, suc, ◌+◌, ◌-◌, ◌<◌, ◌≤◌, max, Bool, true, false, cond, List, [], ◌∷◌, ◌++◌, length, take, get_or, Option, Some, None, Result, Ok, Err, IfErr, refl, sym, ap, subst, ◌∙◌, append_assoc, append-nil, length-append, le_refl, IsErr, arith}
+use Rattle.std.proofs.Common.{◌≡◌, ◌≢◌, ◌⊎◌, inl, inr, ℕ, zero, suc, ◌+◌, ◌-◌, ◌<◌, ◌≤◌, max, Bool, true, false, cond, List, [], ◌∷◌, ◌++◌, length, take, get_or, Option, Some, None, Result, Ok, Err, IfErr, refl, sym, ap, subst, ◌∙◌, append_assoc, append-nil, add-zero, length-append, le_refl, IsErr, arith}
 use Rattle.std.proofs.Math.Seq.{take-append_seam}
 use Rattle.std.proofs.lemmas.List.{get_or-append_right}
 use Rattle.ar_image.specs.Image.{ArrayState}
 use Rattle.ar_orders.specs.declared.fault.Fault.{Fault}
 use Rattle.ar_orders.specs.declared.fault.Fault.TheVariants.{Start, Line}
 use Rattle.ar_orders.specs.declared.fault.FaultKind.{FaultKind}
-use Rattle.ar_orders.specs.declared.fault.FaultKind.TheVariants.{TooManyLines, NoMemory, WriteFault}
-use Rattle.ar_orders.specs.Lines.{Took, IsAllTaken, first_of, line_at, line_fault, IsToldOfNext, StopsAt, IsNumbered, IsOfNext}
+use Rattle.ar_orders.specs.declared.fault.FaultKind.TheVariants.{TooManyLines, NoMemory, ReadFault, WriteFault}
+use Rattle.ar_orders.specs.Lines.{Took, AreThere, IsReached, IsAllTaken, first_of, line_at, line_fault, IsToldOfNext, StopsAt, IsNumbered, IsOfNext}
 use Rattle.ar_script.specs.Orders.{IsLost, Meets, MeetsLine}
-use Rattle.ar_script.specs.Plays.{IsLostAt, IsOutside, AreFirst, AreAll, SaysWrong, IsSo, PlaysScript, PlaysAll, PlaysTo}
+use Rattle.ar_orders.proofs.Going.{none_there, there_behind}
+use Rattle.ar_script.specs.Ends.{Ends}
+use Rattle.ar_script.specs.Plays.{IsThere, IsLostAt, IsOutside, AreFirst, AreAll, SaysWrong, IsSo, PlaysScript, PlaysAll, PlaysTo}
 use Rattle.ar_script.proofs.Playing.{none_played, met_all, met_or_not}
 
 -- ---- lines that were taken
@@ -213,6 +215,22 @@ plays_fault script left rest old mid new n line kind fault before next line_met 
           is_next (inr (omega arith, subst (λ (l : List ℕ). IsLostAt l kind) (sym last) met.1)) so (omega arith) (omega arith) within
     ]
 
+-- once what was left of the answers is written, or can't be
+pub plays_finished : (script : Option (List (List ℕ))) (old new : ArrayState) (begun : ℕ) (done result : Result (Unit {0}) Fault) → PlaysTo script done old new begun → Ends begun done result
+    → PlaysScript script result old new
+plays_finished script old new begun done result played (inr same) = subst (λ (r : Result (Unit {0}) Fault). PlaysScript script r old new) (sym same.0) played.plays
+plays_finished script old new begun done result played (inl write) =
+    let met = played.plays.lines in
+    subst (λ (r : Result (Unit {0}) Fault). PlaysScript script r old new) (sym write)
+    (record {
+      lines = met;
+      plays = played.plays.plays;
+      few = played.plays.few;
+      first = played.plays.first;
+      whole = tt;
+      told = (near_begun met (length met) begun (max begun 1) WriteFault refl played.few played.most refl refl, so_outside script (max begun 1) WriteFault (inr (inr refl)));
+    })
+
 -- no line, where memory was refused before the first
 pub none_begun : (script : Option (List (List ℕ))) (s : ArrayState) (fault : Fault) → fault ≡ Line (max 1 1) NoMemory → PlaysScript script (Err fault) s s
 none_begun script s fault is =
@@ -229,3 +247,54 @@ begun_within old new false same = (omega arith, omega arith)
 pub begun_as : (old new : ℕ) (begun : Bool) → new ≡ old + 1 → begun ≡ false → new + cond begun 1 0 ≡ suc old
 begun_as old new true count closed = absurd (cc)
 begun_as old new false count closed = omega arith
+
+-- ---- which line is told
+
+-- of what was reached: a line that was begun is there
+there_reached : (lines : List (List ℕ)) (begun n : ℕ) (kind : FaultKind) → begun ≤ length lines
+    → (n ≡ begun) ⊎ ((n ≡ begun + 1) × ((kind ≡ ReadFault) ⊎ (kind ≡ TooManyLines) ⊎ ((kind ≡ WriteFault) × (begun ≡ 0)))) → IsThere (Some lines) (Line n kind)
+there_reached lines begun n kind there (inl same) = inr (inr (omega arith))
+there_reached lines begun n kind there (inr next) =
+    elim next.1 [ inl read ↦ inl read | inr others ↦ elim others [ inl many ↦ inr (inl many) | inr write ↦ inr (inr (let none = write.1 in omega arith)) ] ]
+
+there_told : (script : Option (List (List ℕ))) (begun : ℕ) (fault : Fault) → AreThere script begun → IsReached begun fault → IsThere script fault
+there_told script begun Start there reached = tt
+there_told None begun (Line n kind) there reached = tt
+there_told (Some lines) begun (Line n kind) there reached = there_reached lines begun n kind there reached
+
+there_first : (script : Option (List (List ℕ))) (begun : ℕ) (kind : FaultKind) → AreThere script begun → IsThere script (Line (max begun 1) kind)
+there_first None begun kind there = tt
+there_first (Some lines) begun kind there = inr (inr (omega arith))
+
+-- and of the end
+pub there_ended : (script : Option (List (List ℕ))) (begun : ℕ) (done result : Result (Unit {0}) Fault) → AreThere script begun → IfErr done (IsReached begun) → Ends begun done result
+    → IfErr result (IsThere script)
+there_ended script begun done (Ok end) there reached ends = tt
+there_ended script begun done (Err fault) there reached (inl write) =
+    let is : fault ≡ Line (max begun 1) WriteFault = (let same = write in cc) in
+    subst (λ (f : Fault). IsThere script f) (sym is) (there_first script begun WriteFault there)
+there_ended script begun (Ok end) (Err fault) there reached (inr same) = let no = same.0 in absurd (cc)
+there_ended script begun (Err told) (Err fault) there reached (inr same) =
+    let is : told ≡ fault = (let one = same.0 in cc) in
+    subst (λ (f : Fault). IsThere script f) is (there_told script begun told there reached)
+
+-- before the first line
+pub there_none : (script : Option (List (List ℕ))) (fault : Fault) → fault ≡ Line (max 1 1) NoMemory → IsThere script fault
+there_none None fault is = subst (λ (f : Fault). IsThere None f) (sym is) tt
+there_none (Some lines) fault is = subst (λ (f : Fault). IsThere (Some lines) f) (sym is) (inr (inr (omega arith)))
+
+-- where so many lines were taken, and one more is begun
+pub there_begun : (script left new : Option (List (List ℕ))) (old mid : ArrayState) (n given : ℕ) (begun : Bool) → PlaysAll script left old mid n → Took left new [] → given ≡ n
+    → AreThere new (cond begun 1 0) → AreThere script (given + cond begun 1 0)
+there_begun script left new old mid n given begun done kept same there =
+    let took = took_more script left new done.lines [] done.took kept in
+    let took_same : Took script new done.lines = subst (λ (l : List (List ℕ)). Took script new l) (append-nil done.lines) took in
+    subst (λ k. AreThere script (k + cond begun 1 0)) (done.all ∙ sym same) (there_behind script new done.lines (cond begun 1 0) took_same there)
+
+pub there_given : (script left new : Option (List (List ℕ))) (old mid : ArrayState) (n : ℕ) (line : List ℕ) → PlaysAll script left old mid n → Took left new (line ∷ [])
+    → AreThere script (suc n)
+there_given None left new old mid n line done took = tt
+there_given (Some all) left new old mid n line done took =
+    let taken = took_more (Some all) left new done.lines (line ∷ []) done.took took in
+    let len = one_taken done.lines line n done.all in
+    subst (λ k. AreThere (Some all) k) (add-zero (length (done.lines ++ line ∷ [])) ∙ len) (there_behind (Some all) new (done.lines ++ line ∷ []) 0 taken (none_there new))

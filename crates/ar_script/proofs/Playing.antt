@@ -139,15 +139,15 @@ unacted lines old mid new line action kind before sound reads leaves lost =
     ]
 
 -- the answer to a question is lost where memory for it was refused, or it could not be written
-unseen : (line : List ℕ) (question : Question) (kind : FaultKind) → IsLine line → ReadsLine line (Ok (Some (Ask question))) → IsLost kind → IsLostAt line kind
-unseen line question kind sound reads lost =
-    elim lost [ inl memory ↦ inr (memory, record { sound = sound; question = question; reads = reads }) | inr write ↦ inl write ]
+unseen : (line : List ℕ) (question : Question) (kind : FaultKind) → ReadsLine line (Ok (Some (Ask question))) → IsLost kind → IsLostAt line kind
+unseen line question kind reads lost =
+    elim lost [ inl memory ↦ inr (memory, record { question = question; reads = reads }) | inr write ↦ inl write ]
 
 -- a line that was answered with a fault was met and its answer lost, or nothing was done
 pub met_or_not : (lines : List (List ℕ)) (old mid new : ArrayState) (line : List ℕ) (read : Result (Option Order) FaultKind) (kind : FaultKind) → Plays lines old mid
     → IsLine line → ReadsLine line read → Meets read mid (Err kind) new → Plays lines old new ⊎ (Plays (lines ++ line ∷ []) old new × IsLostAt line kind)
 met_or_not lines old mid new line (Ok None) kind before sound reads meets = let no = meets.0 in absurd (cc)
-met_or_not lines old mid new line (Ok (Some (Ask question))) kind before sound reads meets = inr (asked lines old mid new line question before sound reads meets.0, unseen line question kind sound reads meets.1)
+met_or_not lines old mid new line (Ok (Some (Ask question))) kind before sound reads meets = inr (asked lines old mid new line question before sound reads meets.0, unseen line question kind reads meets.1)
 met_or_not lines old mid new line (Ok (Some (Act action))) kind before sound reads meets =
     unacted lines old mid new line action kind before sound reads meets.0 meets.1
 met_or_not lines old mid new line (Err other) kind before sound reads meets = inl (unchanged lines old mid new before meets.1)

@@ -1,5 +1,5 @@
 -- What a script has an array meet, line by line.
-use Rattle.std.specs.Prelude.{◌≡◌, ◌⊎◌, ⊤, ℕ, ◌+◌, ◌<◌, ◌≤◌, List, [], ◌∷◌, length, take, Option, Some, None, Result, Ok, Err, OnOk, IfErr}
+use Rattle.std.specs.Prelude.{◌≡◌, ◌⊎◌, ⊤, ℕ, ◌+◌, ◌<◌, ◌≤◌, max, List, [], ◌∷◌, length, take, Option, Some, None, Result, Ok, Err, OnOk, IfErr}
 use Rattle.ar_disks.specs.Disk.{DiskState}
 use Rattle.ar_image.specs.Image.{ArrayState, geometry_of}
 use Rattle.ar_image.specs.Start.{IsStarted}
@@ -78,9 +78,8 @@ IsSo (Some script) n kind =
     IsOutside kind ⊎ (line_fault (line_at script n) ≡ Some kind) ⊎ SaysWrong (line_at script n) kind
     ⊎ ((kind ≡ TooManyLines) × (1000000 < length script))
 
--- the line has no fault, and what it asks for is a question, no action
+-- what the line asks for is a question, no action
 pub record AsksToSee (line : List ℕ) : Type 0 where
-  pub sound : IsLine line
   pub question : Question
   pub reads : ReadsLine line (Ok (Some (Ask question)))
 
@@ -93,6 +92,13 @@ abbrev pub IsToldAfter : Option (List (List ℕ)) → List (List ℕ) → Fault 
 IsToldAfter script met Start = ⊥
 IsToldAfter script met (Line n kind) =
     ((n ≡ length met + 1) ⊎ ((n ≡ length met) × IsLostAt (line_at met n) kind)) × IsSo script n kind
+
+-- The line of which a fault is told is there, or is the first. But the input may not be read where no line is left, and that there are
+-- too many lines is told where there are (`IsSo`).
+abbrev pub IsThere : Option (List (List ℕ)) → Fault → Type 0
+IsThere script Start = Unit {0}
+IsThere None (Line n kind) = ⊤
+IsThere (Some lines) (Line n kind) = (kind ≡ ReadFault) ⊎ (kind ≡ TooManyLines) ⊎ (n ≤ max (length lines) 1)
 
 -- The array met the first lines of a script, each once and in their order: all of them, where the script ended without a fault.
 pub record PlaysScript (script : Option (List (List ℕ))) (result : Result (Unit {0}) Fault) (old new : ArrayState) : Type 0 where

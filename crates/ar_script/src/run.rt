@@ -3,11 +3,11 @@ ghost use Rattle.std.specs.Prelude.{◌≡◌, ◌≢◌, ◌≤◌, ◌⊎◌, 
 ghost use Rattle.std.specs.Io.Buffered.{writer_buffer, writer_contents};
 ghost use Rattle.std.specs.Io.KnownBytes.{Keeps};
 ghost use Rattle.ar_extents.specs.Changes.{start_fault};
-ghost use Rattle.ar_orders.specs.Left.{lines_left, lines_begun};
-ghost use Rattle.ar_orders.specs.Lines.{lines_of, IsNumbered, IsReached};
+ghost use Rattle.ar_orders.specs.Left.{lines_left, lines_begun, IsFresh};
+ghost use Rattle.ar_orders.specs.Lines.{lines_of, AreThere, IsNumbered, IsReached};
 ghost use Rattle.ar_script.specs.Ends.{Ends, is_write_fault as tells_write_fault};
 ghost use Rattle.ar_script.specs.Orders.{IsLost, MeetsLine};
-ghost use Rattle.ar_script.specs.Plays.{SaysWrong, PlaysScript, PlaysTo, HasPlayed};
+ghost use Rattle.ar_script.specs.Plays.{SaysWrong, IsThere, PlaysScript, PlaysTo, HasPlayed};
 ghost use Rattle.ar_script.specs.Setups.{disks_of};
 
 use crate::runner::Runner;
@@ -43,6 +43,7 @@ pub fn run_script<R: Read + Drop, W: Write + Drop>(
     ensures begun { result ≢ Err Fault.Start → (setup.cache ≤ 65536) × (start_fault (disks_of setup) ≡ None) }
     ensures played { result ≢ Err Fault.Start → HasPlayed (disks_of setup) setup.cache (lines_of (R.remaining reader)) result }
     ensures numbered { IfErr result IsNumbered }
+    ensures there { IfErr result (IsThere (lines_of (R.remaining reader))) }
 {
     let mut runner = Runner::start(alloc, setup)?;
     run_on(alloc, &mut runner, reader, writer)
@@ -58,6 +59,7 @@ pub fn run_on<R: Read + Drop, W: Write + Drop>(
 ) -> Result<(), Fault>
     ensures plays { PlaysScript (lines_of (R.remaining reader)) result runner.old runner.new }
     ensures numbered { IfErr result IsNumbered }
+    ensures there { IfErr result (IsThere (lines_of (R.remaining reader))) }
 {
     let Ok(mut lines) = Lines::new(alloc, reader) else {
         return Err(fault_at(1, FaultKind::NoMemory));
@@ -72,9 +74,10 @@ fn write_answers<R: Read + Drop, W: Write + Drop>(
     lines: &mut Lines<R>,
     writer: W,
 ) -> Result<(), Fault>
-    requires fresh { lines.old.given ≡ 0 }
+    requires fresh { IsFresh lines.old }
     ensures plays { PlaysScript (lines_left lines.old) result runner.old runner.new }
     ensures numbered { IfErr result IsNumbered }
+    ensures there { IfErr result (IsThere (lines_left lines.old)) }
 {
     let Ok(mut out) = BufWriter::new(alloc, writer) else {
         return Err(fault_at(1, FaultKind::NoMemory));
@@ -103,8 +106,9 @@ fn run_lines<R: Read + Drop, W: Write + Drop>(
     lines: &mut Lines<R>,
     out: &mut BufWriter<W>,
 ) -> Result<(), Fault>
-    requires fresh { lines.old.given ≡ 0 }
+    requires fresh { IsFresh lines.old }
     ensures plays { PlaysTo (lines_left lines.old) result runner.old runner.new (lines_begun lines.new) }
+    ensures there { AreThere (lines_left lines.old) (lines_begun lines.new) }
     ensures ended { OnOk result (lines.new.is_at_end ≡ true) }
     ensures reached { IfErr result (IsReached (lines_begun lines.new)) }
     ensures numbered { IfErr result IsNumbered }

@@ -1,16 +1,18 @@
-use Rattle.std.proofs.Common.{rules, ◌≡◌, ◌∙◌, max, suc, true, false, ◌+◌, ◌≤◌, Ok, Err, IfErr, add-zero, sym, ap, subst, arith}
+use Rattle.std.proofs.Common.{rules, ◌≡◌, ◌∙◌, max, suc, true, false, ◌+◌, ◌≤◌, Ok, Err, IfErr, add-zero, refl, sym, ap, subst, arith}
 use Rattle.ar_orders.specs.declared.fault.Fault.TheVariants.{Line}
 use Rattle.ar_orders.specs.Left.{lines_left, lines_begun}
-use Rattle.ar_orders.specs.Lines.{StopsAt, IsOfNext, IsNumbered, is_given, is_lacking}
+use Rattle.ar_orders.proofs.Going.{begun_there}
+use Rattle.ar_orders.specs.Lines.{AreThere, StopsAt, IsOfNext, IsNumbered, is_given, is_lacking}
 use Rattle.ar_script.specs.Plays.{PlaysAll, PlaysTo}
-use Rattle.ar_script.proofs.Ending.{plays_none, plays_line, plays_fault, plays_ended, plays_unread, begun_as, begun_within}
+use Rattle.ar_script.proofs.Ending.{plays_none, plays_line, plays_fault, plays_ended, plays_unread, begun_as, begun_within, there_begun, there_given}
 use Rattle.ar_script.proofs.run.run_lines.Goals as goal
 
 pub loop-init : goal.loop-init
 loop-init g c =
     let script = lines_left c.args.lines.now in (
       omega arith,
-      subst (λ n. PlaysAll script script c.args.runner.now c.args.runner.now n) (sym c.requires.fresh) (plays_none script c.args.runner.now),
+      subst (λ n. PlaysAll script script c.args.runner.now c.args.runner.now n) (sym c.requires.fresh.none) (plays_none script c.args.runner.now),
+      record { some = λ begun. let no = c.requires.fresh.unbegun in absurd (cc) },
     )
 
 pub returns-in_err-next_line-clause-plays : goal.returns-in_err-next_line-clause-plays
@@ -67,4 +69,34 @@ loop-preserved g c =
       subst (λ n. PlaysAll script (lines_left new) c.args.runner.now c.answer_line.new.runner n) (sym next)
           (plays_line script (lines_left c.loop.lines) (lines_left new) c.args.runner.now c.loop.runner c.answer_line.new.runner c.loop.lines.given line c.answer_line.result
           c.loop.invariant.1 (goes.taken one) good c.answer_line.ensures.meets),
+      c.next_line.ensures.begun c.loop.invariant.2,
     )
+
+pub returns-in_err-next_line-clause-there : goal.returns-in_err-next_line-clause-there
+returns-in_err-next_line-clause-there g c =
+    let new = c.next_line.new.lines in
+    let given = c.loop.lines.given in
+    let goes = c.in_err-next_line.ensures.goes_on in
+    there_begun (lines_left c.args.lines.now) (lines_left c.loop.lines) (lines_left new) c.args.runner.now c.loop.runner given new.given new.is_begun c.loop.invariant.1
+    (goes.kept refl) (goes.count ∙ add-zero given) (begun_there new (c.next_line.ensures.begun c.loop.invariant.2))
+
+pub returns-then-not-branch-clause-there : goal.returns-then-not-branch-clause-there
+returns-then-not-branch-clause-there g c =
+    let new = c.next_line.new.lines in
+    let given = c.loop.lines.given in
+    let goes = c.next_line.ensures.goes_on in
+    let none : is_given c.next_line.result ≡ false = search rules in
+    let same : new.given ≡ given = search rules in
+    there_begun (lines_left c.args.lines.now) (lines_left c.loop.lines) (lines_left new) c.args.runner.now c.loop.runner given new.given new.is_begun c.loop.invariant.1
+    (goes.kept none) same (begun_there new (c.next_line.ensures.begun c.loop.invariant.2))
+
+pub returns-in-Err-clause-there : goal.returns-in-Err-clause-there
+returns-in-Err-clause-there g c =
+    let script = lines_left c.args.lines.now in
+    let new = c.next_line.new.lines in
+    let goes = c.next_line.ensures.goes_on in
+    let one : is_given c.next_line.result ≡ true = search rules in
+    let count : new.given ≡ c.loop.lines.given + 1 = search rules in
+    let begun = begun_as c.loop.lines.given new.given new.is_begun count (goes.closed one) in
+    subst (λ n. AreThere script n) (sym begun)
+    (there_given script (lines_left c.loop.lines) (lines_left new) c.args.runner.now c.loop.runner c.loop.lines.given new.line.items c.loop.invariant.1 (goes.taken one))

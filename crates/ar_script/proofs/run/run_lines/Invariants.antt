@@ -1,8 +1,9 @@
 -- Each turn takes a line, and plays it.
 use Rattle.std.proofs.Common.{◌≤◌}
-use Rattle.ar_orders.specs.Left.{lines_left}
+use Rattle.ar_orders.specs.Left.{lines_left, IsBegunByByte}
 use Rattle.ar_script.specs.Plays.{PlaysAll}
 use Rattle.ar_script.proofs.run.run_lines.Given as goal
 
 abbrev pub invariant-loop : goal.invariant-loop
-invariant-loop g l = (l.counter ≤ l.lines.given) × PlaysAll (lines_left l.initial.lines) (lines_left l.lines) l.fn.runner l.runner l.lines.given
+invariant-loop g l =
+    (l.counter ≤ l.lines.given) × PlaysAll (lines_left l.initial.lines) (lines_left l.lines) l.fn.runner l.runner l.lines.given × IsBegunByByte l.lines

@@ -1,6 +1,9 @@
 use Rattle.ar_orders.specs.Lines.{lines_of}
-use Rattle.ar_script.proofs.Ending.{none_begun}
+use Rattle.ar_script.proofs.Ending.{none_begun, there_none}
 use Rattle.ar_script.proofs.run.run_on.Goals as goal
 
 pub returns-in_default-clause-plays : goal.returns-in_default-clause-plays
 returns-in_default-clause-plays g c = none_begun (lines_of (g.R.Read.remaining c.args.reader)) c.args.runner.now c.fault_at.result c.fault_at.ensures.same
+
+pub returns-in_default-clause-there : goal.returns-in_default-clause-there
+returns-in_default-clause-there g c = there_none (lines_of (g.R.Read.remaining c.args.reader)) c.fault_at.result c.fault_at.ensures.same
