@@ -1,6 +1,6 @@
 -- The sectors of a unit, as they lie in its blocks.
-use Rattle.std.specs.Prelude.{ℕ, ◌+◌, ◌-◌, ◌/◌, ◌%◌, ◌==◌, ◌&&◌, if◌then◌else◌, Bool, List, [], map}
-use Rattle.std.specs.List.{range_with_len}
+use Rattle.std.specs.Prelude.{◌≡◌, ℕ, ◌+◌, ◌-◌, ◌/◌, ◌%◌, ◌≤◌, ◌==◌, ◌&&◌, ◌++◌, if◌then◌else◌, Bool, List, [], map}
+use Rattle.std.specs.List.{concat, range_with_len}
 use Rattle.ar_disks.specs.declared.address.Addr.{Addr}
 use Rattle.ar_disks.specs.declared.address.Key.{Key}
 use Rattle.ar_disks.specs.declared.geometry.Geometry.{Geometry}
@@ -41,3 +41,9 @@ sector_in g blocks i = sectors_at (blocks (i / sectors_of g)) (i % sectors_of g)
 -- its sectors from one on, so many
 abbrev pub sectors_in : Geometry → (ℕ → List ℕ) → ℕ → ℕ → List (List ℕ)
 sectors_in g blocks first count = map (sector_in g blocks) (range_with_len first count)
+
+-- the bytes of the first of so many sectors of a unit stand behind what was there, and nothing else
+pub record AppendsFirst (g : Geometry) (blocks : ℕ → List ℕ) (lba count : ℕ) (old new : List ℕ) : Type 0 where
+  pub many : ℕ
+  pub within : many ≤ count
+  pub bytes : new ≡ old ++ concat (sectors_in g blocks lba many)

@@ -1,11 +1,11 @@
 // How READ and WRITE move sectors, block by block.
-ghost use Rattle.std.specs.Prelude.{◌≡◌, ◌≢◌, ◌⊎◌, ◌+◌, ◌*◌, ◌-◌, ◌/◌, ◌%◌, ◌<◌, ◌≤◌, ◌==◌, ◌++◌, ℕ, false, IsTrue, List, length, vec_len, vec_capacity};
+ghost use Rattle.std.specs.Prelude.{◌≡◌, ◌≢◌, ◌⊎◌, ◌+◌, ◌*◌, ◌-◌, ◌/◌, ◌%◌, ◌<◌, ◌≤◌, ◌==◌, ◌++◌, ℕ, false, IsTrue, length, vec_len, vec_capacity};
 ghost use Rattle.std.specs.List.{concat};
 ghost use Rattle.ar_disks.specs.declared.address.Key.{Key};
 ghost use Rattle.ar_disks.specs.Geometry.{sectors_of, block_len_of};
 ghost use Rattle.ar_disks.specs.Block.{sectors_at};
 ghost use Rattle.ar_cache.specs.Backing.{stored, InTurn, StopsInTurn, Keeps, SameBlocks};
-ghost use Rattle.ar_image.specs.Sectors.{sector_in, sectors_in, key_of, keys_in, unit_block};
+ghost use Rattle.ar_image.specs.Sectors.{sector_in, sectors_in, AppendsFirst, key_of, keys_in, unit_block};
 ghost use Rattle.ar_image.specs.Storing.{Overwrites, ReadsFirst, Replaces, StopsOver, StopsReplacing};
 
 use ar_cache::Backing;
@@ -56,8 +56,8 @@ fn read_part<B: Backing>(
 }
 
 /// Appends `count` sectors of a unit from number `lba` on to `out`. Their blocks are read once each, in ascending order, until
-/// one can't be. NoMemory says that `out` had no room for them all, and got none. What stood in `out` before stays, whatever is
-/// answered.
+/// one can't be. NoMemory says that `out` had no room for them all, and got none. Whatever is answered, what stood in `out` before
+/// stays, and nothing stands behind it but the first of these sectors.
 pub fn read_sectors<B: Backing>(
     blocks: &mut B,
     geometry: Geometry,
@@ -77,7 +77,7 @@ pub fn read_sectors<B: Backing>(
         ++ concat (sectors_in geometry (unit_block (B.block_at blocks.old) addr) lba count) }
     ensures many { result ≡ Transfer.Done → length out.new.items ≡ length out.old.items + 512 * count }
     ensures broken { result ≡ Transfer.Broken → IsTrue (B.is_broken blocks.new) }
-    ensures front { (more : List ℕ) × (out.new.items ≡ out.old.items ++ more) }
+    ensures first { AppendsFirst geometry (unit_block (B.block_at blocks.old) addr) lba count out.old.items out.new.items }
 
     ensures sound { result ≢ Transfer.Broken → B.is_broken blocks.new ≡ false }
     ensures blocks { result ≢ Transfer.Broken → SameBlocks (B.block_at blocks.old) (B.block_at blocks.new) }

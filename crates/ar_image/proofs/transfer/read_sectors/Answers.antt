@@ -1,4 +1,4 @@
-use Rattle.std.proofs.Common.{◌≡◌, ◌⊎◌, ℕ, ◌%◌, ◌/◌, ◌+◌, ◌-◌, ◌<◌, ◌≤◌, List, inl, inr, min, ap, subst, ◌∙◌, arith}
+use Rattle.std.proofs.Common.{rules, ◌≡◌, ◌⊎◌, ℕ, ◌%◌, ◌/◌, ◌+◌, ◌-◌, ◌<◌, ◌≤◌, List, inl, inr, min, ap, subst, ◌∙◌, arith}
 use Rattle.ar_disks.specs.declared.address.Key.{Key}
 use Rattle.ar_disks.specs.Geometry.{sectors_of}
 use Rattle.ar_disks.specs.Block.{sectors_at}
@@ -74,3 +74,13 @@ pub returns-in_default-clause-room : goal.returns-in_default-clause-room
 returns-in_default-clause-room g c fits =
     c.read_part.ensures.room
     (omega (arith, fits, c.loop-at.invariant.capacity, c.loop-at.invariant.many, c.loop-at.invariant.from, c.loop-at.out.ok, c.args.out.now.ok))
+
+pub returns-in_default-clause-first : goal.returns-in_default-clause-first
+returns-in_default-clause-first g c = record {
+  many = c.loop-at.at - c.args.lba;
+  within = omega arith;
+  bytes = c.read_part.ensures.failed (search rules) ∙ c.loop-at.invariant.bytes;
+}
+
+pub returns-clause-first : goal.returns-clause-first
+returns-clause-first g c = record { many = c.loop-at.at - c.args.lba; within = omega arith; bytes = c.loop-at.invariant.bytes }
