@@ -7,11 +7,11 @@ use Rattle.ar_orders.specs.declared.fault.Fault.{Fault}
 use Rattle.ar_orders.specs.declared.fault.Fault.TheVariants.{Start, Line}
 use Rattle.ar_orders.specs.declared.fault.FaultKind.{FaultKind}
 use Rattle.ar_orders.specs.declared.fault.FaultKind.TheVariants.{TooManyLines, NoMemory, ReadFault, WriteFault}
-use Rattle.ar_orders.specs.Lines.{Took, AreThere, IsReached, IsAllTaken, first_of, line_at, line_fault, IsToldOfNext, StopsAt, IsNumbered, IsOfNext}
-use Rattle.ar_script.specs.Orders.{IsLost, Meets, MeetsLine}
+use Rattle.ar_orders.specs.Lines.{Took, AreThere, IsOfStream, IsReached, IsAllTaken, first_of, line_at, line_fault, IsToldOfNext, StopsAt, IsNumbered, IsOfNext}
+use Rattle.ar_script.specs.Orders.{Meets, MeetsLine}
 use Rattle.ar_orders.proofs.Going.{none_there, there_behind}
 use Rattle.ar_script.specs.Ends.{Ends}
-use Rattle.ar_script.specs.Plays.{IsThere, IsLostAt, IsOutside, AreFirst, AreAll, SaysWrong, IsSo, PlaysScript, PlaysAll, PlaysTo}
+use Rattle.ar_script.specs.Plays.{IsThere, IsLostAt, IsUnanswered, NeedsMemory, AreFirst, AreAll, SaysWrong, IsSo, PlaysScript, PlaysAll, PlaysTo}
 use Rattle.ar_script.proofs.Playing.{none_played, met_all, met_or_not}
 
 -- ---- lines that were taken
@@ -55,9 +55,13 @@ some_more : (lines left : List (List ℕ)) (n : ℕ) → length lines ≡ n → 
 some_more lines [] n count some = absurd (some refl)
 some_more lines (line ∷ left) n count some = omega (arith, length-append lines (line ∷ left))
 
-so_outside : (script : Option (List (List ℕ))) (n : ℕ) (kind : FaultKind) → IsOutside kind → IsSo script n kind
-so_outside None n kind is = tt
-so_outside (Some lines) n kind is = inl is
+so_stream : (script : Option (List (List ℕ))) (n : ℕ) (kind : FaultKind) → IsOfStream kind → IsSo script n kind
+so_stream None n kind is = tt
+so_stream (Some lines) n kind is = inl (inl is)
+
+so_before : (script : Option (List (List ℕ))) → IsSo script 1 NoMemory
+so_before None = tt
+so_before (Some lines) = inl (inr (refl, inl refl))
 
 -- a line that couldn't be taken
 so_next : (script left : Option (List (List ℕ))) (lines : List (List ℕ)) (n : ℕ) (kind : FaultKind) → Took script left lines → length lines ≡ n
@@ -66,7 +70,7 @@ so_next None left lines n kind took count many told = tt
 so_next (Some all) None lines n kind took count many told = absurd took
 so_next (Some all) (Some left) lines n kind took count many told =
     elim told [
-      | inl stream ↦ inl (inr stream)
+      | inl stream ↦ inl (inl stream)
       | inr other ↦ elim other [
         | inl fault ↦ inr (inl (ap line_fault (next_at all lines left n took count) ∙ fault))
         | inr over ↦ inr (inr (inr (over.0, too_many over.1 (many over.0))))
@@ -76,22 +80,28 @@ so_next (Some all) (Some left) lines n kind took count many told =
     too_many : left ≢ [] → n + 1 ≡ 1000001 → 1000000 < length all
     too_many some is = let more = some_more lines left n count some in let same = ap (λ (l : List (List ℕ)). length l) took in omega arith
 
--- a line that says nothing that can be asked for
-so_said : (script left rest : Option (List (List ℕ))) (lines : List (List ℕ)) (line : List ℕ) (n : ℕ) (kind : FaultKind) → Took script left lines → length lines ≡ n
-    → Took left rest (line ∷ []) → SaysWrong line kind → IsSo script (n + 1) kind
-so_said None left rest lines line n kind took count next says = tt
-so_said (Some all) None rest lines line n kind took count next says = absurd took
-so_said (Some all) (Some left) None lines line n kind took count next says = absurd next
-so_said (Some all) (Some left) (Some rest) lines line n kind took count next says =
+-- what is told of the next line, where that was taken
+so_taken : (script left rest : Option (List (List ℕ))) (lines : List (List ℕ)) (line : List ℕ) (n : ℕ) (kind : FaultKind) → Took script left lines → length lines ≡ n
+    → Took left rest (line ∷ []) → NeedsMemory line × (kind ≡ NoMemory) ⊎ SaysWrong line kind → IsSo script (n + 1) kind
+so_taken None left rest lines line n kind took count next told = tt
+so_taken (Some all) None rest lines line n kind took count next told = absurd took
+so_taken (Some all) (Some left) None lines line n kind took count next told = absurd next
+so_taken (Some all) (Some left) (Some rest) lines line n kind took count next told =
     let same : line ≡ line_at all (n + 1) = sym (next_at all lines left n took count ∙ ap first_of next) in
-    inr (inr (inl (subst (λ (l : List ℕ). SaysWrong l kind) same says)))
+    elim told [
+      | inl needs ↦ inl (inr (needs.1, inr (subst NeedsMemory same needs.0)))
+      | inr says ↦ inr (inr (inl (subst (λ (l : List ℕ). SaysWrong l kind) same says)))
+    ]
 
 so_answered : (script left rest : Option (List (List ℕ))) (lines : List (List ℕ)) (line : List ℕ) (n : ℕ) (kind : FaultKind) → Took script left lines → length lines ≡ n
-    → Took left rest (line ∷ []) → IsLost kind ⊎ SaysWrong line kind → IsSo script (n + 1) kind
+    → Took left rest (line ∷ []) → IsUnanswered line kind ⊎ SaysWrong line kind → IsSo script (n + 1) kind
 so_answered script left rest lines line n kind took count next told =
     elim told [
-      | inl lost ↦ so_outside script (n + 1) kind (elim lost [ inl memory ↦ inl memory | inr write ↦ inr (inr write) ])
-      | inr says ↦ so_said script left rest lines line n kind took count next says
+      | inl lost ↦ elim lost [
+        | inl write ↦ so_stream script (n + 1) kind (inr write)
+        | inr memory ↦ so_taken script left rest lines line n kind took count next (inl (memory.1, memory.0))
+      ]
+      | inr says ↦ so_taken script left rest lines line n kind took count next (inr says)
     ]
 
 -- ---- one line after another
@@ -181,7 +191,7 @@ unread script left old new n begun (Line m kind) done stops (inl next) numbered 
     plays_stopped script left old new n begun m kind (Line m kind) done refl (inl (next.1 ∙ ap (λ k. k + 1) (sym done.all))) (subst (λ k. IsSo script k kind) (sym next.1) so) few most within
 unread script left old new n begun (Line m kind) done stops (inr write) numbered few most within =
     plays_stopped script left old new n begun m kind (Line m kind) done refl (near_begun done.lines n begun m kind done.all few most write.0 write.1)
-    (so_outside script m kind (inr (inr write.0))) few most within
+    (so_stream script m kind (inr write.0)) few most within
 
 pub plays_unread : (script left : Option (List (List ℕ))) (old new : ArrayState) (n begun : ℕ) (result : Result (Unit {0}) Fault) → PlaysAll script left old new n → IsErr result
     → IfErr result (StopsAt left) → IfErr result (IsOfNext n begun) → IfErr result IsNumbered → n ≤ begun → begun ≤ n + 1 → begun ≤ 1000000 → PlaysTo script result old new begun
@@ -190,7 +200,7 @@ plays_unread script left old new n begun (Err fault) before is stops next number
 
 -- at a line that was answered with a fault
 pub plays_fault : (script left rest : Option (List (List ℕ))) (old mid new : ArrayState) (n : ℕ) (line : List ℕ) (kind : FaultKind) (fault : Fault)
-    → PlaysAll script left old mid n → Took left rest (line ∷ []) → MeetsLine line mid (Err kind) new → IsLost kind ⊎ SaysWrong line kind
+    → PlaysAll script left old mid n → Took left rest (line ∷ []) → MeetsLine line mid (Err kind) new → IsUnanswered line kind ⊎ SaysWrong line kind
     → fault ≡ Line (max (suc n) 1) kind → suc n ≤ 1000000 → PlaysTo script (Err fault) old new (suc n)
 plays_fault script left rest old mid new n line kind fault before next line_met told is within =
     let same : max (suc n) 1 ≡ n + 1 = omega arith in
@@ -228,14 +238,14 @@ plays_finished script old new begun done result played (inl write) =
       few = played.plays.few;
       first = played.plays.first;
       whole = tt;
-      told = (near_begun met (length met) begun (max begun 1) WriteFault refl played.few played.most refl refl, so_outside script (max begun 1) WriteFault (inr (inr refl)));
+      told = (near_begun met (length met) begun (max begun 1) WriteFault refl played.few played.most refl refl, so_stream script (max begun 1) WriteFault (inr refl));
     })
 
 -- no line, where memory was refused before the first
 pub none_begun : (script : Option (List (List ℕ))) (s : ArrayState) (fault : Fault) → fault ≡ Line (max 1 1) NoMemory → PlaysScript script (Err fault) s s
 none_begun script s fault is =
     let none = plays_none script s in
-    (plays_stopped script script s s 0 0 1 NoMemory fault none is (inl (ap (λ k. k + 1) (sym none.all))) (so_outside script 1 NoMemory (inl refl)) (le_refl 0) (omega arith) (omega arith)).plays
+    (plays_stopped script script s s 0 0 1 NoMemory fault none is (inl (ap (λ k. k + 1) (sym none.all))) (so_before script) (le_refl 0) (omega arith) (omega arith)).plays
 
 -- ---- how many lines were begun
 

@@ -129,19 +129,19 @@ met_all lines old mid new line (Err kind) before sound reads meets = let no = me
 
 -- an action for which memory was refused is none, and one whose answer couldn't be written was done
 unacted : (lines : List (List ℕ)) (old mid new : ArrayState) (line : List ℕ) (action : Action) (kind : FaultKind) → Plays lines old mid
-    → IsLine line → ReadsLine line (Ok (Some (Act action))) → Leaves (Act action) mid (Err kind) new → IsLost kind
+    → IsLine line → ReadsLine line (Ok (Some (Act action))) → Leaves (Act action) mid (Err kind) new → IsLost (Act action) kind
     → Plays lines old new ⊎ (Plays (lines ++ line ∷ []) old new × IsLostAt line kind)
 unacted lines old mid new line action kind before sound reads leaves lost =
     let P : FaultKind → Type 0 = λ k. Leaves (Act action) mid (Err k) new in
     elim lost [
-      | inl memory ↦ inl (unchanged lines old mid new before (subst P memory leaves))
-      | inr write ↦ inr (acted lines old mid new line action before sound reads (subst P write leaves), inl write)
+      | inl write ↦ inr (acted lines old mid new line action before sound reads (subst P write leaves), inl write)
+      | inr memory ↦ inl (unchanged lines old mid new before (subst P memory.0 leaves))
     ]
 
 -- the answer to a question is lost where memory for it was refused, or it could not be written
-unseen : (line : List ℕ) (question : Question) (kind : FaultKind) → ReadsLine line (Ok (Some (Ask question))) → IsLost kind → IsLostAt line kind
+unseen : (line : List ℕ) (question : Question) (kind : FaultKind) → ReadsLine line (Ok (Some (Ask question))) → IsLost (Ask question) kind → IsLostAt line kind
 unseen line question kind reads lost =
-    elim lost [ inl memory ↦ inr (memory, record { question = question; reads = reads }) | inr write ↦ inl write ]
+    elim lost [ inl write ↦ inl write | inr memory ↦ inr (memory.0, record { question = question; reads = reads; takes = memory.1 }) ]
 
 -- a line that was answered with a fault was met and its answer lost, or nothing was done
 pub met_or_not : (lines : List (List ℕ)) (old mid new : ArrayState) (line : List ℕ) (read : Result (Option Order) FaultKind) (kind : FaultKind) → Plays lines old mid

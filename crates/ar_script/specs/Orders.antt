@@ -1,5 +1,5 @@
 -- What an array is asked for, and what answering leaves of it.
-use Rattle.std.specs.Prelude.{◌≡◌, ◌⊎◌, ℕ, false, List, Option, Some, None, Result, Ok, Err, IfErr, replicate}
+use Rattle.std.specs.Prelude.{◌≡◌, ◌⊎◌, ◌<◌, ℕ, false, List, Option, Some, None, Result, Ok, Err, IfErr, replicate}
 use Rattle.ar_disks.specs.declared.address.Addr.{Addr}
 use Rattle.ar_disks.specs.declared.address.Place.{Place}
 use Rattle.ar_core.specs.Events.{Event, Outcome}
@@ -67,14 +67,23 @@ Leaves (Ask question) old result new = Looks question old new
 Leaves (Act action) old (Err NoMemory) new = new ≡ old
 Leaves (Act action) old result new = Acts action old new
 
--- an order fails for want of memory, or because its answer can't be written
-abbrev pub IsLost : FaultKind → Type 0
-IsLost kind = (kind ≡ NoMemory) ⊎ (kind ≡ WriteFault)
+-- what an order asks memory for: a command's data, a new disk, or what is shown of many groups
+abbrev pub TakesMemory : Order → Type 0
+TakesMemory (Act (actions.Command addr cdb d notation)) = 0 < d.len
+TakesMemory (Act actions.AddDisk) = Unit {0}
+TakesMemory (Act (actions.Replace disk)) = Unit {0}
+TakesMemory (Ask Groups) = Unit {0}
+TakesMemory (Ask Picture) = Unit {0}
+TakesMemory order = ⊥
+
+-- an order fails because its answer can't be written, or for want of memory, if it asks for any
+abbrev pub IsLost : Order → FaultKind → Type 0
+IsLost order kind = (kind ≡ WriteFault) ⊎ ((kind ≡ NoMemory) × TakesMemory order)
 
 -- what a line leaves that was read so: the array as it was, where the line asks for nothing or can't be read
 abbrev pub Meets : Result (Option Order) FaultKind → ArrayState → Result (Unit {0}) FaultKind → ArrayState → Type 0
 Meets (Ok None) old result new = (result ≡ Ok tt) × (new ≡ old)
-Meets (Ok (Some order)) old result new = Leaves order old result new × IfErr result IsLost
+Meets (Ok (Some order)) old result new = Leaves order old result new × IfErr result (IsLost order)
 Meets (Err kind) old result new = (result ≡ Err kind) × (new ≡ old)
 
 -- what a line without a fault leaves of an array

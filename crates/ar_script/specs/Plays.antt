@@ -12,8 +12,8 @@ use Rattle.ar_orders.specs.declared.order.Order.{Order}
 use Rattle.ar_orders.specs.declared.order.Order.TheVariants.{Act, Ask}
 use Rattle.ar_orders.specs.declared.order.Question.{Question}
 use Rattle.ar_orders.specs.Forms.{ReadsLine}
-use Rattle.ar_orders.specs.Lines.{line_fault, line_at, IsLine, Took}
-use Rattle.ar_script.specs.Orders.{event_in, Looks}
+use Rattle.ar_orders.specs.Lines.{line_fault, line_at, IsLine, IsOfStream, Took}
+use Rattle.ar_script.specs.Orders.{event_in, Looks, TakesMemory}
 
 -- the order is met in this turn, which left the array so: an action is its event, and a question a look at what it asks for alone
 abbrev pub IsTurn : Order → ArrayState → Turn → ArrayState → Type 0
@@ -66,26 +66,38 @@ abbrev pub AreAll : Option (List (List ℕ)) → List (List ℕ) → Type 0
 AreAll None lines = ⊤
 AreAll (Some script) lines = lines ≡ script
 
--- a fault that no line has: memory was refused, or the input couldn't be read, or the answers not be written
-abbrev pub IsOutside : FaultKind → Type 0
-IsOutside kind = (kind ≡ NoMemory) ⊎ (kind ≡ ReadFault) ⊎ (kind ≡ WriteFault)
+-- the line asks for something that takes memory
+pub record NeedsMemory (line : List ℕ) : Type 0 where
+  pub order : Order
+  pub reads : ReadsLine line (Ok (Some order))
+  pub takes : TakesMemory order
 
--- What may be told at a line: that memory was refused or a stream faulted, of which nothing more is said; else only a fault that
--- the line has, by its bytes or by what it says, or that there are too many lines.
+-- a fault that the line by this number doesn't have: a stream faulted, or memory was refused, before the first line or for what
+-- the line asks for
+abbrev pub IsOutside : List ℕ → ℕ → FaultKind → Type 0
+IsOutside line n kind = IsOfStream kind ⊎ ((kind ≡ NoMemory) × ((n ≡ 1) ⊎ NeedsMemory line))
+
+-- What may be told at a line: that a stream faulted or memory was refused, else only a fault that the line has, by its bytes or by
+-- what it says, or that there are too many lines.
 abbrev pub IsSo : Option (List (List ℕ)) → ℕ → FaultKind → Type 0
 IsSo None n kind = ⊤
 IsSo (Some script) n kind =
-    IsOutside kind ⊎ (line_fault (line_at script n) ≡ Some kind) ⊎ SaysWrong (line_at script n) kind
+    IsOutside (line_at script n) n kind ⊎ (line_fault (line_at script n) ≡ Some kind) ⊎ SaysWrong (line_at script n) kind
     ⊎ ((kind ≡ TooManyLines) × (1000000 < length script))
 
--- what the line asks for is a question, no action
+-- what the line asks for is a question that takes memory, no action
 pub record AsksToSee (line : List ℕ) : Type 0 where
   pub question : Question
   pub reads : ReadsLine line (Ok (Some (Ask question)))
+  pub takes : TakesMemory (Ask question)
 
--- the answer to a line that was met is lost so: it could not be written, or memory for it was refused, to a question alone
+-- the answer to a line that was met is lost so: it could not be written, or memory for it was refused, to such a question alone
 abbrev pub IsLostAt : List ℕ → FaultKind → Type 0
 IsLostAt line kind = (kind ≡ WriteFault) ⊎ ((kind ≡ NoMemory) × AsksToSee line)
+
+-- a line is answered with no answer so: it could not be written, or memory for what the line asks for was refused
+abbrev pub IsUnanswered : List ℕ → FaultKind → Type 0
+IsUnanswered line kind = (kind ≡ WriteFault) ⊎ ((kind ≡ NoMemory) × NeedsMemory line)
 
 -- it is told at the line after the last that was met, or at that one, where an answer was lost
 abbrev pub IsToldAfter : Option (List (List ℕ)) → List (List ℕ) → Fault → Type 0

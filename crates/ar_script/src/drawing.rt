@@ -3,6 +3,8 @@ ghost use Rattle.std.specs.Prelude.{◌≡◌, ◌≢◌, ℕ, ◌+◌, ◌^◌,
 ghost use Rattle.std.specs.Option.{option_to_list};
 ghost use Rattle.ar_book.specs.Book.{TablesAgree};
 ghost use Rattle.ar_book.specs.Tables.{unit_in};
+ghost use Rattle.ar_orders.specs.declared.order.Order.TheVariants.{Ask};
+ghost use Rattle.ar_orders.specs.declared.order.Question.TheVariants.{Picture as PictureAsked};
 ghost use Rattle.ar_script.specs.Orders.{IsLost};
 ghost use Rattle.ar_script.specs.Pictures.{IsPicture, health_shown, class_shown, group_in, groups_in, unit_at, units_in, addr_at, held_at, AddsOne, AddsHomes, HoldsBlocks};
 
@@ -25,7 +27,7 @@ pub fn write_picture<W: Write, D: Disk>(
     out: &mut W,
 ) -> Result<(), FaultKind>
     ensures few { IfErr result (λ kind. kind ≢ FaultKind.TooManyLines) }
-    ensures lost { IfErr result IsLost }
+    ensures lost { IfErr result (IsLost (Ask PictureAsked)) }
 {
     let picture = picture_of(alloc, array).map_err(|_| FaultKind::NoMemory)?;
     let folds = picture.folds(alloc).map_err(|_| FaultKind::NoMemory)?;

@@ -1,5 +1,5 @@
 // The data of commands.
-ghost use Rattle.std.specs.Prelude.{◌≡◌, IfOk, OnOk, length, replicate};
+ghost use Rattle.std.specs.Prelude.{◌≡◌, ◌<◌, IfOk, OnOk, OnErr, length, replicate};
 
 use ar_orders::Data;
 use bytes::{Bytes, BytesMut};
@@ -23,9 +23,10 @@ impl Filled {
         }
     }
 
-    /// The data of a command: where the last ones are the same, those are shared.
+    /// The data of a command: where the last ones are the same, those are shared. No data take no memory.
     pub fn with(&mut self, alloc: Global, data: Data) -> Result<Bytes, AllocError>
-        ensures { IfOk result (λ bytes. bytes ≡ replicate «data».len «data».byte) }
+        ensures bytes { IfOk result (λ bytes. bytes ≡ replicate «data».len «data».byte) }
+        ensures some { OnErr result (0 < «data».len) }
     {
         if data.len == 0 {
             return Ok(Bytes::new());

@@ -6,8 +6,8 @@ ghost use Rattle.ar_extents.specs.Changes.{start_fault};
 ghost use Rattle.ar_orders.specs.Left.{lines_left, lines_begun, IsFresh};
 ghost use Rattle.ar_orders.specs.Lines.{lines_of, AreThere, IsNumbered, IsReached};
 ghost use Rattle.ar_script.specs.Ends.{Ends, is_write_fault as tells_write_fault};
-ghost use Rattle.ar_script.specs.Orders.{IsLost, MeetsLine};
-ghost use Rattle.ar_script.specs.Plays.{SaysWrong, IsThere, PlaysScript, PlaysTo, HasPlayed};
+ghost use Rattle.ar_script.specs.Orders.{MeetsLine};
+ghost use Rattle.ar_script.specs.Plays.{SaysWrong, IsUnanswered, IsThere, PlaysScript, PlaysTo, HasPlayed};
 ghost use Rattle.ar_script.specs.Setups.{disks_of};
 
 use crate::runner::Runner;
@@ -132,7 +132,7 @@ fn answer_line<R: Read + Drop, W: Write + Drop>(
     out: &mut BufWriter<W>,
 ) -> Result<(), FaultKind>
     ensures meets { MeetsLine lines.now.line.items runner.old result runner.new }
-    ensures told { IfErr result (λ kind. IsLost kind ⊎ SaysWrong lines.now.line.items kind) }
+    ensures told { IfErr result (λ kind. IsUnanswered lines.now.line.items kind ⊎ SaysWrong lines.now.line.items kind) }
     ensures few { IfErr result (λ kind. kind ≢ FaultKind.TooManyLines) }
 {
     match order_in(lines.line())? {

@@ -3,7 +3,7 @@ ghost use Rattle.std.specs.Prelude.{◌≡◌, ◌≢◌, ◌≤◌, IfOk, IfErr
 ghost use Rattle.ar_extents.specs.Changes.{start_fault};
 ghost use Rattle.ar_image.specs.Start.{IsStarted};
 ghost use Rattle.ar_core.specs.Step.{Steps};
-ghost use Rattle.ar_script.specs.Orders.{event_in, Looks, IsLost, Leaves};
+ghost use Rattle.ar_script.specs.Orders.{event_in, Looks, TakesMemory, IsLost, Leaves};
 ghost use Rattle.ar_script.specs.Pictures.{IsPicture};
 ghost use Rattle.ar_script.specs.Setups.{disks_of, new_disk, new_disk_for};
 
@@ -65,7 +65,7 @@ impl Runner {
         out: &mut W,
     ) -> Result<(), FaultKind>
         ensures few { IfErr result (λ kind. kind ≢ FaultKind.TooManyLines) }
-        ensures lost { IfErr result IsLost }
+        ensures lost { IfErr result (IsLost order) }
         ensures leaves { Leaves order self.old result self.new }
     {
         match order {
@@ -88,6 +88,7 @@ impl Runner {
     fn act(&mut self, alloc: Global, action: Action) -> Result<Outcome<MemDisk>, AllocError>
         ensures done { IfOk result (λ outcome. Steps self.old (event_in self.old action) outcome self.new) }
         ensures refused { OnErr result (self.new ≡ self.old) }
+        ensures takes { OnErr result (TakesMemory (Order.Act action)) }
     {
         let event = self.event_of(alloc, action)?;
         Ok(self.array.step(alloc, event))
@@ -96,6 +97,7 @@ impl Runner {
     // The event that an action is.
     fn event_of(&mut self, alloc: Global, action: Action) -> Result<Event<MemDisk>, AllocError>
         ensures event { IfOk result (λ event. event ≡ event_in self.old action) }
+        ensures takes { OnErr result (TakesMemory (Order.Act action)) }
         ensures unchanged { self.new ≡ self.old }
     {
         match action {
@@ -140,7 +142,7 @@ impl Runner {
         out: &mut W,
     ) -> Result<(), FaultKind>
         ensures few { IfErr result (λ kind. kind ≢ FaultKind.TooManyLines) }
-        ensures lost { IfErr result IsLost }
+        ensures lost { IfErr result (IsLost (Order.Ask question)) }
         ensures looks { Looks question self.old self.new }
     {
         let written = match question {
