@@ -72,7 +72,7 @@ pub free_few : (xs : List Choices) → free_in xs ≤ length xs
 free_few xs = count_by-le-length (λ c. is_some c.free) xs
 
 -- the steps of a climb where there are at most 4,096 leaves
-pub few_steps : (size leaf count before after : ℕ) → 2 ^ (after - before) ≤ size + leaf → leaf < size → size ≤ 2 * count → count ≤ 4096 → before ≤ after → after ≤ before + 14
+pub few_steps : (size leaf count before after : ℕ) → 2 ^ (after - before) ≤ size + leaf → leaf < size → size ≤ 2 * count - 1 → count ≤ 4096 → before ≤ after → after ≤ before + 14
 few_steps size leaf count before after few inside close most on =
     elim (cases_lt 14 (after - before)) [
       | inl more ↦ let p : 2 ^ 14 < 2 ^ (after - before) = pow_below 14 (after - before) more in absurd (omega arith)
@@ -116,7 +116,7 @@ seen_inside size count leaf nodes seen ok e inside = omega (arith, leaves_count 
 
 -- the choices of a leaf are put behind the others, after room was made for it
 module _ (size more count free : ℕ) (old mid new : List Choices) (c : Choices) (ok : IsKept size count free old) (grown : IsGrown more count mid)
-    (room : (count < more) × (more ≤ 2 * (count + 1))) (same : leaves_in more count mid ≡ leaves_in size count old)
+    (room : (count < more) × (more ≤ 2 * (count + 1) - 1)) (same : leaves_in more count mid ≡ leaves_in size count old)
     (twice : length new ≡ 2 * more) (put : drop more new ≡ set (drop more mid) count c) where
   pub push_leaves : leaves_in more (count + 1) new ≡ leaves_in size count old ++ c ∷ []
   push_leaves = put_behind more count mid new c put grown.twice room.0 ∙ ap (λ xs. xs ++ c ∷ []) same

@@ -1,5 +1,5 @@
 -- The tree over the groups.
-use Rattle.std.specs.Prelude.{◌≡◌, ◌≢◌, ℕ, zero, suc, ◌+◌, ◌*◌, ◌/◌, ◌<◌, ◌≤◌, List, length, take, drop, slice_index_or, slice_set, count_by, is_some}
+use Rattle.std.specs.Prelude.{◌≡◌, ◌≢◌, ℕ, zero, suc, ◌+◌, ◌-◌, ◌*◌, ◌/◌, ◌<◌, ◌≤◌, List, length, take, drop, slice_index_or, slice_set, count_by, is_some}
 use Rattle.ar_disks.specs.declared.address.Addr.{Addr}
 use Rattle.ar_index.specs.declared.choices.Change.{Change}
 use Rattle.ar_index.specs.declared.choices.Change.TheVariants.{Nothing, Oldest, Anything}
@@ -74,7 +74,7 @@ pub record IsGrown (size count : ℕ) (nodes : List Choices) : Type 0 where
 -- it has grown no further than it had to, and so many of its leaves are free
 pub record IsKept (size count free : ℕ) (nodes : List Choices) : Type 0 where
   pub grown : IsGrown size count nodes
-  pub close : size ≤ 2 * count
+  pub close : size ≤ 2 * count - 1
   pub counted : free ≡ free_in (leaves_in size count nodes)
 
 -- what a tree is seen as: its nodes, how many leaves they have room for, and how many of those are in use

@@ -157,7 +157,7 @@ fn twice(size: usize) -> Result<usize, AllocError>
 }
 
 /// Makes room for one leaf more in a tree of so many leaves, of which so many are in use, and answers how many leaves it has
-/// then. Without memory nothing changes.
+/// then: as many as before, unless all are in use. Without memory nothing changes.
 pub(crate) fn make_room<V>(
     alloc: Global,
     nodes: &mut Vec<Choices>,
@@ -167,12 +167,13 @@ pub(crate) fn make_room<V>(
 ) -> Result<usize, AllocError>
     requires grown { IsGrown size count nodes.old.items }
     requires tree { IsTree (place_in units.now.entries) size nodes.old.items }
-    requires close { size ≤ 2 * count }
+    requires close { size ≤ 2 * count - 1 }
     ensures grown { IfOk result (λ more. IsGrown more count nodes.new.items) }
     ensures tree { IfOk result (λ more. IsTree (place_in units.now.entries) more nodes.new.items) }
-    ensures room { IfOk result (λ more. (count < more) × (more ≤ 2 * (count + 1))) }
+    ensures room { IfOk result (λ more. (count < more) × (more ≤ 2 * (count + 1) - 1)) }
     ensures leaves { IfOk result (λ more. leaves_in more count nodes.new.items ≡ leaves_in size count nodes.old.items) }
     ensures unchanged { OnErr result (nodes.new.items ≡ nodes.old.items) }
+    ensures full { OnErr result (count ≡ size) }
 {
     if count < size {
         return Ok(size);

@@ -130,6 +130,7 @@ impl Tree {
         ensures still { slice_index_or (leaves self.old) leaf nothing ≡ choices → steps.new.count ≡ steps.old.count }
         ensures changed { HaveChanged self.old.nodes self.new.nodes (self.old.size + leaf) 0 (steps.new.count - steps.old.count) }
         ensures counted { HaveStayed self.old.nodes self.new.nodes (self.old.size + leaf) (steps.new.count - steps.old.count) }
+        ensures height { 2 ^ (steps.new.count - steps.old.count) ≤ self.old.size + leaf }
         ensures few { length (leaves self.old) ≤ 4096 → steps.new.count ≤ steps.old.count + 14 }
         ensures on { steps.old.count ≤ steps.new.count }
     {
@@ -138,12 +139,14 @@ impl Tree {
         put(&mut self.nodes, self.size, leaf, choices, units, steps);
     }
 
-    /// Adds the choices of a group behind the others. Without memory nothing changes.
+    /// Adds the choices of a group behind the others. Memory is asked for only where all leaves are in use; where it is refused
+    /// nothing changes.
     pub fn push<V>(&mut self, choices: Choices, units: &IndexMap<Addr, V>) -> Result<(), AllocError>
         requires { IsRight (place_in units.now.entries) self.old }
         ensures pushed { OnOk result (leaves self.new ≡ leaves self.old ++ choices ∷ []) }
         ensures right { IsRight (place_in units.now.entries) self.new }
         ensures unchanged { OnErr result (self.new ≡ self.old) }
+        ensures full { OnErr result (self.old.count ≡ self.old.size) }
     {
         let leaf = self.count;
         self.size = make_room(self.alloc, &mut self.nodes, self.size, leaf, units)?;
