@@ -2,10 +2,10 @@
 ghost use Rattle.std.specs.Prelude.{◌≡◌, ◌≢◌, ◌<◌, length};
 ghost use Rattle.ar_disks.specs.Geometry.{rows_of, block_len_of};
 ghost use Rattle.ar_disks.specs.Members.{member};
-ghost use Rattle.ar_extents.specs.Health.{IsRebuilding};
-ghost use Rattle.ar_extents.specs.Follows.{Follows, KeepsBut, Spares, HasNoneOf, IsEither};
+ghost use Rattle.ar_extents.specs.Health.{IsRebuilding, rebuilt_disk};
+ghost use Rattle.ar_extents.specs.Follows.{Follows, Anywhere, Keeps, KeepsBut, Spares, HasNoneOf, IsEither};
 ghost use Rattle.ar_extents.specs.Access.{next_place};
-ghost use Rattle.ar_extents.specs.Set.{HasExtent};
+ghost use Rattle.ar_extents.specs.Set.{HasExtent, faults_of};
 ghost use Rattle.ar_extents.specs.Groups.{IsGroup};
 ghost use Rattle.ar_mirror.specs.Slots.{partner_of};
 ghost use Rattle.ar_mirror.specs.Calls.{Rebuilds, AllSlotsHold};
@@ -16,7 +16,7 @@ use ar_extents::{DiskSet, Got, PutNew, RowOutcome};
 
 /// Copies a row to the member at a position, 0 to 3, from the other member of its pair. The member has to be the extent that
 /// is rebuilt next: the lowest that isn't done of the disk that is being rebuilt. `GivenUp` says that this disk faulted: it
-/// is out then, and any bytes may stand in the row.
+/// is out then, and any bytes may stand in the row. With `Broken`, where the other member couldn't be read, nothing is written.
 pub fn rebuild_row<D: Disk>(
     set: &mut DiskSet<D>,
     members: &Members,
@@ -33,6 +33,9 @@ pub fn rebuild_row<D: Disk>(
 
     ensures answer { Rebuilds set.old set.new (member members.now (partner_of position)) row result }
     ensures keeps { KeepsBut (next_place set.old) row set.old set.new }
+    ensures unwritten { result ≡ RowOutcome.Broken → Keeps Anywhere set.old set.new }
+    ensures spared { result ≡ RowOutcome.Broken
+        → faults_of set.new (rebuilt_disk set.old.health) ≡ faults_of set.old (rebuilt_disk set.old.health) }
     ensures slots { AllSlotsHold set.old set.new }
 
     ensures follows { Follows set.old set.new }
@@ -54,6 +57,9 @@ fn copy_row<D: Disk>(set: &mut DiskSet<D>, from: Place, row: u16, block: &mut Bl
 
     ensures answer { Rebuilds set.old set.new from row result }
     ensures keeps { KeepsBut (next_place set.old) row set.old set.new }
+    ensures unwritten { result ≡ RowOutcome.Broken → Keeps Anywhere set.old set.new }
+    ensures spared { result ≡ RowOutcome.Broken
+        → faults_of set.new (rebuilt_disk set.old.health) ≡ faults_of set.old (rebuilt_disk set.old.health) }
 
     ensures follows { Follows set.old set.new }
     ensures touches { Spares (HasNoneOf (IsEither from (next_place set.old))) set.old set.new }

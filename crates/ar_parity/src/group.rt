@@ -4,7 +4,7 @@ ghost use Rattle.ar_disks.specs.Block.{zeros};
 ghost use Rattle.ar_disks.specs.Geometry.{rows_of, block_len_of};
 ghost use Rattle.ar_disks.specs.Members.{member};
 ghost use Rattle.ar_extents.specs.Follows.{Keeps, Anywhere, IsPlace, IsEither, WorksOn};
-ghost use Rattle.ar_extents.specs.Set.{IsSound};
+ghost use Rattle.ar_extents.specs.Set.{IsSound, content};
 ghost use Rattle.ar_extents.specs.Groups.{IsGroup, IsMember, IsOutside, outcome_of};
 ghost use Rattle.ar_parity.specs.Row.{row_of, data_position, parity_position, zero_blocks};
 ghost use Rattle.ar_parity.specs.Group.{RowAgrees, Holds, KeepsButRow};
@@ -87,7 +87,7 @@ pub fn get<D: Disk>(
 /// Writes the block of a slot, and the parity of its row with it, each unless its member is missing. Every other slot that
 /// held a block holds the same.
 ///
-/// After `Broken` any bytes may stand in the row.
+/// After `Broken` any bytes may stand in the row of these two members.
 pub fn put<D: Disk>(
     set: &mut DiskSet<D>,
     members: &Members,
@@ -104,6 +104,10 @@ pub fn put<D: Disk>(
     ensures row { Changes set.old set.new members.now (row_of slot) (data_position slot) from.now }
     ensures holds { (b : List ℕ) → Holds set.old members.now slot b → Holds set.new members.now slot from.now }
     ensures slots { (k : ℕ) → k ≢ slot → (b : List ℕ) → Holds set.old members.now k b → Holds set.new members.now k b }
+
+    // In the row, only the slot's own member and the one with the parity are written.
+    ensures others { (i : ℕ) → i < 4 → i ≢ data_position slot → i ≢ parity_position (row_of slot)
+        → content set.new (member members.now i) (row_of slot) ≡ content set.old (member members.now i) (row_of slot) }
 
     ensures keeps { KeepsButRow members.now (row_of slot) set.old set.new }
     ensures works { WorksOn (IsMember members.now) set.old set.new }

@@ -2,9 +2,10 @@
 ghost use Rattle.std.specs.Prelude.{◌≡◌, ℕ, ◌<◌};
 ghost use Rattle.ar_disks.specs.Geometry.{rows_of};
 ghost use Rattle.ar_disks.specs.Members.{member};
-ghost use Rattle.ar_extents.specs.Health.{IsRebuilding};
+ghost use Rattle.ar_extents.specs.Health.{IsRebuilding, rebuilt_disk};
+ghost use Rattle.ar_extents.specs.Set.{faults_of};
 ghost use Rattle.ar_extents.specs.Access.{next_place};
-ghost use Rattle.ar_extents.specs.Follows.{Follows, KeepsBut, Spares, HasNoneOf};
+ghost use Rattle.ar_extents.specs.Follows.{Follows, Anywhere, Keeps, KeepsBut, Spares, HasNoneOf};
 ghost use Rattle.ar_extents.specs.Groups.{IsGroup, IsMember};
 ghost use Rattle.ar_parity.specs.Row.{Blocks};
 ghost use Rattle.ar_parity.specs.Group.{RowAgrees};
@@ -17,8 +18,8 @@ use ar_extents::{DiskSet, PutNew, RowOutcome};
 /// Writes the sum of a row's three other blocks to the member at a position, which is the lowest extent that isn't done of
 /// the disk that is rebuilt.
 ///
-/// `GivenUp` says that this disk faulted: it is out then. After it and after `Broken` any bytes may stand in the row of
-/// that member.
+/// `GivenUp` says that this disk faulted: it is out then, and any bytes may stand in the row of that member. With `Broken`, where
+/// the others couldn't be read, nothing is written.
 pub fn rebuild_row<D: Disk>(
     set: &mut DiskSet<D>,
     members: &Members,
@@ -36,6 +37,9 @@ pub fn rebuild_row<D: Disk>(
     ensures answer { Rebuilds set.old set.new members.now position row result }
     ensures agrees { (r : ℕ) (blocks : Blocks) → RowAgrees set.old members.now r blocks → RowAgrees set.new members.now r blocks }
     ensures keeps { KeepsBut (member members.now position) row set.old set.new }
+    ensures unwritten { result ≡ RowOutcome.Broken → Keeps Anywhere set.old set.new }
+    ensures spared { result ≡ RowOutcome.Broken
+        → faults_of set.new (rebuilt_disk set.old.health) ≡ faults_of set.old (rebuilt_disk set.old.health) }
 
     ensures follows { Follows set.old set.new }
     ensures touches { Spares (HasNoneOf (IsMember members.now)) set.old set.new }

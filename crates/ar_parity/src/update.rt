@@ -70,6 +70,8 @@ fn update<D: Disk>(
     ensures answer { Tells set.new result }
     ensures agrees { (blocks : Blocks) → RowAgrees set.old members.now row blocks → before.now ≡ block blocks position
         → RowAgrees set.new members.now row (changed blocks position (parity_position row) from.now) }
+    ensures others { (i : ℕ) → i < 4 → i ≢ position → i ≢ parity_position row
+        → content set.new (member members.now i) row ≡ content set.old (member members.now i) row }
 
     ensures keeps { KeepsButRow members.now row set.old set.new }
     ensures works { WorksOn (IsEither (member members.now position) (member members.now (parity_position row))) set.old set.new }
@@ -109,6 +111,8 @@ fn put_lost<D: Disk>(
     ensures answer { Tells set.new result }
     ensures agrees { (blocks : Blocks) → RowAgrees set.old members.now row blocks
         → RowAgrees set.new members.now row (changed blocks position (parity_position row) from.now) }
+    ensures others { (i : ℕ) → i < 4 → i ≢ position → i ≢ parity_position row
+        → content set.new (member members.now i) row ≡ content set.old (member members.now i) row }
 
     ensures keeps { KeepsButRow members.now row set.old set.new }
     ensures works { WorksOn (IsMember members.now) set.old set.new }
@@ -144,6 +148,8 @@ pub fn change<D: Disk>(
 
     ensures answer { Tells set.new result }
     ensures changes { Changes set.old set.new members.now row position from.now }
+    ensures others { (i : ℕ) → i < 4 → i ≢ position → i ≢ parity_position row
+        → content set.new (member members.now i) row ≡ content set.old (member members.now i) row }
 
     ensures keeps { KeepsButRow members.now row set.old set.new }
     ensures works { WorksOn (IsMember members.now) set.old set.new }

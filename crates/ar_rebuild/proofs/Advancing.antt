@@ -13,7 +13,7 @@ use Rattle.ar_extents.specs.Changes.{is_broken, with_done}
 use Rattle.ar_extents.proofs.Follows.{keeps_then, keeps_disks}
 use Rattle.ar_extents.proofs.GroupLemmas.{same_place}
 use Rattle.ar_extents.proofs.Losses.{sound_with_done}
-use Rattle.ar_rebuild.specs.Rows.{IsBesideNext, WritesNext}
+use Rattle.ar_rebuild.specs.Rows.{IsBesideNext, IsSpared, WritesNext}
 use Rattle.ar_rebuild.specs.Rebuild.{IsQuiet, IsLostAgain, Advances}
 use Rattle.ar_rebuild.proofs.RowLemmas.{next_same}
 
@@ -68,6 +68,12 @@ calm a b ab is d =
       | inl more ↦ absurd (true≢false (sym (ab.noticed d more) ∙ none_out b.health d is))
       | inr none ↦ (let grown = ab.faults d in omega arith)
     ]
+
+-- the disk that is rebuilt has not faulted in what was done before
+pub spared_then : (a b c : SetState) → Follows a b → b.health ≡ a.health → IsRebuilding a.health → IsSpared b c → IsSpared a c
+spared_then a b c ab same rebuilding spared =
+    subst (λ (h : Health). faults_of c (rebuilt_disk h) ≡ faults_of b (rebuilt_disk h)) same spared
+    ∙ calm a b ab (subst (λ (h : Health). IsRebuilding h) (sym same) rebuilding) (rebuilt_disk a.health)
 
 -- nothing was to be rebuilt, or the set was broken
 pub advances_idle : (s : SetState) → ((x n : ℕ) → s.health ≢ Rebuilding x n) → Advances s s

@@ -6,8 +6,8 @@ use Rattle.ar_disks.specs.Members.{member}
 use Rattle.ar_extents.specs.declared.health.Health.TheVariants.{Broken as AllBroken}
 use Rattle.ar_extents.specs.declared.outcome.RowOutcome.{RowOutcome}
 use Rattle.ar_extents.specs.declared.outcome.RowOutcome.TheVariants.{Done, GivenUp, Broken}
-use Rattle.ar_extents.specs.Health.{IsRebuilding}
-use Rattle.ar_extents.specs.Set.{SetState}
+use Rattle.ar_extents.specs.Health.{IsRebuilding, rebuilt_disk}
+use Rattle.ar_extents.specs.Set.{SetState, faults_of}
 use Rattle.ar_extents.specs.Follows.{Follows, Keeps, Spares, HasNoneOf, IsEither}
 use Rattle.ar_extents.specs.Access.{next_place, IsGivenUp}
 use Rattle.ar_extents.specs.Changes.{with_done}
@@ -28,6 +28,10 @@ pub record WritesNext (old new : SetState) : Type 0 where
   pub follows : Follows old new
   pub keeps : Keeps (IsBesideNext old) old new
   pub loose : new.loose ≡ old.loose
+
+-- the disk that was being rebuilt has not faulted
+abbrev pub IsSpared : SetState → SetState → Type 0
+IsSpared old new = faults_of new (rebuilt_disk old.health) ≡ faults_of old (rebuilt_disk old.health)
 
 -- Every row of the extent is written: once it counts as done, each slot of its group holds what it held.
 pub record GroupIsWhole (class : Class) (old new : SetState) (m : Members) : Type 0 where

@@ -8,7 +8,7 @@ ghost use Rattle.ar_extents.specs.Groups.{IsGroup, IsMember};
 ghost use Rattle.ar_mirror.specs.Slots.{partner_of};
 ghost use Rattle.ar_book.specs.declared.class.Class.TheVariants.{Mirrored, Parity};
 ghost use Rattle.ar_book.specs.Choices.{stands_on};
-ghost use Rattle.ar_rebuild.specs.Rows.{WritesNext, WritesRows};
+ghost use Rattle.ar_rebuild.specs.Rows.{IsSpared, WritesNext, WritesRows};
 
 use ar_disks::{Disk, Members, Place, Scratch};
 use ar_extents::{DiskSet, RowOutcome};
@@ -45,6 +45,7 @@ pub(crate) fn copy_rows<D: Disk>(
 
     ensures answer { WritesRows Mirrored set.old set.new members.now result }
     ensures writes { WritesNext set.old set.new }
+    ensures spared { result ≡ RowOutcome.Broken → IsSpared set.old set.new }
 
     ensures touches { Spares (HasNoneOf (IsEither (member members.now (partner_of position)) (next_place set.old))) set.old set.new }
     ensures scratch { scratch.new.geometry ≡ scratch.old.geometry }
@@ -74,6 +75,7 @@ pub(crate) fn sum_rows<D: Disk>(
 
     ensures answer { WritesRows Parity set.old set.new members.now result }
     ensures writes { WritesNext set.old set.new }
+    ensures spared { result ≡ RowOutcome.Broken → IsSpared set.old set.new }
 
     ensures touches { Spares (HasNoneOf (IsMember members.now)) set.old set.new }
     ensures scratch { scratch.new.geometry ≡ scratch.old.geometry }

@@ -3,7 +3,7 @@ ghost use Rattle.std.specs.Prelude.{◌≡◌, ◌↔◌};
 ghost use Rattle.ar_extents.specs.Follows.{Keeps};
 ghost use Rattle.ar_extents.specs.Changes.{with_done};
 ghost use Rattle.ar_store.specs.Slots.{AllStand, SlotsHold};
-ghost use Rattle.ar_rebuild.specs.Rows.{IsBesideNext, HasNothingNext, AsksNext};
+ghost use Rattle.ar_rebuild.specs.Rows.{IsBesideNext, HasNothingNext, IsSpared, AsksNext};
 ghost use Rattle.ar_rebuild.specs.Rebuild.{IsQuiet, Answers, Advances};
 
 use crate::extent::rebuild_extent;
@@ -39,6 +39,8 @@ pub fn rebuild_one<D: Disk>(store: &mut Store<D>) -> Rebuild
     ensures answer { Answers store.old.disks store.new.disks result }
     ensures idle { (result ≡ Rebuild.Idle) ↔ IsQuiet store.old.disks.health }
     ensures broken { (result ≡ Rebuild.Broken) ↔ (store.new.disks.health ≡ Health.Broken) }
+    // It is broken by another disk than the replaced one, once that has faulted nothing more is asked.
+    ensures spared { result ≡ Rebuild.Broken → IsSpared store.old.disks store.new.disks }
 
     ensures book { store.new.book ≡ store.old.book }
     ensures stands { AllStand store.old store.new }

@@ -24,6 +24,7 @@ returns-in-Done g c =
     (calm s.disks b.disks call.writes.follows (rebuilding_is b.disks c.args.place (health ∙ c.requires.rebuilding))) c.count_done.ensures.counts in
     record {
       answer = told.answer;
+      spared = λ lost. absurd (told.sound lost);
       idle = told.some;
       broken = (
         (λ lost. absurd (told.sound lost)),
@@ -50,6 +51,7 @@ returns-in-GivenUp g c =
     let left = unharmed_stopped s.disks b.disks s.book b.book c.args.place call.book c.requires.ready.space c.requires.rebuilding call.writes in
     record {
       answer = record { was = rebuilding; given_up = given_up };
+      spared = λ lost. absurd (gave_up_alone lost);
       idle = gave_up;
       broken = ((λ lost. absurd (gave_up_alone lost)), (λ broken. absurd (out_not_broken _ (sym given_up.out ∙ broken))));
       ready = record { space = left.space; scratch = call.scratch ∙ c.requires.ready.scratch ∙ sym call.writes.follows.geometry };
@@ -71,6 +73,7 @@ returns-in-Broken g c =
     let left = unharmed_stopped s.disks b.disks s.book b.book c.args.place call.book c.requires.ready.space c.requires.rebuilding call.writes in
     record {
       answer = broken;
+      spared = λ _. c.in-Broken.ensures.spared refl;
       idle = lost_not_idle;
       broken = ((λ lost. broken), (λ _. refl));
       ready = record { space = left.space; scratch = call.scratch ∙ c.requires.ready.scratch ∙ sym call.writes.follows.geometry };

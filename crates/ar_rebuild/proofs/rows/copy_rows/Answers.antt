@@ -4,6 +4,7 @@ use Rattle.ar_extents.specs.declared.health.Health.{Health}
 use Rattle.ar_extents.specs.Health.{IsRebuilding}
 use Rattle.ar_extents.proofs.GroupLemmas.{group_then}
 use Rattle.ar_rebuild.proofs.RowLemmas.{AreCopied, next_same, none_copied, copied_then, copied_whole, pair_then, writes_then, stopped_then}
+use Rattle.ar_rebuild.proofs.Advancing.{spared_then}
 use Rattle.ar_rebuild.proofs.rows.copy_rows.Goals as goal
 
 pub rebuild_row-requires : goal.rebuild_row-requires
@@ -45,6 +46,7 @@ returns g c =
       answer = copied_whole a b c.args.members.now c.args.position c.requires.group c.requires.position c.requires.rebuilding c.requires.next
           (subst (λ n. AreCopied a b c.args.members.now c.args.position n) rows copied);
       writes = copied.writes;
+      spared = λ broken. absurd (cc);
       touches = copied.touches;
       scratch = c.loop-row.invariant.scratch;
     }
@@ -56,6 +58,7 @@ returns-in-GivenUp g c =
     record {
       answer = stopped_then c.args.set.now c.loop-row.set c.rebuild_row.new.set before.writes.follows before.health c.in-GivenUp.ensures.answer;
       writes = writes_then c.args.set.now c.loop-row.set c.rebuild_row.new.set c.loop-row.row before.writes before.health call.follows call.keeps call.loose;
+      spared = λ broken. absurd (cc);
       touches = pair_then c.args.set.now c.loop-row.set c.rebuild_row.new.set _ before.health before.touches call.touches;
       scratch = call.scratch ∙ c.loop-row.invariant.scratch;
     }
@@ -67,6 +70,7 @@ returns-in-Broken g c =
     record {
       answer = c.in-Broken.ensures.answer;
       writes = writes_then c.args.set.now c.loop-row.set c.rebuild_row.new.set c.loop-row.row before.writes before.health call.follows call.keeps call.loose;
+      spared = λ _. spared_then c.args.set.now c.loop-row.set c.rebuild_row.new.set before.writes.follows before.health c.requires.rebuilding (c.in-Broken.ensures.spared refl);
       touches = pair_then c.args.set.now c.loop-row.set c.rebuild_row.new.set _ before.health before.touches call.touches;
       scratch = call.scratch ∙ c.loop-row.invariant.scratch;
     }

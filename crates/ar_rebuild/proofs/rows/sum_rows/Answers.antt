@@ -6,6 +6,7 @@ use Rattle.ar_extents.specs.Follows.{KeepsBut}
 use Rattle.ar_extents.proofs.GroupLemmas.{group_then}
 use Rattle.ar_disks.specs.declared.address.Place.{Place}
 use Rattle.ar_rebuild.proofs.RowLemmas.{AreSummed, next_same, none_summed, spares_then, summed_then, summed_whole, writes_then, stopped_then}
+use Rattle.ar_rebuild.proofs.Advancing.{spared_then}
 use Rattle.ar_rebuild.proofs.rows.sum_rows.Goals as goal
 
 pub rebuild_row-requires : goal.rebuild_row-requires
@@ -47,6 +48,7 @@ returns g c =
       answer = summed_whole a b c.args.members.now c.args.position c.requires.group c.requires.position c.requires.rebuilding c.requires.next
           (subst (λ n. AreSummed a b c.args.members.now c.args.position n) rows summed);
       writes = summed.writes;
+      spared = λ broken. absurd (cc);
       touches = summed.touches;
       scratch = c.loop-row.invariant.scratch;
     }
@@ -62,6 +64,7 @@ returns-in-GivenUp g c =
       answer = stopped_then a b c.rebuild_row.new.set before.writes.follows before.health c.in-GivenUp.ensures.answer;
       writes = writes_then a b c.rebuild_row.new.set c.loop-row.row before.writes before.health call.follows
           (subst P (c.requires.next ∙ sym (next_same a b before.health)) call.keeps) call.loose;
+      spared = λ broken. absurd (cc);
       touches = spares_then _ a b c.rebuild_row.new.set before.touches call.touches;
       scratch = call.scratch ∙ c.loop-row.invariant.scratch;
     }
@@ -77,6 +80,7 @@ returns-in-Broken g c =
       answer = c.in-Broken.ensures.answer;
       writes = writes_then a b c.rebuild_row.new.set c.loop-row.row before.writes before.health call.follows
           (subst P (c.requires.next ∙ sym (next_same a b before.health)) call.keeps) call.loose;
+      spared = λ _. spared_then a b c.rebuild_row.new.set before.writes.follows before.health c.requires.rebuilding (c.in-Broken.ensures.spared refl);
       touches = spares_then _ a b c.rebuild_row.new.set before.touches call.touches;
       scratch = call.scratch ∙ c.loop-row.invariant.scratch;
     }
