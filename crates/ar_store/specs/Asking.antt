@@ -20,7 +20,7 @@ use Rattle.ar_book.specs.Choices.{IsLowestFree, IsFullMirrored}
 use Rattle.ar_store.specs.declared.way.Way.{Way}
 use Rattle.ar_store.specs.declared.way.Way.TheVariants.{Home, Hole, Broken}
 use Rattle.ar_store.specs.Store.{StoreState, members_of, class_in}
-use Rattle.ar_store.specs.Slots.{ClassHolds, ReadsIn, WritesIn}
+use Rattle.ar_store.specs.Slots.{ClassHolds, ReadsIn, WritesIn, AsksFor}
 use Rattle.ar_store.specs.Placing.{slot_at, HasNoHole, HasNoWay, IsLowestHole}
 
 -- No disk was asked but for the extents that are named first, and each extent outside four members has the rows that it had.
@@ -71,6 +71,14 @@ AsksSlot class slot old new = WritesSlot class old.disks new.disks (members_of o
 pub record AsksSlots (from to : Slot) (old new : StoreState) : Type 0 where
   pub within : WorksWithin (MovesAt old new from to) (members_of old to.group) old.disks new.disks
   pub rows : KeepsButRowsOf (class_in old to.group) (members_of old to.group) to.slot old.disks new.disks
+
+-- A block was read from one slot, and only then written to another. No disk was asked but those that the read asks, and then those
+-- that the write asks; where the read broke the disks nothing was asked after it.
+pub record ReadsThenWrites (from to : Slot) (old new : StoreState) : Type 0 where
+  pub between : SetState
+  pub reads : AsksFor (class_in old from.group) old.disks between (members_of old from.group) from.slot
+  pub kept : Keeps Anywhere old.disks between
+  pub writes : (new.disks ≡ between) ⊎ WritesSlot (class_in old to.group) between new.disks (members_of old to.group) to.slot
 
 -- none but those that a block's move to a group asks that is opened for it, and no other group was written
 abbrev pub AsksOpened : Slot → ℕ → StoreState → StoreState → Type 0

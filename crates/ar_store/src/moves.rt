@@ -16,7 +16,7 @@ impl<D: Disk> Space<D> {
     ghost use Rattle.ar_store.specs.Slots.{stands, AllStand, OthersStand, BesideHold};
     ghost use Rattle.ar_store.specs.Placing.{IsVacant, IsReadyFor, placed_by};
     ghost use Rattle.ar_store.specs.Store.{class_in, members_of};
-    ghost use Rattle.ar_store.specs.Asking.{AsksSlot, AsksSlots, AsksWay, KeepsButRowsOf};
+    ghost use Rattle.ar_store.specs.Asking.{AsksSlot, AsksSlots, AsksWay, KeepsButRowsOf, ReadsThenWrites};
     ghost use Rattle.ar_store.specs.Calls.{BesideWay};
     ghost use Rattle.ar_store.specs.Spaces.{store_in, IsReady, Stays};
 
@@ -35,6 +35,7 @@ impl<D: Disk> Space<D> {
         ensures stand { AllStand (store_in self.old) (store_in self.new) }
         ensures beside { BesideHold (store_in self.old) (store_in self.new) to }
         ensures asks { (from : Slot) → home self.old.book key ≡ Some from → AsksSlots from to (store_in self.old) (store_in self.new) }
+        ensures steps { (from : Slot) → home self.old.book key ≡ Some from → ReadsThenWrites from to (store_in self.old) (store_in self.new) }
         ensures stays { Stays self.old self.new }
         ensures len { length block.new ≡ length block.old }
     {

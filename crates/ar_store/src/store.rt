@@ -41,7 +41,7 @@ impl<D: Disk> Store<D> {
     ghost use Rattle.ar_store.specs.Slots.{stands, AllStand, OthersStand, BesideHold, AsksForSlot, SurvivesLossOf};
     ghost use Rattle.ar_store.specs.Kept.{IsKept};
     ghost use Rattle.ar_store.specs.Placing.{Puts, SameUnits, IsVacant, MayHavePrepared};
-    ghost use Rattle.ar_store.specs.Asking.{AsksToPut, AsksSlots, AsksGroup};
+    ghost use Rattle.ar_store.specs.Asking.{AsksToPut, AsksSlots, AsksGroup, ReadsThenWrites};
     ghost use Rattle.ar_store.specs.Calls.{IsAccessed, Opens, IfOpened, HoldsZeros, LeavesZeros};
 
     /// The health of the disks, with what the store keeps true.
@@ -175,6 +175,7 @@ impl<D: Disk> Store<D> {
         ensures beside { BesideHold self.old self.new slot }
         ensures units { SameUnits self.old.book self.new.book }
         ensures asks { (from : Slot) → home self.old.book key ≡ Some from → AsksSlots from slot self.old self.new }
+        ensures steps { (from : Slot) → home self.old.book key ≡ Some from → ReadsThenWrites from slot self.old self.new }
         ensures accessed { IsAccessed self.old.disks self.new.disks }
         ensures broken { self.old.disks.health ≡ Health.Broken → self.new ≡ self.old }
     {

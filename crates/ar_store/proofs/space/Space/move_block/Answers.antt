@@ -1,4 +1,4 @@
-use Rattle.std.proofs.Common.{◌≤◌, length, sym, ap, subst, ◌∙◌}
+use Rattle.std.proofs.Common.{inl, inr, refl, ◌≤◌, length, sym, ap, subst, ◌∙◌}
 use Rattle.ar_disks.specs.Geometry.{block_len_of}
 use Rattle.ar_book.specs.Tables.{Tables, home, free_groups, HasBlock}
 use Rattle.ar_book.specs.Changes.{assigned}
@@ -8,6 +8,10 @@ use Rattle.ar_store.specs.Placing.{IsVacant}
 use Rattle.ar_store.specs.Spaces.{store_in}
 use Rattle.ar_store.proofs.Fills.{moved_stand, beside_then, beside_read, done_not_broken, same_free}
 use Rattle.ar_store.proofs.Options.{none_not_some}
+use Rattle.std.proofs.lemmas.Option.{same_Some}
+use Rattle.ar_book.specs.declared.class.Slot.{Slot}
+use Rattle.ar_book.specs.Tables.{class_of, group_in}
+use Rattle.ar_store.specs.Asking.{ReadsThenWrites, WritesSlot}
 use Rattle.ar_store.proofs.Stays.{stays_then}
 use Rattle.ar_store.proofs.Asking.{asks_both, asks_one, asks_from}
 use Rattle.ar_store.proofs.space.Space.move_block.Goals as goal
@@ -52,6 +56,12 @@ returns-in-Done g c =
       beside = beside_then s.disks mid.disks s.book mid.book (store_in new) c.args.to read.book read.stays.accessed.follows read.keeps fill.beside;
       asks = asks_from (store_in s) (store_in new) c.args.key c.in-Some.from c.args.to (sym c.home.ensures ∙ c.in-Some.is)
           (asks_both (store_in s) (store_in mid) (store_in new) c.in-Some.from c.args.to read.book read.stays.accessed.follows.geometry read.asks read.keeps fill.asks);
+      steps = λ at placed.
+          let P : Slot → Type 0 = λ x. ReadsThenWrites x c.args.to (store_in s) (store_in new) in
+          let Q : Tables → Type 0 = λ x.
+              WritesSlot (class_of x c.args.to.group) mid.disks new.disks (group_in x.groups c.args.to.group).members c.args.to.slot in
+          subst P (same_Some c.in-Some.from at (sym (sym c.home.ensures ∙ c.in-Some.is) ∙ placed))
+          record { between = mid.disks; reads = read.asks; kept = read.keeps; writes = inr (subst Q read.book fill.asks) };
       stays = stays_then s mid new read.stays fill.stays;
       len = read.len;
     }
@@ -69,6 +79,10 @@ returns-in-Broken g c =
       beside = beside_read c.args.self.now.disks mid.disks c.args.self.now.book mid.book c.args.to read.book read.stays.accessed.follows read.keeps;
       asks = asks_from (store_in c.args.self.now) (store_in mid) c.args.key c.in-Some.from c.args.to (sym c.home.ensures ∙ c.in-Some.is)
           (asks_one (store_in c.args.self.now) (store_in mid) c.in-Some.from c.args.to read.asks read.keeps);
+      steps = λ at placed.
+          let P : Slot → Type 0 = λ x. ReadsThenWrites x c.args.to (store_in c.args.self.now) (store_in mid) in
+          subst P (same_Some c.in-Some.from at (sym (sym c.home.ensures ∙ c.in-Some.is) ∙ placed))
+          record { between = mid.disks; reads = read.asks; kept = read.keeps; writes = inl refl };
       stays = read.stays;
       len = read.len;
     }

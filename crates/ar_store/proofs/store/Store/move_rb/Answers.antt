@@ -1,10 +1,15 @@
-use Rattle.std.proofs.Common.{IsSome, refl, sym, ap, subst, ◌∙◌}
+use Rattle.std.proofs.Common.{inl, IsSome, refl, sym, ap, subst, ◌∙◌}
 use Rattle.ar_extents.specs.Groups.{outcome_of}
 use Rattle.ar_store.proofs.Asking.{slots_still}
 use Rattle.ar_book.specs.Tables.{home}
 use Rattle.ar_store.specs.Store.{StoreState}
 use Rattle.ar_store.specs.Placing.{IsVacant}
-use Rattle.ar_store.specs.Asking.{AsksSlots}
+use Rattle.ar_store.specs.Asking.{AsksSlots, ReadsThenWrites}
+use Rattle.ar_store.specs.Slots.{NeedsIn, first_in}
+use Rattle.ar_store.specs.Store.{members_of, class_in}
+use Rattle.ar_extents.specs.Follows.{Anywhere, IsPlace}
+use Rattle.ar_extents.proofs.Follows.{keeps_refl, works_refl}
+use Rattle.ar_book.specs.declared.class.Slot.{Slot}
 use Rattle.ar_store.specs.Spaces.{store_in}
 use Rattle.ar_store.proofs.Changes.{units_refl}
 use Rattle.ar_store.proofs.Fills.{accessed_refl, done_not_broken}
@@ -31,6 +36,11 @@ returns-clause-asks g c = λ from is.
     subst (λ (s : StoreState). AsksSlots from c.args.slot s (store_in c.move_block.new.self)) c.self.view_is
     (c.move_block.ensures.asks from (ap (λ (s : StoreState). home s.book c.args.key) c.self.view_is ∙ is))
 
+pub returns-clause-steps : goal.returns-clause-steps
+returns-clause-steps g c = λ from is.
+    subst (λ (s : StoreState). ReadsThenWrites from c.args.slot s (store_in c.move_block.new.self)) c.self.view_is
+    (c.move_block.ensures.steps from (ap (λ (s : StoreState). home s.book c.args.key) c.self.view_is ∙ is))
+
 pub returns-in-Broken : goal.returns-in-Broken
 returns-in-Broken g c =
     let s = c.args.self.now in
@@ -43,6 +53,15 @@ returns-in-Broken g c =
       beside = record { slots = λ slot block there same ne holds. holds };
       units = units_refl s.book;
       asks = λ from is. slots_still s from c.args.slot;
+      steps = λ from is.
+          let c1 = class_in s from.group in
+          let m = members_of s from.group in
+          record {
+            between = s.disks;
+            reads = record { works = works_refl (NeedsIn c1 s.disks.geometry m from.slot) s.disks; first = λ _. works_refl (IsPlace (first_in c1 s.disks.geometry m from.slot)) s.disks };
+            kept = keeps_refl Anywhere s.disks;
+            writes = inl refl;
+          };
       accessed = accessed_refl s.disks;
       broken = λ _. refl;
     }
