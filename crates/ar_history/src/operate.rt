@@ -1,10 +1,10 @@
 // Operations and work in the background.
-ghost use Rattle.std.specs.Prelude.{◌≡◌, ◌⊎◌, ◌<◌, ◌++◌, true, false, Some, None, IsTrue, IsOk, OnOk, length, vec_len, vec_capacity};
+ghost use Rattle.std.specs.Prelude.{◌≡◌, ◌≢◌, ◌⊎◌, ◌<◌, ◌++◌, true, false, Some, None, IsTrue, IsOk, OnOk, length, vec_len, vec_capacity};
 ghost use Rattle.ar_image.specs.Image.{is_broken, image};
 ghost use Rattle.ar_image.specs.Sectors.{Address};
 ghost use Rattle.ar_core.specs.Step.{Steps, is_quiet};
 ghost use Rattle.ar_history.specs.Kept.{MayDouble, entry_of};
-ghost use Rattle.ar_history.specs.Operations.{Does, event_of, event_in, entry_asked, is_done};
+ghost use Rattle.ar_history.specs.Operations.{Does, IsRefused, event_of, event_in, entry_asked, is_done};
 
 use crate::{Entry, Kept, Operation, OperationOf, Task};
 use ar_core::{Array, Event, EventOf, Health, Outcome, OutcomeOf, Refusal, UnitRefusal};
@@ -28,6 +28,8 @@ impl<D: Disk + Drop, L: Ledger> Kept<D, L> {
 
         // Want of memory is told only where the history has no place for an entry, or by the array.
         ensures begun { length self.old.history < self.old.room → Steps self.old.array (event_of operation) result self.new.array }
+        ensures unbegun { self.new.room ≡ length self.old.history → is_broken self.old.array ≡ false → entry_asked (event_of operation) ≢ None
+            → IsRefused self.old.array (event_of operation) result self.new.array }
         ensures placed { length self.old.history < self.old.room → self.new.room ≡ self.old.room }
         ensures grown { MayDouble self.old.room self.new.room }
         ensures unasked { entry_asked (event_of operation) ≡ None → self.new.room ≡ self.old.room }
@@ -64,6 +66,8 @@ impl<D: Disk + Drop, L: Ledger> Kept<D, L> {
         ensures does { Does self.old.array (EventOf.Make addr sectors) result self.new.array }
         ensures recorded { self.new.history ≡ self.old.history ++ entry_of (EventOf.Make addr sectors) result }
         ensures begun { length self.old.history < self.old.room → Steps self.old.array (EventOf.Make addr sectors) result self.new.array }
+        ensures unbegun { self.new.room ≡ length self.old.history → is_broken self.old.array ≡ false
+            → IsRefused self.old.array (EventOf.Make addr sectors) result self.new.array }
         ensures placed { length self.old.history < self.old.room → self.new.room ≡ self.old.room }
         ensures grown { MayDouble self.old.room self.new.room }
         ensures lost { is_broken self.old.array ≡ true → self.new.room ≡ self.old.room }
@@ -78,6 +82,8 @@ impl<D: Disk + Drop, L: Ledger> Kept<D, L> {
         ensures does { Does self.old.array (EventOf.Grow addr sectors) result self.new.array }
         ensures recorded { self.new.history ≡ self.old.history ++ entry_of (EventOf.Grow addr sectors) result }
         ensures begun { length self.old.history < self.old.room → Steps self.old.array (EventOf.Grow addr sectors) result self.new.array }
+        ensures unbegun { self.new.room ≡ length self.old.history → is_broken self.old.array ≡ false
+            → IsRefused self.old.array (EventOf.Grow addr sectors) result self.new.array }
         ensures placed { length self.old.history < self.old.room → self.new.room ≡ self.old.room }
         ensures grown { MayDouble self.old.room self.new.room }
         ensures lost { is_broken self.old.array ≡ true → self.new.room ≡ self.old.room }
@@ -92,6 +98,8 @@ impl<D: Disk + Drop, L: Ledger> Kept<D, L> {
         ensures does { Does self.old.array (EventOf.Remove addr) result self.new.array }
         ensures recorded { self.new.history ≡ self.old.history ++ entry_of (EventOf.Remove addr) result }
         ensures begun { length self.old.history < self.old.room → Steps self.old.array (EventOf.Remove addr) result self.new.array }
+        ensures unbegun { self.new.room ≡ length self.old.history → is_broken self.old.array ≡ false
+            → IsRefused self.old.array (EventOf.Remove addr) result self.new.array }
         ensures placed { length self.old.history < self.old.room → self.new.room ≡ self.old.room }
         ensures grown { MayDouble self.old.room self.new.room }
         ensures lost { is_broken self.old.array ≡ true → self.new.room ≡ self.old.room }

@@ -1,7 +1,7 @@
 // The lines of a script, read in large pieces.
 ghost use Rattle.std.specs.Prelude.{◌≡◌, ◌+◌, if◌then◌else◌, IfOk, IfSome, IsTrue, is_some, ◌≢◌, ◌==◌, ◌&&◌, ◌||◌, not, true, false, length, ◌-◌, ◌≤◌, ◌<◌, ◌++◌, [], ◌∷◌, None, OnOk, IfErr, OnErr, unwrap_or, vec_len, vec_capacity};
 ghost use Rattle.std.specs.List.{list_all, prefix_len};
-ghost use Rattle.std.specs.Io.Buffered.{reader_buffer, reader_inner, writer_buffer};
+ghost use Rattle.std.specs.Io.Buffered.{reader_buffer, reader_capacity, reader_inner, writer_buffer};
 ghost use Rattle.ar_orders.specs.Lines.{lines_of, Took, IsPart, IsFirst, IsLacking, IsFaultFrom, IsUnasked, is_printable, IsLine, front_of, is_bad_next, is_given, is_lacking, part_fault, with_bad};
 
 use crate::{Fault, FaultKind};
@@ -38,6 +38,8 @@ impl<R: Read + Drop> Lines<R> {
         ensures fresh { IfOk result IsFresh }
         ensures unasked { IfOk result (λ lines. reader_inner lines.source ≡ reader) }
         ensures all { IfOk result (λ lines. lines_left lines ≡ lines_of (R.remaining reader)) }
+        ensures room { IfOk result (λ lines. vec_capacity lines.line ≡ 4096) }
+        ensures piece { IfOk result (λ lines. reader_capacity lines.source ≡ 8192) }
     {
         let line = Vec::with_capacity(alloc, LINE_MAX)?;
         let source = BufReader::new(alloc, reader)?;

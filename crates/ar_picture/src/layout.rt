@@ -1,5 +1,5 @@
 // Where things stand in the SVG, in its units, which are pixels where it is shown at its own size.
-ghost use Rattle.std.specs.Prelude.{◌<◌, ◌^◌};
+ghost use Rattle.std.specs.Prelude.{◌≡◌, ◌==◌, ◌+◌, ◌*◌, ◌%◌, ◌<◌, ◌≤◌, ◌^◌};
 
 use crate::{Picture, UNITS_MAX};
 
@@ -39,7 +39,11 @@ pub struct Scale {
 
 impl Scale {
     /// The scale for disks of so many extents.
-    pub fn of(extents: u16) -> Scale {
+    pub fn of(extents: u16) -> Scale
+        // Extents don't overlap, and each has its bar within it.
+        ensures apart { result.height ≤ result.pitch }
+        ensures bar { result.bar.0 + result.bar.1 ≤ result.height }
+    {
         let (pitch, height, bar, outline, numbered) = match extents {
             0..=16 => (36, 32, (17, 11), "1", 1),
             17..=64 => (14, 12, (3, 6), "1", 8),
@@ -62,7 +66,8 @@ impl Scale {
 
     /// Where an extent begins, from above.
     pub fn top_of(self, extent: u16) -> u32
-        ensures { result < 2 ^ 25 }
+        ensures top { result ≡ 124 + self.pitch * extent }
+        ensures small { result < 2 ^ 25 }
     {
         TOP + u32::from(self.pitch) * u32::from(extent)
     }
@@ -78,28 +83,33 @@ impl Scale {
     }
 
     /// Whether an extent has its number beside it.
-    pub fn is_numbered(self, extent: u16) -> bool {
+    pub fn is_numbered(self, extent: u16) -> bool
+        ensures { result ≡ (extent % self.numbered == 0) }
+    {
         extent % self.numbered == 0
     }
 }
 
 /// Where a disk's column begins, from the left.
 pub fn left_of(disk: u8) -> u32
-    ensures { result < 2 ^ 16 }
+    ensures left { result ≡ 64 + 92 * disk }
+    ensures small { result < 2 ^ 16 }
 {
     LEFT + COLUMN * u32::from(disk)
 }
 
 /// Where a line of the legend begins, from above.
 pub fn line_top(line: u8) -> u32
-    ensures { result < 2 ^ 16 }
+    ensures top { result ≡ 74 + 22 * line }
+    ensures small { result < 2 ^ 16 }
 {
     TOP - 50 + LINE * u32::from(line)
 }
 
 /// Where the legend begins, from the left.
 pub fn legend_left(picture: &Picture) -> u32
-    ensures { result < 2 ^ 17 }
+    ensures left { result ≡ 84 + 92 * picture.now.disks }
+    ensures small { result < 2 ^ 17 }
 {
     left_of(picture.disks) + 20
 }

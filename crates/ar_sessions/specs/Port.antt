@@ -1,11 +1,12 @@
 -- How a port that has a seat answers.
-use Rattle.std.specs.Prelude.{◌≡◌, ◌⊎◌, ℕ, Bool, true, ◌&&◌, List, [], ◌∷◌, ◌++◌, Option, Some}
+use Rattle.std.specs.Prelude.{◌≡◌, ◌⊎◌, ℕ, Bool, true, false, ◌&&◌, List, [], ◌∷◌, ◌++◌, length, Option, Some}
 use Rattle.ar_scsi.specs.declared.reply.Reply.{Reply}
 use Rattle.ar_scsi.specs.Reading.{reading}
 use Rattle.ar_unit.specs.Broken.{needs_blocks, is_good}
-use Rattle.ar_history.specs.Kept.{KeptState, exchange_of}
+use Rattle.ar_image.specs.Image.{is_broken}
+use Rattle.ar_history.specs.Kept.{KeptState, MayDouble, exchange_of}
 use Rattle.ar_history.specs.Seat.{SeatState}
-use Rattle.ar_history.specs.Serving.{Serves, DoesCommand}
+use Rattle.ar_history.specs.Serving.{Serves, Begins, DoesCommand, HasPlace, GrowsNothing}
 use Rattle.ar_frames.specs.declared.port.Login.{Login}
 use Rattle.ar_frames.specs.declared.port.Login.TheVariants.{Taken, BadHost, InUse}
 
@@ -18,6 +19,12 @@ pub record AtOneMoment (before : SeatState) (lun : ℕ) (cdb payload : List ℕ)
   pub serves : Serves old before lun cdb payload reply position new after
   pub does : DoesCommand old.array before.host lun cdb payload reply new.array
   pub host : after.host ≡ before.host
+  -- want of memory: where both lists have a place the command is begun, and where the transcript got none it isn't; a transcript
+  -- that is full asks for as many places again, and a broken array for none
+  pub begun : HasPlace old before payload → Begins old.array before.host lun cdb payload reply new.array
+  pub unbegun : after.room ≡ length before.transcript → is_broken old.array ≡ false → new.array ≡ old.array
+  pub grown : MayDouble before.room after.room
+  pub lost : is_broken old.array ≡ true → GrowsNothing old before new after
 
 -- a command that needs the unit's blocks, or asks whether they can be had, was done
 abbrev pub is_done : List ℕ → Reply → Bool
