@@ -59,7 +59,7 @@ returns-in-Done g c =
       steps = λ at placed.
           let P : Slot → Type 0 = λ x. ReadsThenWrites x c.args.to (store_in s) (store_in new) in
           let Q : Tables → Type 0 = λ x.
-              WritesSlot (class_of x c.args.to.group) mid.disks new.disks (group_in x.groups c.args.to.group).members c.args.to.slot in
+          WritesSlot (class_of x c.args.to.group) mid.disks new.disks (group_in x.groups c.args.to.group).members c.args.to.slot in
           subst P (same_Some c.in-Some.from at (sym (sym c.home.ensures ∙ c.in-Some.is) ∙ placed))
           record { between = mid.disks; reads = read.asks; kept = read.keeps; writes = inr (subst Q read.book fill.asks) };
       stays = stays_then s mid new read.stays fill.stays;
