@@ -1,6 +1,6 @@
 use Rattle.std.proofs.Common.{inl, inr, refl, ◌≤◌, length, sym, ap, subst, ◌∙◌}
 use Rattle.ar_disks.specs.Geometry.{block_len_of}
-use Rattle.ar_book.specs.Tables.{Tables, home, free_groups, HasBlock}
+use Rattle.ar_book.specs.Tables.{Tables, home, free_groups, class_of, group_in, HasBlock}
 use Rattle.ar_book.specs.Changes.{assigned}
 use Rattle.ar_book.proofs.Homes.{home_slot, home_block}
 use Rattle.ar_extents.proofs.Outcomes.{sound_done}
@@ -10,7 +10,6 @@ use Rattle.ar_store.proofs.Fills.{moved_stand, beside_then, beside_read, done_no
 use Rattle.ar_store.proofs.Options.{none_not_some}
 use Rattle.std.proofs.lemmas.Option.{same_Some}
 use Rattle.ar_book.specs.declared.class.Slot.{Slot}
-use Rattle.ar_book.specs.Tables.{class_of, group_in}
 use Rattle.ar_store.specs.Asking.{ReadsThenWrites, WritesSlot}
 use Rattle.ar_store.proofs.Stays.{stays_then}
 use Rattle.ar_store.proofs.Asking.{asks_both, asks_one, asks_from}

@@ -2,11 +2,10 @@ use Rattle.std.proofs.Common.{inl, IsSome, refl, sym, ap, subst, ◌∙◌}
 use Rattle.ar_extents.specs.Groups.{outcome_of}
 use Rattle.ar_store.proofs.Asking.{slots_still}
 use Rattle.ar_book.specs.Tables.{home}
-use Rattle.ar_store.specs.Store.{StoreState}
+use Rattle.ar_store.specs.Store.{StoreState, members_of, class_in}
 use Rattle.ar_store.specs.Placing.{IsVacant}
 use Rattle.ar_store.specs.Asking.{AsksSlots, ReadsThenWrites}
 use Rattle.ar_store.specs.Slots.{NeedsIn, first_in}
-use Rattle.ar_store.specs.Store.{members_of, class_in}
 use Rattle.ar_extents.specs.Follows.{Anywhere, IsPlace}
 use Rattle.ar_extents.proofs.Follows.{keeps_refl, works_refl}
 use Rattle.ar_book.specs.declared.class.Slot.{Slot}
