@@ -1,45 +1,80 @@
 -- Which disks a demotion asks, and which group it writes.
-use Rattle.std.proofs.Common.{◌≡◌, ◌⊎◌, inl, inr, ℕ, ◌<◌, Some, ap, subst, ◌∙◌, arith}
+use Rattle.std.proofs.Common.{◌≡◌, ◌⊎◌, inl, inr, ℕ, ◌<◌, Some, refl, ap, subst, ◌∙◌, arith}
 use Rattle.ar_disks.specs.declared.address.Key.{Key}
 use Rattle.ar_disks.specs.declared.address.Place.{Place}
 use Rattle.ar_disks.specs.declared.address.Members.{Members}
 use Rattle.ar_disks.specs.declared.geometry.Geometry.{Geometry}
+use Rattle.ar_extents.specs.declared.health.Health.TheVariants.{Broken as AllBroken}
 use Rattle.ar_extents.specs.Groups.{IsMember}
+use Rattle.ar_extents.specs.Follows.{Anywhere}
+use Rattle.ar_extents.proofs.Follows.{keeps_refl}
 use Rattle.ar_book.specs.declared.class.Class.{Class}
 use Rattle.ar_book.specs.declared.class.Class.TheVariants.{Parity}
 use Rattle.ar_book.specs.declared.class.Slot.{Slot}
 use Rattle.ar_book.specs.Tables.{Tables, group_in, class_of, home, free_groups}
 use Rattle.ar_book.specs.Book.{TablesAgree}
-use Rattle.ar_book.specs.Choices.{IsLowestFree}
+use Rattle.ar_book.specs.Choices.{IsMirrored, IsLowestFree}
 use Rattle.ar_book.proofs.Homes.{home_key}
 use Rattle.ar_book.proofs.AfterOpen.{opened_class_other, opened_members}
-use Rattle.ar_store.specs.Store.{StoreState, members_of, class_in}
+use Rattle.ar_store.specs.Store.{StoreState, store_of, members_of, class_in}
 use Rattle.ar_store.specs.Slots.{ReadsIn}
 use Rattle.ar_store.specs.Kept.{IsSpace}
 use Rattle.ar_store.specs.Placing.{slot_at, IsLowestHole, HasNoHole}
 use Rattle.ar_store.specs.Calls.{IsOpened}
-use Rattle.ar_store.specs.Asking.{WorksWithin, ReadsAt, MovesAt, AsksSlots, AsksOpened, AsksGroup}
+use Rattle.ar_store.specs.Asking.{WorksWithin, ReadsAt, MovesAt, AsksSlots, AsksOpened, AsksGroup, ReadsThenWrites}
 use Rattle.ar_store.proofs.Within.{within_refl, within_then, within_more}
 use Rattle.ar_store.proofs.Asking.{writes_member, slots_still}
+use Rattle.ar_store.proofs.SlotCalls.{asked_none}
 use Rattle.ar_store.proofs.Changes.{named_apart}
+use Rattle.ar_moves.specs.Moves.{AsksToMove, AsksToOpen}
 use Rattle.ar_moves.specs.Demotion.{IsOldestMirrored, AsksToDemote}
+use Rattle.ar_moves.specs.Cleaning.{NamesCleaning, NothingToClean}
 use Rattle.ar_moves.proofs.Single.{oldest_single, slot_single, free_single}
 
--- nothing was asked
-pub asks_none : (s : StoreState) → AsksToDemote s s
-asks_none s = record {
-  there = λ key from to oldest placed lowest. slots_still s from to;
-  made = λ key from group oldest placed none many lowest. within_refl _ _ s.disks;
+-- nothing was moved, as the disks were broken
+pub moves_none : (s : StoreState) (from to : Slot) → s.disks.health ≡ AllBroken → AsksToMove from to s s
+moves_none s from to broken = record {
+  asks = slots_still s from to;
+  steps = record {
+    between = s.disks;
+    reads = asked_none (class_in s from.group) s.disks (members_of s from.group) from.slot;
+    kept = keeps_refl Anywhere s.disks;
+    writes = inl (record { broken = broken; same = refl });
+  };
+}
+
+-- what cleaning names isn't there where there is nothing to clean
+pub cleans_nothing : (t : Tables) (key : Key) (to : Slot) → NothingToClean t → NamesCleaning t key to → ⊥
+cleans_nothing t key to none (inl mirrored) = none.mirrored mirrored.group mirrored.emptiest.can
+cleans_nothing t key to none (inr parity) = none.parity parity.names.group parity.names.emptiest.can
+
+-- and nothing was demoted
+pub demotes_none : (s : StoreState) → s.disks.health ≡ AllBroken → AsksToDemote s s
+demotes_none s broken = record {
+  there = λ key from to oldest placed lowest. moves_none s from to broken;
+  made = λ key from group oldest placed none many lowest. record {
+    asks = within_refl _ _ s.disks;
+    filled = s.disks;
+    fills = within_refl _ _ s.disks;
+    moves = inl (record { broken = broken; same = refl });
+  };
+}
+
+-- or no block was at the mirrored level
+pub demotes_nothing : (s : StoreState) → ((k : Key) → IsMirrored s.book k → ⊥) → AsksToDemote s s
+demotes_nothing s none = record {
+  there = λ key from to oldest placed lowest. absurd (none key oldest.mirrored);
+  made = λ key from group oldest placed full many lowest. absurd (none key oldest.mirrored);
 }
 
 -- the block moved to the hole that was there
 pub asks_there : (a c : StoreState) (key : Key) (to : Slot) → TablesAgree a.book → IsOldestMirrored a.book key → IsLowestHole a.book Parity to
-    → ((from : Slot) → home a.book key ≡ Some from → AsksSlots from to a c) → AsksToDemote a c
+    → ((from : Slot) → home a.book key ≡ Some from → AsksToMove from to a c) → AsksToDemote a c
 asks_there a c key to ok oldest lowest asks = record {
   there = λ other from slot other_oldest placed other_lowest.
       let same = oldest_single a.book key other ok oldest other_oldest in
       let at = slot_single to slot (lowest.least slot other_lowest.hole) (other_lowest.least to lowest.hole) in
-      (let P : Slot → Type 0 = λ x. AsksSlots from x a c in subst P at (asks from (ap (λ k. home a.book k) same ∙ placed)));
+      (let P : Slot → Type 0 = λ x. AsksToMove from x a c in subst P at (asks from (ap (λ k. home a.book k) same ∙ placed)));
   made = λ other from group other_oldest placed none many free. absurd (none.none to lowest.hole);
 }
 
@@ -69,17 +104,29 @@ moved_asks a b c key from g space opening geometry placed opened moved =
           (writes_member (class_in b g) c.disks b.disks.geometry (members_of b g) 0 place second))
     ]) moved.within))
 
+-- and only then
+moved_then : (a b c : StoreState) (key : Key) (from : Slot) (g : ℕ) → IsSpace a → IsOpened a.book b.book Parity g → b.disks.geometry ≡ a.disks.geometry
+    → home a.book key ≡ Some from → AsksGroup g a b → AsksToMove from (slot_at g 0) b c → AsksToOpen from g a c
+moved_then a b c key from g space opening geometry placed opened moved =
+    let P : Tables → Type 0 = λ x. ReadsThenWrites from (slot_at g 0) (store_of b.disks x) c in
+    record {
+      asks = moved_asks a b c key from g space opening geometry placed opened moved.asks;
+      filled = b.disks;
+      fills = opened;
+      moves = inr (subst P opening.tables moved.steps);
+    }
+
 pub asks_made : (a b c : StoreState) (key : Key) (g : ℕ) → IsSpace a → IsOldestMirrored a.book key → HasNoHole a.book Parity → IsOpened a.book b.book Parity g
     → b.disks.geometry ≡ a.disks.geometry → ((k : Key) → home b.book k ≡ home a.book k) → AsksGroup g a b
-    → ((from : Slot) → home b.book key ≡ Some from → AsksSlots from (slot_at g 0) b c) → AsksToDemote a c
+    → ((from : Slot) → home b.book key ≡ Some from → AsksToMove from (slot_at g 0) b c) → AsksToDemote a c
 asks_made a b c key g space oldest none opening geometry homes opened asks = record {
   there = λ other from slot other_oldest placed lowest. absurd (none.none slot lowest.hole);
   made = λ other from group other_oldest placed other_none many free.
       let same = oldest_single a.book key other space.tables oldest other_oldest in
       let here = ap (λ k. home a.book k) same ∙ placed in
-      (let P : ℕ → Type 0 = λ n. AsksOpened from n a c in
+      (let P : ℕ → Type 0 = λ n. AsksToOpen from n a c in
       subst P (free_single a.book g group opening.lowest free)
-      (moved_asks a b c key from g space opening geometry here opened (asks from (homes key ∙ here))));
+      (moved_then a b c key from g space opening geometry here opened (asks from (homes key ∙ here))));
 }
 
 -- a group was to be opened, and couldn't be
@@ -90,10 +137,15 @@ asks_nothing a c none few = record {
 }
 
 -- the disks broke while it was opened
-pub asks_opened : (a c : StoreState) → HasNoHole a.book Parity → ((group : ℕ) → IsLowestFree a.book group → AsksGroup group a c) → AsksToDemote a c
-asks_opened a c none asks = record {
+pub asks_opened : (a c : StoreState) → HasNoHole a.book Parity → c.disks.health ≡ AllBroken
+    → ((group : ℕ) → IsLowestFree a.book group → AsksGroup group a c) → AsksToDemote a c
+asks_opened a c none broken asks = record {
   there = λ key from to oldest placed lowest. absurd (none.none to lowest.hole);
-  made = λ key from group oldest placed _ many free.
-      within_more (IsMember (members_of a group)) (λ place. ReadsAt a c from place ⊎ IsMember (members_of a group) place) (members_of a group) a.disks c.disks
-      (λ place is. inr is) (asks group free);
+  made = λ key from group oldest placed _ many free. record {
+    asks = within_more (IsMember (members_of a group)) (λ place. ReadsAt a c from place ⊎ IsMember (members_of a group) place) (members_of a group) a.disks c.disks
+        (λ place is. inr is) (asks group free);
+    filled = c.disks;
+    fills = asks group free;
+    moves = inl (record { broken = broken; same = refl });
+  };
 }

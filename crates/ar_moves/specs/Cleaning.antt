@@ -8,7 +8,7 @@ use Rattle.ar_book.specs.Tables.{GroupState, Tables, home, used}
 use Rattle.ar_book.specs.Changes.{Moved}
 use Rattle.ar_book.specs.Cleaning.{CanBeEmptied, IsEmptiest, IsFirstBlock, IsLowestHoleBeside}
 use Rattle.ar_store.specs.Store.{StoreState}
-use Rattle.ar_store.specs.Asking.{AsksSlots}
+use Rattle.ar_moves.specs.Moves.{AsksToMove}
 
 -- no group of a class can be emptied into the others
 abbrev pub HasNothingIn : Tables → Class → Type 0
@@ -40,9 +40,10 @@ pub record Cleans (t : Tables) (key : Key) (to : Slot) (new : Tables) : Type 0 w
   pub names : NamesCleaning t key to
   pub moved : Moved t key to new
 
--- no disk was asked but those that the block's move to the slot that the rule names asks, and no row was written but the slot's
+-- no disk was asked but those that the block's move to the slot that the rule names asks, one slot's before the other's, and no row
+-- was written but the slot's
 abbrev pub AsksToClean : StoreState → StoreState → Type 0
-AsksToClean old new = (key : Key) (from to : Slot) → NamesCleaning old.book key to → home old.book key ≡ Some from → AsksSlots from to old new
+AsksToClean old new = (key : Key) (from to : Slot) → NamesCleaning old.book key to → home old.book key ≡ Some from → AsksToMove from to old new
 
 -- A group's part of the work that may be left, by its number of blocks: they meet as many free slots each. And most of all where
 -- it was opened and has no block yet, as a block that goes there leaves one more group with blocks.

@@ -12,7 +12,7 @@ use Rattle.ar_store.specs.Store.{StoreState}
 use Rattle.ar_store.specs.Slots.{SlotHolds}
 use Rattle.ar_store.specs.Placing.{slot_at, IsLowestHole, HasNoHole}
 use Rattle.ar_store.specs.Calls.{IsOpened}
-use Rattle.ar_store.specs.Asking.{AsksSlots, AsksOpened}
+use Rattle.ar_moves.specs.Moves.{AsksToMove, AsksToOpen}
 
 -- the mirrored block that was written longest ago
 pub record IsOldestMirrored (t : Tables) (key : Key) : Type 0 where
@@ -69,13 +69,14 @@ MayHaveOpened t new = (new ≡ t) ⊎ ((key : Key) × (to : Slot) × NamesDemoti
 pub record HoldsZerosBeside (s : StoreState) (to : Slot) : Type 0 where
   pub slots : (i : ℕ) → i < 3 * rows_of s.disks.geometry → i ≢ to.slot → SlotHolds s (slot_at to.group i) (zeros (block_len_of s.disks.geometry))
 
--- No disk was asked but those that the block's move to the slot that the rule names asks, and no row was written but the
--- slot's; or, where a group is opened for it, that group's disks were asked too, and no other group was written.
+-- No disk was asked but those that the block's move to the slot that the rule names asks, one slot's before the other's, and no
+-- row was written but the slot's; or, where a group is opened for it, that group's disks were asked first, and no other group was
+-- written.
 pub record AsksToDemote (old new : StoreState) : Type 0 where
   pub there :
       (key : Key) (from to : Slot) → IsOldestMirrored old.book key → home old.book key ≡ Some from → IsLowestHole old.book Parity to
-      → AsksSlots from to old new
+      → AsksToMove from to old new
   pub made :
       (key : Key) (from : Slot) (group : ℕ) → IsOldestMirrored old.book key → home old.book key ≡ Some from → HasNoHole old.book Parity
       → 2 ≤ free_groups old.book → IsLowestFree old.book group
-      → AsksOpened from group old new
+      → AsksToOpen from group old new

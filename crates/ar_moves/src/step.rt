@@ -5,7 +5,7 @@ ghost use Rattle.ar_book.specs.Tables.{home};
 ghost use Rattle.ar_book.specs.Changes.{Moved};
 ghost use Rattle.ar_store.specs.Slots.{BesideHold};
 ghost use Rattle.ar_store.specs.Placing.{IsVacant};
-ghost use Rattle.ar_store.specs.Asking.{AsksSlots};
+ghost use Rattle.ar_store.specs.Asking.{AsksSlots, ReadsThenWrites};
 ghost use Rattle.ar_moves.specs.Moves.{IfMoved, IsMovedTo, LeavesBlocks};
 
 use ar_book::Slot;
@@ -34,6 +34,7 @@ pub(crate) fn move_to<D: Disk>(store: &mut Store<D>, key: Key, to: Slot) -> Move
     ensures unmoved { result ≡ Move.Broken → store.new.book ≡ store.old.book }
     ensures beside { BesideHold store.old store.new to }
     ensures asks { (from : Slot) → home store.old.book key ≡ Some from → AsksSlots from to store.old store.new }
+    ensures steps { (from : Slot) → home store.old.book key ≡ Some from → ReadsThenWrites from to store.old store.new }
     ensures leaves { LeavesBlocks store.old store.new }
 {
     match store.move_rb(key, to) {

@@ -6,22 +6,23 @@ use Rattle.ar_disks.specs.declared.address.Members.{Members}
 use Rattle.ar_disks.specs.declared.address.Place.{Place}
 use Rattle.ar_disks.specs.declared.geometry.Geometry.{Geometry}
 use Rattle.ar_disks.specs.Members.{member}
+use Rattle.ar_extents.specs.declared.health.Health.TheVariants.{Broken as AllBroken}
 use Rattle.ar_extents.specs.Health.{is_lost}
 use Rattle.ar_extents.specs.Set.{SetState, content, IsSound}
 use Rattle.ar_extents.specs.Groups.{IsMember, IsOutside}
 use Rattle.ar_extents.specs.Follows.{Follows, Keeps, Anywhere, IsPlace, IsEither, WorksOn}
 use Rattle.ar_extents.proofs.Follows.{keeps_refl, keeps_then, keeps_fewer, works_more}
 use Rattle.ar_mirror.specs.Calls.{IsInPair, OtherSlotsHold as OtherMirrorSlotsHold, KeepsButSlot}
-use Rattle.ar_parity.specs.Group.{Holds as ParityHolds, KeepsButRow}
+use Rattle.ar_parity.specs.Group.{Holds as ParityHolds}
 use Rattle.ar_mirror.proofs.Frames.{keeps_outside as mirror_outside}
 use Rattle.ar_parity.proofs.Frames.{keeps_outside as parity_outside}
 use Rattle.ar_mirror.specs.Slots.{row_of as mirror_row_of}
 use Rattle.ar_book.specs.declared.class.Class.{Class}
 use Rattle.ar_book.specs.declared.class.Class.TheVariants.{Free, Mirrored, Parity}
-use Rattle.ar_book.specs.declared.class.Level.TheVariants.{Mirrored as MirroredLevel, Parity as ParityLevel}
+use Rattle.ar_book.specs.declared.class.Level.TheVariants.{Unplaced, Mirrored as MirroredLevel, Parity as ParityLevel}
 use Rattle.ar_book.specs.declared.class.Slot.{Slot}
 use Rattle.ar_parity.specs.Row.{data_position, parity_position, row_of as parity_row_of}
-use Rattle.ar_book.specs.Tables.{Tables, group_in, class_of, key_at, home, level_of, slots_of}
+use Rattle.ar_book.specs.Tables.{Tables, group_in, class_of, key_at, home, level, level_of, slots_of, free_groups}
 use Rattle.ar_book.specs.Changes.{opened}
 use Rattle.ar_book.specs.Choices.{IsFullMirrored, IsLowestFree}
 use Rattle.ar_book.proofs.Homes.{home_level, key_home}
@@ -32,8 +33,11 @@ use Rattle.ar_store.specs.declared.way.Way.{Way}
 use Rattle.ar_store.specs.declared.way.Way.TheVariants.{Home, Hole, Broken}
 use Rattle.ar_store.specs.Store.{StoreState, store_of, members_of, class_in}
 use Rattle.ar_store.specs.Slots.{ClassHolds, NeedsIn, ReadsIn, WritesIn, first_in, AsksFor, AsksForSlot}
-use Rattle.ar_store.specs.Placing.{slot_at, moved_from, moved_first, squeezed, LeadsHome, LeadsToHole, Leads, HasNoWay}
-use Rattle.ar_store.specs.Asking.{WorksWithin, KeepsButRowsOf, WritesSlot, ReadsAt, WritesAt, MovesAt, MovesAll, ReadsPairs, AsksSlot, AsksSlots, AsksGroup, AsksGroups, AsksToPut, AsksToSqueeze, AsksOnWay, AsksWay}
+use Rattle.ar_store.specs.Placing.{slot_at, moved_from, moved_first, squeezed, LeadsHome, LeadsToHole, Leads, IsReadyFor, HasNoHole, HasNoWay}
+use Rattle.ar_store.specs.Calls.{IsZerosOnWay}
+use Rattle.ar_store.specs.Asking.{WorksWithin, KeepsButTwo, KeepsButRowsOf, WritesSlot, ReadsAt, WritesAt, MovesAt, MovesAll, ReadsPairs}
+use Rattle.ar_store.specs.Asking.{AsksSlot, AsksSlots, AsksGroup, AsksGroups, AsksNothing, AsksToPut, AsksToSqueeze, AsksOnWay, AsksWay}
+use Rattle.ar_store.specs.Asking.{CopiesAll, Squeezes, SqueezesThenWrites}
 use Rattle.ar_store.specs.Spaces.{store_in}
 use Rattle.ar_store.proofs.Within.{within_refl, within_same, within_then, within_more, within_read}
 use Rattle.ar_store.proofs.Squeezing.{IsSqueezing, same_full, same_free}
@@ -109,10 +113,10 @@ wrote_mirrored a b m i works slots keeps = record {
 
 pub wrote_parity : (a b : SetState) (m : Members) (i : ℕ) → WorksOn (IsMember m) a b
     → (IsSound b (member m (data_position i)) → WorksOn (IsEither (member m (data_position i)) (member m (parity_position (parity_row_of i)))) a b)
-    → ((k : ℕ) → k ≢ i → (block : List ℕ) → ParityHolds a m k block → ParityHolds b m k block) → KeepsButRow m (parity_row_of i) a b
+    → ((k : ℕ) → k ≢ i → (block : List ℕ) → ParityHolds a m k block → ParityHolds b m k block) → KeepsButTwo m i a b
     → WritesSlot Parity a b m i
 wrote_parity a b m i works known others keeps = record {
-  within = record { works = writes_parity a b m i works known; keeps = parity_outside a b m i keeps };
+  within = record { works = writes_parity a b m i works known; keeps = parity_outside a b m i keeps.row };
   rows = keeps;
   beside = λ k block inside ne has. others k ne block has;
 }
@@ -199,10 +203,10 @@ squeeze_asks a b c from to is opening moves =
     (groups_same a b c from to same opening.works.follows.geometry moves)
 
 -- there is one full mirrored group that comes first, and one free one
-pub only_squeeze : (a c : StoreState) (from to : ℕ) → IsFullMirrored a.book from → IsLowestFree a.book to → AsksGroups from to a c → AsksToSqueeze a c
+pub only_squeeze : (a c : StoreState) (from to : ℕ) → IsFullMirrored a.book from → IsLowestFree a.book to → Squeezes from to a c → AsksToSqueeze a c
 only_squeeze a c from to full free works f g is_f is_g =
-    let P : ℕ → Type 0 = λ n. AsksGroups n to a c in
-    let Q : ℕ → Type 0 = λ n. AsksGroups f n a c in
+    let P : ℕ → Type 0 = λ n. Squeezes n to a c in
+    let Q : ℕ → Type 0 = λ n. Squeezes f n a c in
     subst Q (same_free a.book to g free is_g) (subst P (same_full a.book from f full is_f) works)
 
 -- and one free group that is opened
@@ -215,8 +219,11 @@ pub rows_kept : (class : Class) (m : Members) (i : ℕ) (a b : SetState) → Kee
 rows_kept Free m i a b keeps = keeps
 rows_kept Mirrored m i a b keeps = record { rows = λ place row other. keeps.rows place tt row }
 rows_kept Parity m i a b keeps = record {
-  other_rows = λ place row other. keeps.rows place tt row;
-  other_places = keeps_fewer Anywhere (IsOutside m) a b (λ place is. tt) keeps;
+  row = record {
+    other_rows = λ place row other. keeps.rows place tt row;
+    other_places = keeps_fewer Anywhere (IsOutside m) a b (λ place is. tt) keeps;
+  };
+  others = λ k below own parity. keeps.rows (member m k) tt (parity_row_of i);
 }
 
 -- no row but a slot's was written after rows were read
@@ -227,8 +234,11 @@ rows_then Mirrored m i a b c geometry keeps rows =
     let P : Geometry → Type 0 = λ g. (place : Place) (row : ℕ) → (IsInPair g m i place → row ≢ mirror_row_of g i) → content c place row ≡ content b place row in
     record { rows = λ place row other. subst P geometry rows.rows place row other ∙ keeps.rows place tt row }
 rows_then Parity m i a b c geometry keeps rows = record {
-  other_rows = λ place row other. rows.other_rows place row other ∙ keeps.rows place tt row;
-  other_places = keeps_then (IsOutside m) a b c (keeps_fewer Anywhere (IsOutside m) a b (λ place is. tt) keeps) rows.other_places;
+  row = record {
+    other_rows = λ place row other. rows.row.other_rows place row other ∙ keeps.rows place tt row;
+    other_places = keeps_then (IsOutside m) a b c (keeps_fewer Anywhere (IsOutside m) a b (λ place is. tt) keeps) rows.row.other_places;
+  };
+  others = λ k below own parity. rows.others k below own parity ∙ keeps.rows (member m k) tt (parity_row_of i);
 }
 
 -- no slot was written
@@ -239,19 +249,35 @@ slot_same class a b m i same = record {
   beside = λ k block inside ne has. subst (λ (x : SetState). ClassHolds class x m k block) (sym same) has;
 }
 
--- nothing was asked
-pub asks_still : (a c : StoreState) (k : Key) → c.disks ≡ a.disks → AsksToPut a k c
-asks_still a c k same = record {
+-- nothing was asked, as the disks were broken, or no squeeze was needed
+asks_none : (a c : StoreState) (k : Key) → c.disks ≡ a.disks
+    → ((from to : ℕ) → level a.book k ≡ Unplaced → HasNoHole a.book Mirrored → HasNoHole a.book Parity → free_groups a.book < 2 → SqueezesThenWrites from to a c)
+    → AsksToPut a k c
+asks_none a c k same rest = record {
   mirrored = λ s at is. slot_same _ a.disks c.disks _ _ same;
   mirrored_hole = λ s low hole. slot_same _ a.disks c.disks _ _ same;
   opened_group = λ g low none many lowest. slot_same _ a.disks c.disks _ _ same;
   parity = λ s at is none few. slot_same _ a.disks c.disks _ _ same;
   parity_hole = λ s at none few hole. slot_same _ a.disks c.disks _ _ same;
-  squeezed_group = λ from to at none full few is_from is_to. within_same _ _ a.disks c.disks same;
+  squeezed_group = λ from to at none full few is_from is_to. rest from to at none full few;
 }
 
+-- nothing was copied, as the disks were broken
+pub copies_none : (slots : ℕ) (from to : Members) (s : SetState) → s.health ≡ AllBroken → CopiesAll slots from to s s
+copies_none slots from to s broken = record { copied = 0; within = omega arith; whole = λ sound. absurd (sound broken); copies = refl }
+
+-- a broken store stayed as it was
+pub asks_still : (s : StoreState) (k : Key) → s.disks.health ≡ AllBroken → AsksToPut s k s
+asks_still s k broken = asks_none s s k refl (λ from to at none full few. record {
+  asks = within_refl _ _ s.disks;
+  squeezed = s.disks;
+  steps = record { filled = s.disks; fills = within_refl _ _ s.disks; copies = copies_none _ _ _ s.disks broken };
+  writes = inl (record { broken = broken; same = refl });
+})
+
 -- all that a squeeze needs
-asks_squeezed : (a c : StoreState) (k : Key) → HasNoWay a.book k a.book → AsksToSqueeze a c → AsksToPut a k c
+asks_squeezed : (a c : StoreState) (k : Key) → HasNoWay a.book k a.book
+    → ((from to : ℕ) → IsFullMirrored a.book from → IsLowestFree a.book to → SqueezesThenWrites from to a c) → AsksToPut a k c
 asks_squeezed a c k needs asks =
     let at = nowhere a.book k needs.unplaced in
     record {
@@ -316,8 +342,20 @@ module _ (a b c : StoreState) (k : Key) where
       let P : Members → Type 0 = λ m. WorksWithin (IsMember m) m b.disks c.disks in
       second_group c.disks a.disks.geometry (members_of a from) (members_of a to) b.disks c.disks (subst P same (slot_in_group b c s (class_in b s.group) asks))
 
-  asks_hole : (s : Slot) → LeadsToHole a.book k b.book s → b.disks ≡ a.disks → AsksSlot (class_in b s.group) s b c → AsksToPut a k c
-  asks_hole s leads disks asks =
+  -- in the place that the squeeze left
+  left_written : (from to : ℕ) (s : Slot) → b.book ≡ squeezed a.book from to → s ≡ slot_at to (slots_of a.book.geometry Mirrored)
+      → class_in b s.group ≡ Parity → AsksSlot (class_in b s.group) s b c → WritesSlot Parity b.disks c.disks (members_of a to) (slots_of a.book.geometry Mirrored)
+  left_written from to s is at class asks =
+      let members : members_of b s.group ≡ members_of a to =
+      ap (λ (x : Tables). (group_in x.groups s.group).members) is ∙ squeezed_members a.book from to s.group ∙ ap (λ (x : Slot). members_of a x.group) at in
+      let P : Class → Type 0 = λ x. WritesSlot x b.disks c.disks (members_of b s.group) s.slot in
+      let Q : Members → Type 0 = λ m. WritesSlot Parity b.disks c.disks m s.slot in
+      let R : ℕ → Type 0 = λ i. WritesSlot Parity b.disks c.disks (members_of a to) i in
+      subst R (ap (λ (x : Slot). x.slot) at) (subst Q members (subst P class asks))
+
+  asks_hole : (s : Slot) → LeadsToHole a.book k b.book s → AsksNothing a k b → AsksSlot (class_in b s.group) s b c → AsksToPut a k c
+  asks_hole s leads nothing asks =
+      let disks = nothing.same in
       let t = a.book in
       let class_was : (u : Tables) → b.book ≡ u → (r : Slot) → s ≡ r → class_in b s.group ≡ class_of u r.group = λ u is r same.
       ap (λ (x : Tables). class_of x s.group) is ∙ ap (λ (x : Slot). class_of u x.group) same in
@@ -336,30 +374,49 @@ module _ (a b c : StoreState) (k : Key) where
         parity_hole = λ r at none few hole.
             let same = leads.parity_hole r none few hole in
             at_slot Parity s r disks same.1 (class_was t same.0 r same.1 ∙ hole.hole.class) (members_are t same.0) asks;
-        squeezed_group = λ from to at none full few is_from is_to.
-            let same = leads.squeezed_group from to none full few is_from is_to in
-            let P : SetState → Type 0 = λ x. WorksWithin (MovesAll a c from to) (members_of a to) x c.disks in
-            subst P disks (after_squeeze from to s same.0 (ap (λ (x : Slot). x.group) same.1) asks);
+        squeezed_group = λ from to at none full few is_from is_to. absurd (nothing.needs.way at none full few);
       }
 
   -- a squeeze was needed, and the slot that it left was written
-  squeeze_hole : (s : Slot) → LeadsToHole a.book k b.book s → HasNoWay a.book k a.book → AsksToSqueeze a b → AsksSlot (class_in b s.group) s b c → AsksToSqueeze a c
-  squeeze_hole s leads needs first asks from to is_from is_to =
+  squeeze_hole : (s : Slot) → LeadsToHole a.book k b.book s → HasNoWay a.book k a.book → AsksToSqueeze a b → class_in b s.group ≡ Parity → AsksSlot (class_in b s.group) s b c
+      → (from to : ℕ) → IsFullMirrored a.book from → IsLowestFree a.book to → SqueezesThenWrites from to a c
+  squeeze_hole s leads needs first parity asks from to is_from is_to =
       let same = leads.squeezed_group from to needs.mirrored.none needs.parity needs.mirrored.few is_from is_to in
-      within_then (MovesAll a c from to) (members_of a to) a.disks b.disks c.disks
-      (groups_later b.disks c.disks a.disks.geometry (members_of a from) (members_of a to) a.disks b.disks asks.within.works.follows (first from to is_from is_to))
-      (after_squeeze from to s same.0 (ap (λ (x : Slot). x.group) same.1) asks)
+      let squeeze = first from to is_from is_to in
+      let group = ap (λ (x : Slot). x.group) same.1 in
+      record {
+        asks = within_then (MovesAll a c from to) (members_of a to) a.disks b.disks c.disks
+            (groups_later b.disks c.disks a.disks.geometry (members_of a from) (members_of a to) a.disks b.disks asks.within.works.follows squeeze.asks)
+            (after_squeeze from to s same.0 group asks);
+        squeezed = b.disks;
+        steps = squeeze.steps;
+        writes = inr (left_written from to s same.0 same.1 parity asks);
+      }
+
+  -- a squeeze was begun, and the disks broke
+  squeeze_broken : b.disks.health ≡ AllBroken → AsksToSqueeze a b → c.disks ≡ b.disks
+      → (from to : ℕ) → IsFullMirrored a.book from → IsLowestFree a.book to → SqueezesThenWrites from to a c
+  squeeze_broken broken first same from to is_from is_to =
+      let squeeze = first from to is_from is_to in
+      let P : SetState → Type 0 = λ x. WorksWithin (MovesFrom x a.disks.geometry (members_of a from) (members_of a to)) (members_of a to) a.disks x in
+      record {
+        asks = subst P (sym same) squeeze.asks;
+        squeezed = b.disks;
+        steps = squeeze.steps;
+        writes = inl (record { broken = broken; same = same });
+      }
 
   -- What a put asks: what was asked for a slot to be found, and then that slot's disks.
-  pub asks_way : (way : Way) → Leads a.book k b.book way → AsksOnWay a k b → AsksWay way b c → AsksToPut a k c
-  asks_way (Home s) leads (inl disks) asks = asks_home s leads disks asks
-  asks_way (Home s) leads (inr squeeze) asks = absurd (none-some s (sym squeeze.0.unplaced ∙ leads.home))
-  asks_way (Hole s) leads (inl disks) asks = asks_hole s leads disks asks
-  asks_way (Hole s) leads (inr squeeze) asks = asks_squeezed a c k squeeze.0 (squeeze_hole s leads squeeze.0 squeeze.1 asks)
-  asks_way Broken leads (inl disks) asks = asks_still a c k (asks ∙ disks)
-  asks_way Broken leads (inr squeeze) asks = asks_squeezed a c k squeeze.0 (λ from to is_from is_to.
-      let P : SetState → Type 0 = λ x. WorksWithin (MovesFrom x a.disks.geometry (members_of a from) (members_of a to)) (members_of a to) a.disks x in
-      subst P (sym asks) (squeeze.1 from to is_from is_to))
+  pub asks_way : (way : Way) → Leads a.book k b.book way → IsReadyFor b k way → IsZerosOnWay a.book k b way → AsksOnWay a k b → AsksWay way b c
+      → AsksToPut a k c
+  asks_way (Home s) leads ready zeros (inl nothing) asks = asks_home s leads nothing.same asks
+  asks_way (Home s) leads ready zeros (inr squeeze) asks = absurd (none-some s (sym squeeze.0.unplaced ∙ leads.home))
+  asks_way (Hole s) leads ready zeros (inl nothing) asks = asks_hole s leads nothing asks
+  asks_way (Hole s) leads ready zeros (inr squeeze) asks =
+      asks_squeezed a c k squeeze.0 (squeeze_hole s leads squeeze.0 squeeze.1 (zeros squeeze.0).parity asks)
+  asks_way Broken leads ready zeros (inl nothing) asks =
+      asks_none a c k (asks ∙ nothing.same) (λ from to at none full few. absurd (nothing.needs.way at none full few))
+  asks_way Broken leads ready zeros (inr squeeze) asks = asks_squeezed a c k squeeze.0 (squeeze_broken ready squeeze.1 asks)
 
 -- no row was written but the new slot's
 move_rows : (a b c : StoreState) (other : Slot) → b.book ≡ a.book → b.disks.geometry ≡ a.disks.geometry → Keeps Anywhere a.disks b.disks

@@ -15,6 +15,7 @@ pub mod Squeezing
 pub mod Ways
 pub mod Within
 pub mod Asking
+pub mod Steps
 pub mod Zeros
 pub mod UnitChanges
 pub mod Picking

@@ -10,7 +10,8 @@ use Rattle.ar_extents.specs.Follows.{Follows}
 use Rattle.ar_book.specs.declared.class.Class.{Class}
 use Rattle.ar_book.specs.declared.class.Class.TheVariants.{Free, Mirrored, Parity}
 use Rattle.ar_book.specs.declared.class.Slot.{Slot}
-use Rattle.ar_book.specs.Tables.{Tables, class_of, slots_of}
+use Rattle.ar_book.specs.declared.class.Level.TheVariants.{Unplaced}
+use Rattle.ar_book.specs.Tables.{Tables, class_of, level, slots_of, free_groups}
 use Rattle.ar_book.specs.Changes.{stamped}
 use Rattle.ar_store.specs.declared.way.Way.{Way}
 use Rattle.ar_store.specs.declared.way.Way.TheVariants.{Home, Hole, Broken}
@@ -19,6 +20,7 @@ use Rattle.ar_store.specs.Slots.{SlotHolds, BesideHold}
 use Rattle.ar_store.specs.Kept.{IsSpace}
 use Rattle.ar_store.specs.Placing.{slot_at, HasNoHole, IsVacant, IsReadyFor, IsWayIn, Leads, MayOpen}
 use Rattle.ar_store.specs.Calls.{HoldsZeros, HoldsZerosFrom, LeavesZeros, IsZerosOnWay, BesideWay}
+use Rattle.ar_store.proofs.Ways.{unplaced_not_mirrored, unplaced_not_parity}
 
 -- a group that was just filled
 pub zeros_all : (s : StoreState) (group : ℕ) → HoldsZeros s group → HoldsZerosFrom s group 0
@@ -55,6 +57,18 @@ no_vacant t s vacant mirrored parity Parity is = parity.none s (record {
 })
 
 -- a way that was found without a squeeze needed none
+pub way_unneeded : (t u : Tables) (k : Key) (way : Way) → IsWayIn t k u way → MayOpen t u
+    → level t k ≡ Unplaced → HasNoHole t Mirrored → HasNoHole t Parity → free_groups t < 2 → ⊥
+way_unneeded t u k (Home s) found opens at mirrored parity few = elim found.leads.when [
+  | inl high ↦ unplaced_not_mirrored (sym at ∙ high)
+  | inr rest ↦ unplaced_not_parity (sym at ∙ rest.0)
+]
+way_unneeded t u k (Hole s) found (inl same) at mirrored parity few =
+    no_vacant t s (subst (λ (x : Tables). IsVacant x s) same found.there) mirrored parity (class_of t s.group) refl
+way_unneeded t u k (Hole s) found (inr has) at mirrored parity few = (let many = has.many in omega arith)
+way_unneeded t u k Broken found opens at mirrored parity few = found.there
+
+-- so that nothing is to be said of zeros
 pub zeros_unneeded : (a : StoreState) (t u : Tables) (k : Key) (way : Way) → IsWayIn t k u way → MayOpen t u → IsZerosOnWay t k a way
 zeros_unneeded a t u k (Home s) found opens = tt
 zeros_unneeded a t u k (Hole s) found (inl same) =

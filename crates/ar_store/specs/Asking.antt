@@ -1,21 +1,23 @@
 -- Which disks a call asks: those of the slots that it reads and writes, and of the groups that it opens and empties; and which
 -- rows it leaves as they are: all but those of the one slot that it writes, or of the one group that it fills.
-use Rattle.std.specs.Prelude.{◌≡◌, ◌≢◌, ◌⊎◌, ℕ, List, ◌<◌, ◌≤◌, Some}
+use Rattle.std.specs.Prelude.{◌≡◌, ◌≢◌, ◌⊎◌, ℕ, zero, suc, List, ◌<◌, ◌≤◌, Some}
 use Rattle.ar_disks.specs.declared.address.Key.{Key}
 use Rattle.ar_disks.specs.declared.address.Members.{Members}
 use Rattle.ar_disks.specs.declared.address.Place.{Place}
 use Rattle.ar_disks.specs.declared.geometry.Geometry.{Geometry}
-use Rattle.ar_extents.specs.Set.{SetState}
+use Rattle.ar_disks.specs.Members.{member}
+use Rattle.ar_extents.specs.declared.health.Health.TheVariants.{Broken as AllBroken}
+use Rattle.ar_extents.specs.Set.{SetState, content}
 use Rattle.ar_extents.specs.Groups.{IsMember, IsOutside}
 use Rattle.ar_extents.specs.Follows.{Keeps, Anywhere, WorksOn}
 use Rattle.ar_mirror.specs.Calls.{KeepsButSlot}
 use Rattle.ar_parity.specs.Group.{KeepsButRow}
-use Rattle.ar_parity.specs.Row.{row_of as parity_row_of}
+use Rattle.ar_parity.specs.Row.{data_position, parity_position, row_of as parity_row_of}
 use Rattle.ar_book.specs.declared.class.Class.{Class}
 use Rattle.ar_book.specs.declared.class.Class.TheVariants.{Free, Mirrored, Parity}
 use Rattle.ar_book.specs.declared.class.Level.TheVariants.{Unplaced, Mirrored as MirroredLevel, Parity as ParityLevel}
 use Rattle.ar_book.specs.declared.class.Slot.{Slot}
-use Rattle.ar_book.specs.Tables.{home, level, slots_of, free_groups}
+use Rattle.ar_book.specs.Tables.{Tables, home, level, slots_of, free_groups}
 use Rattle.ar_book.specs.Choices.{IsLowestFree, IsFullMirrored}
 use Rattle.ar_store.specs.declared.way.Way.{Way}
 use Rattle.ar_store.specs.declared.way.Way.TheVariants.{Home, Hole, Broken}
@@ -49,11 +51,18 @@ pub record ReadsPairs (new : SetState) (g : Geometry) (m : Members) (place : Pla
 abbrev pub MovesAll : StoreState → StoreState → ℕ → ℕ → Place → Type 0
 MovesAll old new from to place = ReadsPairs new.disks old.disks.geometry (members_of old from) place ⊎ IsMember (members_of old to) place
 
--- no row may have other content but the slot's: of its pair, or with parity of its group
+-- with parity: no row may have other content but the slot's, and of that one the slot's own member and the one with the parity
+pub record KeepsButTwo (m : Members) (i : ℕ) (old new : SetState) : Type 0 where
+  pub row : KeepsButRow m (parity_row_of i) old new
+  pub others :
+      (k : ℕ) → k < 4 → k ≢ data_position i → k ≢ parity_position (parity_row_of i)
+      → content new (member m k) (parity_row_of i) ≡ content old (member m k) (parity_row_of i)
+
+-- no row may have other content but the slot's: of its pair, or with parity of its own member and the one with the parity
 abbrev pub KeepsButRowsOf : Class → Members → ℕ → SetState → SetState → Type 0
 KeepsButRowsOf Free m i old new = Keeps Anywhere old new
 KeepsButRowsOf Mirrored m i old new = KeepsButSlot m i old new
-KeepsButRowsOf Parity m i old new = KeepsButRow m (parity_row_of i) old new
+KeepsButRowsOf Parity m i old new = KeepsButTwo m i old new
 
 -- One slot of four extents was written: no disk was asked but those that this asks, no row was written but the slot's, and each
 -- other slot that held a block holds it.
@@ -72,13 +81,45 @@ pub record AsksSlots (from to : Slot) (old new : StoreState) : Type 0 where
   pub within : WorksWithin (MovesAt old new from to) (members_of old to.group) old.disks new.disks
   pub rows : KeepsButRowsOf (class_in old to.group) (members_of old to.group) to.slot old.disks new.disks
 
--- A block was read from one slot, and only then written to another. No disk was asked but those that the read asks, and then those
--- that the write asks; where the read broke the disks nothing was asked after it.
-pub record ReadsThenWrites (from to : Slot) (old new : StoreState) : Type 0 where
+-- the disks broke, and nothing was asked after that
+pub record IsCutOff (old new : SetState) : Type 0 where
+  pub broken : old.health ≡ AllBroken
+  pub same : new ≡ old
+
+-- A block was read from a slot of four extents, and only then written to one of four others. No disk was asked but those that
+-- the read asks, and then those that the write asks; where the read broke the disks nothing was asked after it.
+pub record CopiesSlot (class other : Class) (from to : Members) (i k : ℕ) (old new : SetState) : Type 0 where
   pub between : SetState
-  pub reads : AsksFor (class_in old from.group) old.disks between (members_of old from.group) from.slot
-  pub kept : Keeps Anywhere old.disks between
-  pub writes : (new.disks ≡ between) ⊎ WritesSlot (class_in old to.group) between new.disks (members_of old to.group) to.slot
+  pub reads : AsksFor class old between from i
+  pub kept : Keeps Anywhere old between
+  pub writes : IsCutOff between new ⊎ WritesSlot other between new to k
+
+-- the same of two slots of a store
+abbrev pub ReadsThenWrites : Slot → Slot → StoreState → StoreState → Type 0
+ReadsThenWrites from to old new =
+    CopiesSlot (class_in old from.group) (class_in old to.group) (members_of old from.group) (members_of old to.group) from.slot to.slot
+    old.disks new.disks
+
+-- the blocks of so many slots of a mirrored group, from the first on, were copied one after another to the slots with the same
+-- numbers of a group with parity
+abbrev pub CopiesFirst : Members → Members → ℕ → SetState → SetState → Type 0
+CopiesFirst from to zero old new = new ≡ old
+CopiesFirst from to (suc n) old new =
+    (next : SetState) × CopiesFirst from to n old next × CopiesSlot Mirrored Parity from to n n next new
+
+-- this was done of so many slots, or of fewer where the disks broke
+pub record CopiesAll (slots : ℕ) (from to : Members) (old new : SetState) : Type 0 where
+  pub copied : ℕ
+  pub within : copied ≤ slots
+  pub whole : new.health ≢ AllBroken → copied ≡ slots
+  pub copies : CopiesFirst from to copied old new
+
+-- The steps of a squeeze: the group with parity is filled, no other being asked; then the blocks of the mirrored one, which has
+-- so many slots, are copied.
+pub record FillsThenCopies (slots : ℕ) (from to : Members) (old new : SetState) : Type 0 where
+  pub filled : SetState
+  pub fills : WorksWithin (IsMember to) to old filled
+  pub copies : CopiesAll slots from to filled new
 
 -- none but those that a block's move to a group asks that is opened for it, and no other group was written
 abbrev pub AsksOpened : Slot → ℕ → StoreState → StoreState → Type 0
@@ -92,6 +133,18 @@ AsksGroup group old new = WorksWithin (IsMember (members_of old group)) (members
 -- none but those that the move of all blocks of a mirrored group to another asks, and no group was written but the other
 abbrev pub AsksGroups : ℕ → ℕ → StoreState → StoreState → Type 0
 AsksGroups from to old new = WorksWithin (MovesAll old new from to) (members_of old to) old.disks new.disks
+
+-- the blocks of a mirrored group moved to another, which was opened for that, in the steps of a squeeze
+pub record Squeezes (from to : ℕ) (old new : StoreState) : Type 0 where
+  pub asks : AsksGroups from to old new
+  pub steps : FillsThenCopies (slots_of old.book.geometry Mirrored) (members_of old from) (members_of old to) old.disks new.disks
+
+-- The same, and then the first slot that the squeeze left was written; where it broke the disks nothing was asked after it.
+pub record SqueezesThenWrites (from to : ℕ) (old new : StoreState) : Type 0 where
+  pub asks : AsksGroups from to old new
+  pub squeezed : SetState
+  pub steps : FillsThenCopies (slots_of old.book.geometry Mirrored) (members_of old from) (members_of old to) old.disks squeezed
+  pub writes : IsCutOff squeezed new.disks ⊎ WritesSlot Parity squeezed new.disks (members_of old to) (slots_of old.book.geometry Mirrored)
 
 -- Which disks a put asks, by the steps of `Puts`: those that a write of its slot asks, and where it squeezes, those of a squeeze;
 -- and which rows it writes: the slot's, and where it squeezes, those of the group that is opened.
@@ -109,15 +162,24 @@ pub record AsksToPut (old : StoreState) (k : Key) (new : StoreState) : Type 0 wh
       → AsksSlot Parity s old new
   pub squeezed_group :
       (from to : ℕ) → level old.book k ≡ Unplaced → HasNoHole old.book Mirrored → HasNoHole old.book Parity → free_groups old.book < 2
-      → IsFullMirrored old.book from → IsLowestFree old.book to → AsksGroups from to old new
+      → IsFullMirrored old.book from → IsLowestFree old.book to → SqueezesThenWrites from to old new
 
--- no disk was asked but those that a squeeze asks, and no group was written but the one that it opens
+-- no disk was asked but those that a squeeze asks, in its steps, and no group was written but the one that it opens
 abbrev pub AsksToSqueeze : StoreState → StoreState → Type 0
-AsksToSqueeze old new = (from to : ℕ) → IsFullMirrored old.book from → IsLowestFree old.book to → AsksGroups from to old new
+AsksToSqueeze old new = (from to : ℕ) → IsFullMirrored old.book from → IsLowestFree old.book to → Squeezes from to old new
 
--- no disk was asked for a block's slot to be found, or a squeeze was needed
+-- a put of the block needs no squeeze: it has a home, or there is a slot for it
+pub record NeedsNoSqueeze (t : Tables) (k : Key) : Type 0 where
+  pub way : level t k ≡ Unplaced → HasNoHole t Mirrored → HasNoHole t Parity → free_groups t < 2 → ⊥
+
+-- no disk was asked for a block's slot to be found, as it needed no squeeze
+pub record AsksNothing (old : StoreState) (k : Key) (new : StoreState) : Type 0 where
+  pub needs : NeedsNoSqueeze old.book k
+  pub same : new.disks ≡ old.disks
+
+-- or one was needed, and made
 abbrev pub AsksOnWay : StoreState → Key → StoreState → Type 0
-AsksOnWay old k new = (new.disks ≡ old.disks) ⊎ (HasNoWay old.book k old.book × AsksToSqueeze old new)
+AsksOnWay old k new = AsksNothing old k new ⊎ (HasNoWay old.book k old.book × AsksToSqueeze old new)
 
 -- no disk was asked but those of the slot that was found, and no other group was written
 abbrev pub AsksWay : Way → StoreState → StoreState → Type 0

@@ -16,7 +16,8 @@ impl<D: Disk> Space<D> {
     ghost use Rattle.ar_book.specs.Choices.{IsWaiting};
     ghost use Rattle.ar_store.specs.Slots.{AllStand};
     ghost use Rattle.ar_store.specs.Calls.{HoldsZeros, HoldsZerosFrom, IsZerosFrom};
-    ghost use Rattle.ar_store.specs.Asking.{AsksGroups, AsksToSqueeze};
+    ghost use Rattle.ar_store.specs.Store.{members_of};
+    ghost use Rattle.ar_store.specs.Asking.{AsksGroups, AsksToSqueeze, CopiesAll};
     ghost use Rattle.ar_store.specs.Placing.{slot_at, moved_first, IsVacant, IsSqueezed, HasNoHole, CanMove, HasMovedSome, HasBegunSqueeze};
     ghost use Rattle.ar_store.specs.Spaces.{store_in, IsReady, Stays};
 
@@ -75,6 +76,8 @@ impl<D: Disk> Space<D> {
         ensures unplaced { (k : Key) → home self.old.book k ≡ None → home self.new.book k ≡ None }
         ensures stand { AllStand (store_in self.old) (store_in self.new) }
         ensures asks { AsksGroups from to (store_in self.old) (store_in self.new) }
+        ensures copies { CopiesAll (slots_of self.old.book.geometry Mirrored) (members_of (store_in self.old) from)
+            (members_of (store_in self.old) to) self.old.disks self.new.disks }
         ensures stays { Stays self.old self.new }
         ensures len { length block.new ≡ length block.old }
     {

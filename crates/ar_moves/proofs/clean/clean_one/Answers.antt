@@ -1,13 +1,13 @@
-use Rattle.std.proofs.Common.{◌<◌, ap, subst, ◌∙◌}
+use Rattle.std.proofs.Common.{◌<◌, sym, ap, subst, ◌∙◌}
 use Rattle.ar_book.specs.declared.class.Slot.{Slot}
 use Rattle.ar_book.specs.Tables.{Tables, home}
-use Rattle.ar_store.specs.Asking.{AsksSlots}
-use Rattle.ar_moves.specs.Moves.{IsMovedTo}
-use Rattle.ar_moves.specs.Cleaning.{NamesCleaning, Cleans, cleaning_left}
+use Rattle.ar_moves.specs.Moves.{IsMovedTo, AsksToMove}
+use Rattle.ar_moves.specs.Cleaning.{NamesCleaning, NothingToClean, Cleans, cleaning_left}
 use Rattle.ar_moves.proofs.Answers.{if_moved_then, named_cleaned, moved_free, moved_beside}
 use Rattle.ar_moves.proofs.Readiness.{cleaning_ready}
 use Rattle.ar_moves.proofs.Ending.{cleans_fall}
 use Rattle.ar_moves.proofs.Single.{cleaned_single}
+use Rattle.ar_moves.proofs.Asking.{moves_none, cleans_nothing}
 use Rattle.ar_moves.proofs.clean.clean_one.Goals as goal
 
 pub move_to-requires : goal.move_to-requires
@@ -35,7 +35,17 @@ returns-in-Some g c =
       beside = moved_beside c.args.store.now c.move_to.new.store c.move_to.result t new c.in-Some.key c.in-Some.to moves.moved moves.beside;
       asks = λ key from to named placed.
           let same = cleaned_single t c.in-Some.key key c.in-Some.to to names named in
-          (let P : Slot → Type 0 = λ x. AsksSlots from x c.args.store.now c.move_to.new.store in
-          subst P same.slots (moves.asks from (ap (λ k. home t k) same.keys ∙ placed)));
+          let here = ap (λ k. home t k) same.keys ∙ placed in
+          (let P : Slot → Type 0 = λ x. AsksToMove from x c.args.store.now c.move_to.new.store in
+          subst P same.slots (record { asks = moves.asks from here; steps = moves.steps from here }));
       leaves = moves.leaves;
     }
+
+pub returns-in-None-clause-asks : goal.returns-in-None-clause-asks
+returns-in-None-clause-asks g c = λ key from to named placed.
+    absurd (cleans_nothing c.args.store.now.book key to
+    (subst (λ (x : Tables). NothingToClean x) c.book.ensures c.in-None.ensures.none) named)
+
+pub returns-in-Broken-clause-asks : goal.returns-in-Broken-clause-asks
+returns-in-Broken-clause-asks g c = λ key from to named placed.
+    moves_none c.args.store.now from to (sym c.health.ensures.health ∙ c.in-Broken.is)

@@ -21,7 +21,8 @@ pub returns-in-Some-clause-asks : goal.returns-in-Some-clause-asks
 returns-in-Some-clause-asks g c =
     let found = c.in-Some.ensures in
     let lowest = subst (λ (x : Tables). IsLowestHole x Parity c.in-Some.to) c.book.ensures (record { hole = found.found; least = found.least }) in
-    asks_there c.args.store.now c.move_to.new.store c.args.key c.in-Some.to c.requires.kept.space.tables c.requires.oldest lowest c.move_to.ensures.asks
+    asks_there c.args.store.now c.move_to.new.store c.args.key c.in-Some.to c.requires.kept.space.tables c.requires.oldest lowest
+    (λ from placed. record { asks = c.move_to.ensures.asks from placed; steps = c.move_to.ensures.steps from placed })
 
 pub returns-in-Some-clause-beside : goal.returns-in-Some-clause-beside
 returns-in-Some-clause-beside g c =

@@ -1,7 +1,9 @@
-use Rattle.std.proofs.Common.{subst}
+use Rattle.std.proofs.Common.{sym, subst, ◌∙◌}
 use Rattle.ar_book.specs.Tables.{Tables}
+use Rattle.ar_book.specs.Choices.{IsMirrored}
 use Rattle.ar_moves.specs.Demotion.{IsOldestMirrored, Demotes, DemotesTo}
 use Rattle.ar_moves.proofs.Answers.{if_moved_then, oldest_demoted}
+use Rattle.ar_moves.proofs.Asking.{demotes_none, demotes_nothing}
 use Rattle.ar_moves.proofs.demote.demote_one.Goals as goal
 
 pub returns-in-Some : goal.returns-in-Some
@@ -23,3 +25,10 @@ returns-in-Some g c =
       asks = demoted.asks;
       leaves = demoted.leaves;
     }
+
+pub returns-in-None-clause-asks : goal.returns-in-None-clause-asks
+returns-in-None-clause-asks g c =
+    demotes_nothing c.args.store.now (λ k is. c.in-None.ensures.none k (subst (λ (x : Tables). IsMirrored x k) (sym c.book.ensures) is))
+
+pub returns-in-Broken-clause-asks : goal.returns-in-Broken-clause-asks
+returns-in-Broken-clause-asks g c = demotes_none c.args.store.now (sym c.health.ensures.health ∙ c.in-Broken.is)

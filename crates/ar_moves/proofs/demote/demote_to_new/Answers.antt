@@ -47,7 +47,8 @@ returns-in-Opened-clause-asks g c =
     let opening = c.open_group.ensures in
     let opened = c.in-Opened.ensures.opens in
     asks_made c.args.store.now c.open_group.new.self c.move_to.new.store c.args.key c.in-Opened.group c.requires.kept.space c.requires.oldest c.requires.none
-    opened opening.accessed.follows.geometry opening.homes (opening.asks c.in-Opened.group opened.lowest) c.move_to.ensures.asks
+    opened opening.accessed.follows.geometry opening.homes (opening.asks c.in-Opened.group opened.lowest)
+    (λ from placed. record { asks = c.move_to.ensures.asks from placed; steps = c.move_to.ensures.steps from placed })
 
 pub returns-in-Idle-clause-asks : goal.returns-in-Idle-clause-asks
 returns-in-Idle-clause-asks g c =
@@ -55,7 +56,8 @@ returns-in-Idle-clause-asks g c =
     asks_nothing c.args.store.now c.open_group.new.self c.requires.none idle.few
 
 pub returns-in-Broken-clause-asks : goal.returns-in-Broken-clause-asks
-returns-in-Broken-clause-asks g c = asks_opened c.args.store.now c.open_group.new.self c.requires.none c.open_group.ensures.asks
+returns-in-Broken-clause-asks g c =
+    asks_opened c.args.store.now c.open_group.new.self c.requires.none c.in-Broken.ensures.opens.broken c.open_group.ensures.asks
 
 pub returns-in-Opened-clause-opened : goal.returns-in-Opened-clause-opened
 returns-in-Opened-clause-opened g c = λ broke.

@@ -9,7 +9,7 @@ use Rattle.ar_store.specs.Asking.{AsksToSqueeze}
 use Rattle.ar_store.specs.Spaces.{store_in}
 use Rattle.ar_store.proofs.Fills.{accessed_refl}
 use Rattle.ar_store.proofs.Openings.{after_opening}
-use Rattle.ar_store.proofs.Zeros.{zeros_unneeded}
+use Rattle.ar_store.proofs.Zeros.{zeros_unneeded, way_unneeded}
 use Rattle.ar_store.proofs.Ways.{no_way, prepared_in, ready_there, waits, leads_squeezed}
 use Rattle.ar_store.proofs.space.Space.find_way.Goals as goal
 
@@ -30,7 +30,7 @@ returns-in-Some g c =
       home = after.homes c.args.key;
       free = λ _. after.free c.requires.free;
       stand = after.stand;
-      asks = inl refl;
+      asks = inl (record { needs = record { way = way_unneeded s.book u c.args.key c.in-Some.way found.way found.opens }; same = refl });
       stays = record {
         ready = record { space = after.space; scratch = c.requires.ready.scratch };
         units = after.units;

@@ -1,10 +1,10 @@
-use Rattle.std.proofs.Common.{◌≡◌, ◌<◌, Option, IsSome, refl, sym, ap, subst, ◌∙◌, arith}
+use Rattle.std.proofs.Common.{◌≡◌, ◌+◌, ◌<◌, Option, IsSome, refl, sym, ap, subst, ◌∙◌, arith}
 use Rattle.ar_disks.specs.declared.address.Key.{Key}
 use Rattle.ar_disks.specs.Geometry.{block_len_of}
 use Rattle.ar_book.specs.declared.class.Class.TheVariants.{Mirrored}
 use Rattle.ar_book.specs.Tables.{Tables, home, slots_of}
 use Rattle.ar_book.proofs.Homes.{key_home}
-use Rattle.ar_extents.proofs.Outcomes.{done_sound, sound_done}
+use Rattle.ar_extents.proofs.Outcomes.{done_sound, sound_done, broken_is}
 use Rattle.ar_store.specs.Placing.{slot_at, moved_first, IsVacant}
 use Rattle.ar_store.specs.Calls.{HoldsZerosFrom}
 use Rattle.ar_store.specs.Spaces.{store_in}
@@ -12,6 +12,7 @@ use Rattle.ar_store.proofs.Zeros.{zeros_all, zeros_later}
 use Rattle.ar_store.proofs.Options.{some_is, none_not_some}
 use Rattle.ar_store.proofs.Within.{within_refl}
 use Rattle.ar_store.proofs.Asking.{step_asks}
+use Rattle.ar_store.proofs.Steps.{step_copies}
 use Rattle.ar_store.proofs.Fills.{done_not_broken}
 use Rattle.ar_store.proofs.Stays.{stays_then, all_then}
 use Rattle.ar_store.proofs.Squeezing.{squeezing_start, squeezing_then, move_vacant, move_next, moving_end, slots_end}
@@ -21,6 +22,7 @@ pub loop-slot-init : goal.loop-slot-init
 loop-slot-init g c = record {
   squeezing = squeezing_start c.args.self.now c.args.from c.args.to c.requires.ready c.requires.can c.requires.sound;
   asks = within_refl _ _ c.args.self.now.disks;
+  copies = refl;
   zeros = zeros_all (store_in c.args.self.now) c.args.to;
   whole = refl;
 }
@@ -62,6 +64,8 @@ loop-slot-preserved g c =
           (done_sound new.disks.health (sym c.in-Done.is ∙ moved.outcome));
       asks = step_asks c.args.self.now c.loop-slot.self new c.args.from c.args.to c.loop-slot.slot c.in-Some.key so_far.squeezing (omega arith) so_far.asks
           (sym c.key_at.ensures ∙ c.in-Some.is) moved.asks;
+      copies = step_copies c.args.self.now c.loop-slot.self new c.args.from c.args.to c.loop-slot.slot c.in-Some.key so_far.squeezing (omega arith) so_far.copies
+          (sym c.key_at.ensures ∙ c.in-Some.is) moved.steps;
       zeros = λ filled.
           zeros_later (store_in c.loop-slot.self) (store_in new) (slot_at c.args.to c.loop-slot.slot) so_far.squeezing.stays.ready.space
           (subst (λ n. c.args.to < n) (sym so_far.squeezing.moving.units.groups) c.requires.can.to_there) so_far.squeezing.moving.opened
@@ -92,6 +96,13 @@ returns-in-Broken g c =
       stand = all_then c.args.self.now c.loop-slot.self c.move_block.new.self moved.stays now.stand moved.stand;
       asks = step_asks c.args.self.now c.loop-slot.self c.move_block.new.self c.args.from c.args.to c.loop-slot.slot c.in-Some.key now (omega arith) so_far.asks
           (sym c.key_at.ensures ∙ c.in-Some.is) moved.asks;
+      copies = record {
+        copied = c.loop-slot.slot + 1;
+        within = omega arith;
+        whole = λ sound. absurd (sound (broken_is c.move_block.new.self.disks.health (sym c.in-Broken.is ∙ moved.outcome)));
+        copies = step_copies c.args.self.now c.loop-slot.self c.move_block.new.self c.args.from c.args.to c.loop-slot.slot c.in-Some.key now (omega arith)
+            so_far.copies (sym c.key_at.ensures ∙ c.in-Some.is) moved.steps;
+      };
       stays = stays_then c.args.self.now c.loop-slot.self c.move_block.new.self now.stays moved.stays;
       len = moved.len ∙ so_far.whole;
     }
@@ -116,6 +127,7 @@ returns g c =
       unplaced = now.moving.unplaced;
       stand = now.stand;
       asks = so_far.asks;
+      copies = record { copied = c.loop-slot.slot; within = omega arith; whole = λ _. all; copies = so_far.copies };
       stays = now.stays;
       len = so_far.whole;
     }

@@ -3,7 +3,7 @@ use Rattle.ar_disks.specs.Geometry.{block_len_of}
 use Rattle.ar_book.specs.Tables.{Tables, home, free_groups, class_of, group_in, HasBlock}
 use Rattle.ar_book.specs.Changes.{assigned}
 use Rattle.ar_book.proofs.Homes.{home_slot, home_block}
-use Rattle.ar_extents.proofs.Outcomes.{sound_done}
+use Rattle.ar_extents.proofs.Outcomes.{sound_done, broken_is}
 use Rattle.ar_store.specs.Placing.{IsVacant}
 use Rattle.ar_store.specs.Spaces.{store_in}
 use Rattle.ar_store.proofs.Fills.{moved_stand, beside_then, beside_read, done_not_broken, same_free}
@@ -81,7 +81,7 @@ returns-in-Broken g c =
       steps = λ at placed.
           let P : Slot → Type 0 = λ x. ReadsThenWrites x c.args.to (store_in c.args.self.now) (store_in mid) in
           subst P (same_Some c.in-Some.from at (sym (sym c.home.ensures ∙ c.in-Some.is) ∙ placed))
-          record { between = mid.disks; reads = read.asks; kept = read.keeps; writes = inl refl };
+          record { between = mid.disks; reads = read.asks; kept = read.keeps; writes = inl (record { broken = broken_is mid.disks.health (sym c.in-Broken.is ∙ read.outcome); same = refl }) };
       stays = read.stays;
       len = read.len;
     }

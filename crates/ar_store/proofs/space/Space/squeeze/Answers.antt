@@ -8,7 +8,8 @@ use Rattle.ar_extents.proofs.Outcomes.{broken_is}
 use Rattle.ar_store.specs.Placing.{CanMove}
 use Rattle.ar_store.specs.Spaces.{store_in}
 use Rattle.ar_store.proofs.Stays.{stays_then, all_then}
-use Rattle.ar_store.proofs.Asking.{only_squeeze, squeeze_asks, opening_asks}
+use Rattle.ar_store.proofs.Asking.{only_squeeze}
+use Rattle.ar_store.proofs.Steps.{squeezes, squeeze_cut}
 use Rattle.ar_store.proofs.Squeezing.{begun_squeeze, can_move, squeezed_is, free_counted, slots_end, homes_opened}
 use Rattle.ar_store.proofs.space.Space.squeeze.Goals as goal
 
@@ -70,7 +71,8 @@ returns-in-Done g c =
       unplaced = λ k is. moved.unplaced k (homes_opened t mid.book to k opening.opened is);
       stand = all_then s mid new moved.stays opening.stand moved.stand;
       asks = only_squeeze (store_in s) (store_in new) c.full_mirrored-from.result c.open_last-to.result c.full_mirrored-from.ensures opening.lowest
-          (squeeze_asks (store_in s) (store_in mid) (store_in new) c.full_mirrored-from.result c.open_last-to.result opening.opened opening.asks moved.asks);
+          (squeezes (store_in s) (store_in mid) (store_in new) c.full_mirrored-from.result c.open_last-to.result opening.opened opening.asks moved.asks
+          moved.copies);
       stays = both;
       len = moved.len;
     }
@@ -92,7 +94,8 @@ returns-in-Broken-move_all g c =
       unplaced = λ k is. moved.unplaced k (homes_opened s.book mid.book c.open_last-to.result k opening.opened is);
       stand = all_then s mid new moved.stays opening.stand moved.stand;
       asks = only_squeeze (store_in s) (store_in new) c.full_mirrored-from.result c.open_last-to.result c.full_mirrored-from.ensures opening.lowest
-          (squeeze_asks (store_in s) (store_in mid) (store_in new) c.full_mirrored-from.result c.open_last-to.result opening.opened opening.asks moved.asks);
+          (squeezes (store_in s) (store_in mid) (store_in new) c.full_mirrored-from.result c.open_last-to.result opening.opened opening.asks moved.asks
+          moved.copies);
       stays = stays_then s mid new opening.stays moved.stays;
       len = moved.len;
     }
@@ -116,7 +119,8 @@ returns-in-Broken g c =
       stand = opening.stand;
       asks = only_squeeze (store_in c.args.self.now) (store_in c.open_last-to.new.self) c.full_mirrored-from.result c.open_last-to.result
           c.full_mirrored-from.ensures opening.lowest
-          (opening_asks (store_in c.args.self.now) (store_in c.open_last-to.new.self) c.full_mirrored-from.result c.open_last-to.result opening.asks);
+          (squeeze_cut (store_in c.args.self.now) (store_in c.open_last-to.new.self) c.full_mirrored-from.result c.open_last-to.result opening.asks
+          (sym c.health.ensures.same ∙ c.in-Broken.is));
       stays = opening.stays;
       len = refl;
     }

@@ -8,7 +8,6 @@ use Rattle.ar_store.specs.Asking.{AsksSlots, ReadsThenWrites}
 use Rattle.ar_store.specs.Slots.{NeedsIn, first_in}
 use Rattle.ar_extents.specs.Follows.{Anywhere, IsPlace}
 use Rattle.ar_extents.proofs.Follows.{keeps_refl, works_refl}
-use Rattle.ar_book.specs.declared.class.Slot.{Slot}
 use Rattle.ar_store.specs.Spaces.{store_in}
 use Rattle.ar_store.proofs.Changes.{units_refl}
 use Rattle.ar_store.proofs.Fills.{accessed_refl, done_not_broken}
@@ -59,7 +58,7 @@ returns-in-Broken g c =
             between = s.disks;
             reads = record { works = works_refl (NeedsIn c1 s.disks.geometry m from.slot) s.disks; first = λ _. works_refl (IsPlace (first_in c1 s.disks.geometry m from.slot)) s.disks };
             kept = keeps_refl Anywhere s.disks;
-            writes = inl refl;
+            writes = inl (record { broken = broken; same = refl });
           };
       accessed = accessed_refl s.disks;
       broken = λ _. refl;

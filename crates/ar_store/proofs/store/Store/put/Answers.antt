@@ -82,7 +82,8 @@ returns g c =
           way.zeros wrote.beside);
       units = subst (λ (s : StoreState). SameUnits s.book d.book) view both.units;
       asks = subst (λ (s : StoreState). AsksToPut s c.args.key (store_in d)) view
-          (asks_way (store_in a) (store_in b) (store_in d) c.args.key c.find_way-way.result way.leads way.asks wrote.asks);
+          (asks_way (store_in a) (store_in b) (store_in d) c.args.key c.find_way-way.result way.leads way.way way.zeros
+          way.asks wrote.asks);
       accessed = subst (λ (s : StoreState). IsAccessed s.disks d.disks) view both.accessed;
       broken = λ is. absurd (c.in_default.not-Broken (c.health.ensures.same ∙ ap (λ (s : StoreState). s.disks.health) view ∙ is));
     }
@@ -100,7 +101,7 @@ returns-in-Broken g c =
       prepared = λ _. inl refl;
       zeros = λ done. absurd (done_not_broken (sym done));
       units = units_refl s.book;
-      asks = asks_still s s c.args.key refl;
+      asks = asks_still s c.args.key broken;
       accessed = accessed_refl s.disks;
       broken = λ _. refl;
     }
