@@ -20,6 +20,7 @@ returns-clause-rebuilds g c =
       answers = call.answer;
       idle = call.idle;
       broken = (λ is. ap is_broken_set (call.broken.0 is), λ lost. call.broken.1 (broken_is new.store.disks.health lost));
+      spared = call.spared;
       tables = call.book;
       stands = call.stands;
       slots = call.slots;
