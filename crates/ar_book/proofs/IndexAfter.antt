@@ -199,7 +199,7 @@ opened_leaves t g c new index now inside put before e = refreshed t.geometry t.u
 
 -- the steps of a refresh of a home's group
 pub few_home : (g : Geometry) (gs : List GroupState) (before after : ℕ) (o : Option Slot) → (ForSome o (λ q. length (group_in gs q.group).slots ≡ 3 * rows_of g))
-    → MatchOption o (after ≡ before) (λ q. after ≤ before + (length (group_in gs q.group).slots + 14)) → after ≤ before + (3 * rows_of g + 14)
+    → MatchOption o (after ≡ before) (λ q. after ≤ before + (length (group_in gs q.group).slots + 12)) → after ≤ before + (3 * rows_of g + 12)
 few_home g gs before after None long e = omega arith
 few_home g gs before after (Some q) long e = let l = long q refl in omega arith
 

@@ -143,7 +143,7 @@ pub(crate) fn refresh(
         ≡ slice_set (leaves index.old) number (spec.choices_of geometry units.now.entries number (group_in groups.now.items number)) }
     ensures right { IsRight (place_in units.now.entries) index.new }
     ensures few { length groups.now.items ≤ 4096
-        → steps.new.count ≤ steps.old.count + (length (group_in groups.now.items number).slots + 14) }
+        → steps.new.count ≤ steps.old.count + (length (group_in groups.now.items number).slots + 12) }
     ensures on { steps.old.count ≤ steps.new.count }
 {
     let choices = choices_of(&groups[number as usize], number, geometry, units, steps);
@@ -168,7 +168,7 @@ pub(crate) fn refresh_home(
     ensures right { IsRight (place_in units.now.entries) index.new }
     ensures few { length groups.now.items ≤ 4096
         → MatchOption home (steps.new.count ≡ steps.old.count)
-        (λ slot. steps.new.count ≤ steps.old.count + (length (group_in groups.now.items slot.group).slots + 14)) }
+        (λ slot. steps.new.count ≤ steps.old.count + (length (group_in groups.now.items slot.group).slots + 12)) }
     ensures still { home ≡ None → steps.new.count ≡ steps.old.count }
     ensures on { steps.old.count ≤ steps.new.count }
 {

@@ -1,14 +1,14 @@
 -- The leaves of a tree, after one of them was put.
-use Rattle.std.proofs.Common.{◌≡◌, ◌≢◌, ℕ, suc, ◌+◌, ◌-◌, ◌*◌, ◌^◌, ◌<◌, ◌≤◌, true, cond, is_some, List, [], ◌∷◌, ◌++◌, length, take, drop, set, get_or, sym, ap, ◌∙◌, inl, inr, arith}
+use Rattle.std.proofs.Common.{◌≡◌, ◌≢◌, ℕ, zero, suc, ◌+◌, ◌-◌, ◌*◌, ◌^◌, ◌<◌, ◌≤◌, true, cond, is_some, List, [], ◌∷◌, ◌++◌, length, take, drop, set, get_or, refl, sym, ap, ◌∙◌, inl, inr, lit≤, arith}
+use Rattle.std.proofs.Math.Nat.{pow-le-pow_right, pow-succ'}
 use Rattle.std.proofs.Math.Seq.{take-set-lt, take-suc-set}
 use Rattle.std.proofs.lemmas.Bool.{cases_lt}
-use Rattle.std.proofs.lemmas.Nat.{pow_below}
 use Rattle.std.proofs.lemmas.List.{length-drop, length-take-le, get_or-drop, get_or-set_other, get_or-set_same, get_or-take}
 use Rattle.std.proofs.lemmas.List.Sums.{sum_by-set, sum_by-cons, sum_by-append, count_by-le-length}
 use Rattle.ar_disks.specs.declared.address.Addr.{Addr}
 use Rattle.ar_index.specs.declared.choices.Choices.{Choices}
 use Rattle.ar_index.specs.Choices.{nothing, search_all}
-use Rattle.ar_index.specs.Tree.{node_at, AreJoinedBut, IsGrown, IsKept, leaves_in, free_in}
+use Rattle.ar_index.specs.Tree.{node_at, AreJoinedBut, IsGrown, IsKept, leaves_in, free_in, leaves_under}
 use Rattle.ar_index.proofs.Search.{root, search_behind}
 
 module _ (size leaf : ℕ) (old new : List Choices) (c : Choices) (put : drop size new ≡ set (drop size old) leaf c) where
@@ -71,11 +71,27 @@ some_free xs i inside e =
 pub free_few : (xs : List Choices) → free_in xs ≤ length xs
 free_few xs = count_by-le-length (λ c. is_some c.free) xs
 
--- the steps of a climb where there are at most 4,096 leaves
-pub few_steps : (size leaf count before after : ℕ) → 2 ^ (after - before) ≤ size + leaf → leaf < size → size ≤ 2 * count - 1 → count ≤ 4096 → before ≤ after → after ≤ before + 14
-few_steps size leaf count before after few inside close most on =
-    elim (cases_lt 14 (after - before)) [
-      | inl more ↦ let p : 2 ^ 14 < 2 ^ (after - before) = pow_below 14 (after - before) more in absurd (omega arith)
+-- as many leaves stand under a node as its height has it
+under_power : (h : ℕ) → leaves_under h ≡ 2 ^ h
+under_power zero = refl
+under_power (suc h) = ap (λ n. 2 * n) (under_power h) ∙ sym (pow-succ' 2 h)
+
+-- a tree that is kept for at most 4,096 leaves has room for no more
+few_leaves : (size count h : ℕ) → leaves_under h ≡ size → size ≤ 2 * count - 1 → count ≤ 4096 → size ≤ 4096
+few_leaves size count h under close most =
+    elim (cases_lt 12 h) [
+      | inl more ↦ let p : 2 ^ 13 ≤ 2 ^ h = pow-le-pow_right (lit≤ tt) more in absurd (omega (arith, under_power h))
+      | inr le ↦ let p : 2 ^ h ≤ 2 ^ 12 = pow-le-pow_right (lit≤ tt) le in omega (arith, under_power h)
+    ]
+
+-- the steps of a climb there
+pub few_steps : (size leaf count before after : ℕ) (nodes : List Choices) → IsGrown size count nodes → 2 ^ (after - before) ≤ size + leaf → leaf < count → size ≤ 2 * count - 1 → count ≤ 4096
+    → before ≤ after → after ≤ before + 12
+few_steps size leaf count before after nodes ok few inside close most on =
+    let height = ok.height (let some : 0 < size = omega (arith, ok.within) in some) in
+    let room = few_leaves size count height.0 height.1 close most in
+    elim (cases_lt 12 (after - before)) [
+      | inl more ↦ let p : 2 ^ 13 ≤ 2 ^ (after - before) = pow-le-pow_right (lit≤ tt) more in absurd (omega arith)
       | inr le ↦ omega arith
     ]
 

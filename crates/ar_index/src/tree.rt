@@ -115,7 +115,7 @@ impl Tree {
     }
 
     /// Changes the choices of one group. A step is a node that is joined: there is none above a node that stays as it was, each
-    /// is counted that changes a node, and there are at most 14 where there are at most 4,096 groups.
+    /// is counted that changes a node, and there are at most 12 where there are at most 4,096 groups.
     pub fn set<V>(
         &mut self,
         leaf: usize,
@@ -131,7 +131,7 @@ impl Tree {
         ensures changed { HaveChanged self.old.nodes self.new.nodes (self.old.size + leaf) 0 (steps.new.count - steps.old.count) }
         ensures counted { HaveStayed self.old.nodes self.new.nodes (self.old.size + leaf) (steps.new.count - steps.old.count) }
         ensures height { 2 ^ (steps.new.count - steps.old.count) ≤ self.old.size + leaf }
-        ensures few { length (leaves self.old) ≤ 4096 → steps.new.count ≤ steps.old.count + 14 }
+        ensures few { length (leaves self.old) ≤ 4096 → steps.new.count ≤ steps.old.count + 12 }
         ensures on { steps.old.count ≤ steps.new.count }
     {
         let former = node_at(&self.nodes, self.size + leaf);

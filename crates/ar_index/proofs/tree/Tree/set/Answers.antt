@@ -32,7 +32,7 @@ pub returns-clause-few : goal.returns-clause-few
 returns-clause-few g c most =
     let inside = seen_inside _ _ c.args.leaf _ _ c.self.invariant.grown (ap leaves c.self.view_is) c.requires.there in
     let count = leaves_count _ _ _ c.self.invariant.grown.twice c.self.invariant.grown.within in
-    few_steps _ c.args.leaf c.self.inside.count _ _ c.put.ensures.few (omega (arith, c.self.invariant.grown.within)) c.self.invariant.close (omega (arith, ap (λ t. length (leaves t)) c.self.view_is)) c.put.ensures.on
+    few_steps _ c.args.leaf c.self.inside.count _ _ _ c.self.invariant.grown c.put.ensures.few inside c.self.invariant.close (omega (arith, ap (λ t. length (leaves t)) c.self.view_is)) c.put.ensures.on
 
 pub returns-clause-still : goal.returns-clause-still
 returns-clause-still g c = λ same.
