@@ -4,7 +4,7 @@ ghost use Rattle.ar_disks.specs.Block.{zeros};
 ghost use Rattle.ar_disks.specs.Geometry.{rows_of, block_len_of};
 ghost use Rattle.ar_disks.specs.Members.{member};
 ghost use Rattle.ar_extents.specs.Follows.{Keeps, Anywhere, IsPlace, IsEither, WorksOn};
-ghost use Rattle.ar_extents.specs.Set.{IsSound, content};
+ghost use Rattle.ar_extents.specs.Set.{IsMissing, IsSound, content};
 ghost use Rattle.ar_extents.specs.Groups.{IsGroup, IsMember, IsOutside, outcome_of};
 ghost use Rattle.ar_parity.specs.Row.{row_of, data_position, parity_position, zero_blocks};
 ghost use Rattle.ar_parity.specs.Group.{RowAgrees, Holds, KeepsButRow};
@@ -114,6 +114,9 @@ pub fn put<D: Disk>(
     // While the slot's member is sound, no other is asked but the one with the row's parity.
     ensures known { IsSound set.new (member members.now (data_position slot))
         → WorksOn (IsEither (member members.now (data_position slot)) (member members.now (parity_position (row_of slot)))) set.old set.new }
+    // Where the parity is missing, the slot's member alone is.
+    ensures alone { IsMissing set.old (member members.now (parity_position (row_of slot)))
+        → WorksOn (IsPlace (member members.now (data_position slot))) set.old set.new }
     ensures scratch { scratch.new.geometry ≡ scratch.old.geometry }
 {
     change(

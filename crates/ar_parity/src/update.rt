@@ -2,8 +2,8 @@
 ghost use Rattle.std.specs.Prelude.{◌≡◌, ◌≢◌, ℕ, ◌<◌, length};
 ghost use Rattle.ar_disks.specs.Geometry.{rows_of, block_len_of};
 ghost use Rattle.ar_disks.specs.Members.{member};
-ghost use Rattle.ar_extents.specs.Set.{IsLost, IsSound, content};
-ghost use Rattle.ar_extents.specs.Follows.{IsEither, WorksOn};
+ghost use Rattle.ar_extents.specs.Set.{IsLost, IsMissing, IsSound, content};
+ghost use Rattle.ar_extents.specs.Follows.{IsPlace, IsEither, WorksOn};
 ghost use Rattle.ar_extents.specs.Groups.{IsGroup, IsMember};
 ghost use Rattle.ar_parity.specs.Row.{Blocks, block, changed, parity_position};
 ghost use Rattle.ar_parity.specs.Group.{Stands, RowAgrees, KeepsButRow};
@@ -130,8 +130,8 @@ fn put_lost<D: Disk>(
     }
 }
 
-// Puts a block at a position of a row, by the form that the row's members allow.
-pub fn change<D: Disk>(
+// Puts a block by what stands in the row: reads the block before it or, where its member is missing, the two others.
+fn change_by_reading<D: Disk>(
     set: &mut DiskSet<D>,
     members: &Members,
     position: u8,
@@ -164,4 +164,40 @@ pub fn change<D: Disk>(
         Got::Missing => put_lost(set, members, position, row, from, sum, &mut scratch.first),
         Got::Broken => Completion::Broken,
     }
+}
+
+// Puts a block at a position of a row, by the form that the row's members allow.
+pub fn change<D: Disk>(
+    set: &mut DiskSet<D>,
+    members: &Members,
+    position: u8,
+    row: u16,
+    from: &[u8],
+    scratch: &mut Scratch,
+) -> Completion
+    requires group { IsGroup set.old members.now }
+    requires below { position < 4 }
+    requires apart { position ≢ parity_position row }
+    requires row { row < rows_of set.old.geometry }
+    requires whole { length from.now ≡ block_len_of set.old.geometry }
+    requires scratch { scratch.old.geometry ≡ set.old.geometry }
+
+    ensures answer { Tells set.new result }
+    ensures changes { Changes set.old set.new members.now row position from.now }
+    ensures others { (i : ℕ) → i < 4 → i ≢ position → i ≢ parity_position row
+        → content set.new (member members.now i) row ≡ content set.old (member members.now i) row }
+
+    ensures keeps { KeepsButRow members.now row set.old set.new }
+    ensures works { WorksOn (IsMember members.now) set.old set.new }
+    // While the member is sound, no disk but its own and the parity's is asked.
+    ensures known { IsSound set.new (member members.now position)
+        → WorksOn (IsEither (member members.now position) (member members.now (parity_position row))) set.old set.new }
+    // Where the parity is missing, its own alone is.
+    ensures alone { IsMissing set.old (member members.now (parity_position row)) → WorksOn (IsPlace (member members.now position)) set.old set.new }
+    ensures scratch { scratch.new.geometry ≡ scratch.old.geometry }
+{
+    if set.missing(members.at(parity_at(row))) {
+        return write(set, members, position, row, from);
+    }
+    change_by_reading(set, members, position, row, from, scratch)
 }

@@ -8,10 +8,10 @@ use Rattle.ar_disks.specs.declared.geometry.Geometry.{Geometry}
 use Rattle.ar_disks.specs.Members.{member}
 use Rattle.ar_extents.specs.declared.health.Health.TheVariants.{Broken as AllBroken}
 use Rattle.ar_extents.specs.Health.{is_lost}
-use Rattle.ar_extents.specs.Set.{SetState, content, IsSound}
+use Rattle.ar_extents.specs.Set.{SetState, content, IsSound, IsMissing}
 use Rattle.ar_extents.specs.Groups.{IsMember, IsOutside}
 use Rattle.ar_extents.specs.Follows.{Follows, Keeps, Anywhere, IsPlace, IsEither, WorksOn}
-use Rattle.ar_extents.proofs.Follows.{keeps_refl, keeps_then, keeps_fewer, works_more}
+use Rattle.ar_extents.proofs.Follows.{keeps_refl, keeps_then, keeps_fewer, works_refl, works_more}
 use Rattle.ar_mirror.specs.Calls.{IsInPair, OtherSlotsHold as OtherMirrorSlotsHold, KeepsButSlot}
 use Rattle.ar_parity.specs.Group.{Holds as ParityHolds}
 use Rattle.ar_mirror.proofs.Frames.{keeps_outside as mirror_outside}
@@ -35,7 +35,7 @@ use Rattle.ar_store.specs.Store.{StoreState, store_of, members_of, class_in}
 use Rattle.ar_store.specs.Slots.{ClassHolds, NeedsIn, ReadsIn, WritesIn, first_in, AsksFor, AsksForSlot}
 use Rattle.ar_store.specs.Placing.{slot_at, moved_from, moved_first, squeezed, LeadsHome, LeadsToHole, Leads, IsReadyFor, HasNoHole, HasNoWay}
 use Rattle.ar_store.specs.Calls.{IsZerosOnWay}
-use Rattle.ar_store.specs.Asking.{WorksWithin, KeepsButTwo, KeepsButRowsOf, WritesSlot, ReadsAt, WritesAt, MovesAt, MovesAll, ReadsPairs}
+use Rattle.ar_store.specs.Asking.{WorksWithin, KeepsButTwo, KeepsButRowsOf, AsksAlone, WritesSlot, ReadsAt, WritesAt, MovesAt, MovesAll, ReadsPairs}
 use Rattle.ar_store.specs.Asking.{AsksSlot, AsksSlots, AsksGroup, AsksGroups, AsksNothing, AsksToPut, AsksToSqueeze, AsksOnWay, AsksWay}
 use Rattle.ar_store.specs.Asking.{CopiesAll, Squeezes, SqueezesThenWrites}
 use Rattle.ar_store.specs.Spaces.{store_in}
@@ -107,16 +107,19 @@ pub wrote_mirrored : (a b : SetState) (m : Members) (i : ℕ) → WorksOn (IsInP
     → WritesSlot Mirrored a b m i
 wrote_mirrored a b m i works slots keeps = record {
   within = record { works = works; keeps = mirror_outside a b m i keeps };
+  alone = tt;
   rows = keeps;
   beside = λ k block inside ne has. slots.slots k inside ne block has;
 }
 
 pub wrote_parity : (a b : SetState) (m : Members) (i : ℕ) → WorksOn (IsMember m) a b
     → (IsSound b (member m (data_position i)) → WorksOn (IsEither (member m (data_position i)) (member m (parity_position (parity_row_of i)))) a b)
+    → (IsMissing a (member m (parity_position (parity_row_of i))) → WorksOn (IsPlace (member m (data_position i))) a b)
     → ((k : ℕ) → k ≢ i → (block : List ℕ) → ParityHolds a m k block → ParityHolds b m k block) → KeepsButTwo m i a b
     → WritesSlot Parity a b m i
-wrote_parity a b m i works known others keeps = record {
+wrote_parity a b m i works known alone others keeps = record {
   within = record { works = writes_parity a b m i works known; keeps = parity_outside a b m i keeps.row };
+  alone = alone;
   rows = keeps;
   beside = λ k block inside ne has. others k ne block has;
 }
@@ -241,10 +244,17 @@ rows_then Parity m i a b c geometry keeps rows = record {
   others = λ k below own parity. rows.others k below own parity ∙ keeps.rows (member m k) tt (parity_row_of i);
 }
 
+-- nothing was asked
+asked_alone : (class : Class) (a : SetState) (m : Members) (i : ℕ) → AsksAlone class a a m i
+asked_alone Free a m i = tt
+asked_alone Mirrored a m i = tt
+asked_alone Parity a m i = λ missing. works_refl (IsPlace (member m (data_position i))) a
+
 -- no slot was written
 slot_same : (class : Class) (a b : SetState) (m : Members) (i : ℕ) → b ≡ a → WritesSlot class a b m i
 slot_same class a b m i same = record {
   within = within_same _ m a b same;
+  alone = subst (λ (x : SetState). AsksAlone class a x m i) (sym same) (asked_alone class a m i);
   rows = subst (λ (x : SetState). KeepsButRowsOf class m i a x) (sym same) (rows_kept class m i a a (keeps_refl Anywhere a));
   beside = λ k block inside ne has. subst (λ (x : SetState). ClassHolds class x m k block) (sym same) has;
 }

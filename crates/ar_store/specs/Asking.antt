@@ -7,9 +7,9 @@ use Rattle.ar_disks.specs.declared.address.Place.{Place}
 use Rattle.ar_disks.specs.declared.geometry.Geometry.{Geometry}
 use Rattle.ar_disks.specs.Members.{member}
 use Rattle.ar_extents.specs.declared.health.Health.TheVariants.{Broken as AllBroken}
-use Rattle.ar_extents.specs.Set.{SetState, content}
+use Rattle.ar_extents.specs.Set.{SetState, content, IsMissing}
 use Rattle.ar_extents.specs.Groups.{IsMember, IsOutside}
-use Rattle.ar_extents.specs.Follows.{Keeps, Anywhere, WorksOn}
+use Rattle.ar_extents.specs.Follows.{Keeps, Anywhere, IsPlace, WorksOn}
 use Rattle.ar_mirror.specs.Calls.{KeepsButSlot}
 use Rattle.ar_parity.specs.Group.{KeepsButRow}
 use Rattle.ar_parity.specs.Row.{data_position, parity_position, row_of as parity_row_of}
@@ -64,10 +64,18 @@ KeepsButRowsOf Free m i old new = Keeps Anywhere old new
 KeepsButRowsOf Mirrored m i old new = KeepsButSlot m i old new
 KeepsButRowsOf Parity m i old new = KeepsButTwo m i old new
 
+-- with parity: where the row's parity is missing, the slot's own extent alone is asked
+abbrev pub AsksAlone : Class → SetState → SetState → Members → ℕ → Type 0
+AsksAlone Free old new m i = Unit {0}
+AsksAlone Mirrored old new m i = Unit {0}
+AsksAlone Parity old new m i =
+    IsMissing old (member m (parity_position (parity_row_of i))) → WorksOn (IsPlace (member m (data_position i))) old new
+
 -- One slot of four extents was written: no disk was asked but those that this asks, no row was written but the slot's, and each
 -- other slot that held a block holds it.
 pub record WritesSlot (class : Class) (old new : SetState) (m : Members) (i : ℕ) : Type 0 where
   pub within : WorksWithin (WritesIn class new old.geometry m i) m old new
+  pub alone : AsksAlone class old new m i
   pub rows : KeepsButRowsOf class m i old new
   pub beside : (k : ℕ) (block : List ℕ) → k < slots_of old.geometry class → k ≢ i → ClassHolds class old m k block → ClassHolds class new m k block
 
