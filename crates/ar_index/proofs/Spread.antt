@@ -42,28 +42,37 @@ spread_more place size more leaf nodes old new inside le ok tree put = record {
   rest = λ i h. put_elsewhere more leaf old new (node_at nodes (size + leaf)) put i (omega arith) ∙ ok.rest i (omega arith);
 }
 
--- a full tree that was made anew with twice as many leaves, or with one where there was none
-module _ (size more : ℕ) (nodes tree : List Choices) (ok : IsGrown size size nodes) (first : size ≡ 0 → more ≡ 1) (twice : 0 < size → more ≡ 2 * size)
+-- a tree that was made anew with twice as many leaves, or with one where there was none
+module _ (size more count : ℕ) (nodes tree : List Choices) (ok : IsGrown size count nodes) (first : size ≡ 0 → more ≡ 1) (twice : 0 < size → more ≡ 2 * size)
     (made : length tree ≡ 2 * more) (done : (i : ℕ) → i < size → node_at tree (more + i) ≡ node_at nodes (size + i)) (rest : (i : ℕ) → size ≤ i → node_at tree (more + i) ≡ nothing) where
   height : (n : ℕ) → n ≡ size → (h : ℕ) × (leaves_under h ≡ more)
   height zero e = (0, sym (first (sym e)))
   height (suc n) e = let p = ok.height (omega arith) in (suc p.0, ap (λ x. 2 * x) p.1 ∙ sym (twice (omega arith)))
 
-  pub spread_grown : IsGrown more size tree
+  more_than : (n : ℕ) → n ≡ size → size ≤ more
+  more_than zero e = omega arith
+  more_than (suc n) e = let t = twice (omega arith) in omega arith
+
+  -- a leaf that isn't in use has nothing
+  behind : (i : ℕ) → count ≤ i → node_at tree (more + i) ≡ nothing
+  behind i h = elim (cases_lt i size) [
+    | inl inside ↦ done i inside ∙ ok.empty (size + i) (omega arith)
+    | inr past ↦ rest i past
+  ]
+
+  pub spread_grown : IsGrown more count tree
   spread_grown = record {
     twice = made;
     height = λ some. height size refl;
-    within = more_than size refl;
-    empty = λ i h. let e : more + (i - more) ≡ i = omega arith in ap (node_at tree) (sym e) ∙ rest (i - more) (omega arith);
+    within = let e = more_than size refl in omega (arith, ok.within);
+    empty = λ i h. let e : more + (i - more) ≡ i = omega arith in ap (node_at tree) (sym e) ∙ behind (i - more) (omega arith);
   }
-    where
-      more_than : (n : ℕ) → n ≡ size → size ≤ more
-      more_than zero e = omega arith
-      more_than (suc n) e = let t = twice (omega arith) in omega arith
 
-  pub spread_leaves : leaves_in more size tree ≡ leaves_in size size nodes
+  pub spread_leaves : leaves_in more count tree ≡ leaves_in size count nodes
   spread_leaves =
-      let a : length (leaves_in more size tree) ≡ size = leaves_count more size tree made spread_grown.within in
-      let b : length (leaves_in size size nodes) ≡ size = leaves_count size size nodes ok.twice (omega arith) in
-      ext_get_or nothing (leaves_in more size tree) (leaves_in size size nodes) (a ∙ sym b)
-      (λ i h. let inside : i < size = omega arith in leaf_at more size i tree inside ∙ done i inside ∙ sym (leaf_at size size i nodes inside))
+      let a : length (leaves_in more count tree) ≡ count = leaves_count more count tree made spread_grown.within in
+      let b : length (leaves_in size count nodes) ≡ count = leaves_count size count nodes ok.twice ok.within in
+      ext_get_or nothing (leaves_in more count tree) (leaves_in size count nodes) (a ∙ sym b)
+      (λ i h.
+      let inside : i < count = omega arith in
+      leaf_at more count i tree inside ∙ done i (omega (arith, ok.within)) ∙ sym (leaf_at size count i nodes inside))
