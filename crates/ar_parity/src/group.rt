@@ -84,7 +84,8 @@ pub fn get<D: Disk>(
     }
 }
 
-/// Writes the block of a slot, and the parity of its row with it, each unless its member is missing. Every other slot that
+/// Writes the block of a slot, and the parity of its row with it, each unless its member is missing. What stood there is read
+/// first, or where the slot's member is missing the row's two other blocks; nothing where the parity is. Every other slot that
 /// held a block holds the same.
 ///
 /// After `Broken` any bytes may stand in the row of these two members.
