@@ -61,8 +61,7 @@ fn write<L: Ledger, R: Wait + Abort>(rt: &R, alloc: Global, rig: &Rig<L>) {
         was_good(rt, &reply);
         drop(reply);
     }
-    port.finish();
-    drop(port);
+    let _receipt = port.finish();
 }
 
 fn was_good(rt: &impl Abort, reply: &Reply) {

@@ -110,8 +110,7 @@ pub fn serves<R: Wait + Abort, L: Ledger, S: Source>(
 ) -> SessionEnd {
     let mut port = LockPort::new(rt, &rig.kept, &rig.desk);
     let end = serve(alloc, reader, writer, &mut port);
-    port.finish();
-    drop(port);
+    let _receipt = port.finish();
     end
 }
 

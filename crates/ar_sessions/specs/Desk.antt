@@ -1,5 +1,6 @@
 -- What lies on a desk.
-use Rattle.std.specs.Prelude.{◌≡◌, ℕ, List, length, get_or, Option, Some, None}
+use Rattle.std.specs.Prelude.{◌≡◌, ℕ, List, length, get_or, Option, Some, None, option_map}
+use Rattle.ar_disks.specs.declared.address.Host.{Host}
 use Rattle.ar_history.specs.Seat.{SeatState}
 
 -- the places of the hosts in their order: in each a seat, or none where it is out
@@ -14,3 +15,7 @@ place_of places number = get_or places number None
 pub record AreOwn (places : Places) : Type 0 where
   pub four : length places ≡ 4
   pub own : (number : ℕ) (seat : SeatState) → place_of places number ≡ Some seat → seat.host.number ≡ number
+
+-- the receipt for what a port has of seats: for its seat's host, or none where it has none
+abbrev pub receipt_for : Option SeatState → Option Host
+receipt_for port = option_map (λ seat. seat.host) port

@@ -25,6 +25,20 @@ impl<L: Ledger> Model for Desk<L> {
     ghost invariant = { λ desk. AreOwn desk.places };
 }
 
+/// What a desk hands out for a seat that was given back: that it has the seat of this host again. Nothing else makes one.
+#[derive(Drop)]
+pub struct Receipt {
+    host: Host,
+}
+
+impl Model for Receipt {
+    ghost use Rattle.ar_disks.specs.declared.address.Host.{Host};
+
+    ghost Value = { Host };
+
+    ghost view = { λ receipt. receipt.host };
+}
+
 impl<L: Ledger> Desk<L> {
     /// A desk with all seats, which stand in order of host.
     pub fn new(seats: [Seat<L>; 4]) -> Desk<L>
@@ -45,12 +59,15 @@ impl<L: Ledger> Desk<L> {
         self.places[usize::from(host.number())].take()
     }
 
-    /// Gives a seat back into its host's place. A seat that lies there is let go; of one kept array there is none.
-    pub fn give(&mut self, seat: Seat<L>)
-        ensures { self.new ≡ set self.old seat.host.number (Some seat) }
+    /// Gives a seat back into its host's place, and hands out the receipt for it. A seat that lies there is let go; of one kept array
+    /// there is none.
+    pub fn give(&mut self, seat: Seat<L>) -> Receipt
+        ensures place { self.new ≡ set self.old seat.host.number (Some seat) }
+        ensures receipt { result ≡ seat.host }
     {
-        let place = usize::from(seat.host().number());
-        self.places[place] = Some(seat);
+        let host = seat.host();
+        self.places[usize::from(host.number())] = Some(seat);
+        Receipt { host }
     }
 
     /// The four seats in order of host. Where one is out, the desk is handed back as it was.

@@ -10,7 +10,7 @@ mod sessions;
 mod tcp;
 
 pub use background::run_background;
-pub use desk::Desk;
+pub use desk::{Desk, Receipt};
 pub use door::{Door, MemDoor};
 pub use port::LockPort;
 pub use sessions::{ConnectionEnd, NoMemory, run_beside_background, run_sessions};

@@ -1,9 +1,10 @@
 // The port of a session: a seat, and the way to the kept array.
-ghost use Rattle.std.specs.Prelude.{◌≡◌, None, is_some};
+ghost use Rattle.std.specs.Prelude.{◌≡◌, None};
 ghost use Rattle.ar_frames.specs.Frame.{IsReply};
+ghost use Rattle.ar_sessions.specs.Desk.{receipt_for};
 ghost use Rattle.ar_sessions.specs.Port.{AtOneMoment};
 
-use crate::Desk;
+use crate::{Desk, Receipt};
 use ar_disks::{Disk, Host};
 use ar_frames::{Login, Port};
 use ar_history::{Kept, Seat};
@@ -49,13 +50,12 @@ impl<'a, R: Wait, D: Disk + Drop, L: Ledger> LockPort<'a, R, D, L> {
         }
     }
 
-    /// Gives the seat back to the desk, where the port has one.
-    pub fn finish(&mut self)
-        ensures { self.new ≡ None }
+    /// Gives the seat back to the desk, where the port has one, and answers the desk's receipt for it.
+    pub fn finish(self) -> Option<Receipt>
+        ensures { result ≡ receipt_for self.entry }
     {
-        if let Some(seat) = self.seat.take() {
-            self.desk.lock(self.rt).give(seat);
-        }
+        let seat = self.seat?;
+        Some(self.desk.lock(self.rt).give(seat))
     }
 }
 

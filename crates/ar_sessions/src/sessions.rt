@@ -1,9 +1,9 @@
 // Sessions in threads.
 ghost use Rattle.std.specs.Prelude.{◌≡◌, ◌≢◌, ◌+◌, ◌<◌, ◌≤◌, All, IfOk, OnOk, OnErr, vec_len, vec_capacity, length};
 ghost use Rattle.std.specs.VecDeque.{deque_len, deque_capacity};
-ghost use Rattle.ar_sessions.specs.Ends.{IsServed, WasServed, IsEnd};
+ghost use Rattle.ar_sessions.specs.Ends.{GivesBack, GaveBack, IsEnd};
 
-use crate::{Desk, Door, LockPort, run_background};
+use crate::{Desk, Door, LockPort, Receipt, run_background};
 use ar_disks::Disk;
 use ar_frames::{Gate, SessionEnd, Sink, Source, Why, serve_gated};
 use ar_history::Kept;
@@ -55,20 +55,20 @@ struct Connection<
     writer: W,
 }
 
-// What a session's thread promises of its end.
+// What a session's thread promises of its end, and of the receipt for its seat.
 #[derive(Clone, Copy)]
 struct AsServed;
 
-impl Promise<SessionEnd> for AsServed {
-    ghost use Rattle.ar_sessions.specs.Ends.{WasServed};
+impl Promise<(SessionEnd, Option<Receipt>)> for AsServed {
+    ghost use Rattle.ar_sessions.specs.Ends.{GaveBack};
 
-    ghost kept_by = { λ _ end. WasServed end };
+    ghost kept_by = { λ _ ended. GaveBack ended.0 ended.1 };
 }
 
 // A connection whose end isn't known yet, or which had none.
 #[derive(Drop)]
 enum Pending {
-    Served(PromisedHandle<SessionEnd, AsServed>),
+    Served(PromisedHandle<(SessionEnd, Option<Receipt>), AsServed>),
     Unopened,
     NoThread,
 }
@@ -231,8 +231,8 @@ fn begin<
 >(scope: &'s Scope<'s, E>, connection: Connection<'s, R, D, L, G, S, W>) -> Pending
     ensures begun { result ≢ Pending.Unopened }
 {
-    let session = move || -> SessionEnd
-        ensures { WasServed result }
+    let session = move || -> (SessionEnd, Option<Receipt>)
+        ensures { GaveBack result.0 result.1 }
     { connection.serve() };
     match scope.spawn_with(AsServed, session) {
         Ok(handle) => Pending::Served(handle),
@@ -262,7 +262,10 @@ fn end_of<R: Threads>(rt: &R, pending: Pending) -> ConnectionEnd
     ensures { IsEnd result }
 {
     match pending {
-        Pending::Served(handle) => ConnectionEnd::Served(handle.join(rt)),
+        Pending::Served(handle) => {
+            let (end, _receipt) = handle.join(rt);
+            ConnectionEnd::Served(end)
+        }
         Pending::Unopened => ConnectionEnd::Served(SessionEnd {
             frames: 0,
             why: Why::Read,
@@ -299,9 +302,10 @@ impl<R: Wait, D: Disk + Drop, L: Ledger, G: Gate, S: Source + Drop, W: Sink + Dr
     S,
     W,
 > {
-    // Serves the connection's session. The seat lies on the desk again before the streams are let go.
-    fn serve(self) -> SessionEnd
-        ensures { IsServed (S.state self.entry.reader) (W.state self.entry.writer) result }
+    // Serves the connection's session, and gives its seat back, for a receipt. The seat lies on the desk again before the streams are
+    // let go.
+    fn serve(self) -> (SessionEnd, Option<Receipt>)
+        ensures { GivesBack (S.state self.entry.reader) (W.state self.entry.writer) result.0 result.1 }
     {
         let Connection {
             hall,
@@ -310,7 +314,6 @@ impl<R: Wait, D: Disk + Drop, L: Ledger, G: Gate, S: Source + Drop, W: Sink + Dr
         } = self;
         let mut port = LockPort::new(hall.rt, hall.kept, hall.desk);
         let end = serve_gated(hall.alloc, &mut reader, &mut writer, &mut port, hall.gate);
-        port.finish();
-        end
+        (end, port.finish())
     }
 }
