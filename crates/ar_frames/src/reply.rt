@@ -1,7 +1,8 @@
 // Writes of frames: in one piece where memory for it is there, as a stream may send each piece on by itself.
-ghost use Rattle.std.specs.Prelude.{◌≡◌, ◌++◌, IsTrue, length};
+ghost use Rattle.std.specs.Prelude.{◌≡◌, ◌<◌, ◌≤◌, ◌+◌, ◌++◌, IsTrue, IsFalse, length, max, take, vec_len, vec_capacity};
 ghost use Rattle.ar_frames.specs.Stream.{Sending};
 ghost use Rattle.ar_frames.specs.Frame.{IsReply};
+ghost use Rattle.ar_frames.specs.Talk.{reply_len};
 ghost use Rattle.ar_frames.specs.Turn.{SendsReply};
 
 use crate::fill::{Sent, send};
@@ -9,10 +10,12 @@ use crate::frame::{plain_head, sense_frame};
 use crate::stream::Sink;
 use ar_scsi::Reply;
 
-// Writes a reply frame. The buffer keeps what was joined in it, for the next one to write over.
+// Writes a reply frame. The buffer keeps what was joined in it, for the next one to write over, and grows to the frame's length at
+// most.
 pub fn send_reply<W: Sink>(writer: &mut W, buffer: &mut Vec<u8>, tag: u64, reply: &Reply) -> Sent
     requires { IsReply reply.now }
-    ensures { SendsReply (W.state writer.old) (W.state writer.new) tag reply.now result }
+    ensures sends { SendsReply (W.state writer.old) (W.state writer.new) tag reply.now result }
+    ensures room { vec_capacity buffer.new ≤ max (vec_capacity buffer.old) (reply_len reply.now) }
 {
     match &reply.sense {
         Some(sense) => send(writer, &sense_frame(tag, sense)),
@@ -26,24 +29,59 @@ pub fn send_reply<W: Sink>(writer: &mut W, buffer: &mut Vec<u8>, tag: u64, reply
 
 // Writes two pieces, one after the other: in one write where memory to join them is there.
 pub fn send_joined<W: Sink>(writer: &mut W, buffer: &mut Vec<u8>, front: &[u8], rest: &[u8]) -> Sent
-    ensures { Sending (W.state writer.old) (W.state writer.new) (front.now ++ rest.now) result }
+    ensures sends { Sending (W.state writer.old) (W.state writer.new) (front.now ++ rest.now) result }
+    ensures room { vec_capacity buffer.new ≤ max (vec_capacity buffer.old) (length front.now + length rest.now) }
 {
     if rest.is_empty() {
         return send(writer, front);
     }
     if join(buffer, front, rest) {
-        send(writer, buffer)
+        send(writer, &buffer[..front.len() + rest.len()])
     } else {
         send_apart(writer, front, rest)
     }
 }
 
-// Puts two pieces together. False: no memory.
+// Puts two pieces together at the front of the buffer. False: no memory, and it had no place for them.
 fn join(buffer: &mut Vec<u8>, front: &[u8], rest: &[u8]) -> bool
-    ensures { IsTrue result → buffer.new.items ≡ front.now ++ rest.now }
+    ensures joined { IsTrue result → take (length front.now + length rest.now) buffer.new.items ≡ front.now ++ rest.now }
+    ensures long { IsTrue result → length front.now + length rest.now ≤ vec_len buffer.new }
+    ensures room { vec_capacity buffer.new ≤ max (vec_capacity buffer.old) (length front.now + length rest.now) }
+    ensures refused { IsFalse result → vec_capacity buffer.old < length front.now + length rest.now }
 {
-    buffer.clear();
-    buffer.extend_from_slice(front).is_ok() && buffer.extend_from_slice(rest).is_ok()
+    let len = front.len() + rest.len();
+    if !lengthen(buffer, len) {
+        return false;
+    }
+    let (place, _behind) = buffer.split_at_mut(len);
+    put(place, front, rest);
+    true
+}
+
+// Puts two pieces into the place for them.
+fn put(into: &mut [u8], front: &[u8], rest: &[u8])
+    requires { length into.old ≡ length front.now + length rest.now }
+    ensures { into.new ≡ front.now ++ rest.now }
+{
+    let (first, second) = into.split_at_mut(front.len());
+    first.copy_from_slice(front);
+    second.copy_from_slice(rest);
+}
+
+// Makes the buffer at least so long. It gets as much memory as that takes, and no more. False: no memory, and it had no place for that.
+fn lengthen(buffer: &mut Vec<u8>, len: usize) -> bool
+    ensures long { IsTrue result → len ≤ vec_len buffer.new }
+    ensures room { vec_capacity buffer.new ≤ max (vec_capacity buffer.old) len }
+    ensures refused { IsFalse result → vec_capacity buffer.old < len }
+{
+    let missing = len.saturating_sub(buffer.len());
+    if buffer.reserve_exact(missing).is_err() {
+        return false;
+    }
+    for _ in 0..missing {
+        buffer.push_reserved(0);
+    }
+    true
 }
 
 fn send_apart<W: Sink>(writer: &mut W, front: &[u8], rest: &[u8]) -> Sent

@@ -1,5 +1,6 @@
 // One frame of a session.
-ghost use Rattle.std.specs.Prelude.{◌≡◌, ◌<◌, ◌≤◌, ◌+◌, ◌^◌, true};
+ghost use Rattle.std.specs.Prelude.{◌≡◌, ◌<◌, ◌≤◌, ◌+◌, ◌^◌, true, vec_capacity};
+ghost use Rattle.ar_frames.specs.Frame.{most_bytes};
 ghost use Rattle.ar_frames.specs.Turn.{AnswersRequest, RefusesRequest, Turns, turn_after};
 
 use crate::end::Why;
@@ -26,10 +27,11 @@ pub enum Turn {
 // What a session keeps from frame to frame.
 #[derive(Drop)]
 pub struct Work {
-    // Replies are put together in it.
+    // Replies are put together in it. It takes no more memory than the longest frame has bytes.
     pub buffer: Vec<u8>,
     // How many commands were given to the port.
     pub given: u64,
+    pub ghost small: { vec_capacity buffer ≤ most_bytes },
 }
 
 // Reads a frame, asks the port and writes the reply.
