@@ -1,5 +1,5 @@
 // Which extents a text map shows by one line.
-ghost use Rattle.std.specs.Prelude.{◌≡◌, ◌↔◌, ◌≤◌, ◌<◌, All, IfOk, IsTrue, length};
+ghost use Rattle.std.specs.Prelude.{◌≡◌, ◌↔◌, ◌≤◌, ◌<◌, All, IfOk, OnErr, IsTrue, length};
 ghost use Rattle.std.specs.List.{flat_map, range_with_len};
 ghost use Rattle.ar_picture.specs.Folds.{AreAlike, IsFold, extents_of};
 
@@ -16,12 +16,13 @@ pub struct Fold {
 
 impl Picture {
     /// The extents, in their order: neighbours that look alike on each disk are together, as many as there are. It fails where
-    /// memory is refused.
+    /// memory is refused; where there are no extents it asks for none.
     pub fn folds(&self, alloc: Global) -> Result<Vec<Fold>, AllocError>
         // Each extent is in one fold, once.
         ensures once { IfOk result (λ folds. flat_map extents_of folds.items ≡ range_with_len 0 self.now.extents) }
         ensures folded { IfOk result (λ folds. All (IsFold self.now) folds.items) }
         ensures few { IfOk result (λ folds. length folds.items ≤ self.now.extents) }
+        ensures memory { OnErr result (0 < self.now.extents) }
     {
         let mut folds = Vec::new(alloc);
         let mut first = 0;

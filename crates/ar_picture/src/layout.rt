@@ -1,5 +1,5 @@
 // Where things stand in the SVG, in its units, which are pixels where it is shown at its own size.
-ghost use Rattle.std.specs.Prelude.{◌≡◌, ◌==◌, ◌+◌, ◌*◌, ◌%◌, ◌<◌, ◌≤◌, ◌^◌};
+ghost use Rattle.std.specs.Prelude.{◌≡◌, ◌==◌, ◌+◌, ◌*◌, ◌%◌, ◌/◌, ◌<◌, ◌≤◌, ◌^◌, nat_lt, min, max, length};
 
 use crate::{Picture, UNITS_MAX};
 
@@ -60,7 +60,9 @@ impl Scale {
     }
 
     /// Whether there is room for words in an extent.
-    pub fn has_words(self) -> bool {
+    pub fn has_words(self) -> bool
+        ensures { result ≡ nat_lt 24 self.height }
+    {
         self.height > 24
     }
 
@@ -73,12 +75,16 @@ impl Scale {
     }
 
     /// Where its bar begins.
-    pub fn bar_of(self, extent: u16) -> u32 {
+    pub fn bar_of(self, extent: u16) -> u32
+        ensures { result ≡ 124 + self.pitch * extent + self.bar.0 }
+    {
         self.top_of(extent) + u32::from(self.bar.0)
     }
 
     /// Where its number stands, whose foot is a little below its middle.
-    pub fn number_of(self, extent: u16) -> u32 {
+    pub fn number_of(self, extent: u16) -> u32
+        ensures { result ≡ 124 + self.pitch * extent + self.height / 2 + 4 }
+    {
         self.top_of(extent) + u32::from(self.height / 2) + 4
     }
 
@@ -114,10 +120,14 @@ pub fn legend_left(picture: &Picture) -> u32
     left_of(picture.disks) + 20
 }
 
-/// How wide and how tall the whole picture is.
-pub fn size_of(picture: &Picture) -> (u32, u32) {
+/// How wide and how tall the whole picture is, with an edge: as wide as disks and legend, as tall as the taller of them.
+pub fn size_of(picture: &Picture, scale: Scale) -> (u32, u32)
+    ensures wide { result.0 ≡ 348 + 92 * picture.now.disks }
+    ensures tall { result.1
+        ≡ max (124 + scale.pitch * picture.now.extents) (300 + 22 * min (length picture.now.units.items) 32) + 24 }
+{
     let width = legend_left(picture) + LEGEND;
-    let map = Scale::of(picture.extents).top_of(picture.extents);
+    let map = scale.top_of(picture.extents);
     let units = picture.units.len().min(UNITS_MAX) as u32;
     let legend = TOP + LINE * (8 + units);
     (width, map.max(legend) + 24)

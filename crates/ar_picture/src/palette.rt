@@ -1,4 +1,6 @@
 // Colours of units.
+ghost use Rattle.std.specs.Prelude.{◌≡◌, ◌+◌, ◌*◌, map, slice_index_or};
+
 use crate::{UNITS_MAX, Unit};
 
 /// The colour of each unit, by its place: 8 H + L of unit L of host H. The hues of the hosts are told apart by those, too, who
@@ -14,8 +16,26 @@ pub static COLOURS: [&str; UNITS_MAX] = [
     "#CC79A7", "#EBC9DC", "#5C364B", "#DBA1C1", "#8F5575", "#F4E2EC", "#2D1B25", "#E3B5CF",
 ];
 
-/// A unit's colour.
-pub fn colour_of(unit: Unit) -> &'static str {
-    let place = 8 * usize::from(unit.host) + usize::from(unit.lun);
-    COLOURS.get(place).copied().unwrap_or("#000000")
+/// The colour of what is no unit.
+const NO_UNIT: &str = "#000000";
+
+/// A unit's colour: the one at its place, or black where there is none.
+pub fn colour_of(unit: Unit) -> &'static str
+    ensures { result.now ≡ slice_index_or (map (λ colour. colour.now) COLOURS) (8 * unit.host + unit.lun) NO_UNIT.now }
+{
+    text_at(
+        &COLOURS,
+        8 * usize::from(unit.host) + usize::from(unit.lun),
+        NO_UNIT,
+    )
+}
+
+// The text at a place, or another where there is none.
+fn text_at(texts: &[&'static str], place: usize, other: &'static str) -> &'static str
+    ensures { result.now ≡ slice_index_or (map (λ text. text.now) texts.now) place other.now }
+{
+    match texts.get(place) {
+        Some(text) => *text,
+        None => other,
+    }
 }

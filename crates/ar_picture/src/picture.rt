@@ -42,8 +42,10 @@ impl Group {
     }
 
     /// How full the group is: how many ninths of its slots hold a block, rounded down. So 9 is full, and 0 is less than a ninth.
+    /// A group without slots is full.
     pub fn fullness(&self) -> u8
         ensures same { result ≡ fullness_of self.now.blocks self.now.slots }
+        ensures none { self.now.slots ≡ 0 → result ≡ 9 }
         ensures few { result ≤ 9 }
     {
         let (blocks, slots) = (u32::from(self.blocks), u32::from(self.slots));

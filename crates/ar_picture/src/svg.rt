@@ -31,7 +31,7 @@ text { font-family: 'DejaVu Sans', Verdana, sans-serif; font-size: 12px; fill: #
 /// hatched.
 pub fn write_svg<W: Write>(out: &mut W, picture: &Picture) -> io::Result<()> {
     let scale = Scale::of(picture.extents);
-    write_frame(out, picture)?;
+    write_frame(out, picture, scale)?;
     write_numbers(out, picture, scale)?;
     let outline = scale.outline;
     writeln!(out, "<g stroke-width='{outline}'>")?;
@@ -44,8 +44,8 @@ pub fn write_svg<W: Write>(out: &mut W, picture: &Picture) -> io::Result<()> {
 }
 
 // Writes what stands before the disks.
-fn write_frame<W: Write>(out: &mut W, picture: &Picture) -> io::Result<()> {
-    let (width, height) = size_of(picture);
+fn write_frame<W: Write>(out: &mut W, picture: &Picture, scale: Scale) -> io::Result<()> {
+    let (width, height) = size_of(picture, scale);
     let (disks, extents) = (picture.disks, picture.extents);
     write!(
         out,

@@ -1,4 +1,8 @@
 // The text map.
+ghost use Rattle.std.specs.Prelude.{◌≡◌, All};
+ghost use Rattle.std.specs.List.{flat_map, range_with_len};
+ghost use Rattle.ar_picture.specs.Folds.{IsFold, extents_of};
+
 use crate::{Cell, Content, Fold, Health, Picture, Unit};
 use ar_disks::Place;
 use std::io;
@@ -6,8 +10,12 @@ use std::io::Write;
 
 /// Writes the text map: how many disks and extents there are, the numbers of the disks with the one that is down marked below, a
 /// line for each of the picture's folds, two lines that say what the marks mean, one of the disks' health, and a line for each
-/// unit. Of 12 disks no line is longer than 70 characters.
-pub fn write_map<W: Write>(out: &mut W, picture: &Picture, folds: &[Fold]) -> io::Result<()> {
+/// unit.
+pub fn write_map<W: Write>(out: &mut W, picture: &Picture, folds: &[Fold]) -> io::Result<()>
+    // They are the picture's own, as it tells them.
+    requires once { flat_map extents_of folds.now ≡ range_with_len 0 picture.now.extents }
+    requires folded { All (IsFold picture.now) folds.now }
+{
     write_heads(out, picture)?;
     for fold in folds {
         write_fold(out, picture, *fold)?;
@@ -50,8 +58,10 @@ fn write_below<W: Write>(out: &mut W, disk: u8, word: &str) -> io::Result<()> {
 }
 
 // Writes the line of extents that look alike: their numbers, and what each disk's is used for.
-fn write_fold<W: Write>(out: &mut W, picture: &Picture, fold: Fold) -> io::Result<()> {
-    let (first, last) = (fold.first, fold.end.saturating_sub(1));
+fn write_fold<W: Write>(out: &mut W, picture: &Picture, fold: Fold) -> io::Result<()>
+    requires { IsFold picture.now fold }
+{
+    let (first, last) = (fold.first, fold.end - 1);
     if first < last {
         write!(out, "{first:>4}..{last:<4}")?;
     } else {
