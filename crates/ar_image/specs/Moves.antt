@@ -27,6 +27,7 @@ pub record DemotesOne (old : ArrayState) (answer : Move) (new : ArrayState) : Ty
   pub zeros : IfMoved answer (λ key to. HasNoHole old.store.book Parity → HoldsZerosBeside new.store to)
   pub beside : IfMoved answer (λ key to. BesideHold old.store new.store to)
   pub idle : answer ≡ Idle → IsLeft old.store new.store (NamesNoDemotion old.store.book)
+  pub nothing : NamesNoDemotion old.store.book → new.store ≡ old.store
   pub opened : answer ≡ Broken → MayHaveOpened old.store.book new.store.book
   pub asks : AsksToDemote old.store new.store
 
@@ -39,6 +40,7 @@ pub record CleansOne (old : ArrayState) (answer : Move) (new : ArrayState) : Typ
   pub less : IfMoved answer (λ key to. cleaning_left new.store.book < cleaning_left old.store.book)
   pub beside : IfMoved answer (λ key to. BesideHold old.store new.store to)
   pub idle : answer ≡ Idle → IsLeft old.store new.store (NothingToClean old.store.book)
+  pub nothing : NothingToClean old.store.book → new.store ≡ old.store
   pub unmoved : answer ≡ Broken → new.store.book ≡ old.store.book
   pub free : free_groups old.store.book ≤ free_groups new.store.book
   pub asks : AsksToClean old.store new.store

@@ -10,13 +10,13 @@ use Rattle.ar_book.specs.declared.class.Class.TheVariants.{Parity}
 use Rattle.ar_store.specs.Store.{StoreState}
 use Rattle.ar_store.specs.Slots.{AllStand, BesideHold}
 use Rattle.ar_store.specs.Placing.{SameUnits, slot_at, IsLowestHole, HasNoHole}
-use Rattle.ar_store.specs.Calls.{IsAccessed, IsOpened}
+use Rattle.ar_store.specs.Calls.{IsAccessed, IsOpened, IsCutShort}
 use Rattle.ar_store.proofs.Changes.{units_then}
 use Rattle.ar_store.proofs.Fills.{accessed_then, stand_then}
 use Rattle.ar_moves.specs.declared.step.Move.{Move}
 use Rattle.ar_moves.specs.declared.step.Move.TheVariants.{Moved, Idle, Broken}
 use Rattle.ar_moves.specs.Moves.{IfMoved, IsMovedTo, LeavesBlocks}
-use Rattle.ar_moves.specs.Demotion.{IsOldestMirrored, IsSlotFor, Demotes, DemotesTo, MayHaveOpened}
+use Rattle.ar_moves.specs.Demotion.{IsOldestMirrored, IsSlotFor, NamesNoSlot, Demotes, DemotesTo, MayHaveOpened}
 use Rattle.ar_moves.specs.Cleaning.{Cleans, NamesCleaning}
 
 -- what follows of each block that moved follows of the one that did
@@ -79,6 +79,18 @@ pub ready_for : (t new : Tables) (key : Key) → IsOldestMirrored t key → HasN
 ready_for t new key oldest none (inl same) = inl same
 ready_for t new key oldest none (inr opening) =
     inr (key, slot_at opening.0 0, record { oldest = oldest; slot = inr (record { none = none; group = opening.0; opened = opening.1; first = refl }) })
+
+-- a group that was opened has a slot for a block
+pub opens_slot : (t new : Tables) (g : ℕ) → HasNoHole t Parity → IsOpened t new Parity g → NamesNoSlot t → ⊥
+opens_slot t new g none opening named = named.none (slot_at g 0) new (inr (record { none = none; group = g; opened = opening; first = refl }))
+
+-- the disks broke while a group was opened: its tables, and that nothing has changed where there was none to open
+pub cut_tables : (old new : StoreState) → IsCutShort old new Parity → (new.book ≡ old.book) ⊎ ((group : ℕ) × IsOpened old.book new.book Parity group)
+cut_tables old new cut = elim cut.tables [ inl was ↦ inl (ap (λ (s : StoreState). s.book) was.same) | inr opening ↦ inr opening ]
+
+pub cut_nothing : (old new : StoreState) → HasNoHole old.book Parity → IsCutShort old new Parity → NamesNoSlot old.book → new ≡ old
+cut_nothing old new none cut named =
+    elim cut.tables [ inl was ↦ was.same | inr opening ↦ absurd (opens_slot old.book new.book opening.0 none opening.1 named) ]
 
 -- the other slots of the group that the block went to hold what they held
 pub moved_beside : (old new : StoreState) (m : Move) (t u : Tables) (key : Key) (to : Slot) → IfMoved m (IsMovedTo t key to u) → BesideHold old new to

@@ -23,6 +23,7 @@ use ar_store::Store;
 pub fn clean_one<D: Disk>(store: &mut Store<D>) -> Move
     ensures moved { IfMoved result (λ key to. Cleans store.old.book key to store.new.book) }
     ensures idle { result ≡ Move.Idle → IsLeft store.old store.new (NothingToClean store.old.book) }
+    ensures nothing { NothingToClean store.old.book → store.new ≡ store.old }
     ensures broken { (result ≡ Move.Broken) ↔ (store.new.disks.health ≡ Health.Broken) }
     ensures unmoved { result ≡ Move.Broken → store.new.book ≡ store.old.book }
     ensures free { free_groups store.old.book ≤ free_groups store.new.book }

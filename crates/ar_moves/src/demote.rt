@@ -27,6 +27,7 @@ use ar_store::{Opening, Store};
 pub fn demote_one<D: Disk>(store: &mut Store<D>) -> Move
     ensures moved { IfMoved result (λ key to. Demotes store.old.book key to store.new.book) }
     ensures idle { result ≡ Move.Idle → IsLeft store.old store.new (NamesNoDemotion store.old.book) }
+    ensures nothing { NamesNoDemotion store.old.book → store.new ≡ store.old }
     ensures broken { (result ≡ Move.Broken) ↔ (store.new.disks.health ≡ Health.Broken) }
     ensures opened { result ≡ Move.Broken → MayHaveOpened store.old.book store.new.book }
     ensures zeros { IfMoved result (λ key to. HasNoHole store.old.book Parity → HoldsZerosBeside store.new to) }
@@ -49,6 +50,7 @@ fn demote<D: Disk>(store: &mut Store<D>, key: Key) -> Move
     requires oldest { IsOldestMirrored store.old.book key }
     ensures moved { IfMoved result (DemotesTo store.old.book key store.new.book) }
     ensures idle { result ≡ Move.Idle → IsLeft store.old store.new (NamesNoSlot store.old.book) }
+    ensures nothing { NamesNoSlot store.old.book → store.new ≡ store.old }
     ensures broken { (result ≡ Move.Broken) ↔ (store.new.disks.health ≡ Health.Broken) }
     ensures opened { result ≡ Move.Broken → MayHaveOpened store.old.book store.new.book }
     ensures zeros { IfMoved result (λ key to. HasNoHole store.old.book Parity → HoldsZerosBeside store.new to) }
@@ -70,6 +72,7 @@ fn demote_to_new<D: Disk>(store: &mut Store<D>, key: Key) -> Move
 
     ensures moved { IfMoved result (DemotesTo store.old.book key store.new.book) }
     ensures idle { result ≡ Move.Idle → IsLeft store.old store.new (NamesNoSlot store.old.book) }
+    ensures nothing { NamesNoSlot store.old.book → store.new ≡ store.old }
     ensures broken { (result ≡ Move.Broken) ↔ (store.new.disks.health ≡ Health.Broken) }
 
     ensures opened { result ≡ Move.Broken → MayHaveOpened store.old.book store.new.book }

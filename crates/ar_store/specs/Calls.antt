@@ -38,10 +38,15 @@ pub record HasNoneToOpen (old new : StoreState) : Type 0 where
   pub few : free_groups old.book < 2
   pub same : new ≡ old
 
--- the disks are broken: none was opened, or the one that would have been
+-- the disks were broken before, and nothing has changed
+pub record WasBroken (old new : StoreState) : Type 0 where
+  pub was : old.disks.health ≡ AllBroken
+  pub same : new ≡ old
+
+-- the disks are broken: they were before, or the group was opened that was to be
 pub record IsCutShort (old new : StoreState) (class : Class) : Type 0 where
   pub broken : new.disks.health ≡ AllBroken
-  pub tables : (new.book ≡ old.book) ⊎ ((group : ℕ) × IsOpened old.book new.book class group)
+  pub tables : WasBroken old new ⊎ ((group : ℕ) × IsOpened old.book new.book class group)
 
 -- each slot of a group with parity holds the zero block
 pub record HoldsZeros (s : StoreState) (group : ℕ) : Type 0 where

@@ -27,6 +27,7 @@ returns-in-Some g c =
       moved = if_moved_then c.move_to.result (IsMovedTo t c.in-Some.key c.in-Some.to new) (λ k s. Cleans t k s new) moves.moved
           (λ k s moved. named_cleaned t new c.in-Some.key c.in-Some.to names k s moved);
       idle = λ idle. absurd (moves.idle idle);
+      nothing = λ none. absurd (cleans_nothing t c.in-Some.key c.in-Some.to none names);
       broken = moves.broken;
       unmoved = moves.unmoved;
       free = moved_free c.move_to.result t new c.in-Some.key c.in-Some.to moves.moved moves.idle moves.unmoved;

@@ -1,4 +1,4 @@
-use Rattle.std.proofs.Common.{subst}
+use Rattle.std.proofs.Common.{inl, refl, subst}
 use Rattle.ar_book.specs.declared.class.Class.TheVariants.{Parity}
 use Rattle.ar_book.specs.Tables.{Tables}
 use Rattle.ar_store.specs.Placing.{IsLowestHole}
@@ -28,3 +28,9 @@ pub returns-in-Some-clause-beside : goal.returns-in-Some-clause-beside
 returns-in-Some-clause-beside g c =
     moved_beside c.args.store.now c.move_to.new.store c.move_to.result c.args.store.now.book c.move_to.new.store.book c.args.key c.in-Some.to
     c.move_to.ensures.moved c.move_to.ensures.beside
+
+pub returns-in-Some-clause-nothing : goal.returns-in-Some-clause-nothing
+returns-in-Some-clause-nothing g c = λ named.
+    let found = c.in-Some.ensures in
+    let lowest = subst (λ (x : Tables). IsLowestHole x Parity c.in-Some.to) c.book.ensures (record { hole = found.found; least = found.least }) in
+    absurd (named.none c.in-Some.to c.args.store.now.book (inl (record { lowest = lowest; same = refl })))

@@ -18,6 +18,7 @@ returns-in-Some g c =
       idle = λ idle.
           let left = demoted.idle idle in
           record { why = record { none = λ key to ready names. left.why.none to ready names.slot }; same = left.same };
+      nothing = λ named. demoted.nothing (record { none = λ to ready slot. named.none c.in-Some.key to ready (record { oldest = oldest; slot = slot }) });
       broken = demoted.broken;
       opened = demoted.opened;
       zeros = demoted.zeros;

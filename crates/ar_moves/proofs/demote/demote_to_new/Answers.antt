@@ -3,7 +3,7 @@ use Rattle.ar_store.specs.Placing.{slot_at}
 use Rattle.ar_moves.specs.Moves.{IsMovedTo}
 use Rattle.ar_book.specs.Tables.{Tables}
 use Rattle.ar_moves.specs.Demotion.{DemotesTo, HoldsZerosBeside, MayHaveOpened}
-use Rattle.ar_moves.proofs.Answers.{if_moved_then, leaves_then, hole_made, ready_for, moved_beside}
+use Rattle.ar_moves.proofs.Answers.{if_moved_then, leaves_then, hole_made, ready_for, opens_slot, cut_tables, cut_nothing, moved_beside}
 use Rattle.ar_moves.proofs.Asking.{asks_made, asks_nothing, asks_opened}
 use Rattle.ar_moves.proofs.Readiness.{opened_first, zeros_beside, free_beside}
 use Rattle.ar_moves.proofs.demote.demote_to_new.Goals as goal
@@ -67,4 +67,12 @@ returns-in-Opened-clause-opened g c = λ broke.
 
 pub returns-in-Broken-clause-opened : goal.returns-in-Broken-clause-opened
 returns-in-Broken-clause-opened g c = λ _.
-    ready_for c.args.store.now.book c.open_group.new.self.book c.args.key c.requires.oldest c.requires.none c.in-Broken.ensures.opens.tables
+    ready_for c.args.store.now.book c.open_group.new.self.book c.args.key c.requires.oldest c.requires.none
+    (cut_tables c.args.store.now c.open_group.new.self c.in-Broken.ensures.opens)
+
+pub returns-in-Opened-clause-nothing : goal.returns-in-Opened-clause-nothing
+returns-in-Opened-clause-nothing g c = λ named.
+    absurd (opens_slot c.args.store.now.book c.open_group.new.self.book c.in-Opened.group c.requires.none c.in-Opened.ensures.opens named)
+
+pub returns-in-Broken-clause-nothing : goal.returns-in-Broken-clause-nothing
+returns-in-Broken-clause-nothing g c = cut_nothing c.args.store.now c.open_group.new.self c.requires.none c.in-Broken.ensures.opens

@@ -27,7 +27,7 @@ returns-in-Broken g c =
     let s = c.args.self.now in
     let broken = ap (λ (x : StoreState). x.disks.health) (sym c.self.view_is) ∙ sym c.health.ensures.same ∙ c.in-Broken.is in
     record {
-      opens = record { broken = broken; tables = inl refl };
+      opens = record { broken = broken; tables = inl (record { was = broken; same = refl }) };
       answer = (λ _. broken, λ _. refl);
       mirrored = λ _. refl;
       parity = λ _. tt;
