@@ -17,7 +17,7 @@ use Rattle.ar_store.specs.Forming.{with_group}
 use Rattle.ar_balance.specs.declared.step.Balance.{Balance}
 use Rattle.ar_balance.specs.declared.step.Balance.TheVariants.{Formed, Shifted, GivenUp, NoMemory, Idle, Broken}
 use Rattle.ar_balance.specs.Rule.{NamesForming, NamesShift, NothingToBalance}
-use Rattle.ar_balance.specs.Copies.{IsCutShort, IsFilled}
+use Rattle.ar_balance.specs.Copies.{IsCutShort, IsStopped, IsFilled}
 
 -- the group that the rule names was formed, with the next number
 pub record IsGroupFormed (old new : StoreState) (group : ℕ) : Type 0 where
@@ -60,6 +60,7 @@ pub record IsGivenUp (old new : StoreState) : Type 0 where
   -- of a free group nothing is copied
   pub used : class_in old group ≢ Free
   pub cut : IsCutShort old.disks new.disks from to
+  pub stopped : IsStopped old.disks new.disks from to
   pub book : new.book ≡ old.book
 
 -- the rule names nothing, and the whole store is as it was

@@ -33,7 +33,7 @@ pub record IsRowCopied (old new : SetState) (from to : Place) (row : ℕ) : Type
   pub here : content new to row ≡ content old from row
   pub others : (r : ℕ) → r ≢ row → content new to r ≡ content old to r
 
--- one of the two disks faulted, and is out: what stands in the new extent isn't said. No other disk was asked.
+-- one of the two disks faulted, and is out: what stands in the new extent, `IsStopped` says. No other disk was asked.
 pub record IsCutShort (old new : SetState) (from to : Place) : Type 0 where
   pub follows : Follows old new
   pub loose : new.loose ≡ old.loose
@@ -43,6 +43,15 @@ pub record IsCutShort (old new : SetState) (from to : Place) : Type 0 where
   pub which : (disk ≡ from.disk) ⊎ (disk ≡ to.disk)
   pub faulted : Faulted old new disk
   pub out : new.health ≡ Out disk
+
+-- The copy stopped at a row: those below it are copied, and those past it are as they were. So is the row itself, unless the disk
+-- of the new extent is the one that is out: nothing is written but what was read.
+pub record IsStopped (old new : SetState) (from to : Place) : Type 0 where
+  pub row : ℕ
+  pub there : row < rows_of old.geometry
+  pub below : (r : ℕ) → r < row → content new to r ≡ content old from r
+  pub past : (r : ℕ) → row < r → content new to r ≡ content old to r
+  pub unread : new.health ≢ Out to.disk → content new to row ≡ content old to row
 
 -- what is copied of a group's extent: all rows, and of a free group none, so that no disk is accessed
 abbrev pub IsFilled : Class → SetState → SetState → Place → Place → Type 0

@@ -1,9 +1,9 @@
 // The rows of an extent are copied to another.
-ghost use Rattle.std.specs.Prelude.{◌≡◌, ◌≢◌, ◌<◌, length, IsTrue, false};
+ghost use Rattle.std.specs.Prelude.{◌≡◌, ◌≢◌, ◌<◌, ℕ, length, IsTrue, false};
 ghost use Rattle.ar_disks.specs.Geometry.{rows_of, block_len_of};
-ghost use Rattle.ar_extents.specs.declared.health.Health.TheVariants.{Whole};
-ghost use Rattle.ar_extents.specs.Set.{HasExtent};
-ghost use Rattle.ar_balance.specs.Copies.{AreCopied, IsRowCopied, IsCutShort};
+ghost use Rattle.ar_extents.specs.declared.health.Health.TheVariants.{Whole, Out};
+ghost use Rattle.ar_extents.specs.Set.{HasExtent, content};
+ghost use Rattle.ar_balance.specs.Copies.{AreCopied, IsRowCopied, IsCutShort, IsStopped};
 
 use ar_disks::{Block, Disk, Place};
 use ar_extents::{DiskSet, Got, Put};
@@ -22,6 +22,7 @@ pub(crate) fn copy_extent<D: Disk>(
     requires len { length block.old ≡ block_len_of set.old.geometry }
     ensures copied { IsTrue result → AreCopied set.old set.new from to (rows_of set.old.geometry) }
     ensures cut { result ≡ false → IsCutShort set.old set.new from to }
+    ensures stopped { result ≡ false → IsStopped set.old set.new from to }
     ensures len { length block.new ≡ length block.old }
 {
     for row in 0..set.geometry().rows() {
@@ -47,6 +48,9 @@ fn copy_row<D: Disk>(
     requires len { length block.old ≡ block_len_of set.old.geometry }
     ensures copied { IsTrue result → IsRowCopied set.old set.new from to row }
     ensures cut { result ≡ false → IsCutShort set.old set.new from to }
+    ensures others { result ≡ false → (r : ℕ) → r ≢ row → content set.new to r ≡ content set.old to r }
+    // Nothing is written where nothing was read.
+    ensures unread { result ≡ false → set.new.health ≢ Out to.disk → content set.new to row ≡ content set.old to row }
     ensures len { length block.new ≡ length block.old }
 {
     match set.get(from, row, block) {

@@ -12,7 +12,7 @@ ghost use Rattle.ar_book.specs.Choices.{IsUnused};
 ghost use Rattle.ar_store.specs.Kept.{IsSpace};
 ghost use Rattle.ar_store.specs.Spaces.{store_in};
 ghost use Rattle.ar_balance.specs.Rule.{NamesShift};
-ghost use Rattle.ar_balance.specs.Copies.{IsFilled, IsCutShort};
+ghost use Rattle.ar_balance.specs.Copies.{IsFilled, IsCutShort, IsStopped};
 ghost use Rattle.ar_balance.specs.Balance.{Balances, LeavesAll, IfChanged, gained, switched};
 ghost use Rattle.ar_balance.specs.Measure.{balance_left};
 
@@ -67,6 +67,7 @@ fn fill<D: Disk>(space: &mut Space<D>, shift: Shift, block: &mut Block) -> bool
 
     ensures filled { IsTrue result → IsFilled (class_of space.old.book shift.group) space.old.disks space.new.disks shift.from shift.to }
     ensures cut { result ≡ false → IsCutShort space.old.disks space.new.disks shift.from shift.to }
+    ensures stopped { result ≡ false → IsStopped space.old.disks space.new.disks shift.from shift.to }
     ensures used { result ≡ false → class_of space.old.book shift.group ≢ Free }
 
     ensures book { space.new.book ≡ space.old.book }

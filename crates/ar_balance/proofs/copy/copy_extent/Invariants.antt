@@ -1,6 +1,12 @@
-use Rattle.std.proofs.Common.{◌≡◌, length}
+use Rattle.std.proofs.Common.{◌≡◌, ◌≤◌, ℕ, length}
+use Rattle.ar_extents.specs.Set.{content}
 use Rattle.ar_balance.specs.Copies.{AreCopied}
 use Rattle.ar_balance.proofs.copy.copy_extent.Given as goal
 
+-- the rows below this one are copied, and the others as they were
 abbrev pub invariant-loop-row : goal.invariant-loop-row
-invariant-loop-row g l = AreCopied l.initial.set l.set l.from l.to l.row × (length l.block ≡ length l.initial.block)
+invariant-loop-row g l = record {
+  copied : AreCopied l.initial.set l.set l.from l.to l.row;
+  rest : (r : ℕ) → l.row ≤ r → content l.set l.to r ≡ content l.initial.set l.to r;
+  len : length l.block ≡ length l.initial.block;
+}
