@@ -37,8 +37,8 @@ pub enum Balance {
 /// the one and not on the other, to the lowest loose extent, at the same member position. Of disks that tie the lowest is meant.
 ///
 /// Every row of a group that isn't free is copied, and the new extent stays loose until all are. Where a disk faults then the
-/// answer is `GivenUp`, and health has changed but no table; no row is written past the one where it faulted. No disk is asked but the
-/// two, and of a free group none. No block changes. Memory is taken for a group alone.
+/// answer is `GivenUp`, and health has changed but no table; no row is written past the one where it faulted. No disk is asked but
+/// the two, and of a free group none. No block changes. Memory is taken for a group alone.
 pub fn balance_one<D: Disk>(store: &mut Store<D>) -> Balance
     ensures does { Balances store.old store.new result }
     ensures broken { (result ≡ Balance.Broken) ↔ (store.new.disks.health ≡ Health.Broken) }

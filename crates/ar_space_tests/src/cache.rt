@@ -543,6 +543,36 @@ fn no_put_is_refused_for_memory(rt: HostRuntime) -> Result<(), Fail> {
     )
 }
 
+// Run with each allocation refused in turn: a cache that is full, and has let a block go before, takes a new one in without memory,
+// so that it stays full.
+#[test]
+fn a_full_cache_takes_no_memory(rt: HostRuntime) -> Result<(), Fail> {
+    run(
+        &rt,
+        Setup {
+            capacity: 2,
+            ..SOUND
+        },
+        &[
+            (Call::Put(FIRST, 11), Answer::Done),
+            (Call::Put(SECOND, 12), Answer::Done),
+            (Call::Put(THIRD, 13), Answer::Done),
+            (Call::Put(FOURTH, 14), Answer::Done),
+            (Call::Put(FIRST, 15), Answer::Done),
+            (Call::Put(SECOND, 16), Answer::Done),
+            (Call::Len, Answer::Len(2)),
+            (Call::Put(THIRD, 17), Answer::Done),
+            (Call::Len, Answer::Len(2)),
+            (Call::Put(FOURTH, 18), Answer::Done),
+            (Call::Len, Answer::Len(2)),
+            (Call::Put(FIRST, 19), Answer::Done),
+            (Call::Len, Answer::Len(2)),
+            (Call::Put(SECOND, 20), Answer::Done),
+            (Call::Len, Answer::Len(2)),
+        ],
+    )
+}
+
 // The largest cache holds as many blocks as it may, and one more destages the first.
 #[test]
 fn the_largest_cache(rt: HostRuntime) -> Result<(), Fail> {
