@@ -40,6 +40,7 @@ moves_none s from to broken = record {
     reads = asked_none (class_in s from.group) s.disks (members_of s from.group) from.slot;
     kept = keeps_refl Anywhere s.disks;
     writes = inl (record { broken = broken; same = refl });
+    here = λ sound. absurd (sound broken);
   };
 }
 

@@ -94,13 +94,15 @@ pub record IsCutOff (old new : SetState) : Type 0 where
   pub broken : old.health ≡ AllBroken
   pub same : new ≡ old
 
--- A block was read from a slot of four extents, and only then written to one of four others. No disk was asked but those that
--- the read asks, and then those that the write asks; where the read broke the disks nothing was asked after it.
+-- A block was read from a slot of four extents, and only then written to one of four others, which holds it unless the disks
+-- broke. No disk was asked but those that the read asks, and then those that the write asks; where the read broke the disks
+-- nothing was asked after it.
 pub record CopiesSlot (class other : Class) (from to : Members) (i k : ℕ) (old new : SetState) : Type 0 where
   pub between : SetState
   pub reads : AsksFor class old between from i
   pub kept : Keeps Anywhere old between
   pub writes : IsCutOff between new ⊎ WritesSlot other between new to k
+  pub here : new.health ≢ AllBroken → (block : List ℕ) → ClassHolds class old from i block → ClassHolds other new to k block
 
 -- the same of two slots of a store
 abbrev pub ReadsThenWrites : Slot → Slot → StoreState → StoreState → Type 0

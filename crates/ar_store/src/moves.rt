@@ -13,9 +13,9 @@ impl<D: Disk> Space<D> {
     ghost use Rattle.ar_book.specs.declared.class.Slot.{Slot};
     ghost use Rattle.ar_book.specs.Tables.{home, free_groups, HasBlock};
     ghost use Rattle.ar_book.specs.Changes.{assigned, stamped};
-    ghost use Rattle.ar_store.specs.Slots.{stands, AllStand, OthersStand, BesideHold};
+    ghost use Rattle.ar_store.specs.Slots.{stands, AllStand, OthersStand, BesideHold, SlotHolds};
     ghost use Rattle.ar_store.specs.Placing.{IsVacant, IsReadyFor, placed_by};
-    ghost use Rattle.ar_store.specs.Store.{class_in, members_of};
+    ghost use Rattle.ar_store.specs.Store.{store_of, class_in};
     ghost use Rattle.ar_store.specs.Asking.{AsksSlot, AsksSlots, AsksWay, KeepsButRowsOf, ReadsThenWrites};
     ghost use Rattle.ar_store.specs.Calls.{BesideWay};
     ghost use Rattle.ar_store.specs.Spaces.{store_in, IsReady, Stays};
@@ -61,6 +61,7 @@ impl<D: Disk> Space<D> {
         ensures free { free_groups self.old.book ≤ free_groups self.new.book }
 
         ensures here { result ≡ Completion.Done → stands (store_in self.new) key ≡ from.now }
+        ensures holds { SlotHolds (store_of self.new.disks self.old.book) to from.now }
         ensures others { OthersStand (store_in self.old) (store_in self.new) key }
         ensures beside { BesideHold (store_in self.old) (store_in self.new) to }
         ensures asks { AsksSlot (class_in (store_in self.old) to.group) to (store_in self.old) (store_in self.new) }

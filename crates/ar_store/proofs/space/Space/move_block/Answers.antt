@@ -1,4 +1,4 @@
-use Rattle.std.proofs.Common.{inl, inr, refl, ◌≤◌, length, sym, ap, subst, ◌∙◌}
+use Rattle.std.proofs.Common.{inl, inr, refl, ℕ, List, ◌≤◌, length, sym, ap, subst, ◌∙◌}
 use Rattle.ar_disks.specs.Geometry.{block_len_of}
 use Rattle.ar_book.specs.Tables.{Tables, home, free_groups, class_of, group_in, HasBlock}
 use Rattle.ar_book.specs.Changes.{assigned}
@@ -10,6 +10,8 @@ use Rattle.ar_store.proofs.Fills.{moved_stand, beside_then, beside_read, done_no
 use Rattle.ar_store.proofs.Options.{none_not_some}
 use Rattle.std.proofs.lemmas.Option.{same_Some}
 use Rattle.ar_book.specs.declared.class.Slot.{Slot}
+use Rattle.ar_store.specs.Slots.{SlotHolds}
+use Rattle.ar_store.specs.Store.{store_of}
 use Rattle.ar_store.specs.Asking.{ReadsThenWrites, WritesSlot}
 use Rattle.ar_store.proofs.Stays.{stays_then}
 use Rattle.ar_store.proofs.Asking.{asks_both, asks_one, asks_from}
@@ -59,8 +61,16 @@ returns-in-Done g c =
           let P : Slot → Type 0 = λ x. ReadsThenWrites x c.args.to (store_in s) (store_in new) in
           let Q : Tables → Type 0 = λ x.
           WritesSlot (class_of x c.args.to.group) mid.disks new.disks (group_in x.groups c.args.to.group).members c.args.to.slot in
+          let R : Tables → Type 0 = λ x. SlotHolds (store_of new.disks x) c.args.to c.bytes.result.now in
+          let S : List ℕ → Type 0 = λ bytes. SlotHolds (store_of new.disks s.book) c.args.to bytes in
           subst P (same_Some c.in-Some.from at (sym (sym c.home.ensures ∙ c.in-Some.is) ∙ placed))
-          record { between = mid.disks; reads = read.asks; kept = read.keeps; writes = inr (subst Q read.book fill.asks) };
+          record {
+            between = mid.disks;
+            reads = read.asks;
+            kept = read.keeps;
+            writes = inr (subst Q read.book fill.asks);
+            here = λ sound block held. subst S (c.bytes.ensures ∙ c.in-Done.ensures.given block held) (subst R read.book fill.holds);
+          };
       stays = stays_then s mid new read.stays fill.stays;
       len = read.len;
     }
@@ -81,7 +91,14 @@ returns-in-Broken g c =
       steps = λ at placed.
           let P : Slot → Type 0 = λ x. ReadsThenWrites x c.args.to (store_in c.args.self.now) (store_in mid) in
           subst P (same_Some c.in-Some.from at (sym (sym c.home.ensures ∙ c.in-Some.is) ∙ placed))
-          record { between = mid.disks; reads = read.asks; kept = read.keeps; writes = inl (record { broken = broken_is mid.disks.health (sym c.in-Broken.is ∙ read.outcome); same = refl }) };
+          (let broken = broken_is mid.disks.health (sym c.in-Broken.is ∙ read.outcome) in
+          record {
+            between = mid.disks;
+            reads = read.asks;
+            kept = read.keeps;
+            writes = inl (record { broken = broken; same = refl });
+            here = λ sound. absurd (sound broken);
+          });
       stays = read.stays;
       len = read.len;
     }

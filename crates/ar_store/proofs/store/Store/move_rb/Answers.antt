@@ -59,6 +59,7 @@ returns-in-Broken g c =
             reads = record { works = works_refl (NeedsIn c1 s.disks.geometry m from.slot) s.disks; first = λ _. works_refl (IsPlace (first_in c1 s.disks.geometry m from.slot)) s.disks };
             kept = keeps_refl Anywhere s.disks;
             writes = inl (record { broken = broken; same = refl });
+            here = λ sound. absurd (sound broken);
           };
       accessed = accessed_refl s.disks;
       broken = λ _. refl;
