@@ -34,10 +34,10 @@ use Rattle.ar_store.specs.declared.way.Way.TheVariants.{Home, Hole, Broken}
 use Rattle.ar_store.specs.Store.{StoreState, store_of, members_of, class_in}
 use Rattle.ar_store.specs.Slots.{ClassHolds, NeedsIn, ReadsIn, WritesIn, first_in, AsksFor, AsksForSlot}
 use Rattle.ar_store.specs.Placing.{slot_at, moved_from, moved_first, squeezed, LeadsHome, LeadsToHole, Leads, IsReadyFor, HasNoHole, HasNoWay}
-use Rattle.ar_store.specs.Calls.{IsZerosOnWay}
+use Rattle.ar_store.specs.Calls.{WasBroken, IsZerosOnWay}
 use Rattle.ar_store.specs.Asking.{WorksWithin, KeepsButTwo, KeepsButRowsOf, AsksAlone, WritesSlot, ReadsAt, WritesAt, MovesAt, MovesAll, ReadsPairs}
 use Rattle.ar_store.specs.Asking.{AsksSlot, AsksSlots, AsksGroup, AsksGroups, AsksNothing, AsksToPut, AsksToSqueeze, AsksOnWay, AsksWay}
-use Rattle.ar_store.specs.Asking.{CopiesAll, Squeezes, SqueezesThenWrites}
+use Rattle.ar_store.specs.Asking.{Squeezes, SqueezesThenWrites}
 use Rattle.ar_store.specs.Spaces.{store_in}
 use Rattle.ar_store.proofs.Within.{within_refl, within_same, within_then, within_more, within_read}
 use Rattle.ar_store.proofs.Squeezing.{IsSqueezing, same_full, same_free}
@@ -261,7 +261,8 @@ slot_same class a b m i same = record {
 
 -- nothing was asked, as the disks were broken, or no squeeze was needed
 asks_none : (a c : StoreState) (k : Key) → c.disks ≡ a.disks
-    → ((from to : ℕ) → level a.book k ≡ Unplaced → HasNoHole a.book Mirrored → HasNoHole a.book Parity → free_groups a.book < 2 → SqueezesThenWrites from to a c)
+    → ((from to : ℕ) → level a.book k ≡ Unplaced → HasNoHole a.book Mirrored → HasNoHole a.book Parity → free_groups a.book < 2
+    → WasBroken a c ⊎ SqueezesThenWrites from to a c)
     → AsksToPut a k c
 asks_none a c k same rest = record {
   mirrored = λ s at is. slot_same _ a.disks c.disks _ _ same;
@@ -272,18 +273,9 @@ asks_none a c k same rest = record {
   squeezed_group = λ from to at none full few is_from is_to. rest from to at none full few;
 }
 
--- nothing was copied, as the disks were broken
-pub copies_none : (slots : ℕ) (from to : Members) (s : SetState) → s.health ≡ AllBroken → CopiesAll slots from to s s
-copies_none slots from to s broken = record { copied = 0; within = omega arith; whole = λ sound. absurd (sound broken); copies = refl }
-
 -- a broken store stayed as it was
 pub asks_still : (s : StoreState) (k : Key) → s.disks.health ≡ AllBroken → AsksToPut s k s
-asks_still s k broken = asks_none s s k refl (λ from to at none full few. record {
-  asks = within_refl _ _ s.disks;
-  squeezed = s.disks;
-  steps = record { filled = s.disks; fills = within_refl _ _ s.disks; copies = copies_none _ _ _ s.disks broken };
-  writes = inl (record { broken = broken; same = refl });
-})
+asks_still s k broken = asks_none s s k refl (λ from to at none full few. inl (record { was = broken; same = refl }))
 
 -- all that a squeeze needs
 asks_squeezed : (a c : StoreState) (k : Key) → HasNoWay a.book k a.book
@@ -296,7 +288,7 @@ asks_squeezed a c k needs asks =
       opened_group = λ g low none many lowest. absurd (let few = needs.mirrored.few in omega arith);
       parity = λ s low is none few. absurd (unplaced_not_parity (sym at ∙ low));
       parity_hole = λ s _ none few hole. absurd (needs.parity.none s hole.hole);
-      squeezed_group = λ from to _ none full few is_from is_to. asks from to is_from is_to;
+      squeezed_group = λ from to _ none full few is_from is_to. inr (asks from to is_from is_to);
     }
 
 -- a block at a level stands in a group of that class
@@ -389,8 +381,9 @@ module _ (a b c : StoreState) (k : Key) where
 
   -- a squeeze was needed, and the slot that it left was written
   squeeze_hole : (s : Slot) → LeadsToHole a.book k b.book s → HasNoWay a.book k a.book → AsksToSqueeze a b → class_in b s.group ≡ Parity → AsksSlot (class_in b s.group) s b c
+      → (c.disks.health ≡ AllBroken → c.book ≡ b.book)
       → (from to : ℕ) → IsFullMirrored a.book from → IsLowestFree a.book to → SqueezesThenWrites from to a c
-  squeeze_hole s leads needs first parity asks from to is_from is_to =
+  squeeze_hole s leads needs first parity asks unwritten from to is_from is_to =
       let same = leads.squeezed_group from to needs.mirrored.none needs.parity needs.mirrored.few is_from is_to in
       let squeeze = first from to is_from is_to in
       let group = ap (λ (x : Slot). x.group) same.1 in
@@ -398,35 +391,37 @@ module _ (a b c : StoreState) (k : Key) where
         asks = within_then (MovesAll a c from to) (members_of a to) a.disks b.disks c.disks
             (groups_later b.disks c.disks a.disks.geometry (members_of a from) (members_of a to) a.disks b.disks asks.within.works.follows squeeze.asks)
             (after_squeeze from to s same.0 group asks);
-        squeezed = b.disks;
+        squeezed = b;
         steps = squeeze.steps;
         writes = inr (left_written from to s same.0 same.1 parity asks);
+        unwritten = unwritten;
       }
 
   -- a squeeze was begun, and the disks broke
-  squeeze_broken : b.disks.health ≡ AllBroken → AsksToSqueeze a b → c.disks ≡ b.disks
+  squeeze_broken : b.disks.health ≡ AllBroken → AsksToSqueeze a b → c.disks ≡ b.disks → (c.disks.health ≡ AllBroken → c.book ≡ b.book)
       → (from to : ℕ) → IsFullMirrored a.book from → IsLowestFree a.book to → SqueezesThenWrites from to a c
-  squeeze_broken broken first same from to is_from is_to =
+  squeeze_broken broken first same unwritten from to is_from is_to =
       let squeeze = first from to is_from is_to in
       let P : SetState → Type 0 = λ x. WorksWithin (MovesFrom x a.disks.geometry (members_of a from) (members_of a to)) (members_of a to) a.disks x in
       record {
         asks = subst P (sym same) squeeze.asks;
-        squeezed = b.disks;
+        squeezed = b;
         steps = squeeze.steps;
         writes = inl (record { broken = broken; same = same });
+        unwritten = unwritten;
       }
 
   -- What a put asks: what was asked for a slot to be found, and then that slot's disks.
   pub asks_way : (way : Way) → Leads a.book k b.book way → IsReadyFor b k way → IsZerosOnWay a.book k b way → AsksOnWay a k b → AsksWay way b c
-      → AsksToPut a k c
-  asks_way (Home s) leads ready zeros (inl nothing) asks = asks_home s leads nothing.same asks
-  asks_way (Home s) leads ready zeros (inr squeeze) asks = absurd (none-some s (sym squeeze.0.unplaced ∙ leads.home))
-  asks_way (Hole s) leads ready zeros (inl nothing) asks = asks_hole s leads nothing asks
-  asks_way (Hole s) leads ready zeros (inr squeeze) asks =
-      asks_squeezed a c k squeeze.0 (squeeze_hole s leads squeeze.0 squeeze.1 (zeros squeeze.0).parity asks)
-  asks_way Broken leads ready zeros (inl nothing) asks =
+      → (c.disks.health ≡ AllBroken → c.book ≡ b.book) → AsksToPut a k c
+  asks_way (Home s) leads ready zeros (inl nothing) asks unwritten = asks_home s leads nothing.same asks
+  asks_way (Home s) leads ready zeros (inr squeeze) asks unwritten = absurd (none-some s (sym squeeze.0.unplaced ∙ leads.home))
+  asks_way (Hole s) leads ready zeros (inl nothing) asks unwritten = asks_hole s leads nothing asks
+  asks_way (Hole s) leads ready zeros (inr squeeze) asks unwritten =
+      asks_squeezed a c k squeeze.0 (squeeze_hole s leads squeeze.0 squeeze.1 (zeros squeeze.0).parity asks unwritten)
+  asks_way Broken leads ready zeros (inl nothing) asks unwritten =
       asks_none a c k (asks ∙ nothing.same) (λ from to at none full few. absurd (nothing.needs.way at none full few))
-  asks_way Broken leads ready zeros (inr squeeze) asks = asks_squeezed a c k squeeze.0 (squeeze_broken ready squeeze.1 asks)
+  asks_way Broken leads ready zeros (inr squeeze) asks unwritten = asks_squeezed a c k squeeze.0 (squeeze_broken ready squeeze.1 asks unwritten)
 
 -- no row was written but the new slot's
 move_rows : (a b c : StoreState) (other : Slot) → b.book ≡ a.book → b.disks.geometry ≡ a.disks.geometry → Keeps Anywhere a.disks b.disks

@@ -251,13 +251,15 @@ squeezed_is t u v from to n full free is_u is_v is_n vacant =
     }
 
 -- the free group was opened, and so many blocks have moved there
-pub begun_squeeze : (t u v : Tables) (from to : ℕ) → IsFullMirrored t from → IsLowestFree t to → u ≡ opened t to Parity → HasMovedSome u from to v → HasBegunSqueeze t v
-begun_squeeze t u v from to full lowest is some = record {
+pub begun_squeeze : (t u v : Tables) (from to moved : ℕ) → IsFullMirrored t from → IsLowestFree t to → u ≡ opened t to Parity
+    → HasMovedSome u from to moved v → HasBegunSqueeze t v
+begun_squeeze t u v from to moved full lowest is some = record {
   from = from;
   to = to;
   full = full;
   lowest = lowest;
-  moves = subst (λ (x : Tables). HasMovedSome x from to v) is some;
+  moved = moved;
+  moves = subst (λ (x : Tables). HasMovedSome x from to moved v) is some;
 }
 
 -- a group that is free is counted

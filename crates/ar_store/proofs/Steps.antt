@@ -1,5 +1,5 @@
 -- The steps of a squeeze: what is asked before what.
-use Rattle.std.proofs.Common.{◌≡◌, ℕ, ◌+◌, ◌<◌, Some, ap, subst, ◌∙◌}
+use Rattle.std.proofs.Common.{◌≡◌, ◌≢◌, inl, inr, ℕ, ◌+◌, ◌<◌, Some, refl, ap, subst, ◌∙◌, arith}
 use Rattle.std.proofs.Math.Numerals.{suc-eq-add-one}
 use Rattle.ar_disks.specs.declared.address.Key.{Key}
 use Rattle.ar_disks.specs.declared.address.Members.{Members}
@@ -10,20 +10,20 @@ use Rattle.ar_book.specs.declared.class.Class.TheVariants.{Mirrored, Parity}
 use Rattle.ar_book.specs.declared.class.Slot.{Slot}
 use Rattle.ar_book.specs.Tables.{Tables, group_in, key_at, home, slots_of}
 use Rattle.ar_book.specs.Changes.{opened}
-use Rattle.ar_book.proofs.AfterOpen.{opened_members}
 use Rattle.ar_book.proofs.Homes.{key_home}
 use Rattle.ar_store.specs.declared.space.Space.{Space}
-use Rattle.ar_store.specs.Store.{StoreState, members_of, class_in}
+use Rattle.ar_store.specs.Store.{StoreState, store_of, members_of, class_in}
 use Rattle.ar_store.specs.Placing.{slot_at}
-use Rattle.ar_store.specs.Asking.{CopiesSlot, ReadsThenWrites, CopiesFirst, CopiesAll, AsksGroup, AsksGroups, Squeezes}
+use Rattle.ar_store.specs.Asking.{CopiesSlot, ReadsThenWrites, CopiesFirst, MovesInTurn, AsksGroup, AsksGroups, Squeezes}
 use Rattle.ar_store.specs.Spaces.{store_in}
 use Rattle.ar_store.proofs.Squeezing.{IsSqueezing}
-use Rattle.ar_store.proofs.Asking.{first_members, squeeze_asks, opening_asks, copies_none}
+use Rattle.ar_store.proofs.Asking.{first_members, squeeze_asks, opening_asks}
 
 -- one more slot was copied
-copies_then : (from to : Members) (i : ℕ) (old now new : SetState) → CopiesFirst from to i old now → CopiesSlot Mirrored Parity from to i i now new
-    → CopiesFirst from to (i + 1) old new
-copies_then from to i old now new before step = subst (λ n. CopiesFirst from to n old new) (suc-eq-add-one i) (now, before, step)
+pub copies_then : (from to : Members) (i : ℕ) (old now new : SetState) → CopiesFirst from to i old now → CopiesSlot Mirrored Parity from to i i now new
+    → new.health ≢ AllBroken → CopiesFirst from to (i + 1) old new
+copies_then from to i old now new before step sound =
+    subst (λ n. CopiesFirst from to n old new) (suc-eq-add-one i) (now, before, record { copy = step; sound = sound })
 
 -- a copy from one group to the other, whose classes and members are these
 copies_between : (a b : StoreState) (one other : Slot) (from to : Members) → class_in a one.group ≡ Mirrored → class_in a other.group ≡ Parity
@@ -38,40 +38,43 @@ copies_between a b one other from to mirrored parity from_is to_is steps =
     let S : Members → Type 0 = λ x. CopiesSlot Mirrored Parity from x one.slot other.slot a.disks b.disks in
     subst S to_is (subst R from_is (subst Q parity (subst P mirrored steps)))
 
--- One more block of a squeeze has moved.
-pub step_copies : {X : Type 0} (old now new : Space X) (from to i : ℕ) (k : Key) → IsSqueezing old now from to i → i < slots_of old.book.geometry Mirrored
-    → CopiesFirst (members_of (store_in old) from) (members_of (store_in old) to) i old.disks now.disks → key_at now.book (slot_at from i) ≡ Some k
+-- The next block of a squeeze was copied, or the disks broke.
+pub step_copy : {X : Type 0} (old now new : Space X) (from to i : ℕ) (k : Key) → IsSqueezing old now from to i → i < slots_of old.book.geometry Mirrored
+    → key_at now.book (slot_at from i) ≡ Some k
     → ((slot : Slot) → home now.book k ≡ Some slot → ReadsThenWrites slot (slot_at to i) (store_in now) (store_in new))
-    → CopiesFirst (members_of (store_in old) from) (members_of (store_in old) to) (i + 1) old.disks new.disks
-step_copies old now new from to i k so_far inside before names moved =
+    → CopiesSlot Mirrored Parity (members_of (store_in old) from) (members_of (store_in old) to) i i now.disks new.disks
+step_copy old now new from to i k so_far inside names moved =
     let same : (g : ℕ) → members_of (store_in now) g ≡ members_of (store_in old) g = λ g.
     ap (λ (x : Tables). (group_in x.groups g).members) so_far.moving.tables ∙ first_members old.book from to i g in
-    copies_then (members_of (store_in old) from) (members_of (store_in old) to) i old.disks now.disks new.disks before
-    (copies_between (store_in now) (store_in new) (slot_at from i) (slot_at to i) (members_of (store_in old) from) (members_of (store_in old) to)
+    copies_between (store_in now) (store_in new) (slot_at from i) (slot_at to i) (members_of (store_in old) from) (members_of (store_in old) to)
     (so_far.moving.open_from inside) so_far.moving.opened (same from) (same to)
-    (moved (slot_at from i) (key_home now.book so_far.stays.ready.space.tables (slot_at from i) k names)))
+    (moved (slot_at from i) (key_home now.book so_far.stays.ready.space.tables (slot_at from i) k names))
 
--- A squeeze: the group was opened and filled, and then blocks were copied to it.
-pub squeezes : (a b c : StoreState) (from to : ℕ) → b.book ≡ opened a.book to Parity → AsksGroup to a b → AsksGroups from to b c
-    → CopiesAll (slots_of b.book.geometry Mirrored) (members_of b from) (members_of b to) b.disks c.disks → Squeezes from to a c
-squeezes a b c from to is opening asks copies =
-    let same : (g : ℕ) → members_of b g ≡ members_of a g = λ g.
-    ap (λ (x : Tables). (group_in x.groups g).members) is ∙ opened_members a.book to Parity g in
-    let P : Members → Type 0 = λ m. CopiesAll (slots_of b.book.geometry Mirrored) m (members_of b to) b.disks c.disks in
-    let Q : Members → Type 0 = λ m. CopiesAll (slots_of b.book.geometry Mirrored) (members_of a from) m b.disks c.disks in
-    let R : Tables → Type 0 = λ x. CopiesAll (slots_of x.geometry Mirrored) (members_of a from) (members_of a to) b.disks c.disks in
+-- A squeeze: the group was opened and filled, and then blocks moved to it.
+pub squeezes : (a b c : StoreState) (from to : ℕ) → b.book ≡ opened a.book to Parity → AsksGroup to a b
+    → AsksGroups from to b c → MovesInTurn from to b c → Squeezes from to a c
+squeezes a b c from to is opening asks moves =
+    let P : Tables → Type 0 = λ x. MovesInTurn from to (store_of b.disks x) c in
     record {
       asks = squeeze_asks a b c from to is opening asks;
-      steps = record { filled = b.disks; fills = opening; copies = subst R is (subst Q (same to) (subst P (same from) copies)) };
+      steps = record { filled = b.disks; fills = opening; moves = subst P is moves };
     }
 
+-- no block has moved so far, and the disks broke
+moves_none : (s : SetState) (t u : Tables) (from to : ℕ) → u ≡ t → s.health ≡ AllBroken → MovesInTurn from to (store_of s t) (store_of s u)
+moves_none s t u from to same broken = record {
+  moved = 0;
+  tables = record { within = omega arith; tables = same };
+  copies = record { within = omega arith; whole = λ sound. absurd (sound broken); counted = s; copies = refl; rest = inl refl };
+}
+
 -- the group was opened, and the disks broke
-pub squeeze_cut : (a b : StoreState) (from to : ℕ) → AsksGroup to a b → b.disks.health ≡ AllBroken → Squeezes from to a b
-squeeze_cut a b from to opening broken = record {
+pub squeeze_cut : (a b : StoreState) (from to : ℕ) → b.book ≡ opened a.book to Parity → AsksGroup to a b → b.disks.health ≡ AllBroken → Squeezes from to a b
+squeeze_cut a b from to is opening broken = record {
   asks = opening_asks a b from to opening;
   steps = record {
     filled = b.disks;
     fills = opening;
-    copies = copies_none (slots_of a.book.geometry Mirrored) (members_of a from) (members_of a to) b.disks broken;
+    moves = moves_none b.disks (opened a.book to Parity) b.book from to is broken;
   };
 }

@@ -18,12 +18,14 @@ use Rattle.ar_book.specs.declared.class.Class.TheVariants.{Free, Mirrored, Parit
 use Rattle.ar_book.specs.declared.class.Level.TheVariants.{Unplaced, Mirrored as MirroredLevel, Parity as ParityLevel}
 use Rattle.ar_book.specs.declared.class.Slot.{Slot}
 use Rattle.ar_book.specs.Tables.{Tables, home, level, slots_of, free_groups}
+use Rattle.ar_book.specs.Changes.{opened}
 use Rattle.ar_book.specs.Choices.{IsLowestFree, IsFullMirrored}
 use Rattle.ar_store.specs.declared.way.Way.{Way}
 use Rattle.ar_store.specs.declared.way.Way.TheVariants.{Home, Hole, Broken}
-use Rattle.ar_store.specs.Store.{StoreState, members_of, class_in}
+use Rattle.ar_store.specs.Store.{StoreState, store_of, members_of, class_in}
 use Rattle.ar_store.specs.Slots.{ClassHolds, ReadsIn, WritesIn, AsksFor}
-use Rattle.ar_store.specs.Placing.{slot_at, HasNoHole, HasNoWay, IsLowestHole}
+use Rattle.ar_store.specs.Placing.{slot_at, HasNoHole, HasNoWay, IsLowestHole, HasMovedSome}
+use Rattle.ar_store.specs.Calls.{WasBroken}
 
 -- No disk was asked but for the extents that are named first, and each extent outside four members has the rows that it had.
 pub record WorksWithin (asked : Place → Type 0) (written : Members) (old new : SetState) : Type 0 where
@@ -110,26 +112,45 @@ ReadsThenWrites from to old new =
     CopiesSlot (class_in old from.group) (class_in old to.group) (members_of old from.group) (members_of old to.group) from.slot to.slot
     old.disks new.disks
 
--- the blocks of so many slots of a mirrored group, from the first on, were copied one after another to the slots with the same
--- numbers of a group with parity
+-- a slot of a mirrored group was copied to the one with the same number of a group with parity, and the disks aren't broken
+pub record HasCopied (from to : Members) (i : ℕ) (old new : SetState) : Type 0 where
+  pub copy : CopiesSlot Mirrored Parity from to i i old new
+  pub sound : new.health ≢ AllBroken
+
+-- one of so many was copied so, and in that the disks broke
+pub record BreaksCopy (slots : ℕ) (from to : Members) (i : ℕ) (old new : SetState) : Type 0 where
+  pub below : i < slots
+  pub copy : CopiesSlot Mirrored Parity from to i i old new
+  pub sound : old.health ≢ AllBroken
+  pub broken : new.health ≡ AllBroken
+
+-- so many slots, from the first on, were copied one after another
 abbrev pub CopiesFirst : Members → Members → ℕ → SetState → SetState → Type 0
 CopiesFirst from to zero old new = new ≡ old
-CopiesFirst from to (suc n) old new =
-    (next : SetState) × CopiesFirst from to n old next × CopiesSlot Mirrored Parity from to n n next new
+CopiesFirst from to (suc n) old new = (next : SetState) × CopiesFirst from to n old next × HasCopied from to n next new
 
--- this was done of so many slots, or of fewer where the disks broke
-pub record CopiesAll (slots : ℕ) (from to : Members) (old new : SetState) : Type 0 where
-  pub copied : ℕ
+-- So many of a mirrored group's slots were copied: all of them, unless the disks broke. They broke before the first copy, or in
+-- that of the next slot, which isn't counted.
+pub record CopiesSome (slots copied : ℕ) (from to : Members) (old new : SetState) : Type 0 where
   pub within : copied ≤ slots
   pub whole : new.health ≢ AllBroken → copied ≡ slots
-  pub copies : CopiesFirst from to copied old new
+  pub counted : SetState
+  pub copies : CopiesFirst from to copied old counted
+  pub rest : (new ≡ counted) ⊎ BreaksCopy slots from to copied counted new
 
--- The steps of a squeeze: the group with parity is filled, no other being asked; then the blocks of the mirrored one, which has
--- so many slots, are copied.
-pub record FillsThenCopies (slots : ℕ) (from to : Members) (old new : SetState) : Type 0 where
+-- The blocks of a mirrored group moved to another: as many have moved in the tables as were copied, and a copy in which the disks
+-- broke isn't counted.
+pub record MovesInTurn (from to : ℕ) (old new : StoreState) : Type 0 where
+  pub moved : ℕ
+  pub tables : HasMovedSome old.book from to moved new.book
+  pub copies : CopiesSome (slots_of old.book.geometry Mirrored) moved (members_of old from) (members_of old to) old.disks new.disks
+
+-- The steps of a squeeze: the group is opened for parity and filled, no other being asked; then the blocks of the mirrored one
+-- move there.
+pub record FillsThenCopies (from to : ℕ) (old new : StoreState) : Type 0 where
   pub filled : SetState
-  pub fills : WorksWithin (IsMember to) to old filled
-  pub copies : CopiesAll slots from to filled new
+  pub fills : WorksWithin (IsMember (members_of old to)) (members_of old to) old.disks filled
+  pub moves : MovesInTurn from to (store_of filled (opened old.book to Parity)) new
 
 -- none but those that a block's move to a group asks that is opened for it, and no other group was written
 abbrev pub AsksOpened : Slot → ℕ → StoreState → StoreState → Type 0
@@ -147,17 +168,20 @@ AsksGroups from to old new = WorksWithin (MovesAll old new from to) (members_of 
 -- the blocks of a mirrored group moved to another, which was opened for that, in the steps of a squeeze
 pub record Squeezes (from to : ℕ) (old new : StoreState) : Type 0 where
   pub asks : AsksGroups from to old new
-  pub steps : FillsThenCopies (slots_of old.book.geometry Mirrored) (members_of old from) (members_of old to) old.disks new.disks
+  pub steps : FillsThenCopies from to old new
 
--- The same, and then the first slot that the squeeze left was written; where it broke the disks nothing was asked after it.
+-- The same, and then the first slot that the squeeze left was written; where it broke the disks nothing was asked after it. On
+-- broken disks the tables are those that the squeeze left.
 pub record SqueezesThenWrites (from to : ℕ) (old new : StoreState) : Type 0 where
   pub asks : AsksGroups from to old new
-  pub squeezed : SetState
-  pub steps : FillsThenCopies (slots_of old.book.geometry Mirrored) (members_of old from) (members_of old to) old.disks squeezed
-  pub writes : IsCutOff squeezed new.disks ⊎ WritesSlot Parity squeezed new.disks (members_of old to) (slots_of old.book.geometry Mirrored)
+  pub squeezed : StoreState
+  pub steps : FillsThenCopies from to old squeezed
+  pub writes : IsCutOff squeezed.disks new.disks ⊎ WritesSlot Parity squeezed.disks new.disks (members_of old to) (slots_of old.book.geometry Mirrored)
+  pub unwritten : new.disks.health ≡ AllBroken → new.book ≡ squeezed.book
 
 -- Which disks a put asks, by the steps of `Puts`: those that a write of its slot asks, and where it squeezes, those of a squeeze;
--- and which rows it writes: the slot's, and where it squeezes, those of the group that is opened.
+-- and which rows it writes: the slot's, and where it squeezes, those of the group that is opened. A store that was broken before
+-- squeezes nothing.
 pub record AsksToPut (old : StoreState) (k : Key) (new : StoreState) : Type 0 where
   pub mirrored : (s : Slot) → level old.book k ≡ MirroredLevel → home old.book k ≡ Some s → AsksSlot Mirrored s old new
   pub mirrored_hole : (s : Slot) → level old.book k ≢ MirroredLevel → IsLowestHole old.book Mirrored s → AsksSlot Mirrored s old new
@@ -172,7 +196,7 @@ pub record AsksToPut (old : StoreState) (k : Key) (new : StoreState) : Type 0 wh
       → AsksSlot Parity s old new
   pub squeezed_group :
       (from to : ℕ) → level old.book k ≡ Unplaced → HasNoHole old.book Mirrored → HasNoHole old.book Parity → free_groups old.book < 2
-      → IsFullMirrored old.book from → IsLowestFree old.book to → SqueezesThenWrites from to old new
+      → IsFullMirrored old.book from → IsLowestFree old.book to → WasBroken old new ⊎ SqueezesThenWrites from to old new
 
 -- no disk was asked but those that a squeeze asks, in its steps, and no group was written but the one that it opens
 abbrev pub AsksToSqueeze : StoreState → StoreState → Type 0

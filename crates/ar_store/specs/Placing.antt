@@ -151,8 +151,7 @@ pub record HasNoWay (t : Tables) (k : Key) (new : Tables) : Type 0 where
   pub parity : HasNoHole new Parity
 
 -- so many of a mirrored group's blocks, the first ones, have moved to another group
-pub record HasMovedSome (t : Tables) (from to : ℕ) (new : Tables) : Type 0 where
-  pub moved : ℕ
+pub record HasMovedSome (t : Tables) (from to moved : ℕ) (new : Tables) : Type 0 where
   pub within : moved ≤ slots_of t.geometry Mirrored
   pub tables : new ≡ moved_first t from to moved
 
@@ -162,7 +161,8 @@ pub record HasBegunSqueeze (t new : Tables) : Type 0 where
   pub to : ℕ
   pub full : IsFullMirrored t from
   pub lowest : IsLowestFree t to
-  pub moves : HasMovedSome (opened t to Parity) from to new
+  pub moved : ℕ
+  pub moves : HasMovedSome (opened t to Parity) from to moved new
 
 -- a block that is put wants a group to be opened: it isn't at the mirrored level, where no group has a hole
 pub record WantsGroup (t : Tables) (k : Key) : Type 0 where

@@ -16,9 +16,8 @@ impl<D: Disk> Space<D> {
     ghost use Rattle.ar_book.specs.Choices.{IsWaiting};
     ghost use Rattle.ar_store.specs.Slots.{AllStand};
     ghost use Rattle.ar_store.specs.Calls.{HoldsZeros, HoldsZerosFrom, IsZerosFrom};
-    ghost use Rattle.ar_store.specs.Store.{members_of};
-    ghost use Rattle.ar_store.specs.Asking.{AsksGroups, AsksToSqueeze, CopiesAll};
-    ghost use Rattle.ar_store.specs.Placing.{slot_at, moved_first, IsVacant, IsSqueezed, HasNoHole, CanMove, HasMovedSome, HasBegunSqueeze};
+    ghost use Rattle.ar_store.specs.Asking.{AsksGroups, AsksToSqueeze, MovesInTurn};
+    ghost use Rattle.ar_store.specs.Placing.{slot_at, moved_first, IsVacant, IsSqueezed, HasNoHole, CanMove, HasBegunSqueeze};
     ghost use Rattle.ar_store.specs.Spaces.{store_in, IsReady, Stays};
 
     /// Moves all blocks of the lowest mirrored group to the one free group, which is opened for parity, and answers the first
@@ -65,7 +64,6 @@ impl<D: Disk> Space<D> {
         requires whole { length block.old ≡ block_len_of self.old.disks.geometry }
 
         ensures outcome { result ≡ outcome_of self.new.disks.health }
-        ensures some { HasMovedSome self.old.book from to self.new.book }
         ensures moved { result ≡ Completion.Done → self.new.book ≡ moved_first self.old.book from to (slots_of self.old.book.geometry Mirrored) }
         ensures emptied { result ≡ Completion.Done → class_of self.new.book from ≡ Free }
         ensures opened { result ≡ Completion.Done → class_of self.new.book to ≡ Parity }
@@ -76,8 +74,7 @@ impl<D: Disk> Space<D> {
         ensures unplaced { (k : Key) → home self.old.book k ≡ None → home self.new.book k ≡ None }
         ensures stand { AllStand (store_in self.old) (store_in self.new) }
         ensures asks { AsksGroups from to (store_in self.old) (store_in self.new) }
-        ensures copies { CopiesAll (slots_of self.old.book.geometry Mirrored) (members_of (store_in self.old) from)
-            (members_of (store_in self.old) to) self.old.disks self.new.disks }
+        ensures turns { MovesInTurn from to (store_in self.old) (store_in self.new) }
         ensures stays { Stays self.old self.new }
         ensures len { length block.new ≡ length block.old }
     {

@@ -1,4 +1,4 @@
-use Rattle.std.proofs.Common.{◌≡◌, ◌+◌, ◌<◌, Option, IsSome, refl, sym, ap, subst, ◌∙◌, arith}
+use Rattle.std.proofs.Common.{◌≡◌, ◌+◌, ◌<◌, inl, inr, Option, IsSome, refl, sym, ap, subst, ◌∙◌, arith}
 use Rattle.ar_disks.specs.declared.address.Key.{Key}
 use Rattle.ar_disks.specs.Geometry.{block_len_of}
 use Rattle.ar_book.specs.declared.class.Class.TheVariants.{Mirrored}
@@ -6,13 +6,14 @@ use Rattle.ar_book.specs.Tables.{Tables, home, slots_of}
 use Rattle.ar_book.proofs.Homes.{key_home}
 use Rattle.ar_extents.proofs.Outcomes.{done_sound, sound_done, broken_is}
 use Rattle.ar_store.specs.Placing.{slot_at, moved_first, IsVacant}
+use Rattle.ar_store.specs.Store.{members_of}
 use Rattle.ar_store.specs.Calls.{HoldsZerosFrom}
 use Rattle.ar_store.specs.Spaces.{store_in}
 use Rattle.ar_store.proofs.Zeros.{zeros_all, zeros_later}
 use Rattle.ar_store.proofs.Options.{some_is, none_not_some}
 use Rattle.ar_store.proofs.Within.{within_refl}
 use Rattle.ar_store.proofs.Asking.{step_asks}
-use Rattle.ar_store.proofs.Steps.{step_copies}
+use Rattle.ar_store.proofs.Steps.{step_copy, copies_then}
 use Rattle.ar_store.proofs.Fills.{done_not_broken}
 use Rattle.ar_store.proofs.Stays.{stays_then, all_then}
 use Rattle.ar_store.proofs.Squeezing.{squeezing_start, squeezing_then, move_vacant, move_next, moving_end, slots_end}
@@ -64,8 +65,11 @@ loop-slot-preserved g c =
           (done_sound new.disks.health (sym c.in-Done.is ∙ moved.outcome));
       asks = step_asks c.args.self.now c.loop-slot.self new c.args.from c.args.to c.loop-slot.slot c.in-Some.key so_far.squeezing (omega arith) so_far.asks
           (sym c.key_at.ensures ∙ c.in-Some.is) moved.asks;
-      copies = step_copies c.args.self.now c.loop-slot.self new c.args.from c.args.to c.loop-slot.slot c.in-Some.key so_far.squeezing (omega arith) so_far.copies
-          (sym c.key_at.ensures ∙ c.in-Some.is) moved.steps;
+      copies = copies_then (members_of (store_in c.args.self.now) c.args.from) (members_of (store_in c.args.self.now) c.args.to) c.loop-slot.slot
+          c.args.self.now.disks c.loop-slot.self.disks new.disks so_far.copies
+          (step_copy c.args.self.now c.loop-slot.self new c.args.from c.args.to c.loop-slot.slot c.in-Some.key so_far.squeezing (omega arith)
+          (sym c.key_at.ensures ∙ c.in-Some.is) moved.steps)
+          (done_sound new.disks.health (sym c.in-Done.is ∙ moved.outcome));
       zeros = λ filled.
           zeros_later (store_in c.loop-slot.self) (store_in new) (slot_at c.args.to c.loop-slot.slot) so_far.squeezing.stays.ready.space
           (subst (λ n. c.args.to < n) (sym so_far.squeezing.moving.units.groups) c.requires.can.to_there) so_far.squeezing.moving.opened
@@ -82,11 +86,6 @@ returns-in-Broken g c =
     let end = slots_end c.rows-slot-end.result c.geometry.result t.geometry c.rows-slot-end.ensures (c.geometry.ensures ∙ sym c.requires.ready.space.geometry) in
     record {
       outcome = sym c.in-Broken.is ∙ moved.outcome;
-      some = record {
-        moved = c.loop-slot.slot;
-        within = omega arith;
-        tables = moved.unmoved c.in-Broken.is ∙ now.moving.tables;
-      };
       moved = λ done. absurd (done_not_broken (sym done));
       emptied = λ done. absurd (done_not_broken (sym done));
       opened = λ done. absurd (done_not_broken (sym done));
@@ -96,13 +95,25 @@ returns-in-Broken g c =
       stand = all_then c.args.self.now c.loop-slot.self c.move_block.new.self moved.stays now.stand moved.stand;
       asks = step_asks c.args.self.now c.loop-slot.self c.move_block.new.self c.args.from c.args.to c.loop-slot.slot c.in-Some.key now (omega arith) so_far.asks
           (sym c.key_at.ensures ∙ c.in-Some.is) moved.asks;
-      copies = record {
-        copied = c.loop-slot.slot + 1;
-        within = omega arith;
-        whole = λ sound. absurd (sound (broken_is c.move_block.new.self.disks.health (sym c.in-Broken.is ∙ moved.outcome)));
-        copies = step_copies c.args.self.now c.loop-slot.self c.move_block.new.self c.args.from c.args.to c.loop-slot.slot c.in-Some.key now (omega arith)
-            so_far.copies (sym c.key_at.ensures ∙ c.in-Some.is) moved.steps;
-      };
+      turns =
+          (let broken = broken_is c.move_block.new.self.disks.health (sym c.in-Broken.is ∙ moved.outcome) in
+          record {
+            moved = c.loop-slot.slot;
+            tables = record { within = omega arith; tables = moved.unmoved c.in-Broken.is ∙ now.moving.tables };
+            copies = record {
+              within = omega arith;
+              whole = λ sound. absurd (sound broken);
+              counted = c.loop-slot.self.disks;
+              copies = so_far.copies;
+              rest = inr (record {
+                below = omega arith;
+                copy = step_copy c.args.self.now c.loop-slot.self c.move_block.new.self c.args.from c.args.to c.loop-slot.slot c.in-Some.key now (omega arith)
+                    (sym c.key_at.ensures ∙ c.in-Some.is) moved.steps;
+                sound = now.sound;
+                broken = broken;
+              });
+            };
+          });
       stays = stays_then c.args.self.now c.loop-slot.self c.move_block.new.self now.stays moved.stays;
       len = moved.len ∙ so_far.whole;
     }
@@ -117,7 +128,6 @@ returns g c =
     let all : c.loop-slot.slot ≡ slots_of t.geometry Mirrored = omega arith in
     record {
       outcome = sym (sound_done c.loop-slot.self.disks.health now.sound);
-      some = record { moved = c.loop-slot.slot; within = omega arith; tables = now.moving.tables };
       moved = λ _. subst (λ n. u ≡ moved_first t c.args.from c.args.to n) all now.moving.tables;
       emptied = λ _. now.moving.freed (omega arith);
       opened = λ _. now.moving.opened;
@@ -127,7 +137,11 @@ returns g c =
       unplaced = now.moving.unplaced;
       stand = now.stand;
       asks = so_far.asks;
-      copies = record { copied = c.loop-slot.slot; within = omega arith; whole = λ _. all; copies = so_far.copies };
+      turns = record {
+        moved = c.loop-slot.slot;
+        tables = record { within = omega arith; tables = now.moving.tables };
+        copies = record { within = omega arith; whole = λ _. all; counted = c.loop-slot.self.disks; copies = so_far.copies; rest = inl refl };
+      };
       stays = now.stays;
       len = so_far.whole;
     }

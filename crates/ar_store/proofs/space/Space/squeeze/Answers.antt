@@ -67,12 +67,12 @@ returns-in-Done g c =
                 (moved.zeros c.in-Done.is opening.zeros);
           });
       none = tt;
-      begun = begun_squeeze t mid.book new.book from to c.full_mirrored-from.ensures opening.lowest opening.opened moved.some;
+      begun = begun_squeeze t mid.book new.book from to moved.turns.moved c.full_mirrored-from.ensures opening.lowest opening.opened moved.turns.tables;
       unplaced = λ k is. moved.unplaced k (homes_opened t mid.book to k opening.opened is);
       stand = all_then s mid new moved.stays opening.stand moved.stand;
       asks = only_squeeze (store_in s) (store_in new) c.full_mirrored-from.result c.open_last-to.result c.full_mirrored-from.ensures opening.lowest
-          (squeezes (store_in s) (store_in mid) (store_in new) c.full_mirrored-from.result c.open_last-to.result opening.opened opening.asks moved.asks
-          moved.copies);
+          (squeezes (store_in s) (store_in mid) (store_in new) c.full_mirrored-from.result c.open_last-to.result opening.opened
+          opening.asks moved.asks moved.turns);
       stays = both;
       len = moved.len;
     }
@@ -89,13 +89,13 @@ returns-in-Broken-move_all g c =
       free = tt;
       zeros = tt;
       none = broken_is new.disks.health (sym c.in-Broken-move_all.is ∙ moved.outcome);
-      begun = begun_squeeze s.book mid.book new.book c.full_mirrored-from.result c.open_last-to.result c.full_mirrored-from.ensures opening.lowest
-          opening.opened moved.some;
+      begun = begun_squeeze s.book mid.book new.book c.full_mirrored-from.result c.open_last-to.result moved.turns.moved c.full_mirrored-from.ensures
+          opening.lowest opening.opened moved.turns.tables;
       unplaced = λ k is. moved.unplaced k (homes_opened s.book mid.book c.open_last-to.result k opening.opened is);
       stand = all_then s mid new moved.stays opening.stand moved.stand;
       asks = only_squeeze (store_in s) (store_in new) c.full_mirrored-from.result c.open_last-to.result c.full_mirrored-from.ensures opening.lowest
-          (squeezes (store_in s) (store_in mid) (store_in new) c.full_mirrored-from.result c.open_last-to.result opening.opened opening.asks moved.asks
-          moved.copies);
+          (squeezes (store_in s) (store_in mid) (store_in new) c.full_mirrored-from.result c.open_last-to.result opening.opened
+          opening.asks moved.asks moved.turns);
       stays = stays_then s mid new opening.stays moved.stays;
       len = moved.len;
     }
@@ -113,14 +113,15 @@ returns-in-Broken g c =
         to = c.open_last-to.result;
         full = c.full_mirrored-from.ensures;
         lowest = opening.lowest;
-        moves = record { moved = 0; within = omega arith; tables = opening.opened };
+        moved = 0;
+        moves = record { within = omega arith; tables = opening.opened };
       };
       unplaced = λ k is. homes_opened c.args.self.now.book c.open_last-to.new.self.book c.open_last-to.result k opening.opened is;
       stand = opening.stand;
       asks = only_squeeze (store_in c.args.self.now) (store_in c.open_last-to.new.self) c.full_mirrored-from.result c.open_last-to.result
           c.full_mirrored-from.ensures opening.lowest
-          (squeeze_cut (store_in c.args.self.now) (store_in c.open_last-to.new.self) c.full_mirrored-from.result c.open_last-to.result opening.asks
-          (sym c.health.ensures.same ∙ c.in-Broken.is));
+          (squeeze_cut (store_in c.args.self.now) (store_in c.open_last-to.new.self) c.full_mirrored-from.result c.open_last-to.result opening.opened
+          opening.asks (sym c.health.ensures.same ∙ c.in-Broken.is));
       stays = opening.stays;
       len = refl;
     }

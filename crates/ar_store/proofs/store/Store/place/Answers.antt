@@ -93,7 +93,7 @@ returns g c =
       units = subst (λ (s : StoreState). SameUnits s.book d.book) view both.units;
       asks = subst (λ (s : StoreState). AsksToPut s c.args.key (store_in d)) view
           (asks_way (store_in a) (store_in b) (store_in d) c.args.key c.find_way-way.result way.leads way.way way.zeros
-          way.asks wrote.asks);
+          way.asks wrote.asks (λ broken. wrote.unwritten (wrote.outcome ∙ ap outcome_of broken)));
       accessed = subst (λ (s : StoreState). IsAccessed s.disks d.disks) view both.accessed;
       broken = λ is. absurd (c.in_default.not-Broken (c.health.ensures.same ∙ ap (λ (s : StoreState). s.disks.health) view ∙ is));
     }
