@@ -20,11 +20,12 @@ use Rattle.ar_store.specs.Store.{StoreState, store_of, members_of, class_in}
 use Rattle.ar_store.specs.Slots.{ReadsIn}
 use Rattle.ar_store.specs.Kept.{IsSpace}
 use Rattle.ar_store.specs.Placing.{slot_at, IsLowestHole, HasNoHole}
-use Rattle.ar_store.specs.Calls.{IsOpened}
+use Rattle.ar_store.specs.Calls.{IsOpened, HoldsZeros}
 use Rattle.ar_store.specs.Asking.{WorksWithin, ReadsAt, MovesAt, AsksSlots, AsksOpened, AsksGroup, ReadsThenWrites}
 use Rattle.ar_store.proofs.Within.{within_refl, within_then, within_more}
 use Rattle.ar_store.proofs.Asking.{writes_member, slots_still}
 use Rattle.ar_store.proofs.SlotCalls.{asked_none}
+use Rattle.ar_store.proofs.Steps.{filled_zeros, filled_broken}
 use Rattle.ar_store.proofs.Changes.{named_apart}
 use Rattle.ar_moves.specs.Moves.{AsksToMove, AsksToOpen}
 use Rattle.ar_moves.specs.Demotion.{IsOldestMirrored, AsksToDemote}
@@ -56,7 +57,7 @@ demotes_none s broken = record {
   made = λ key from group oldest placed none many lowest. record {
     asks = within_refl _ _ s.disks;
     filled = s.disks;
-    fills = within_refl _ _ s.disks;
+    fills = filled_broken (members_of s group) s.disks s.disks (within_refl _ _ s.disks) broken;
     moves = inl (record { broken = broken; same = refl });
   };
 }
@@ -107,27 +108,27 @@ moved_asks a b c key from g space opening geometry placed opened moved =
 
 -- and only then
 moved_then : (a b c : StoreState) (key : Key) (from : Slot) (g : ℕ) → IsSpace a → IsOpened a.book b.book Parity g → b.disks.geometry ≡ a.disks.geometry
-    → home a.book key ≡ Some from → AsksGroup g a b → AsksToMove from (slot_at g 0) b c → AsksToOpen from g a c
-moved_then a b c key from g space opening geometry placed opened moved =
+    → home a.book key ≡ Some from → AsksGroup g a b → HoldsZeros b g → AsksToMove from (slot_at g 0) b c → AsksToOpen from g a c
+moved_then a b c key from g space opening geometry placed opened holds moved =
     let P : Tables → Type 0 = λ x. ReadsThenWrites from (slot_at g 0) (store_of b.disks x) c in
     record {
       asks = moved_asks a b c key from g space opening geometry placed opened moved.asks;
       filled = b.disks;
-      fills = opened;
+      fills = filled_zeros a b g opening.tables opening.lowest.there opened holds;
       moves = inr (subst P opening.tables moved.steps);
     }
 
 pub asks_made : (a b c : StoreState) (key : Key) (g : ℕ) → IsSpace a → IsOldestMirrored a.book key → HasNoHole a.book Parity → IsOpened a.book b.book Parity g
-    → b.disks.geometry ≡ a.disks.geometry → ((k : Key) → home b.book k ≡ home a.book k) → AsksGroup g a b
+    → b.disks.geometry ≡ a.disks.geometry → ((k : Key) → home b.book k ≡ home a.book k) → AsksGroup g a b → HoldsZeros b g
     → ((from : Slot) → home b.book key ≡ Some from → AsksToMove from (slot_at g 0) b c) → AsksToDemote a c
-asks_made a b c key g space oldest none opening geometry homes opened asks = record {
+asks_made a b c key g space oldest none opening geometry homes opened holds asks = record {
   there = λ other from slot other_oldest placed lowest. absurd (none.none slot lowest.hole);
   made = λ other from group other_oldest placed other_none many free.
       let same = oldest_single a.book key other space.tables oldest other_oldest in
       let here = ap (λ k. home a.book k) same ∙ placed in
       (let P : ℕ → Type 0 = λ n. AsksToOpen from n a c in
       subst P (free_single a.book g group opening.lowest free)
-      (moved_then a b c key from g space opening geometry here opened (asks from (homes key ∙ here))));
+      (moved_then a b c key from g space opening geometry here opened holds (asks from (homes key ∙ here))));
 }
 
 -- a group was to be opened, and couldn't be
@@ -146,7 +147,7 @@ asks_opened a c none broken asks = record {
     asks = within_more (IsMember (members_of a group)) (λ place. ReadsAt a c from place ⊎ IsMember (members_of a group) place) (members_of a group) a.disks c.disks
         (λ place is. inr is) (asks group free);
     filled = c.disks;
-    fills = asks group free;
+    fills = filled_broken (members_of a group) a.disks c.disks (asks group free) broken;
     moves = inl (record { broken = broken; same = refl });
   };
 }

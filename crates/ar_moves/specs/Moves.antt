@@ -2,7 +2,6 @@
 use Rattle.std.specs.Prelude.{◌≡◌, ◌⊎◌, ℕ}
 use Rattle.ar_disks.specs.declared.address.Key.{Key}
 use Rattle.ar_extents.specs.Set.{SetState}
-use Rattle.ar_extents.specs.Groups.{IsMember}
 use Rattle.ar_extents.specs.declared.health.Health.TheVariants.{Broken as AllBroken}
 use Rattle.ar_book.specs.declared.class.Class.TheVariants.{Parity}
 use Rattle.ar_book.specs.declared.class.Slot.{Slot}
@@ -11,7 +10,7 @@ use Rattle.ar_book.specs.Changes.{opened, Moved as TablesMoved}
 use Rattle.ar_store.specs.Store.{StoreState, store_of, members_of}
 use Rattle.ar_store.specs.Slots.{AllStand}
 use Rattle.ar_store.specs.Placing.{slot_at, SameUnits}
-use Rattle.ar_store.specs.Asking.{WorksWithin, IsCutOff, AsksSlots, AsksOpened, ReadsThenWrites}
+use Rattle.ar_store.specs.Asking.{IsCutOff, AsksSlots, AsksOpened, ReadsThenWrites, FillsWithZeros}
 use Rattle.ar_store.specs.Calls.{IsAccessed}
 use Rattle.ar_moves.specs.declared.step.Move.{Move}
 use Rattle.ar_moves.specs.declared.step.Move.TheVariants.{Moved, Idle, Broken}
@@ -46,10 +45,10 @@ pub record AsksToMove (from to : Slot) (old new : StoreState) : Type 0 where
   pub asks : AsksSlots from to old new
   pub steps : ReadsThenWrites from to old new
 
--- The same where a group with parity was opened for the block: its disks were asked first, and only then the block was moved to
--- its first slot; where they broke before nothing was asked after it.
+-- The same where a group with parity was opened for the block: it was filled with zeros first, and only then the block was moved
+-- to its first slot; where the disks broke before nothing was asked after it.
 pub record AsksToOpen (from : Slot) (group : ℕ) (old new : StoreState) : Type 0 where
   pub asks : AsksOpened from group old new
   pub filled : SetState
-  pub fills : WorksWithin (IsMember (members_of old group)) (members_of old group) old.disks filled
+  pub fills : FillsWithZeros (members_of old group) old.disks filled
   pub moves : IsCutOff filled new.disks ⊎ ReadsThenWrites from (slot_at group 0) (store_of filled (opened old.book group Parity)) new

@@ -1,22 +1,29 @@
 -- The steps of a squeeze: what is asked before what.
-use Rattle.std.proofs.Common.{◌≡◌, ◌≢◌, inl, inr, ℕ, ◌+◌, ◌<◌, Some, refl, ap, subst, ◌∙◌, arith}
+use Rattle.std.proofs.Common.{◌≡◌, ◌≢◌, inl, inr, ℕ, ◌+◌, ◌<◌, length, Some, refl, ap, subst, ◌∙◌, arith}
 use Rattle.std.proofs.Math.Numerals.{suc-eq-add-one}
 use Rattle.ar_disks.specs.declared.address.Key.{Key}
 use Rattle.ar_disks.specs.declared.address.Members.{Members}
+use Rattle.ar_disks.specs.Geometry.{block_len_of}
+use Rattle.ar_disks.specs.Block.{zeros}
 use Rattle.ar_extents.specs.declared.health.Health.TheVariants.{Broken as AllBroken}
 use Rattle.ar_extents.specs.Set.{SetState}
+use Rattle.ar_extents.specs.Groups.{IsMember}
 use Rattle.ar_book.specs.declared.class.Class.{Class}
 use Rattle.ar_book.specs.declared.class.Class.TheVariants.{Mirrored, Parity}
 use Rattle.ar_book.specs.declared.class.Slot.{Slot}
-use Rattle.ar_book.specs.Tables.{Tables, group_in, key_at, home, slots_of}
+use Rattle.ar_book.specs.Tables.{Tables, group_in, class_of, key_at, home, slots_of}
 use Rattle.ar_book.specs.Changes.{opened}
+use Rattle.ar_book.proofs.AfterOpen.{opened_class, opened_members}
 use Rattle.ar_book.proofs.Homes.{key_home}
 use Rattle.ar_store.specs.declared.space.Space.{Space}
 use Rattle.ar_store.specs.Store.{StoreState, store_of, members_of, class_in}
+use Rattle.ar_store.specs.Slots.{ClassHolds}
 use Rattle.ar_store.specs.Placing.{slot_at}
-use Rattle.ar_store.specs.Asking.{CopiesSlot, ReadsThenWrites, CopiesFirst, MovesInTurn, AsksGroup, AsksGroups, Squeezes}
+use Rattle.ar_store.specs.Calls.{HoldsZeros}
+use Rattle.ar_store.specs.Asking.{WorksWithin, CopiesSlot, ReadsThenWrites, CopiesFirst, MovesInTurn, FillsWithZeros, AsksGroup, AsksGroups, Squeezes}
 use Rattle.ar_store.specs.Spaces.{store_in}
 use Rattle.ar_store.proofs.Squeezing.{IsSqueezing}
+use Rattle.ar_store.proofs.Zeros.{zeros_broken}
 use Rattle.ar_store.proofs.Asking.{first_members, squeeze_asks, opening_asks}
 
 -- one more slot was copied
@@ -50,14 +57,33 @@ step_copy old now new from to i k so_far inside names moved =
     (so_far.moving.open_from inside) so_far.moving.opened (same from) (same to)
     (moved (slot_at from i) (key_home now.book so_far.stays.ready.space.tables (slot_at from i) k names))
 
+-- the group that was opened was filled,
+pub filled_zeros : (a b : StoreState) (g : ℕ) → b.book ≡ opened a.book g Parity → g < length a.book.groups → AsksGroup g a b → HoldsZeros b g
+    → FillsWithZeros (members_of a g) a.disks b.disks
+filled_zeros a b g is inside asks holds =
+    let class = ap (λ (x : Tables). class_of x g) is ∙ opened_class a.book g Parity inside in
+    let members = ap (λ (x : Tables). (group_in x.groups g).members) is ∙ opened_members a.book g Parity g in
+    record {
+      within = asks;
+      zeros = λ i lt.
+          let zero = zeros (block_len_of b.disks.geometry) in
+          let P : Class → Type 0 = λ x. ClassHolds x b.disks (members_of b g) i zero in
+          let Q : Members → Type 0 = λ m. ClassHolds Parity b.disks m i zero in
+          subst Q members (subst P class (holds.slots i lt));
+    }
+
+-- or the disks broke
+pub filled_broken : (m : Members) (a b : SetState) → WorksWithin (IsMember m) m a b → b.health ≡ AllBroken → FillsWithZeros m a b
+filled_broken m a b works broken = record { within = works; zeros = zeros_broken m b broken }
+
 -- A squeeze: the group was opened and filled, and then blocks moved to it.
-pub squeezes : (a b c : StoreState) (from to : ℕ) → b.book ≡ opened a.book to Parity → AsksGroup to a b
+pub squeezes : (a b c : StoreState) (from to : ℕ) → b.book ≡ opened a.book to Parity → to < length a.book.groups → AsksGroup to a b → HoldsZeros b to
     → AsksGroups from to b c → MovesInTurn from to b c → Squeezes from to a c
-squeezes a b c from to is opening asks moves =
+squeezes a b c from to is inside opening holds asks moves =
     let P : Tables → Type 0 = λ x. MovesInTurn from to (store_of b.disks x) c in
     record {
       asks = squeeze_asks a b c from to is opening asks;
-      steps = record { filled = b.disks; fills = opening; moves = subst P is moves };
+      steps = record { filled = b.disks; fills = filled_zeros a b to is inside opening holds; moves = subst P is moves };
     }
 
 -- no block has moved so far, and the disks broke
@@ -74,7 +100,7 @@ squeeze_cut a b from to is opening broken = record {
   asks = opening_asks a b from to opening;
   steps = record {
     filled = b.disks;
-    fills = opening;
+    fills = filled_broken (members_of a to) a.disks b.disks opening broken;
     moves = moves_none b.disks (opened a.book to Parity) b.book from to is broken;
   };
 }

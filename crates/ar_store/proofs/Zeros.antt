@@ -5,8 +5,14 @@ use Rattle.ar_disks.specs.Block.{zeros}
 use Rattle.ar_disks.specs.Geometry.{rows_of, block_len_of}
 use Rattle.ar_disks.specs.declared.address.Key.{Key}
 use Rattle.ar_disks.specs.declared.geometry.Geometry.{Geometry}
+use Rattle.ar_disks.specs.declared.address.Members.{Members}
+use Rattle.ar_extents.specs.declared.health.Health.TheVariants.{Broken as AllBroken}
 use Rattle.ar_extents.specs.Set.{SetState}
 use Rattle.ar_extents.specs.Follows.{Follows}
+use Rattle.ar_extents.proofs.Follows.{follows_refl}
+use Rattle.ar_parity.specs.Group.{Holds as ParityHolds}
+use Rattle.ar_parity.proofs.Updates.{broken_zero_agrees}
+use Rattle.ar_parity.proofs.SlotLemmas.{zero_slots}
 use Rattle.ar_book.specs.declared.class.Class.{Class}
 use Rattle.ar_book.specs.declared.class.Class.TheVariants.{Free, Mirrored, Parity}
 use Rattle.ar_book.specs.declared.class.Slot.{Slot}
@@ -21,6 +27,12 @@ use Rattle.ar_store.specs.Kept.{IsSpace}
 use Rattle.ar_store.specs.Placing.{slot_at, HasNoHole, IsVacant, IsReadyFor, IsWayIn, Leads, MayOpen}
 use Rattle.ar_store.specs.Calls.{HoldsZeros, HoldsZerosFrom, LeavesZeros, IsZerosOnWay, BesideWay}
 use Rattle.ar_store.proofs.Ways.{unplaced_not_mirrored, unplaced_not_parity}
+
+-- of broken disks no extent is used, so each slot holds any block, and zeros
+pub zeros_broken : (m : Members) (s : SetState) → s.health ≡ AllBroken
+    → (i : ℕ) → i < 3 * rows_of s.geometry → ParityHolds s m i (zeros (block_len_of s.geometry))
+zeros_broken m s broken =
+    zero_slots s m (rows_of s.geometry) (block_len_of s.geometry) (λ row lt. broken_zero_agrees s s m row (follows_refl s) broken)
 
 -- a group that was just filled
 pub zeros_all : (s : StoreState) (group : ℕ) → HoldsZeros s group → HoldsZerosFrom s group 0

@@ -1,6 +1,8 @@
 -- Which disks a call asks: those of the slots that it reads and writes, and of the groups that it opens and empties; and which
 -- rows it leaves as they are: all but those of the one slot that it writes, or of the one group that it fills.
-use Rattle.std.specs.Prelude.{◌≡◌, ◌≢◌, ◌⊎◌, ℕ, zero, suc, List, ◌<◌, ◌≤◌, Some}
+use Rattle.std.specs.Prelude.{◌≡◌, ◌≢◌, ◌⊎◌, ℕ, zero, suc, ◌*◌, List, ◌<◌, ◌≤◌, Some}
+use Rattle.ar_disks.specs.Block.{zeros}
+use Rattle.ar_disks.specs.Geometry.{rows_of, block_len_of}
 use Rattle.ar_disks.specs.declared.address.Key.{Key}
 use Rattle.ar_disks.specs.declared.address.Members.{Members}
 use Rattle.ar_disks.specs.declared.address.Place.{Place}
@@ -145,11 +147,17 @@ pub record MovesInTurn (from to : ℕ) (old new : StoreState) : Type 0 where
   pub tables : HasMovedSome old.book from to moved new.book
   pub copies : CopiesSome (slots_of old.book.geometry Mirrored) moved (members_of old from) (members_of old to) old.disks new.disks
 
--- The steps of a squeeze: the group is opened for parity and filled, no other being asked; then the blocks of the mirrored one
--- move there.
+-- Four extents were filled with zeros: no other was asked, and each slot that a group with parity has in them holds the zero
+-- block. (Of broken disks this says nothing, since none of their extents is used.)
+pub record FillsWithZeros (m : Members) (old new : SetState) : Type 0 where
+  pub within : WorksWithin (IsMember m) m old new
+  pub zeros : (i : ℕ) → i < 3 * rows_of new.geometry → ClassHolds Parity new m i (zeros (block_len_of new.geometry))
+
+-- The steps of a squeeze: the group is opened for parity and filled with zeros, no other being asked; then the blocks of the
+-- mirrored one move there.
 pub record FillsThenCopies (from to : ℕ) (old new : StoreState) : Type 0 where
   pub filled : SetState
-  pub fills : WorksWithin (IsMember (members_of old to)) (members_of old to) old.disks filled
+  pub fills : FillsWithZeros (members_of old to) old.disks filled
   pub moves : MovesInTurn from to (store_of filled (opened old.book to Parity)) new
 
 -- none but those that a block's move to a group asks that is opened for it, and no other group was written

@@ -47,7 +47,7 @@ returns-in-Opened-clause-asks g c =
     let opening = c.open_group.ensures in
     let opened = c.in-Opened.ensures.opens in
     asks_made c.args.store.now c.open_group.new.self c.move_to.new.store c.args.key c.in-Opened.group c.requires.kept.space c.requires.oldest c.requires.none
-    opened opening.accessed.follows.geometry opening.homes (opening.asks c.in-Opened.group opened.lowest)
+    opened opening.accessed.follows.geometry opening.homes (opening.asks c.in-Opened.group opened.lowest) (c.in-Opened.ensures.parity refl)
     (λ from placed. record { asks = c.move_to.ensures.asks from placed; steps = c.move_to.ensures.steps from placed })
 
 pub returns-in-Idle-clause-asks : goal.returns-in-Idle-clause-asks

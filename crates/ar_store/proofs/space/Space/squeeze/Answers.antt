@@ -71,8 +71,8 @@ returns-in-Done g c =
       unplaced = λ k is. moved.unplaced k (homes_opened t mid.book to k opening.opened is);
       stand = all_then s mid new moved.stays opening.stand moved.stand;
       asks = only_squeeze (store_in s) (store_in new) c.full_mirrored-from.result c.open_last-to.result c.full_mirrored-from.ensures opening.lowest
-          (squeezes (store_in s) (store_in mid) (store_in new) c.full_mirrored-from.result c.open_last-to.result opening.opened
-          opening.asks moved.asks moved.turns);
+          (squeezes (store_in s) (store_in mid) (store_in new) c.full_mirrored-from.result c.open_last-to.result opening.opened opening.lowest.there
+          opening.asks opening.zeros moved.asks moved.turns);
       stays = both;
       len = moved.len;
     }
@@ -94,8 +94,8 @@ returns-in-Broken-move_all g c =
       unplaced = λ k is. moved.unplaced k (homes_opened s.book mid.book c.open_last-to.result k opening.opened is);
       stand = all_then s mid new moved.stays opening.stand moved.stand;
       asks = only_squeeze (store_in s) (store_in new) c.full_mirrored-from.result c.open_last-to.result c.full_mirrored-from.ensures opening.lowest
-          (squeezes (store_in s) (store_in mid) (store_in new) c.full_mirrored-from.result c.open_last-to.result opening.opened
-          opening.asks moved.asks moved.turns);
+          (squeezes (store_in s) (store_in mid) (store_in new) c.full_mirrored-from.result c.open_last-to.result opening.opened opening.lowest.there
+          opening.asks opening.zeros moved.asks moved.turns);
       stays = stays_then s mid new opening.stays moved.stays;
       len = moved.len;
     }
