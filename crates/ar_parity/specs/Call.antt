@@ -1,9 +1,11 @@
 -- What calls on a group answer.
 use Rattle.std.specs.Prelude.{◌≡◌, ◌≢◌, ℕ, List}
 use Rattle.ar_disks.specs.declared.address.Members.{Members}
+use Rattle.ar_disks.specs.declared.address.Place.{Place}
 use Rattle.ar_disks.specs.Members.{member}
 use Rattle.ar_extents.specs.declared.health.Health.TheVariants.{Broken as AllBroken}
-use Rattle.ar_extents.specs.Set.{SetState, content}
+use Rattle.ar_extents.specs.Set.{SetState, content, IsSound}
+use Rattle.ar_extents.specs.Follows.{Keeps, Anywhere, IsPlace, IsEither, WorksOn}
 use Rattle.ar_extents.specs.Access.{IsGivenUp}
 use Rattle.ar_disks.specs.declared.completion.Completion.{Completion}
 use Rattle.ar_disks.specs.declared.completion.Completion.TheVariants.{Done, Broken}
@@ -21,6 +23,14 @@ Tells s Broken = s.health ≡ AllBroken
 -- it.
 pub record Changes (old new : SetState) (m : Members) (row position : ℕ) (bytes : List ℕ) : Type 0 where
   pub agrees : (blocks : Blocks) → RowAgrees old m row blocks → RowAgrees new m row (changed blocks position (parity_position row) bytes)
+
+-- At first no extent but a slot's own was asked, and nothing was written. Where it could be used after that, no other was asked but
+-- the one with the row's parity, whatever faulted then.
+pub record AsksOwnFirst (own parity : Place) (old new : SetState) : Type 0 where
+  pub between : SetState
+  pub reads : WorksOn (IsPlace own) old between
+  pub kept : Keeps Anywhere old between
+  pub known : IsSound between own → WorksOn (IsEither own parity) between new
 
 -- The member's row has the block that agrees with the three others, and nothing was lost.
 pub record IsRebuilt (old new : SetState) (m : Members) (position row : ℕ) : Type 0 where

@@ -9,7 +9,7 @@ ghost use Rattle.ar_extents.specs.Groups.{IsGroup, IsMember, IsOutside, outcome_
 ghost use Rattle.ar_parity.specs.Row.{row_of, data_position, parity_position, zero_blocks};
 ghost use Rattle.ar_parity.specs.Group.{RowAgrees, Holds, KeepsButRow};
 ghost use Rattle.ar_disks.specs.Endings.{OnDone};
-ghost use Rattle.ar_parity.specs.Call.{Changes};
+ghost use Rattle.ar_parity.specs.Call.{Changes, AsksOwnFirst};
 
 use crate::degraded::sum_of_three;
 use crate::slots::{data_at, row_of_slot};
@@ -115,6 +115,9 @@ pub fn put<D: Disk>(
     // While the slot's member is sound, no other is asked but the one with the row's parity.
     ensures known { IsSound set.new (member members.now (data_position slot))
         → WorksOn (IsEither (member members.now (data_position slot)) (member members.now (parity_position (row_of slot)))) set.old set.new }
+    // Nor where it was, once it had been read, whatever faults then.
+    ensures first { AsksOwnFirst (member members.now (data_position slot)) (member members.now (parity_position (row_of slot)))
+        set.old set.new }
     // Where the parity is missing, the slot's member alone is.
     ensures alone { IsMissing set.old (member members.now (parity_position (row_of slot)))
         → WorksOn (IsPlace (member members.now (data_position slot))) set.old set.new }

@@ -7,7 +7,7 @@ ghost use Rattle.ar_extents.specs.Follows.{IsPlace, IsEither, WorksOn};
 ghost use Rattle.ar_extents.specs.Groups.{IsGroup, IsMember};
 ghost use Rattle.ar_parity.specs.Row.{Blocks, block, changed, parity_position};
 ghost use Rattle.ar_parity.specs.Group.{Stands, RowAgrees, KeepsButRow};
-ghost use Rattle.ar_parity.specs.Call.{Tells, Changes};
+ghost use Rattle.ar_parity.specs.Call.{Tells, Changes, AsksOwnFirst};
 
 use crate::degraded::sum_of_two;
 use crate::slots::parity_at;
@@ -153,9 +153,10 @@ fn change_by_reading<D: Disk>(
 
     ensures keeps { KeepsButRow members.now row set.old set.new }
     ensures works { WorksOn (IsMember members.now) set.old set.new }
-    // While the member is sound, no disk but its own and the parity's is asked.
+    // While the member is sound, no disk but its own and the parity's is asked; nor where it was, once it had been read.
     ensures known { IsSound set.new (member members.now position)
         → WorksOn (IsEither (member members.now position) (member members.now (parity_position row))) set.old set.new }
+    ensures first { AsksOwnFirst (member members.now position) (member members.now (parity_position row)) set.old set.new }
     ensures scratch { scratch.new.geometry ≡ scratch.old.geometry }
 {
     let sum = &mut scratch.second;
@@ -189,9 +190,10 @@ pub fn change<D: Disk>(
 
     ensures keeps { KeepsButRow members.now row set.old set.new }
     ensures works { WorksOn (IsMember members.now) set.old set.new }
-    // While the member is sound, no disk but its own and the parity's is asked.
+    // While the member is sound, no disk but its own and the parity's is asked; nor where it was, once it had been read.
     ensures known { IsSound set.new (member members.now position)
         → WorksOn (IsEither (member members.now position) (member members.now (parity_position row))) set.old set.new }
+    ensures first { AsksOwnFirst (member members.now position) (member members.now (parity_position row)) set.old set.new }
     // Where the parity is missing, its own alone is.
     ensures alone { IsMissing set.old (member members.now (parity_position row)) → WorksOn (IsPlace (member members.now position)) set.old set.new }
     ensures scratch { scratch.new.geometry ≡ scratch.old.geometry }

@@ -14,6 +14,7 @@ use Rattle.ar_extents.specs.Follows.{Follows, Keeps, Anywhere, IsPlace, IsEither
 use Rattle.ar_extents.proofs.Follows.{keeps_refl, keeps_then, keeps_fewer, works_refl, works_more}
 use Rattle.ar_mirror.specs.Calls.{IsInPair, OtherSlotsHold as OtherMirrorSlotsHold, KeepsButSlot}
 use Rattle.ar_parity.specs.Group.{Holds as ParityHolds}
+use Rattle.ar_parity.specs.Call.{AsksOwnFirst}
 use Rattle.ar_mirror.proofs.Frames.{keeps_outside as mirror_outside}
 use Rattle.ar_parity.proofs.Frames.{keeps_outside as parity_outside}
 use Rattle.ar_mirror.specs.Slots.{row_of as mirror_row_of}
@@ -35,7 +36,7 @@ use Rattle.ar_store.specs.Store.{StoreState, store_of, members_of, class_in}
 use Rattle.ar_store.specs.Slots.{ClassHolds, NeedsIn, ReadsIn, WritesIn, first_in, AsksFor, AsksForSlot}
 use Rattle.ar_store.specs.Placing.{slot_at, moved_from, moved_first, squeezed, LeadsHome, LeadsToHole, Leads, IsReadyFor, HasNoHole, HasNoWay}
 use Rattle.ar_store.specs.Calls.{WasBroken, IsZerosOnWay}
-use Rattle.ar_store.specs.Asking.{WorksWithin, KeepsButTwo, KeepsButRowsOf, AsksAlone, WritesSlot, ReadsAt, WritesAt, MovesAt, MovesAll, ReadsPairs}
+use Rattle.ar_store.specs.Asking.{WorksWithin, KeepsButTwo, KeepsButRowsOf, AsksAlone, AsksInOrder, WritesSlot, ReadsAt, WritesAt, MovesAt, MovesAll, ReadsPairs}
 use Rattle.ar_store.specs.Asking.{AsksSlot, AsksSlots, AsksGroup, AsksGroups, AsksNothing, AsksToPut, AsksToSqueeze, AsksOnWay, AsksWay}
 use Rattle.ar_store.specs.Asking.{Squeezes, SqueezesThenWrites}
 use Rattle.ar_store.specs.Spaces.{store_in}
@@ -107,6 +108,7 @@ pub wrote_mirrored : (a b : SetState) (m : Members) (i : ℕ) → WorksOn (IsInP
     → WritesSlot Mirrored a b m i
 wrote_mirrored a b m i works slots keeps = record {
   within = record { works = works; keeps = mirror_outside a b m i keeps };
+  order = tt;
   alone = tt;
   rows = keeps;
   beside = λ k block inside ne has. slots.slots k inside ne block has;
@@ -114,11 +116,13 @@ wrote_mirrored a b m i works slots keeps = record {
 
 pub wrote_parity : (a b : SetState) (m : Members) (i : ℕ) → WorksOn (IsMember m) a b
     → (IsSound b (member m (data_position i)) → WorksOn (IsEither (member m (data_position i)) (member m (parity_position (parity_row_of i)))) a b)
+    → AsksOwnFirst (member m (data_position i)) (member m (parity_position (parity_row_of i))) a b
     → (IsMissing a (member m (parity_position (parity_row_of i))) → WorksOn (IsPlace (member m (data_position i))) a b)
     → ((k : ℕ) → k ≢ i → (block : List ℕ) → ParityHolds a m k block → ParityHolds b m k block) → KeepsButTwo m i a b
     → WritesSlot Parity a b m i
-wrote_parity a b m i works known alone others keeps = record {
+wrote_parity a b m i works known order alone others keeps = record {
   within = record { works = writes_parity a b m i works known; keeps = parity_outside a b m i keeps.row };
+  order = order;
   alone = alone;
   rows = keeps;
   beside = λ k block inside ne has. others k ne block has;
@@ -250,10 +254,21 @@ asked_alone Free a m i = tt
 asked_alone Mirrored a m i = tt
 asked_alone Parity a m i = λ missing. works_refl (IsPlace (member m (data_position i))) a
 
+asked_in_order : (class : Class) (a : SetState) (m : Members) (i : ℕ) → AsksInOrder class a a m i
+asked_in_order Free a m i = tt
+asked_in_order Mirrored a m i = tt
+asked_in_order Parity a m i = record {
+  between = a;
+  reads = works_refl (IsPlace (member m (data_position i))) a;
+  kept = keeps_refl Anywhere a;
+  known = λ sound. works_refl (IsEither (member m (data_position i)) (member m (parity_position (parity_row_of i)))) a;
+}
+
 -- no slot was written
 slot_same : (class : Class) (a b : SetState) (m : Members) (i : ℕ) → b ≡ a → WritesSlot class a b m i
 slot_same class a b m i same = record {
   within = within_same _ m a b same;
+  order = subst (λ (x : SetState). AsksInOrder class a x m i) (sym same) (asked_in_order class a m i);
   alone = subst (λ (x : SetState). AsksAlone class a x m i) (sym same) (asked_alone class a m i);
   rows = subst (λ (x : SetState). KeepsButRowsOf class m i a x) (sym same) (rows_kept class m i a a (keeps_refl Anywhere a));
   beside = λ k block inside ne has. subst (λ (x : SetState). ClassHolds class x m k block) (sym same) has;

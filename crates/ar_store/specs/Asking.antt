@@ -14,6 +14,7 @@ use Rattle.ar_extents.specs.Groups.{IsMember, IsOutside}
 use Rattle.ar_extents.specs.Follows.{Keeps, Anywhere, IsPlace, WorksOn}
 use Rattle.ar_mirror.specs.Calls.{KeepsButSlot}
 use Rattle.ar_parity.specs.Group.{KeepsButRow}
+use Rattle.ar_parity.specs.Call.{AsksOwnFirst}
 use Rattle.ar_parity.specs.Row.{data_position, parity_position, row_of as parity_row_of}
 use Rattle.ar_book.specs.declared.class.Class.{Class}
 use Rattle.ar_book.specs.declared.class.Class.TheVariants.{Free, Mirrored, Parity}
@@ -75,10 +76,17 @@ AsksAlone Mirrored old new m i = Unit {0}
 AsksAlone Parity old new m i =
     IsMissing old (member m (parity_position (parity_row_of i))) → WorksOn (IsPlace (member m (data_position i))) old new
 
+-- with parity: at first no extent but the slot's own is asked, and where it can be used then, none later but it and the row's parity
+abbrev pub AsksInOrder : Class → SetState → SetState → Members → ℕ → Type 0
+AsksInOrder Free old new m i = Unit {0}
+AsksInOrder Mirrored old new m i = Unit {0}
+AsksInOrder Parity old new m i = AsksOwnFirst (member m (data_position i)) (member m (parity_position (parity_row_of i))) old new
+
 -- One slot of four extents was written: no disk was asked but those that this asks, no row was written but the slot's, and each
 -- other slot that held a block holds it.
 pub record WritesSlot (class : Class) (old new : SetState) (m : Members) (i : ℕ) : Type 0 where
   pub within : WorksWithin (WritesIn class new old.geometry m i) m old new
+  pub order : AsksInOrder class old new m i
   pub alone : AsksAlone class old new m i
   pub rows : KeepsButRowsOf class m i old new
   pub beside : (k : ℕ) (block : List ℕ) → k < slots_of old.geometry class → k ≢ i → ClassHolds class old m k block → ClassHolds class new m k block

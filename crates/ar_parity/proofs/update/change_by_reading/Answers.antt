@@ -1,9 +1,13 @@
-use Rattle.std.proofs.Common.{arith}
+use Rattle.std.proofs.Common.{subst, arith}
 use Rattle.ar_parity.proofs.Updates.{changes_known, changes_lost, changes_broken}
+use Rattle.ar_disks.specs.declared.address.Place.{Place}
+use Rattle.ar_disks.specs.Members.{member}
+use Rattle.ar_extents.specs.Set.{IsMissing}
 use Rattle.ar_parity.specs.Row.{parity_position}
 use Rattle.ar_extents.specs.Groups.{IsMember}
 use Rattle.ar_extents.proofs.Follows.{works_then}
 use Rattle.ar_extents.proofs.GroupLemmas.{works_member, works_pair}
+use Rattle.ar_extents.proofs.Losses.{missing_lost, broken_lost, lost_not_sound}
 use Rattle.ar_parity.proofs.Working.{member_read}
 use Rattle.ar_parity.proofs.update.change_by_reading.Goals as goal
 
@@ -40,3 +44,38 @@ returns-in-Missing-clause-works g c =
     works_then (IsMember m) a b c.put_lost.new.set
     (works_member m c.args.position a b c.requires.below (member_read m c.args.position a b c.at.result _ c.at.ensures c.get.ensures.access c.get.ensures.keeps))
     c.put_lost.ensures.works
+
+pub returns-in-Read-clause-first : goal.returns-in-Read-clause-first
+returns-in-Read-clause-first g c =
+    let m = c.args.members.now in
+    record {
+      between = c.get.new.self;
+      reads = member_read m c.args.position c.args.set.now c.get.new.self c.at.result _ c.at.ensures c.get.ensures.access c.get.ensures.keeps;
+      kept = c.get.ensures.keeps;
+      known = λ sound. c.update.ensures.works;
+    }
+
+pub returns-in-Missing-clause-first : goal.returns-in-Missing-clause-first
+returns-in-Missing-clause-first g c =
+    let m = c.args.members.now in
+    let b = c.get.new.self in
+    let own = member m c.args.position in
+    let missing = subst (λ (p : Place). IsMissing b p) c.at.ensures c.in-Missing.ensures.answer in
+    record {
+      between = b;
+      reads = member_read m c.args.position c.args.set.now b c.at.result _ c.at.ensures c.get.ensures.access c.get.ensures.keeps;
+      kept = c.get.ensures.keeps;
+      known = λ sound. absurd (lost_not_sound b own (missing_lost b own missing) sound);
+    }
+
+pub returns-in-Broken-clause-first : goal.returns-in-Broken-clause-first
+returns-in-Broken-clause-first g c =
+    let m = c.args.members.now in
+    let b = c.get.new.self in
+    let own = member m c.args.position in
+    record {
+      between = b;
+      reads = member_read m c.args.position c.args.set.now b c.at.result _ c.at.ensures c.get.ensures.access c.get.ensures.keeps;
+      kept = c.get.ensures.keeps;
+      known = λ sound. absurd (lost_not_sound b own (broken_lost b own c.in-Broken.ensures.answer) sound);
+    }

@@ -78,7 +78,7 @@ returns-in-Parity g c =
       others = slots_written s.disks b s.book c.args.slot c.args.from.now c.requires.ready.space c.requires.slot put.works.follows written;
       book = refl;
       asks = wrote_in s c.args.slot c.members-members.result c.requires.ready.space c.requires.slot c.members-members.ensures Parity b
-          (sym c.in-Parity.is ∙ c.class.ensures) (wrote_parity s.disks b c.members-members.result c.args.slot.slot put.works put.known put.alone put.slots
+          (sym c.in-Parity.is ∙ c.class.ensures) (wrote_parity s.disks b c.members-members.result c.args.slot.slot put.works put.known put.first put.alone put.slots
           (record { row = put.keeps; others = put.others }));
       stays = record {
         ready = record {
