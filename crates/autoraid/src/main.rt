@@ -42,15 +42,18 @@ impl Failure {
 
 fn main(rt: HostRuntime) -> ExitCode {
     let done = match order(&rt) {
-        Ok(Order::Run(setup, None)) => run(&rt, setup),
-        Ok(Order::Run(setup, Some(file))) => run_and_draw(&rt, setup, file.as_str()),
+        Ok(Order::Run(setup, file)) => run(&rt, setup, &file),
         Ok(Order::Serve(service)) => serve(&rt, rt.alloc(), &service).map_err(Failure::Serve),
         Err(fault) => Err(Failure::CommandLine(fault)),
     };
+    tell(&rt, done)
+}
+
+// Says why the program ends, unless all went well, and with which status. Where standard error takes nothing, the status alone tells.
+fn tell(rt: &HostRuntime, done: Result<(), Failure>) -> ExitCode {
     match done {
         Ok(()) => ExitCode::SUCCESS,
         Err(failure) => {
-            // Where standard error takes nothing, the status alone tells.
             let _ = eprintln!(rt; "{failure}");
             ExitCode::from(failure.status())
         }
@@ -64,16 +67,30 @@ fn order(rt: &HostRuntime) -> Result<Order, CommandLineFault> {
     order_in(alloc, words.as_slice())
 }
 
-fn run(rt: &HostRuntime, setup: Setup) -> Result<(), Failure> {
-    run_script(rt.alloc(), rt.stdin(), rt.stdout(), setup).map_err(Failure::Script)
+// Runs a script, and draws the array where a file is named for that.
+fn run(rt: &HostRuntime, setup: Setup, file: &Option<String>) -> Result<(), Failure> {
+    match file {
+        Some(file) => run_and_draw(rt, setup, file.as_str()),
+        None => run_script(rt.alloc(), rt.stdin(), rt.stdout(), setup).map_err(Failure::Script),
+    }
 }
 
-// Runs a script, and draws the array as it then is, also where a fault has ended the script. That fault is told before any of
-// drawing.
+// Runs a script, and draws the array as it then is.
 fn run_and_draw(rt: &HostRuntime, setup: Setup, file: &str) -> Result<(), Failure> {
-    let mut runner = Runner::start(rt.alloc(), setup).map_err(Failure::Script)?;
-    let ended = run_on(rt.alloc(), &mut runner, rt.stdin(), rt.stdout());
-    let drawn = draw(rt, &runner, file);
+    match Runner::start(rt.alloc(), setup) {
+        Ok(mut runner) => {
+            let done = play_and_draw(rt, &mut runner, file);
+            drop(runner);
+            done
+        }
+        Err(fault) => Err(Failure::Script(fault)),
+    }
+}
+
+// The same on the array of a runner, which is drawn also where a fault has ended the script. That fault is told before any of drawing.
+fn play_and_draw(rt: &HostRuntime, runner: &mut Runner, file: &str) -> Result<(), Failure> {
+    let ended = run_on(rt.alloc(), runner, rt.stdin(), rt.stdout());
+    let drawn = draw(rt, runner, file);
     match ended {
         Ok(()) => drawn.map_err(Failure::Drawing),
         Err(fault) => Err(Failure::Script(fault)),

@@ -70,10 +70,11 @@ fn serve_array<
     let (kept, seats) = Kept::<D, L>::start(alloc, blank, array);
     let kept = Mutex::new(kept);
     let desk = Mutex::new(Desk::new(seats));
-    match serve_hosts(rt, alloc, &kept, &desk, service) {
-        Ok(()) => audit(rt, &kept.into_inner(), desk.into_inner()),
-        Err(fault) => Err(fault),
-    }
+    let served = serve_hosts(rt, alloc, &kept, &desk, service);
+    let kept = kept.into_inner();
+    let done = audit(rt, served, &kept, desk.into_inner());
+    drop(kept);
+    done
 }
 
 // Makes the units, listens, tells so, and serves as many connections.
@@ -120,12 +121,14 @@ fn refused(alloc: Global, unit: &Unit, refusal: Refusal) -> ServeFault {
     }
 }
 
-// Compares each host's transcript with the history, and tells what comes of it.
+// Compares each host's transcript with the history, once the hosts were served, and tells what comes of it.
 fn audit<L: Ledger, D: Disk + Drop>(
     rt: &impl Print,
+    served: Result<(), ServeFault>,
     kept: &Kept<D, L>,
     desk: Desk<L>,
 ) -> Result<(), ServeFault> {
+    served?;
     match desk.seats() {
         Ok(seats) => tell(rt, kept.close(&seats)),
         Err(_) => Err(ServeFault::SeatOut),
