@@ -32,10 +32,14 @@ fn main(rt: HostRuntime) -> ExitCode {
         Ok(options) => run(&rt, rt.alloc(), options),
         Err(fault) => Err(Failure::CommandLine(fault)),
     };
+    end_with(&rt, done)
+}
+
+// The status of what was done. A failure is told on standard error, and by the status alone where that takes nothing.
+fn end_with(rt: &HostRuntime, done: Result<(), Failure>) -> ExitCode {
     match done {
         Ok(()) => ExitCode::SUCCESS,
         Err(failure) => {
-            // Where standard error takes nothing, the status alone tells.
             let _ = eprintln!(rt; "{failure}");
             ExitCode::from(failure.status())
         }

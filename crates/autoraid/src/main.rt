@@ -46,11 +46,11 @@ fn main(rt: HostRuntime) -> ExitCode {
         Ok(Order::Serve(service)) => serve(&rt, rt.alloc(), &service).map_err(Failure::Serve),
         Err(fault) => Err(Failure::CommandLine(fault)),
     };
-    tell(&rt, done)
+    end_with(&rt, done)
 }
 
-// Says why the program ends, unless all went well, and with which status. Where standard error takes nothing, the status alone tells.
-fn tell(rt: &HostRuntime, done: Result<(), Failure>) -> ExitCode {
+// The status of what was done. A failure is told on standard error, and by the status alone where that takes nothing.
+fn end_with(rt: &HostRuntime, done: Result<(), Failure>) -> ExitCode {
     match done {
         Ok(()) => ExitCode::SUCCESS,
         Err(failure) => {
