@@ -68,9 +68,10 @@ impl Trial {
             extents: self.extents,
         };
         let mut stage = Stage::new(alloc, self.workload, size)?;
-        let operations = self.on_stage(alloc, &mut stage, read_back)?;
+        let operations = self.on_stage(alloc, &mut stage, read_back);
+        stage.close();
         let right = read_back.right;
-        Ok(Given { operations, right })
+        operations.map(|operations| Given { operations, right })
     }
 
     // Does a round, reads all blocks back, and says how many operations there were.

@@ -8,8 +8,8 @@ use crate::data::Data;
 use crate::fault::WorkloadFault;
 use crate::workload::{Access, Plan, Stands, Workload};
 use ar_core::{
-    Array, Balance, CAPACITY_LIMIT, EventOf, Flush, Health, LevelOf, Move, NewDisk, OutcomeOf,
-    Rebuild,
+    Array, Balance, CAPACITY_LIMIT, Event, EventOf, Flush, Health, LevelOf, Move, NewDisk, Outcome,
+    OutcomeOf, Rebuild,
 };
 use ar_disks::{Addr, Completion, Geometry, Host, MemDisk};
 use ar_scsi::{Reply, Status};
@@ -17,6 +17,8 @@ use bytes::Bytes;
 use rand::RngExt;
 use rand_core::Rng;
 use std::alloc::{AllocError, Global};
+use std::marker::Model;
+use std::mem;
 
 const READ_10: u8 = 0x28;
 
@@ -53,6 +55,15 @@ pub struct Stage {
     ballast: Addr,
     // How often the blocks were gone over since the unit was made ready. Each time other data are written.
     passes: u32,
+}
+
+// Nothing is said of it: whether the unit stands as it has to is checked as it runs.
+impl Model for Stage {
+    ghost use Rattle.std.specs.Prelude.{⊤};
+
+    ghost Value = { ⊤ };
+
+    ghost view = { λ _. tt };
 }
 
 impl Size {
@@ -114,6 +125,12 @@ impl Stage {
         })
     }
 
+    /// Lets the array go. Where one goes at the end of a function instead, the proof of that function takes half a minute.
+    pub fn close(self) {
+        let Stage { array, .. } = self;
+        drop(array);
+    }
+
     /// A round of the workload. With a cache it touches each block several times.
     pub fn round(&self) -> Round {
         Round {
@@ -137,25 +154,37 @@ impl Stage {
     /// Makes the unit ready: its blocks stand where the workload needs them.
     pub fn prepare(&mut self, alloc: Global, data: &Data) -> Result<(), WorkloadFault> {
         if self.plan.access == Access::BalanceExtents {
-            self.array = new_array(alloc, self.size, 0)?;
+            self.renew(alloc)?;
         }
+        self.fill_unit(alloc, data)?;
+        self.change_disks(alloc)?;
+        let health = self.health_before();
+        self.check_levels(self.plan.level_before(), health)
+    }
+
+    // Begins with a new array, which has no added disk.
+    fn renew(&mut self, alloc: Global) -> Result<(), WorkloadFault> {
+        let array = new_array(alloc, self.size, 0)?;
+        drop(mem::replace(&mut self.array, array));
+        Ok(())
+    }
+
+    // Makes the unit anew, and writes its blocks to the disks.
+    fn fill_unit(&mut self, alloc: Global, data: &Data) -> Result<(), WorkloadFault> {
         // There may be none.
-        let _ = self.array.step(alloc, EventOf::Remove(self.unit));
+        self.attempt(alloc, EventOf::Remove(self.unit));
         let blocks = self.size.blocks(self.plan.stands);
         self.make(alloc, self.unit, blocks)?;
         self.passes = 0;
         self.write_unit(alloc, blocks, data)?;
-        self.flush()?;
-        if self.plan.is_degraded {
-            // It may be out.
-            let _ = self.array.step(alloc, EventOf::DiskOut(0));
-        }
-        self.take_disk(alloc)?;
-        self.check_levels(self.plan.level_before(), self.health_before())
+        self.flush()
     }
 
-    // Takes a disk in, where the workload is about that.
-    fn take_disk(&mut self, alloc: Global) -> Result<(), WorkloadFault> {
+    // Takes a disk out or in, where the workload is about that.
+    fn change_disks(&mut self, alloc: Global) -> Result<(), WorkloadFault> {
+        if self.plan.is_degraded {
+            self.take_out(alloc);
+        }
         match self.plan.access {
             Access::BalanceExtents => self.add_disk(alloc),
             Access::RebuildExtents => self.replace_disk(alloc),
@@ -163,21 +192,33 @@ impl Stage {
         }
     }
 
+    // Takes disk 0 out. It may be out.
+    fn take_out(&mut self, alloc: Global) {
+        self.attempt(alloc, EventOf::DiskOut(0));
+    }
+
     fn add_disk(&mut self, alloc: Global) -> Result<(), WorkloadFault> {
-        let event = EventOf::AddDisk(fresh_disk(alloc, self.size)?);
-        match self.array.step(alloc, event) {
-            OutcomeOf::AddDisk(Ok(())) => Ok(()),
-            _other => Err(self.refused()),
-        }
+        let disk = fresh_disk(alloc, self.size)?;
+        self.change(alloc, EventOf::AddDisk(disk))
     }
 
     fn replace_disk(&mut self, alloc: Global) -> Result<(), WorkloadFault> {
-        let _ = self.array.step(alloc, EventOf::DiskOut(0));
-        let event = EventOf::Replace(0, fresh_disk(alloc, self.size)?);
-        match self.array.step(alloc, event) {
-            OutcomeOf::Replace(Ok(())) => Ok(()),
-            _other => Err(self.refused()),
-        }
+        self.take_out(alloc);
+        let disk = fresh_disk(alloc, self.size)?;
+        self.change(alloc, EventOf::Replace(0, disk))
+    }
+
+    // Does an event that may be refused.
+    fn attempt(&mut self, alloc: Global, event: Event<MemDisk>) {
+        drop(self.array.step(alloc, event));
+    }
+
+    // Does an event that changes units or disks, and has to be done.
+    fn change(&mut self, alloc: Global, event: Event<MemDisk>) -> Result<(), WorkloadFault> {
+        let outcome = self.array.step(alloc, event);
+        let is_done = is_done(&outcome);
+        drop(outcome);
+        if is_done { Ok(()) } else { Err(self.refused()) }
     }
 
     // Which disk is down when a round begins, and when it has ended.
@@ -238,7 +279,7 @@ impl Stage {
             self.write_block(alloc, self.unit, rb, data)?;
             self.write_block(alloc, self.ballast, rb, data)?;
         }
-        self.remove_ballast(alloc)
+        self.change(alloc, EventOf::Remove(self.ballast))
     }
 
     // Writes them, fills the rest of the room, so that all blocks go to the parity level, and empties it again.
@@ -247,22 +288,12 @@ impl Stage {
         let rest = self.array.free_room();
         self.make(alloc, self.ballast, rest)?;
         self.write_blocks(alloc, self.ballast, rest, data)?;
-        self.remove_ballast(alloc)
-    }
-
-    fn remove_ballast(&mut self, alloc: Global) -> Result<(), WorkloadFault> {
-        match self.array.step(alloc, EventOf::Remove(self.ballast)) {
-            OutcomeOf::Remove(Ok(())) => Ok(()),
-            _ => Err(self.refused()),
-        }
+        self.change(alloc, EventOf::Remove(self.ballast))
     }
 
     fn make(&mut self, alloc: Global, addr: Addr, blocks: u32) -> Result<(), WorkloadFault> {
         let sectors = blocks.saturating_mul(self.size.geometry.sectors());
-        match self.array.step(alloc, EventOf::Make(addr, sectors)) {
-            OutcomeOf::Make(Ok(())) => Ok(()),
-            _ => Err(self.refused()),
-        }
+        self.change(alloc, EventOf::Make(addr, sectors))
     }
 
     // Every block has to stand at this level, and no disk may be down but as the workload needs it.
@@ -289,20 +320,32 @@ impl Stage {
     ) -> Result<(), WorkloadFault> {
         for _ in 0..round.passes {
             self.passes = self.passes.wrapping_add(1);
-            match self.plan.access {
-                Access::ReadBlocks => self.read_blocks(alloc, round.blocks, sink)?,
-                Access::WriteBlocks => self.write_blocks(alloc, self.unit, round.blocks, data)?,
-                Access::ReadSectors => self.read_sectors(alloc, round.blocks, rng, sink)?,
-                Access::WriteSectors => self.write_sectors(alloc, round.blocks, rng, data)?,
-                Access::DemoteBlocks | Access::CleanBlocks => {
-                    self.move_blocks(alloc, round.operations())?
-                }
-                Access::BalanceExtents | Access::RebuildExtents => {
-                    self.move_extents(alloc, round.operations())?
-                }
-            }
+            self.pass(alloc, round, data, rng, sink)?;
         }
         self.flush()
+    }
+
+    // Goes over the blocks once.
+    fn pass<R: Rng, S: Sink>(
+        &mut self,
+        alloc: Global,
+        round: Round,
+        data: &Data,
+        rng: &mut R,
+        sink: &mut S,
+    ) -> Result<(), WorkloadFault> {
+        match self.plan.access {
+            Access::ReadBlocks => self.read_blocks(alloc, round.blocks, sink),
+            Access::WriteBlocks => self.write_blocks(alloc, self.unit, round.blocks, data),
+            Access::ReadSectors => self.read_sectors(alloc, round.blocks, rng, sink),
+            Access::WriteSectors => self.write_sectors(alloc, round.blocks, rng, data),
+            Access::DemoteBlocks | Access::CleanBlocks => {
+                self.move_blocks(alloc, round.operations())
+            }
+            Access::BalanceExtents | Access::RebuildExtents => {
+                self.move_extents(alloc, round.operations())
+            }
+        }
     }
 
     /// Reads all blocks of the unit, in order.
@@ -510,6 +553,17 @@ fn transfer(code: u8, lba: u32, count: u8) -> [u8; 16] {
 fn unit(number: u8) -> Option<Addr> {
     let host = Host::new(number)?;
     Some(Addr { host, lun: 0 })
+}
+
+// Whether units or disks were changed as was asked.
+fn is_done(outcome: &Outcome<MemDisk>) -> bool {
+    matches!(
+        outcome,
+        OutcomeOf::Make(Ok(()))
+            | OutcomeOf::Remove(Ok(()))
+            | OutcomeOf::AddDisk(Ok(()))
+            | OutcomeOf::Replace(Ok(()))
+    )
 }
 
 // Whether a step of balancing changed anything.
