@@ -60,10 +60,24 @@ pub fn check(
     seed: u64,
     read_back: &mut ReadBack,
 ) -> Result<(), Failure> {
-    let data = Data::new(alloc, geometry, seed)?;
     let mut stage = Stage::new(alloc, workload, size_of_check(workload, geometry))?;
+    let done = check_stage(alloc, geometry, seed, &mut stage, read_back);
+    stage.close();
+    done
+}
+
+fn check_stage(
+    alloc: Global,
+    geometry: Geometry,
+    seed: u64,
+    stage: &mut Stage,
+    read_back: &mut ReadBack,
+) -> Result<(), Failure> {
+    let data = Data::new(alloc, geometry, seed)?;
     let mut rng = Xoshiro256PlusPlus::seed_from_u64(seed);
-    do_rounds(alloc, &mut stage, &data, &mut rng, read_back)
+    let done = do_rounds(alloc, stage, &data, &mut rng, read_back);
+    drop(data);
+    done
 }
 
 fn do_rounds(

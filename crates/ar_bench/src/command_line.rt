@@ -68,27 +68,35 @@ fn fault_of(error: &ParseError) -> CommandLineFault {
 }
 
 fn matches_of<'a, S: AsStr>(alloc: Global, words: &'a [S]) -> Result<ArgMatches<'a>, ParseError> {
-    let seconds = Arg::new(alloc, "seconds")
+    let command = Command::new(alloc, "ar_bench")
+        .arg(workload(alloc))?
+        .arg(seconds(alloc))?
+        .arg(seed(alloc))?
+        .arg(flag(alloc, "progress"))?
+        .arg(flag(alloc, "check"))?;
+    command.try_get_matches_from(words)
+}
+
+fn workload<'a>(alloc: Global) -> Arg<'a> {
+    Arg::new(alloc, "workload").long("workload")
+}
+
+fn seconds<'a>(alloc: Global) -> Arg<'a> {
+    Arg::new(alloc, "seconds")
         .long("seconds")
         .value_parser(value_parser!(u32).range(1..=600))
-        .default_value("2");
-    let seed = Arg::new(alloc, "seed")
+        .default_value("2")
+}
+
+fn seed<'a>(alloc: Global) -> Arg<'a> {
+    Arg::new(alloc, "seed")
         .long("seed")
         .value_parser(value_parser!(u64))
-        .default_value("1");
-    let progress = Arg::new(alloc, "progress")
-        .long("progress")
-        .action(ArgAction::SetTrue);
-    let check = Arg::new(alloc, "check")
-        .long("check")
-        .action(ArgAction::SetTrue);
-    let command = Command::new(alloc, "ar_bench")
-        .arg(Arg::new(alloc, "workload").long("workload"))?
-        .arg(seconds)?
-        .arg(seed)?
-        .arg(progress)?
-        .arg(check)?;
-    command.try_get_matches_from(words)
+        .default_value("1")
+}
+
+fn flag<'a>(alloc: Global, name: &'a str) -> Arg<'a> {
+    Arg::new(alloc, name).long(name).action(ArgAction::SetTrue)
 }
 
 fn options_of(matches: &ArgMatches<'_>, workload: Option<Named>) -> Option<Options> {

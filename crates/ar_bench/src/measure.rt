@@ -58,7 +58,9 @@ pub fn measure<C: Clock>(
 ) -> Result<Figures, Failure> {
     let begin = now(clock)?;
     let mut trial = Trial::new(alloc, workload, geometry, budget.seed)?;
-    trial.time_rounds(clock, alloc, begin, budget.seconds)
+    let figures = trial.time_rounds(clock, alloc, begin, budget.seconds);
+    trial.close();
+    figures
 }
 
 impl Trial {
@@ -69,18 +71,29 @@ impl Trial {
         seed: u64,
     ) -> Result<Trial, Failure> {
         let size = size_of(workload, geometry);
-        let stage = Stage::new(alloc, workload, size);
-        let bare = Bare::new(alloc, geometry, size.places());
-        let data = Data::new(alloc, geometry, seed);
-        match (stage, bare, data) {
-            (Ok(stage), Ok(bare), Ok(data)) => Ok(Trial {
-                stage,
-                bare,
-                data,
-                rng: Xoshiro256PlusPlus::seed_from_u64(seed),
-            }),
-            _ => Err(Failure::NoMemory),
-        }
+        // The stage comes last, so that nothing that fails lets it go.
+        let bare = new_bare(alloc, size)?;
+        let data = Data::new(alloc, geometry, seed)?;
+        let stage = Stage::new(alloc, workload, size)?;
+        Ok(Trial {
+            stage,
+            bare,
+            data,
+            rng: Xoshiro256PlusPlus::seed_from_u64(seed),
+        })
+    }
+
+    // Lets all go that it owns, one by one, as a stage has to.
+    fn close(self) {
+        let Trial {
+            stage,
+            bare,
+            data,
+            ..
+        } = self;
+        stage.close();
+        drop(bare);
+        drop(data);
     }
 
     // Times rounds until so many seconds have gone since the beginning.
@@ -131,12 +144,20 @@ impl Trial {
     }
 }
 
+/// Buffers for the bare loop, as large as the disks.
+pub fn new_bare(alloc: Global, size: Size) -> Result<Bare, Failure>
+    requires some { 0 < size.disks * size.extents * rows_of size.geometry }
+    requires few { size.disks * size.extents * rows_of size.geometry ≤ 65536 }
+{
+    Bare::new(alloc, size.geometry, size.places()).map_err(|_| Failure::NoMemory)
+}
+
 /// Times the copies and the sums of a machine, over buffers as large as the disks.
 pub fn measure_machine<C: Clock>(clock: &C, alloc: Global) -> Result<Machine, Failure> {
-    let size = size_of(Workload::Fill, Geometry::PAPER);
-    let bare = Bare::new(alloc, Geometry::PAPER, size.places());
-    let mut bare = bare.map_err(|_| Failure::NoMemory)?;
-    time_machine(clock, &mut bare)
+    let mut bare = new_bare(alloc, size_of(Workload::Fill, Geometry::PAPER))?;
+    let machine = time_machine(clock, &mut bare);
+    drop(bare);
+    machine
 }
 
 // Four rounds of each.

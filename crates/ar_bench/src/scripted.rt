@@ -1,6 +1,6 @@
 // Scripts timed against the bare loop.
 use crate::failure::Failure;
-use crate::measure::{Budget, now, since, size_of};
+use crate::measure::{Budget, new_bare, now, since, size_of};
 use ar_disks::Geometry;
 use ar_script::run_script;
 use ar_workloads::{Bare, Figures, Lines, Scripted, Size, WorkloadFault, setup_of};
@@ -87,7 +87,7 @@ pub fn measure_script<C: Clock>(
     let begin = now(clock)?;
     let size = size_of(scripted.by_events(), geometry);
     let lines = lines_of(alloc, scripted, size, passes_of(scripted, geometry))?;
-    let mut bare = Bare::new(alloc, geometry, size.places()).map_err(|_| Failure::NoMemory)?;
+    let mut bare = new_bare(alloc, size)?;
     let mut figures = Figures::NONE;
     for _ in 0..ROUNDS {
         let nanos = time_bare(clock, &lines, &mut bare, budget.seed)?;
