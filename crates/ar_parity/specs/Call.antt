@@ -24,13 +24,22 @@ Tells s Broken = s.health ≡ AllBroken
 pub record Changes (old new : SetState) (m : Members) (row position : ℕ) (bytes : List ℕ) : Type 0 where
   pub agrees : (blocks : Blocks) → RowAgrees old m row blocks → RowAgrees new m row (changed blocks position (parity_position row) bytes)
 
+-- Rows were read, and nothing was written; and then no extent was asked but a slot's own and the one with its row's parity. So
+-- what is written was known before, and none that is only read for it is asked once it stands.
+pub record ReadsBefore (own parity : Place) (old new : SetState) : Type 0 where
+  pub read : SetState
+  pub reads : WorksOn Anywhere old read
+  pub kept : Keeps Anywhere old read
+  pub writes : WorksOn (IsEither own parity) read new
+
 -- At first no extent but a slot's own was asked, and nothing was written. Where it could be used after that, no other was asked but
--- the one with the row's parity, whatever faulted then.
+-- the one with the row's parity, whatever faulted then; and where it couldn't, the others were read before anything was written.
 pub record AsksOwnFirst (own parity : Place) (old new : SetState) : Type 0 where
   pub between : SetState
   pub reads : WorksOn (IsPlace own) old between
   pub kept : Keeps Anywhere old between
   pub known : IsSound between own → WorksOn (IsEither own parity) between new
+  pub before : ReadsBefore own parity between new
 
 -- The member's row has the block that agrees with the three others, and nothing was lost.
 pub record IsRebuilt (old new : SetState) (m : Members) (position row : ℕ) : Type 0 where

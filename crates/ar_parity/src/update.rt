@@ -7,7 +7,7 @@ ghost use Rattle.ar_extents.specs.Follows.{IsPlace, IsEither, WorksOn};
 ghost use Rattle.ar_extents.specs.Groups.{IsGroup, IsMember};
 ghost use Rattle.ar_parity.specs.Row.{Blocks, block, changed, parity_position};
 ghost use Rattle.ar_parity.specs.Group.{Stands, RowAgrees, KeepsButRow};
-ghost use Rattle.ar_parity.specs.Call.{Tells, Changes, AsksOwnFirst};
+ghost use Rattle.ar_parity.specs.Call.{Tells, Changes, ReadsBefore, AsksOwnFirst};
 
 use crate::degraded::sum_of_two;
 use crate::slots::parity_at;
@@ -116,6 +116,8 @@ fn put_lost<D: Disk>(
 
     ensures keeps { KeepsButRow members.now row set.old set.new }
     ensures works { WorksOn (IsMember members.now) set.old set.new }
+    // The two others are read before the parity is written, and not asked after it.
+    ensures before { ReadsBefore (member members.now position) (member members.now (parity_position row)) set.old set.new }
 
     ensures sum_len { length sum.new ≡ length sum.old }
     ensures spare_len { length spare.new ≡ length spare.old }

@@ -257,12 +257,15 @@ asked_alone Parity a m i = λ missing. works_refl (IsPlace (member m (data_posit
 asked_in_order : (class : Class) (a : SetState) (m : Members) (i : ℕ) → AsksInOrder class a a m i
 asked_in_order Free a m i = tt
 asked_in_order Mirrored a m i = tt
-asked_in_order Parity a m i = record {
-  between = a;
-  reads = works_refl (IsPlace (member m (data_position i))) a;
-  kept = keeps_refl Anywhere a;
-  known = λ sound. works_refl (IsEither (member m (data_position i)) (member m (parity_position (parity_row_of i)))) a;
-}
+asked_in_order Parity a m i =
+    let none = works_refl (IsEither (member m (data_position i)) (member m (parity_position (parity_row_of i)))) a in
+    record {
+      between = a;
+      reads = works_refl (IsPlace (member m (data_position i))) a;
+      kept = keeps_refl Anywhere a;
+      known = λ sound. none;
+      before = record { read = a; reads = works_refl Anywhere a; kept = keeps_refl Anywhere a; writes = none };
+    }
 
 -- no slot was written
 slot_same : (class : Class) (a b : SetState) (m : Members) (i : ℕ) → b ≡ a → WritesSlot class a b m i

@@ -76,7 +76,8 @@ AsksAlone Mirrored old new m i = Unit {0}
 AsksAlone Parity old new m i =
     IsMissing old (member m (parity_position (parity_row_of i))) → WorksOn (IsPlace (member m (data_position i))) old new
 
--- with parity: at first no extent but the slot's own is asked, and where it can be used then, none later but it and the row's parity
+-- with parity: at first no extent but the slot's own is asked, and where it can be used then, none later but it and the row's parity;
+-- nor is another asked once anything was written
 abbrev pub AsksInOrder : Class → SetState → SetState → Members → ℕ → Type 0
 AsksInOrder Free old new m i = Unit {0}
 AsksInOrder Mirrored old new m i = Unit {0}

@@ -20,9 +20,11 @@ pub returns-then-missing-clause-first : goal.returns-then-missing-clause-first
 returns-then-missing-clause-first g c =
     let m = c.args.members.now in
     let a = c.args.set.now in
+    let alone = first_of_two m c.args.position (parity_position c.args.row) a c.write.new.set c.write.ensures.works in
     record {
       between = a;
       reads = works_refl (IsPlace (member m c.args.position)) a;
       kept = keeps_refl Anywhere a;
-      known = λ sound. first_of_two m c.args.position (parity_position c.args.row) a c.write.new.set c.write.ensures.works;
+      known = λ sound. alone;
+      before = record { read = a; reads = works_refl Anywhere a; kept = keeps_refl Anywhere a; writes = alone };
     }

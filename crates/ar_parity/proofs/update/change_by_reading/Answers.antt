@@ -5,7 +5,8 @@ use Rattle.ar_disks.specs.Members.{member}
 use Rattle.ar_extents.specs.Set.{IsMissing}
 use Rattle.ar_parity.specs.Row.{parity_position}
 use Rattle.ar_extents.specs.Groups.{IsMember}
-use Rattle.ar_extents.proofs.Follows.{works_then}
+use Rattle.ar_extents.specs.Follows.{Anywhere, IsEither}
+use Rattle.ar_extents.proofs.Follows.{keeps_refl, works_refl, works_then}
 use Rattle.ar_extents.proofs.GroupLemmas.{works_member, works_pair}
 use Rattle.ar_extents.proofs.Losses.{missing_lost, broken_lost, lost_not_sound}
 use Rattle.ar_parity.proofs.Working.{member_read}
@@ -53,6 +54,7 @@ returns-in-Read-clause-first g c =
       reads = member_read m c.args.position c.args.set.now c.get.new.self c.at.result _ c.at.ensures c.get.ensures.access c.get.ensures.keeps;
       kept = c.get.ensures.keeps;
       known = λ sound. c.update.ensures.works;
+      before = record { read = c.get.new.self; reads = works_refl Anywhere c.get.new.self; kept = keeps_refl Anywhere c.get.new.self; writes = c.update.ensures.works };
     }
 
 pub returns-in-Missing-clause-first : goal.returns-in-Missing-clause-first
@@ -66,6 +68,7 @@ returns-in-Missing-clause-first g c =
       reads = member_read m c.args.position c.args.set.now b c.at.result _ c.at.ensures c.get.ensures.access c.get.ensures.keeps;
       kept = c.get.ensures.keeps;
       known = λ sound. absurd (lost_not_sound b own (missing_lost b own missing) sound);
+      before = c.put_lost.ensures.before;
     }
 
 pub returns-in-Broken-clause-first : goal.returns-in-Broken-clause-first
@@ -78,4 +81,10 @@ returns-in-Broken-clause-first g c =
       reads = member_read m c.args.position c.args.set.now b c.at.result _ c.at.ensures c.get.ensures.access c.get.ensures.keeps;
       kept = c.get.ensures.keeps;
       known = λ sound. absurd (lost_not_sound b own (broken_lost b own c.in-Broken.ensures.answer) sound);
+      before = record {
+        read = b;
+        reads = works_refl Anywhere b;
+        kept = keeps_refl Anywhere b;
+        writes = works_refl (IsEither own (member m (parity_position c.args.row))) b;
+      };
     }
