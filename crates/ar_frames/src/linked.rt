@@ -1,6 +1,8 @@
 // Streams over those of std.
-ghost use Rattle.std.specs.Prelude.{◌≡◌, None};
+ghost use Rattle.std.specs.Prelude.{◌≡◌, ◌<◌, ◌≤◌, length, is_none, None, IfSome};
+ghost use Rattle.std.specs.Io.KnownBytes.{IsAtEnd};
 ghost use Rattle.ar_disks.specs.Disk.{counted};
+ghost use Rattle.ar_frames.specs.Stream.{Reading, Writing, moved};
 
 use crate::stream::{Sink, Source};
 use std::io::{ErrorKind, Read, Write};
@@ -61,7 +63,14 @@ impl<S> Linked<S> {
 impl<R: Read> Source for Linked<R> {
     ghost state = { λ linked. record { left = R.remaining linked.stream; faults = linked.read_faults } };
 
-    fn read(&mut self, into: &mut [u8]) -> Option<usize> {
+    fn read(&mut self, into: &mut [u8]) -> Option<usize>
+        ensures bound { IfSome result (λ n. n ≤ length into.new) }
+        ensures read { Reading (record { left = R.remaining self.old.stream; faults = self.old.read_faults })
+            (record { left = R.remaining self.new.stream; faults = self.new.read_faults }) (moved result into.new) (is_none result) }
+        ensures end { IfSome result (λ n. n ≡ 0 → 0 < length into.new → IsAtEnd (R.remaining self.new.stream)) }
+        // No fault of a write is counted, and none forgotten.
+        ensures apart { self.new.write_faults ≡ self.old.write_faults }
+    {
         for _ in 0..=INTERRUPTIONS {
             match self.stream.read(into) {
                 Ok(n) => return Some(n),
@@ -80,7 +89,14 @@ impl<R: Read> Source for Linked<R> {
 impl<W: Write> Sink for Linked<W> {
     ghost state = { λ linked. record { taken = W.contents linked.stream; faults = linked.write_faults } };
 
-    fn write(&mut self, from: &[u8]) -> Option<usize> {
+    fn write(&mut self, from: &[u8]) -> Option<usize>
+        ensures bound { IfSome result (λ n. n ≤ length from.now) }
+        ensures some { IfSome result (λ n. 0 < length from.now → 0 < n) }
+        ensures written { Writing (record { taken = W.contents self.old.stream; faults = self.old.write_faults })
+            (record { taken = W.contents self.new.stream; faults = self.new.write_faults }) (moved result from.now) (is_none result) }
+        // No fault of a read is counted, and none forgotten.
+        ensures apart { self.new.read_faults ≡ self.old.read_faults }
+    {
         for _ in 0..=INTERRUPTIONS {
             match self.stream.write(from) {
                 Ok(0) if !from.is_empty() => return self.write_fault(),

@@ -7,4 +7,5 @@ abbrev pub invariant-loop : goal.invariant-loop
 invariant-loop g l = record {
   kept : Keeps (g.W.Write.contents l.initial.self.stream) (g.W.Write.contents l.self.stream);
   faults : l.self.write_faults ≡ l.initial.self.write_faults;
+  apart : l.self.read_faults ≡ l.initial.self.read_faults;
 }
