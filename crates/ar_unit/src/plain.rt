@@ -1,8 +1,9 @@
 // The plain program: a unit as a list of sectors.
-ghost use Rattle.std.specs.Prelude.{◌≡◌, ◌+◌, ◌-◌, ◌++◌, ◌*◌, ◌<◌, ◌≤◌, ◌^◌, Bool, if◌then◌else◌, length, OnOk, OnErr, IfOk, vec_len};
+ghost use Rattle.std.specs.Prelude.{◌≡◌, ◌+◌, ◌-◌, ◌++◌, ◌*◌, ◌<◌, ◌≤◌, ◌^◌, Bool, true, if◌then◌else◌, length, OnOk, OnErr, IfOk, vec_len};
 ghost use Rattle.std.specs.List.{concat};
 ghost use Rattle.ar_scsi.specs.Data as table;
 ghost use Rattle.ar_scsi.specs.Reply as shape;
+ghost use Rattle.ar_unit.specs.Broken.{shape_of};
 ghost use Rattle.ar_unit.specs.Sectors.{cut, zero_sectors};
 ghost use Rattle.ar_unit.specs.Unit as unit;
 ghost use Rattle.ar_unit.specs.Unit.{Absent, Present, Make, Grow, Remove, answer, after, obeyed, leaving, read_reply, write_answer, IsGiven, IsServed};
@@ -62,10 +63,13 @@ impl PlainUnit {
     }
 
     /// Adds zero sectors to a unit that is there, up to this number of them, and has the next command but
-    /// INQUIRY told. Where no unit is, nothing happens. `Err` leaves it as it was.
+    /// INQUIRY told. Where no unit is, nothing happens. `Err` leaves it as it was, and comes only where sectors are to be
+    /// added.
     pub fn grow(&mut self, sectors: u32) -> Result<(), AllocError>
         ensures ok { OnOk result (self.new ≡ after self.old (Grow sectors)) }
         ensures err { OnErr result (self.new ≡ self.old) }
+        ensures there { OnErr result ((shape_of self.old).present ≡ true) }
+        ensures more { OnErr result ((shape_of self.old).sectors < sectors) }
     {
         if self.present {
             lengthen(&mut self.sectors, sectors)?;
@@ -194,6 +198,7 @@ fn lengthen(sectors: &mut Vec<[u8; 512]>, count: u32) -> Result<(), AllocError>
     ensures ok { OnOk result (sectors.new.items
         ≡ sectors.old.items ++ zero_sectors (count - vec_len sectors.old)) }
     ensures err { OnErr result (sectors.new.items ≡ sectors.old.items) }
+    ensures more { OnErr result (vec_len sectors.old < count) }
 {
     let count = (count as usize).max(sectors.len());
     sectors.resize(count, ZERO_SECTOR)
