@@ -3,6 +3,7 @@ ghost use Rattle.std.specs.Prelude.{◌≡◌, ◌≢◌, ◌≤◌, ◌⊎◌, 
 ghost use Rattle.std.specs.Io.Buffered.{writer_buffer, writer_contents};
 ghost use Rattle.std.specs.Io.KnownBytes.{Keeps};
 ghost use Rattle.ar_extents.specs.Changes.{start_fault};
+ghost use Rattle.ar_orders.specs.Forms.{is_silent};
 ghost use Rattle.ar_orders.specs.Left.{lines_left, lines_begun, IsFresh};
 ghost use Rattle.ar_orders.specs.Lines.{lines_of, AreThere, IsNumbered, IsReached};
 ghost use Rattle.ar_script.specs.Ends.{Ends, is_write_fault as tells_write_fault};
@@ -134,6 +135,10 @@ fn answer_line<R: Read + Drop, W: Write + Drop>(
     ensures meets { MeetsLine lines.now.line.items runner.old result runner.new }
     ensures told { IfErr result (λ kind. IsUnanswered lines.now.line.items kind ⊎ SaysWrong lines.now.line.items kind) }
     ensures few { IfErr result (λ kind. kind ≢ FaultKind.TooManyLines) }
+    // A line that asks for nothing is answered with nothing, and so is one that says what can't be asked for.
+    ensures silent { is_silent lines.now.line.items ≡ true → out.new ≡ out.old }
+    ensures unknown { result ≡ Err FaultKind.UnknownWord → out.new ≡ out.old }
+    ensures wrong { result ≡ Err FaultKind.BadArgument → out.new ≡ out.old }
 {
     match order_in(lines.line())? {
         Some(order) => runner.answer(alloc, order, out),
