@@ -16,6 +16,15 @@ pub record AreOwn (places : Places) : Type 0 where
   pub four : length places ≡ 4
   pub own : (number : ℕ) (seat : SeatState) → place_of places number ≡ Some seat → seat.host.number ≡ number
 
--- the receipt for what a port has of seats: for its seat's host, or none where it has none
-abbrev pub receipt_for : Option SeatState → Option Host
-receipt_for port = option_map (λ seat. seat.host) port
+-- a receipt: whose seat was given back, and how many commands its transcript had then
+pub record ReceiptState : Type 0 where
+  pub host : Host
+  pub commands : ℕ
+
+-- the receipt for a seat
+abbrev pub receipt_of : SeatState → ReceiptState
+receipt_of seat = record { host = seat.host; commands = length seat.transcript }
+
+-- the receipt for what a port has of seats: for its seat, or none where it has none
+abbrev pub receipt_for : Option SeatState → Option ReceiptState
+receipt_for port = option_map receipt_of port

@@ -1,6 +1,5 @@
 -- How connections end.
 use Rattle.std.specs.Prelude.{◌≡◌, ◌⊎◌, None, Option, ⊤}
-use Rattle.ar_disks.specs.declared.address.Host.{Host}
 use Rattle.ar_history.specs.Seat.{SeatState}
 use Rattle.ar_frames.specs.declared.end.SessionEnd.{SessionEnd}
 use Rattle.ar_frames.specs.declared.end.Why.TheVariants.{Read}
@@ -8,7 +7,7 @@ use Rattle.ar_frames.specs.Stream.{SourceState, SinkState}
 use Rattle.ar_frames.specs.Session.{Session}
 use Rattle.ar_sessions.specs.declared.sessions.ConnectionEnd.{ConnectionEnd}
 use Rattle.ar_sessions.specs.declared.sessions.ConnectionEnd.TheVariants.{Served, NoThread}
-use Rattle.ar_sessions.specs.Desk.{receipt_for}
+use Rattle.ar_sessions.specs.Desk.{ReceiptState, receipt_for}
 use Rattle.ar_sessions.specs.Port.{TakesSeat, AsksKept}
 
 -- A session over streams in these states ended so: from a port without a seat, whose answers were those of a port to the kept array.
@@ -19,7 +18,7 @@ pub record IsServed (source : SourceState) (sink : SinkState) (end : SessionEnd)
   pub session : Session TakesSeat AsksKept source source' sink sink' None port end
 
 -- The same, and the seat that the port had in the end is on the desk again: this is the receipt for it, none where it had none.
-pub record GivesBack (source : SourceState) (sink : SinkState) (end : SessionEnd) (receipt : Option Host) : Type 0 where
+pub record GivesBack (source : SourceState) (sink : SinkState) (end : SessionEnd) (receipt : Option ReceiptState) : Type 0 where
   pub served : IsServed source sink end
   pub receipt_is : receipt ≡ receipt_for served.port
 
@@ -30,7 +29,7 @@ pub record WasServed (end : SessionEnd) : Type 0 where
   pub served : IsServed source sink end
 
 -- and its seat was given back
-pub record GaveBack (end : SessionEnd) (receipt : Option Host) : Type 0 where
+pub record GaveBack (end : SessionEnd) (receipt : Option ReceiptState) : Type 0 where
   pub source : SourceState
   pub sink : SinkState
   pub given : GivesBack source sink end receipt

@@ -2,7 +2,7 @@
 ghost use Rattle.std.specs.Prelude.{◌≡◌, ◌<◌, [], ◌∷◌, map, set, Some, None, is_some, true, false, IfOk, IfErr, OnErr, IfSome};
 ghost use Rattle.std.specs.List.{list_all};
 ghost use Rattle.ar_history.specs.Seat.{SeatState};
-ghost use Rattle.ar_sessions.specs.Desk.{place_of};
+ghost use Rattle.ar_sessions.specs.Desk.{place_of, receipt_of};
 
 use ar_disks::Host;
 use ar_history::Seat;
@@ -25,18 +25,20 @@ impl<L: Ledger> Model for Desk<L> {
     ghost invariant = { λ desk. AreOwn desk.places };
 }
 
-/// What a desk hands out for a seat that was given back: that it has the seat of this host again. Nothing else makes one.
+/// What a desk hands out for a seat that was given back: that it has the seat of this host again, and how many commands its
+/// transcript had then. Nothing else makes one.
 #[derive(Drop)]
 pub struct Receipt {
     host: Host,
+    commands: usize,
 }
 
 impl Model for Receipt {
-    ghost use Rattle.ar_disks.specs.declared.address.Host.{Host};
+    ghost use Rattle.ar_sessions.specs.Desk.{ReceiptState};
 
-    ghost Value = { Host };
+    ghost Value = { ReceiptState };
 
-    ghost view = { λ receipt. receipt.host };
+    ghost view = { λ receipt. record { host = receipt.host; commands = receipt.commands } };
 }
 
 impl<L: Ledger> Desk<L> {
@@ -63,11 +65,12 @@ impl<L: Ledger> Desk<L> {
     /// there is none.
     pub fn give(&mut self, seat: Seat<L>) -> Receipt
         ensures place { self.new ≡ set self.old seat.host.number (Some seat) }
-        ensures receipt { result ≡ seat.host }
+        ensures receipt { result ≡ receipt_of seat }
     {
         let host = seat.host();
+        let commands = seat.transcript().len();
         self.places[usize::from(host.number())] = Some(seat);
-        Receipt { host }
+        Receipt { host, commands }
     }
 
     /// The four seats in order of host. Where one is out, the desk is handed back as it was.
