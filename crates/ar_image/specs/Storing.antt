@@ -1,5 +1,6 @@
 -- Which blocks a READ asks for, and which a WRITE gives to the cache and to the disks.
-use Rattle.std.specs.Prelude.{◌≡◌, ◌⊎◌, ℕ, ◌+◌, ◌*◌, ◌<◌, ◌≤◌, ◌∷◌, ◌++◌, ◌&&◌, nat_le, Bool, true, false, IsTrue, List, [], length, take, drop, reverse, None, IsSome}
+use Rattle.std.specs.Prelude.{◌≡◌, ◌⊎◌, ℕ, ◌+◌, ◌*◌, ◌/◌, ◌<◌, ◌≤◌, ◌∷◌, ◌++◌, ◌&&◌, nat_le, Bool, true, false, IsTrue, List, [], length, take, drop, reverse, None, IsSome}
+use Rattle.std.specs.List.{concat}
 use Rattle.std.specs.Map.{keys_of}
 use Rattle.ar_disks.specs.declared.address.Addr.{Addr}
 use Rattle.ar_disks.specs.declared.address.Key.{Key}
@@ -11,7 +12,7 @@ use Rattle.ar_cache.specs.Backing.{InTurn, StopsInTurn}
 use Rattle.ar_cache.specs.Cache.{CacheState, TakesIn, cached, last_keys, pushed_out, put_through, with_entries, without_key}
 use Rattle.ar_image.specs.Following.{ReadsStored, PutsStored, BreaksStored}
 use Rattle.ar_image.specs.Image.{ArrayState, geometry_of, is_broken, seen_at}
-use Rattle.ar_image.specs.Sectors.{keys_in}
+use Rattle.ar_image.specs.Sectors.{key_of, keys_in, sectors_in}
 
 -- A block was read: where it is cached, the disks were not asked and the tables are as they were; and else none was asked that
 -- the block doesn't need. The cache is as it was.
@@ -25,6 +26,18 @@ pub record ReadsFirst {S : Type 0} (gets : S → Key → S → Type 0) (g : Geom
   pub many : ℕ
   pub within : many ≤ count
   pub in_turn : InTurn gets (keys_in g addr lba many) old new
+
+-- A READ failed: the blocks of the first so many sectors were read in turn, and these sectors given; then the block of the next sector
+-- was read, of which nothing was given, and no other was.
+pub record StopsReading {S : Type 0} (gets : S → Key → S → Type 0) (broken : S → Bool) (g : Geometry) (blocks : ℕ → List ℕ) (addr : Addr)
+    (lba count : ℕ) (old new : S) (given after : List ℕ) : Type 0 where
+  pub many : ℕ
+  pub below : many < count
+  pub next : S
+  pub in_turn : InTurn gets (keys_in g addr lba many) old next
+  pub sound : broken next ≡ false
+  pub last : gets next (key_of addr ((lba + many) / sectors_of g)) new
+  pub bytes : after ≡ given ++ concat (sectors_in g blocks lba many)
 
 -- the keys whose blocks a put of this one gives to the disks: what it pushes out of the cache, and its own where there was no
 -- memory for an entry, or there is no cache

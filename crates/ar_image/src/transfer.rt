@@ -6,7 +6,7 @@ ghost use Rattle.ar_disks.specs.Geometry.{sectors_of, block_len_of};
 ghost use Rattle.ar_disks.specs.Block.{sectors_at};
 ghost use Rattle.ar_cache.specs.Backing.{stored, InTurn, StopsInTurn, Keeps, SameBlocks};
 ghost use Rattle.ar_image.specs.Sectors.{sector_in, sectors_in, AppendsFirst, key_of, keys_in, unit_block};
-ghost use Rattle.ar_image.specs.Storing.{Overwrites, ReadsFirst, Replaces, StopsOver, StopsReplacing};
+ghost use Rattle.ar_image.specs.Storing.{Overwrites, ReadsFirst, Replaces, StopsOver, StopsReading, StopsReplacing};
 
 use ar_cache::Backing;
 use ar_disks::{Addr, Block, Completion, Geometry, Key, SECTOR_LEN};
@@ -84,6 +84,8 @@ pub fn read_sectors<B: Backing>(
     ensures keeps { Keeps B.geometry B.knows B.is_broken B.follows blocks.old blocks.new }
     ensures gets { ReadsFirst B.gets geometry addr lba count blocks.old blocks.new }
     ensures all { result ≡ Transfer.Done → InTurn B.gets (keys_in geometry addr lba count) blocks.old blocks.new }
+    ensures stopped { result ≢ Transfer.Done → StopsReading B.gets B.is_broken geometry (unit_block (B.block_at blocks.old) addr) addr lba count
+        blocks.old blocks.new out.old.items out.new.items }
 
     ensures room { vec_len out.old + 512 * count ≤ vec_capacity out.old → result ≢ Transfer.NoMemory }
     ensures len { length block.new ≡ length block.old }

@@ -70,6 +70,23 @@ returns-in_default-clause-gets g c =
           edge c.loop-at.invariant.gets got;
     }
 
+pub returns-in_default-clause-stopped : goal.returns-in_default-clause-stopped
+returns-in_default-clause-stopped g c _ =
+    let at : ℕ = c.loop-at.at in
+    let sectors : c.sectors-sectors.result ≡ sectors_of c.args.geometry = c.sectors-sectors.ensures in
+    let reached : at ≡ c.args.lba + (at - c.args.lba) = omega (arith, c.loop-at.invariant.from) in
+    let got : g.B.Backing.gets c.loop-at.blocks (key_of c.args.addr (at / sectors_of c.args.geometry)) c.read_part.new.blocks =
+    subst (λ (s : ℕ). g.B.Backing.gets c.loop-at.blocks (key_of c.args.addr (at / s)) c.read_part.new.blocks) sectors c.read_part.ensures.gets in
+    record {
+      many = at - c.args.lba;
+      below = omega arith;
+      next = c.loop-at.blocks;
+      in_turn = c.loop-at.invariant.gets;
+      sound = c.loop-at.invariant.sound;
+      last = subst (λ (n : ℕ). g.B.Backing.gets c.loop-at.blocks (key_of c.args.addr (n / sectors_of c.args.geometry)) c.read_part.new.blocks) reached got;
+      bytes = c.read_part.ensures.failed (search rules) ∙ c.loop-at.invariant.bytes;
+    }
+
 pub returns-in_default-clause-room : goal.returns-in_default-clause-room
 returns-in_default-clause-room g c fits =
     c.read_part.ensures.room
