@@ -42,12 +42,13 @@ pub fn send_joined<W: Sink>(writer: &mut W, buffer: &mut Vec<u8>, front: &[u8], 
     }
 }
 
-// Puts two pieces together at the front of the buffer. False: no memory, and it had no place for them.
+// Puts two pieces together at the front of the buffer. False: no memory, and it had no place for them and got none.
 fn join(buffer: &mut Vec<u8>, front: &[u8], rest: &[u8]) -> bool
     ensures joined { IsTrue result → take (length front.now + length rest.now) buffer.new.items ≡ front.now ++ rest.now }
     ensures long { IsTrue result → length front.now + length rest.now ≤ vec_len buffer.new }
     ensures room { vec_capacity buffer.new ≤ max (vec_capacity buffer.old) (length front.now + length rest.now) }
     ensures refused { IsFalse result → vec_capacity buffer.old < length front.now + length rest.now }
+    ensures lacking { IsFalse result → vec_capacity buffer.new < length front.now + length rest.now }
 {
     let len = front.len() + rest.len();
     if !lengthen(buffer, len) {
@@ -68,11 +69,13 @@ fn put(into: &mut [u8], front: &[u8], rest: &[u8])
     second.copy_from_slice(rest);
 }
 
-// Makes the buffer at least so long. It gets as much memory as that takes, and no more. False: no memory, and it had no place for that.
+// Makes the buffer at least so long. It gets as much memory as that takes, and no more. False: no memory, and it had no
+// place for that and got none.
 fn lengthen(buffer: &mut Vec<u8>, len: usize) -> bool
     ensures long { IsTrue result → len ≤ vec_len buffer.new }
     ensures room { vec_capacity buffer.new ≤ max (vec_capacity buffer.old) len }
     ensures refused { IsFalse result → vec_capacity buffer.old < len }
+    ensures lacking { IsFalse result → vec_capacity buffer.new < len }
 {
     let missing = len.saturating_sub(buffer.len());
     if buffer.reserve_exact(missing).is_err() {

@@ -79,10 +79,10 @@ abbrev pub DoesCommand : ArrayState → Host → ℕ → List ℕ → List ℕ �
 DoesCommand old host lun cdb payload reply new =
     Does old (CmdEvent host lun cdb payload) (CmdOutcome reply) new ⊎ IsUncopied old host lun cdb payload reply new
 
--- history and transcript have a place for one command more, and it has no data to share: nothing is asked for before it is begun
-pub record HasPlace (kept : KeptState) (seat : SeatState) (payload : List ℕ) : Type 0 where
-  pub history : length kept.history < kept.room
-  pub transcript : length seat.transcript < seat.room
+-- history and transcript have a place for one command more, which they had or were given for it, and it has no data to share
+pub record HasPlace (old new : KeptState) (before after : SeatState) (payload : List ℕ) : Type 0 where
+  pub history : length old.history < new.room
+  pub transcript : length before.transcript < after.room
   pub no_data : payload ≡ []
 
 -- no home, no cache entry and no row of any disk has changed

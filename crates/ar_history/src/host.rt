@@ -44,7 +44,8 @@ impl<D: Disk + Drop, L: Ledger> Kept<D, L> {
         ensures host { seat.new.host ≡ seat.old.host }
 
         // Want of memory, and what BUSY leaves.
-        ensures begun { HasPlace self.old seat.old payload → Begins self.old.array seat.old.host lun cdb payload result.reply self.new.array }
+        ensures begun { HasPlace self.old self.new seat.old seat.new payload
+            → Begins self.old.array seat.old.host lun cdb payload result.reply self.new.array }
         ensures unbegun { self.new.room ≡ length self.old.history → is_broken self.old.array ≡ false → self.new.array ≡ self.old.array }
         ensures seat_unbegun { seat.new.room ≡ length seat.old.transcript → is_broken self.old.array ≡ false → self.new.array ≡ self.old.array }
         ensures busy { is_busy result.reply.status ≡ true → LeavesBlocks self.old.array self.new.array }
@@ -90,7 +91,7 @@ impl<D: Disk + Drop, L: Ledger> Kept<D, L> {
         ensures theirs { IfOk result (λ draft. draft.theirs ≡ exchange_of lun cdb payload.now busy) }
         ensures room { OnOk result (length self.new.history < self.new.room) }
         ensures seat_room { OnOk result (length seat.new.transcript < seat.new.room) }
-        ensures granted { HasPlace self.old seat.old payload.now → IsOk result }
+        ensures granted { HasPlace self.old self.new seat.old seat.new payload.now → IsOk result }
         ensures placed { length self.old.history < self.old.room → self.new.room ≡ self.old.room }
         ensures seat_placed { length seat.old.transcript < seat.old.room → seat.new.room ≡ seat.old.room }
         ensures grown { MayDouble self.old.room self.new.room }

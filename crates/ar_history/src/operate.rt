@@ -26,8 +26,8 @@ impl<D: Disk + Drop, L: Ledger> Kept<D, L> {
         ensures does { Does self.old.array (event_of operation) result self.new.array }
         ensures recorded { self.new.history ≡ self.old.history ++ entry_of (event_of operation) result }
 
-        // Want of memory is told only where the history has no place for an entry, or by the array.
-        ensures begun { length self.old.history < self.old.room → Steps self.old.array (event_of operation) result self.new.array }
+        // Want of memory is told only where the history has no place for an entry and gets none, or by the array.
+        ensures begun { length self.old.history < self.new.room → Steps self.old.array (event_of operation) result self.new.array }
         ensures unbegun { self.new.room ≡ length self.old.history → is_broken self.old.array ≡ false → entry_asked (event_of operation) ≢ None
             → IsRefused self.old.array (event_of operation) result self.new.array }
         ensures placed { length self.old.history < self.old.room → self.new.room ≡ self.old.room }
@@ -65,7 +65,7 @@ impl<D: Disk + Drop, L: Ledger> Kept<D, L> {
     fn make(&mut self, addr: Addr, sectors: u32) -> Outcome<D>
         ensures does { Does self.old.array (EventOf.Make addr sectors) result self.new.array }
         ensures recorded { self.new.history ≡ self.old.history ++ entry_of (EventOf.Make addr sectors) result }
-        ensures begun { length self.old.history < self.old.room → Steps self.old.array (EventOf.Make addr sectors) result self.new.array }
+        ensures begun { length self.old.history < self.new.room → Steps self.old.array (EventOf.Make addr sectors) result self.new.array }
         ensures unbegun { self.new.room ≡ length self.old.history → is_broken self.old.array ≡ false
             → IsRefused self.old.array (EventOf.Make addr sectors) result self.new.array }
         ensures placed { length self.old.history < self.old.room → self.new.room ≡ self.old.room }
@@ -81,7 +81,7 @@ impl<D: Disk + Drop, L: Ledger> Kept<D, L> {
     fn grow(&mut self, addr: Addr, sectors: u32) -> Outcome<D>
         ensures does { Does self.old.array (EventOf.Grow addr sectors) result self.new.array }
         ensures recorded { self.new.history ≡ self.old.history ++ entry_of (EventOf.Grow addr sectors) result }
-        ensures begun { length self.old.history < self.old.room → Steps self.old.array (EventOf.Grow addr sectors) result self.new.array }
+        ensures begun { length self.old.history < self.new.room → Steps self.old.array (EventOf.Grow addr sectors) result self.new.array }
         ensures unbegun { self.new.room ≡ length self.old.history → is_broken self.old.array ≡ false
             → IsRefused self.old.array (EventOf.Grow addr sectors) result self.new.array }
         ensures placed { length self.old.history < self.old.room → self.new.room ≡ self.old.room }
@@ -97,7 +97,7 @@ impl<D: Disk + Drop, L: Ledger> Kept<D, L> {
     fn remove(&mut self, addr: Addr) -> Outcome<D>
         ensures does { Does self.old.array (EventOf.Remove addr) result self.new.array }
         ensures recorded { self.new.history ≡ self.old.history ++ entry_of (EventOf.Remove addr) result }
-        ensures begun { length self.old.history < self.old.room → Steps self.old.array (EventOf.Remove addr) result self.new.array }
+        ensures begun { length self.old.history < self.new.room → Steps self.old.array (EventOf.Remove addr) result self.new.array }
         ensures unbegun { self.new.room ≡ length self.old.history → is_broken self.old.array ≡ false
             → IsRefused self.old.array (EventOf.Remove addr) result self.new.array }
         ensures placed { length self.old.history < self.old.room → self.new.room ≡ self.old.room }
@@ -143,7 +143,7 @@ impl<D: Disk + Drop, L: Ledger> Kept<D, L> {
         ensures history { self.new.history ≡ self.old.history }
         ensures room { result ≡ true → is_broken self.new.array ≡ false → length self.new.history < self.new.room }
         ensures sound { result ≡ false → is_broken self.old.array ≡ false }
-        ensures granted { length self.old.history < self.old.room → result ≡ true }
+        ensures granted { length self.old.history < self.new.room → result ≡ true }
         ensures placed { length self.old.history < self.old.room → self.new.room ≡ self.old.room }
         ensures grown { MayDouble self.old.room self.new.room }
         ensures lost { is_broken self.old.array ≡ true → self.new.room ≡ self.old.room }
@@ -156,6 +156,7 @@ impl<D: Disk + Drop, L: Ledger> Kept<D, L> {
 pub(crate) fn reserve_place<T>(list: &mut Vec<T>) -> Result<(), AllocError>
     ensures items { list.new.items ≡ list.old.items }
     ensures place { OnOk result (vec_len list.new < vec_capacity list.new) }
+    ensures granted { vec_len list.old < vec_capacity list.new → IsOk result }
     ensures placed { vec_len list.old < vec_capacity list.old → IsOk result × (vec_capacity list.new ≡ vec_capacity list.old) }
     ensures grown { MayDouble (vec_capacity list.old) (vec_capacity list.new) }
 {

@@ -19,9 +19,9 @@ pub record AtOneMoment (before : SeatState) (lun : ℕ) (cdb payload : List ℕ)
   pub serves : Serves old before lun cdb payload reply position new after
   pub does : DoesCommand old.array before.host lun cdb payload reply new.array
   pub host : after.host ≡ before.host
-  -- want of memory: where both lists have a place the command is begun, and where the transcript got none it isn't; a transcript
+  -- want of memory: where both lists have a place, or got one, the command is begun, and where the transcript got none it isn't; one
   -- that is full asks for as many places again, and a broken array for none
-  pub begun : HasPlace old before payload → Begins old.array before.host lun cdb payload reply new.array
+  pub begun : HasPlace old new before after payload → Begins old.array before.host lun cdb payload reply new.array
   pub unbegun : after.room ≡ length before.transcript → is_broken old.array ≡ false → new.array ≡ old.array
   pub grown : MayDouble before.room after.room
   pub lost : is_broken old.array ≡ true → GrowsNothing old before new after
