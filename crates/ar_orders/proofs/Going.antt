@@ -1,5 +1,5 @@
 -- The next line, from what was read to what a reader has left.
-use Rattle.std.proofs.Common.{◌≡◌, ◌≢◌, ◌∙◌, ◌++◌, ◌+◌, ◌≤◌, ◌⊎◌, add-zero, ℕ, take, length, nat_lt, Result, Ok, Err, IfErr, arith, Bool, true, false, cond, List, [], ◌∷◌, ◌&&◌, Option, Some, None, option_map, IsSome, ◌==◌, eqb-true, refl, sym, ap, subst, inl, inr, append_assoc, append-nil, length-append}
+use Rattle.std.proofs.Common.{◌≡◌, ◌≢◌, ◌∙◌, ◌++◌, ◌+◌, ◌≤◌, ◌⊎◌, add-zero, ℕ, take, length, nat_lt, Result, Ok, Err, IfErr, arith, Bool, true, false, not, cond, List, [], ◌∷◌, ◌&&◌, Option, Some, None, option_map, IsSome, ◌==◌, eqb-true, refl, sym, ap, subst, inl, inr, append_assoc, append-nil, length-append}
 use Rattle.std.proofs.lemmas.Bool.{le-ltb}
 use Rattle.std.proofs.lemmas.List.{take_all}
 use Rattle.std.proofs.lemmas.List.Folds.{list_all-append}
@@ -13,7 +13,7 @@ use Rattle.ar_orders.specs.declared.fault.FaultKind.TheVariants.{LineTooLong, To
 use Rattle.ar_orders.specs.declared.fault.Fault.{Fault}
 use Rattle.ar_orders.specs.declared.fault.Fault.TheVariants.{Start, Line}
 use Rattle.ar_orders.specs.declared.lines.Lines.{Lines}
-use Rattle.ar_orders.specs.Lines.{lines_in, lines_of, first_of, front_of, line_fault, bytes_left, Took, HasNoEnd, is_printable, IsLine, IsFirst, AreThere, IsFaultFrom, IsUnasked, IsToldOfFirst, IsToldOfNext, StopsAt, is_given, IsReached, IsNumbered, IsOfNext}
+use Rattle.ar_orders.specs.Lines.{lines_in, lines_of, first_of, front_of, line_fault, bytes_left, Took, HasNoEnd, is_printable, IsLine, IsFirst, IsLacking, IsAllTaken, AreThere, IsFaultFrom, IsUnasked, IsToldOfFirst, IsToldOfNext, StopsAt, is_given, IsReached, IsNumbered, IsOfNext}
 use Rattle.ar_orders.specs.Left.{bytes_read, lines_begun, lines_left, IsBegunByByte, IsRefused, GoesOn}
 use Rattle.ar_orders.proofs.Parting.{lines_in-ended, lines_in-last, some_line, printable_has_no_end}
 
@@ -116,7 +116,7 @@ kept_from : (read new : List ℕ) (more : Option (List ℕ)) → new ≡ read �
 kept_from read new None same = tt
 kept_from read new (Some xs) same = ap (λ l. lines_in (l ++ xs)) (sym same)
 
-kept_lines : {R : Type 0} {reads : Ghosts R} (old new : Lines R reads) → IsUnasked old.source new.source → new.is_at_end ≡ old.is_at_end
+pub kept_lines : {R : Type 0} {reads : Ghosts R} (old new : Lines R reads) → IsUnasked old.source new.source → new.is_at_end ≡ old.is_at_end
     → bytes_read new ≡ bytes_read old → Took (lines_left old) (lines_left new) []
 kept_lines old new unasked ended same =
     let right = left_of new ∙ ap (λ b. lines_of (prepend_known (bytes_read new) b)) (beyond_stays old new unasked ended) in
@@ -125,22 +125,57 @@ kept_lines old new unasked ended same =
 
 -- ---- what the call comes to
 
--- a line was given
-pub goes_given : {R : Type 0} {reads : Ghosts R} (old new : Lines R reads) → IsUnasked old.source new.source → new.is_at_end ≡ old.is_at_end
-    → IsFirst old.is_at_end (bytes_read old) new.line.items (bytes_read new) → new.given ≡ old.given + 1 → new.is_begun ≡ false → GoesOn old (Ok true) new
-goes_given old new unasked ended is count closed = record {
-  taken = λ _. taken_line old new unasked ended is;
+-- none is left behind the end of the input, where all that was read is given
+none_from : (no_room : Bool) (inner : Option (List ℕ)) → IsAllTaken (lines_of (prepend_known [] (behind true no_room inner)))
+none_from true inner = tt
+none_from false None = tt
+none_from false (Some more) = refl
+
+none_left : {R : Type 0} {reads : Ghosts R} (lines : Lines R reads) → lines.is_at_end ≡ true → bytes_read lines ≡ [] → IsAllTaken (lines_left lines)
+none_left {reads = reads} lines ended none =
+    subst IsAllTaken (sym (left_of lines))
+    (subst (λ a. IsAllTaken (lines_of (prepend_known (bytes_read lines) (behind a (reader_capacity lines.source == 0) (reads.remaining (reader_inner lines.source)))))) (sym ended)
+    (subst (λ read. IsAllTaken (lines_of (prepend_known read (behind true (reader_capacity lines.source == 0) (reads.remaining (reader_inner lines.source)))))) (sym none)
+    (none_from (reader_capacity lines.source == 0) (reads.remaining (reader_inner lines.source)))))
+
+-- a line was given, or none is left
+pub goes_told : {R : Type 0} {reads : Ghosts R} (old new : Lines R reads) (given : Bool) → IsUnasked old.source new.source → new.is_at_end ≡ old.is_at_end
+    → (given ≡ true → IsFirst old.is_at_end (bytes_read old) new.line.items (bytes_read new)) → (not given ≡ true → IsLacking old.is_at_end (bytes_read old))
+    → (given ≡ false → bytes_read new ≡ bytes_read old) → new.is_awaited ≡ (not given && not old.is_at_end) → new.is_awaited ≡ false
+    → new.given ≡ old.given + cond given 1 0 → (given ≡ true → new.is_begun ≡ false) → GoesOn old (Ok given) new
+goes_told old new true unasked ended is lacking kept awaited told count closed = record {
+  taken = λ _. taken_line old new unasked ended (is refl);
   none = λ no. absurd (cc);
   kept = λ no. absurd (cc);
   stops = tt;
   stopped = tt;
   count = count;
-  closed = λ _. closed;
+  closed = closed;
   ended = λ no. absurd (cc);
   next = tt;
   reached = tt;
   numbered = tt;
 }
+goes_told old new false unasked ended is lacking kept awaited told count closed = record {
+  taken = λ no. absurd (cc);
+  none = λ _. none_left new over (kept refl ∙ (lacking refl).ended (sym ended ∙ over));
+  kept = λ _. kept_lines old new unasked ended (kept refl);
+  stops = tt;
+  stopped = tt;
+  count = count;
+  closed = λ no. absurd (cc);
+  ended = λ _. over;
+  next = tt;
+  reached = tt;
+  numbered = tt;
+}
+  where
+    over : new.is_at_end ≡ true
+    over = ended ∙ at old.is_at_end (sym awaited ∙ told)
+      where
+        at : (b : Bool) → not b ≡ false → b ≡ true
+        at true none = refl
+        at false none = absurd (cc)
 
 -- a fault of a line is its own
 fault_in : (shown long : Bool) (kind : FaultKind) → cond shown (cond long (Some LineTooLong) None) (Some BadCharacter) ≡ Some kind → (kind ≡ LineTooLong) ⊎ (kind ≡ BadCharacter)
@@ -229,6 +264,13 @@ goes_later old mid new result kept count goes = record {
     stops : (r : Result Bool Fault) → IfErr r (StopsAt (lines_left mid)) → IfErr r (StopsAt (lines_left old))
     stops (Ok more) told = tt
     stops (Err fault) told = stops_later (lines_left old) (lines_left mid) fault kept told
+
+-- what was taken of a line grows by what was read meanwhile
+pub grows : (front buffered later rest : List ℕ) (n : ℕ) → n ≤ length front → (length buffered == 0) ≡ false → later ++ rest ≡ front ++ buffered → rest ≡ [] → n + 1 ≤ length later
+grows front [] later rest n few some same none = absurd (cc)
+grows front (x ∷ xs) later rest n few some same none =
+    let all = ap (λ (l : List ℕ). length l) (sym (append-nil later) ∙ ap (λ (l : List ℕ). later ++ l) (sym none) ∙ same) ∙ length-append front (x ∷ xs) in
+    omega arith
 
 -- behind what was taken of a line, bytes that have no fault end none
 right : (a b : Bool) → (a && b) ≡ true → b ≡ true

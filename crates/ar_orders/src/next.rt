@@ -40,11 +40,9 @@ pub fn next_line<R: Read + Drop, W: Write + Drop>(
     ensures too_many { lines.old.given ≡ 1000000 → bytes_read lines.old ≢ []
         → IsUnasked lines.old.source lines.new.source × (out.new ≡ out.old) }
 {
-    if lines.advance()? {
-        return Ok(true);
-    }
+    let is_given = lines.advance()?;
     if !lines.is_awaited() {
-        return Ok(false);
+        return Ok(is_given);
     }
     await_line(lines, out)
 }
@@ -63,11 +61,9 @@ fn await_line<R: Read + Drop, W: Write + Drop>(
 {
     for _ in 0..u32::MAX {
         wait(lines, out)?;
-        if lines.advance()? {
-            return Ok(true);
-        }
+        let is_given = lines.advance()?;
         if !lines.is_awaited() {
-            return Ok(false);
+            return Ok(is_given);
         }
     }
     // Each turn adds a byte to the line.

@@ -1,26 +1,31 @@
-use Rattle.std.proofs.Common.{rules, ◌≡◌, Err, true, false}
+use Rattle.std.proofs.Common.{rules, ◌≡◌, Err, false}
 use Rattle.std.specs.Io.Buffered.{reader_buffer}
 use Rattle.ar_orders.specs.Lines.{front_of, is_given}
 use Rattle.ar_orders.specs.Left.{bytes_read}
-use Rattle.ar_orders.proofs.Going.{goes_given, goes_refused, no_end_there, no_fault_there, none_behind}
+use Rattle.ar_orders.proofs.Going.{goes_told, goes_refused, goes_later, kept_lines, no_end_there, no_fault_there, none_behind}
 use Rattle.ar_orders.proofs.next.next_line.Goals as goal
 
-pub returns-in_err-advance-clause-goes_on : goal.returns-in_err-advance-clause-goes_on
-returns-in_err-advance-clause-goes_on g c =
+pub returns-in_err-is_given-clause-goes_on : goal.returns-in_err-is_given-clause-goes_on
+returns-in_err-is_given-clause-goes_on g c =
     let old = c.args.lines.now in
     let new = c.advance.new.self in
-    let fault = c.in_err-advance.field-0.0 in
+    let fault = c.in_err-is_given.field-0.0 in
     let none : is_given c.advance.result ≡ false = search rules in
     let told : c.from_residual.result ≡ Err fault = search rules in
     goes_refused old new fault c.from_residual.result told c.advance.ensures.unasked c.advance.ensures.ended (c.advance.ensures.kept none) (search rules)
-    c.in_err-advance.ensures.refused
+    c.in_err-is_given.ensures.refused
 
-pub returns-then-branch-clause-goes_on : goal.returns-then-branch-clause-goes_on
-returns-then-branch-clause-goes_on g c =
+pub returns-then-not-is_awaited-clause-goes_on : goal.returns-then-not-is_awaited-clause-goes_on
+returns-then-not-is_awaited-clause-goes_on g c =
+    goes_told c.args.lines.now c.advance.new.self _ c.advance.ensures.unasked c.advance.ensures.ended (search rules) (search rules) (search rules) (search rules) (search rules)
+    (search rules) (search rules)
+
+pub returns-clause-goes_on : goal.returns-clause-goes_on
+returns-clause-goes_on g c =
     let old = c.args.lines.now in
-    let new = c.advance.new.self in
-    let one : is_given c.advance.result ≡ true = search rules in
-    goes_given old new c.advance.ensures.unasked c.advance.ensures.ended (c.advance.ensures.given one) (search rules) (c.advance.ensures.closed one)
+    let mid = c.advance.new.self in
+    goes_later old mid c.await_line.new.lines c.await_line.result
+    (kept_lines old mid c.advance.ensures.unasked c.advance.ensures.ended (search rules)) (search rules) c.await_line.ensures.goes_on
 
 pub returns-clause-unasked : goal.returns-clause-unasked
 returns-clause-unasked g c =
