@@ -1,5 +1,6 @@
 // Where things stand in the SVG, in its units, which are pixels where it is shown at its own size.
 ghost use Rattle.std.specs.Prelude.{◌≡◌, ◌==◌, ◌+◌, ◌*◌, ◌%◌, ◌/◌, ◌<◌, ◌≤◌, ◌^◌, nat_lt, min, max, length};
+ghost use Rattle.ar_picture.specs.Looks.{outline_of};
 
 use crate::{Picture, UNITS_MAX};
 
@@ -40,9 +41,18 @@ pub struct Scale {
 impl Scale {
     /// The scale for disks of so many extents.
     pub fn of(extents: u16) -> Scale
-        // Extents don't overlap, and each has its bar within it.
+        // Extents don't overlap, and each has its bar within it, which is seen.
         ensures apart { result.height ≤ result.pitch }
         ensures bar { result.bar.0 + result.bar.1 ≤ result.height }
+        ensures seen { 0 < result.bar.1 }
+        // Words stand above the bar, and few extents have them. Many are no taller than 3,072 in all.
+        ensures words { 24 < result.height → 14 ≤ result.bar.0 }
+        ensures few { extents ≤ 16 → 24 < result.height }
+        ensures many { extents ≤ 1024 → result.pitch * extents ≤ 3072 }
+        // Numbers, 11 tall, don't overlap, and there is one in each 384.
+        ensures numbers { 11 ≤ result.pitch * result.numbered }
+        ensures often { result.pitch * result.numbered ≤ 384 }
+        ensures thin { result.outline.now ≡ outline_of result.height }
     {
         let (pitch, height, bar, outline, numbered) = match extents {
             0..=16 => (36, 32, (17, 11), "1", 1),
@@ -99,6 +109,8 @@ impl Scale {
 /// Where a disk's column begins, from the left.
 pub fn left_of(disk: u8) -> u32
     ensures left { result ≡ 64 + 92 * disk }
+    // The next column begins behind its extents.
+    ensures apart { result + WIDTH < 64 + 92 * (disk + 1) }
     ensures small { result < 2 ^ 16 }
 {
     LEFT + COLUMN * u32::from(disk)

@@ -1,5 +1,6 @@
 // Colours of units.
-ghost use Rattle.std.specs.Prelude.{◌≡◌, ◌+◌, ◌*◌, map, slice_index_or};
+ghost use Rattle.std.specs.Prelude.{◌≡◌, ◌+◌, ◌*◌, true, ◌∷◌, map, slice_index_or};
+ghost use Rattle.ar_picture.specs.Looks.{are_apart};
 
 use crate::{UNITS_MAX, Unit};
 
@@ -18,6 +19,11 @@ pub static COLOURS: [&str; UNITS_MAX] = [
 
 /// The colour of what is no unit.
 const NO_UNIT: &str = "#000000";
+
+/// Each unit has a colour of its own, and what is no unit another.
+pub fn colours_differ()
+    ensures { are_apart (NO_UNIT.now ∷ map (λ colour. colour.now) COLOURS) ≡ true }
+{}
 
 /// A unit's colour: the one at its place, or black where there is none.
 pub fn colour_of(unit: Unit) -> &'static str
