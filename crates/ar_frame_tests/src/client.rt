@@ -10,7 +10,11 @@ fn asks(rt: &impl Abort, alloc: Global, input: &[u8], fault: AskFault, left: usi
     let mut writer = MemSink::new(vec![in alloc; 0; 64].expect(rt, "memory"));
     let answer = ask(alloc, &mut reader, &mut writer, 1, 0, &[0; 16], &[]);
     faults(rt, input, answer, fault);
-    assert!(rt; reader.len() == left, "{} left of {input:?}", reader.len());
+    leaves(rt, input, reader.len(), left);
+}
+
+fn leaves(rt: &impl Abort, input: &[u8], left: usize, wanted: usize) {
+    assert!(rt; left == wanted, "{left} left of {input:?}");
 }
 
 fn faults(rt: &impl Abort, input: &[u8], answer: Result<Reply, AskFault>, fault: AskFault) {

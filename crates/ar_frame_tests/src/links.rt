@@ -69,17 +69,16 @@ fn ends(rt: &impl Abort, alloc: Global, reads: u32, writes: u32, most: usize, wh
     let mut writer = make_noisy(b"", writes, most);
     let mut port = Fake::new();
     let end = serve(alloc, &mut reader, &mut writer, &mut port);
+    let faults = (Source::faults(&reader), Sink::faults(&writer));
+    is_ended(rt, end.why, why, faults, (reads, writes));
+}
+
+// A session ended so, with a fault of the stream that ended it alone.
+fn is_ended(rt: &impl Abort, end: Why, why: Why, faults: (u64, u64), interruptions: (u32, u32)) {
+    assert!(rt; end == why, "{end:?} after {interruptions:?} interruptions");
     assert!(rt;
-        end.why == why,
-        "{end:?} after {reads} and {writes} interruptions"
-    );
-    assert!(rt;
-        Source::faults(&reader) == u64::from(why == Why::Read),
-        "{end:?}"
-    );
-    assert!(rt;
-        Sink::faults(&writer) == u64::from(why == Why::Write),
-        "{end:?}"
+        faults == (u64::from(why == Why::Read), u64::from(why == Why::Write)),
+        "{faults:?} faults, ended by {end:?}"
     );
 }
 
@@ -131,28 +130,32 @@ fn other_errors(rt: HostRuntime) {
 }
 
 fn fails(rt: &impl Abort, kind: ErrorKind) {
-    let piece = [b'x'; 10];
-    let mut into = [0; 10];
-    let mut reader = make_failing(&piece, kind, 1, 10);
+    let mut reader = make_failing(&[b'x'; 10], kind, 1, 10);
     let mut writer = make_failing(b"", kind, 1, 10);
-    let given = reader.read(&mut into);
-    let taken = writer.write(&piece);
+    moves_ten(rt, &mut reader, &mut writer, kind, None);
+    has_faults(rt, &reader, kind, (1, 0));
+    has_faults(rt, &writer, kind, (0, 1));
+    moves_ten(rt, &mut reader, &mut writer, kind, Some(10));
+}
+
+// Ten bytes are read and written, or none.
+fn moves_ten(
+    rt: &impl Abort,
+    reader: &mut Linked<Noisy<'_>>,
+    writer: &mut Linked<Noisy<'_>>,
+    kind: ErrorKind,
+    wanted: Option<usize>,
+) {
+    let given = reader.read(&mut [0; 10]);
+    let taken = writer.write(&[b'x'; 10]);
     assert!(rt;
-        (given, taken) == (None, None),
-        "{given:?} and {taken:?} after {kind:?}"
+        (given, taken) == (wanted, wanted),
+        "{given:?} and {taken:?} with {kind:?}"
     );
-    assert!(rt;
-        (Source::faults(&reader), Sink::faults(&writer)) == (1, 1),
-        "{kind:?}"
-    );
-    assert!(rt;
-        (Source::faults(&writer), Sink::faults(&reader)) == (0, 0),
-        "{kind:?} the other way"
-    );
-    let given = reader.read(&mut into);
-    let taken = writer.write(&piece);
-    assert!(rt;
-        (given, taken) == (Some(10), Some(10)),
-        "{given:?} and {taken:?} behind {kind:?}"
-    );
+}
+
+// So many reads and writes have faulted.
+fn has_faults(rt: &impl Abort, linked: &Linked<Noisy<'_>>, kind: ErrorKind, wanted: (u64, u64)) {
+    let faults = (Source::faults(linked), Sink::faults(linked));
+    assert!(rt; faults == wanted, "{faults:?} faults of {kind:?}");
 }

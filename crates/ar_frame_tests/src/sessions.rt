@@ -156,16 +156,23 @@ fn plays_faulty(
     let mut port = Fake::new();
     let end = serve(alloc, &mut reader, &mut writer, &mut port);
     let is_prefix = output.starts_with(&writer.taken);
-    assert!(rt; is_prefix, "{end:?} at read {read}, write {write}");
-    assert!(rt;
-        (end.why == Why::Read) == (reader.faults == 1),
-        "{end:?} at read {read}, write {write}"
-    );
-    assert!(rt;
-        (end.why == Why::Write) == (writer.faults == 1),
-        "{end:?} at read {read}, write {write}"
+    is_told(
+        rt,
+        end.why,
+        is_prefix,
+        (reader.faults, writer.faults),
+        (read, write),
     );
     end.why
+}
+
+// What was written are the first bytes of the output, and the session ended by the stream that faulted, if one did.
+fn is_told(rt: &impl Abort, why: Why, is_prefix: bool, faults: (u64, u64), calls: (u64, u64)) {
+    assert!(rt; is_prefix, "{why:?}, where calls {calls:?} fail");
+    assert!(rt;
+        (why == Why::Read, why == Why::Write) == (faults.0 == 1, faults.1 == 1),
+        "{why:?} after {faults:?} faults, where calls {calls:?} fail"
+    );
 }
 
 fn is(rt: &impl Abort, call: u64, why: Why, wanted: Why) {
