@@ -13,7 +13,7 @@ use std::alloc::{AllocError, Global};
 use std::process::Abort;
 
 /// A call that a test makes. What is written is one byte throughout.
-#[derive(Clone, Copy, Debug)]
+#[derive(Clone, Copy)]
 pub enum Call {
     /// Reads a row of an extent.
     Get(Place, u16),
@@ -87,10 +87,10 @@ pub type Step = (Call, Answer);
 /// Compares what a call met with what it was to be answered with. The fuses of the disks and the number of the call say which
 /// one it is.
 pub fn compare(rt: &impl Abort, fuses: &[u64], number: u32, step: Step, met: Answer) {
-    let (call, wanted) = step;
+    let (_, wanted) = step;
     assert!(rt;
         met == wanted,
-        "{call:?}: {met:?} in place of {wanted:?}, call {number}, fuses {fuses:?}"
+        "{met:?} in place of {wanted:?}, call {number}, fuses {fuses:?}"
     );
 }
 

@@ -54,10 +54,21 @@ fn matches_of<'a, S: AsStr>(alloc: Global, words: &'a [S]) -> Result<ArgMatches<
 }
 
 fn command<'a>(alloc: Global) -> Result<Command<'a>, AllocError> {
-    Command::new(alloc, "ar_load")
+    let command = with_ports(alloc, Command::new(alloc, "ar_load"))?;
+    with_load(alloc, command)
+}
+
+// Adds what says where the array and the bare echo are.
+fn with_ports<'a>(alloc: Global, command: Command<'a>) -> Result<Command<'a>, AllocError> {
+    command
         .arg(port(alloc))?
         .arg(echo(alloc))?
-        .arg(echo_port(alloc))?
+        .arg(echo_port(alloc))
+}
+
+// Adds what says how much is asked of them.
+fn with_load<'a>(alloc: Global, command: Command<'a>) -> Result<Command<'a>, AllocError> {
+    command
         .arg(hosts(alloc))?
         .arg(bytes(alloc))?
         .arg(seconds(alloc))

@@ -18,7 +18,7 @@ use std::alloc::Global;
 use std::process::Abort;
 
 /// A call that a test makes. What is written is one byte throughout.
-#[derive(Clone, Copy, Debug)]
+#[derive(Clone, Copy)]
 pub enum Call {
     /// Makes the unit, of so many sectors: two are a SMALL block.
     Make(u32),
@@ -151,10 +151,10 @@ fn go_on(
 
 // Compares what a call met with what it was to be answered with. The shape and the row of its table say which one it is.
 fn compare(rt: &impl Abort, shape: Shape, row: usize, step: Step, met: Answer) {
-    let (call, wanted) = step;
+    let (_, wanted) = step;
     assert!(rt;
         met == wanted,
-        "{call:?}: {met:?} in place of {wanted:?}, row {row} of its table, {shape:?}"
+        "{met:?} in place of {wanted:?}, row {row} of its table, {shape:?}"
     );
 }
 
