@@ -1,5 +1,5 @@
 // An array as its pictures show it.
-ghost use Rattle.std.specs.Prelude.{◌≡◌, ◌≢◌, ℕ, ◌+◌, ◌^◌, ◌<◌, ◌++◌, length, map, IfOk, IfErr, OnOk};
+ghost use Rattle.std.specs.Prelude.{◌≡◌, ◌≢◌, ℕ, ◌+◌, ◌^◌, ◌<◌, ◌++◌, length, map, IfOk, IfErr, OnOk, Err};
 ghost use Rattle.std.specs.Option.{option_to_list};
 ghost use Rattle.ar_book.specs.Book.{TablesAgree};
 ghost use Rattle.ar_book.specs.Tables.{unit_in};
@@ -20,7 +20,7 @@ const NOTHING: Held = Held {
     blocks: [0; UNITS_MAX],
 };
 
-/// Writes the text map of an array.
+/// Writes the text map of an array. Where memory is refused, nothing is written.
 pub fn write_picture<W: Write, D: Disk>(
     alloc: Global,
     array: &Array<D>,
@@ -28,6 +28,7 @@ pub fn write_picture<W: Write, D: Disk>(
 ) -> Result<(), FaultKind>
     ensures few { IfErr result (λ kind. kind ≢ FaultKind.TooManyLines) }
     ensures lost { IfErr result (IsLost (Ask PictureAsked)) }
+    ensures memory { result ≡ Err FaultKind.NoMemory → out.new ≡ out.old }
 {
     let picture = picture_of(alloc, array).map_err(|_| FaultKind::NoMemory)?;
     let folds = picture.folds(alloc).map_err(|_| FaultKind::NoMemory)?;

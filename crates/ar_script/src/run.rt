@@ -68,7 +68,7 @@ pub fn run_on<R: Read + Drop, W: Write + Drop>(
     write_answers(alloc, runner, &mut lines, writer)
 }
 
-// Answers all lines, and writes what is left in the buffer.
+// Answers all lines through a buffer, and lets that go.
 fn write_answers<R: Read + Drop, W: Write + Drop>(
     alloc: Global,
     runner: &mut Runner,
@@ -79,14 +79,36 @@ fn write_answers<R: Read + Drop, W: Write + Drop>(
     ensures plays { PlaysScript (lines_left lines.old) result runner.old runner.new }
     ensures numbered { IfErr result IsNumbered }
     ensures there { IfErr result (IsThere (lines_left lines.old)) }
+    ensures ended { OnOk result (lines.new.is_at_end ≡ true) }
+    // Behind a fault no more is read. That memory was refused for the buffer is told of the first line, which isn't read then.
+    ensures reached { IfErr result (λ fault. fault ≢ Fault.Line 1 FaultKind.NoMemory → IsReached (lines_begun lines.new) fault) }
 {
     let Ok(mut out) = BufWriter::new(alloc, writer) else {
         return Err(fault_at(1, FaultKind::NoMemory));
     };
-    let done = run_lines(alloc, runner, lines, &mut out);
-    let done = finish(&mut out, lines.number(), done);
+    let done = answer_all(alloc, runner, lines, &mut out);
     let (_writer, _unwritten) = out.into_parts();
     done
+}
+
+// Answers all lines, and writes what is left in the buffer.
+fn answer_all<R: Read + Drop, W: Write + Drop>(
+    alloc: Global,
+    runner: &mut Runner,
+    lines: &mut Lines<R>,
+    out: &mut BufWriter<W>,
+) -> Result<(), Fault>
+    requires fresh { IsFresh lines.old }
+    ensures plays { PlaysScript (lines_left lines.old) result runner.old runner.new }
+    ensures numbered { IfErr result IsNumbered }
+    ensures there { IfErr result (IsThere (lines_left lines.old)) }
+    ensures ended { OnOk result (lines.new.is_at_end ≡ true) }
+    ensures reached { IfErr result (IsReached (lines_begun lines.new)) }
+    // Unless a write fault is told, all answers are with the writer.
+    ensures written { tells_write_fault result ≡ false → writer_buffer out.new ≡ [] }
+{
+    let done = run_lines(alloc, runner, lines, out);
+    finish(out, lines.number(), done)
 }
 
 // A fault at a line, or at the first where none was begun.
@@ -135,6 +157,7 @@ fn answer_line<R: Read + Drop, W: Write + Drop>(
     ensures meets { MeetsLine lines.now.line.items runner.old result runner.new }
     ensures told { IfErr result (λ kind. IsUnanswered lines.now.line.items kind ⊎ SaysWrong lines.now.line.items kind) }
     ensures few { IfErr result (λ kind. kind ≢ FaultKind.TooManyLines) }
+    ensures memory { result ≡ Err FaultKind.NoMemory → out.new ≡ out.old }
     // A line that asks for nothing is answered with nothing, and so is one that says what can't be asked for.
     ensures silent { is_silent lines.now.line.items ≡ true → out.new ≡ out.old }
     ensures unknown { result ≡ Err FaultKind.UnknownWord → out.new ≡ out.old }
@@ -161,6 +184,7 @@ fn finish<W: Write + Drop>(
 
     ensures written { tells_write_fault result ≡ false → writer_buffer out.new ≡ [] }
     ensures given { Keeps (writer_contents W.contents out.old) (writer_contents W.contents out.new) }
+    ensures let_go { tells_write_fault done ≡ true → out.new ≡ out.old }
 {
     if is_write_fault(&done) || out.flush().is_err() {
         Err(fault_at(line, FaultKind::WriteFault))

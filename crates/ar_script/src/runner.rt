@@ -1,5 +1,5 @@
 // What a script runs on: an array, and how it answers an order.
-ghost use Rattle.std.specs.Prelude.{◌≡◌, ◌≢◌, ◌≤◌, IfOk, IfErr, OnOk, OnErr, None};
+ghost use Rattle.std.specs.Prelude.{◌≡◌, ◌≢◌, ◌≤◌, IfOk, IfErr, OnOk, OnErr, None, Err};
 ghost use Rattle.ar_extents.specs.Changes.{start_fault};
 ghost use Rattle.ar_image.specs.Start.{IsStarted};
 ghost use Rattle.ar_core.specs.Step.{Steps};
@@ -57,7 +57,7 @@ impl Runner {
         Ok(Runner { array, row, filled })
     }
 
-    /// Does or shows what a line asks for, and writes the answer.
+    /// Does or shows what a line asks for, and writes the answer. Where memory is refused, nothing is written.
     pub fn answer<W: Write>(
         &mut self,
         alloc: Global,
@@ -66,6 +66,7 @@ impl Runner {
     ) -> Result<(), FaultKind>
         ensures few { IfErr result (λ kind. kind ≢ FaultKind.TooManyLines) }
         ensures lost { IfErr result (IsLost order) }
+        ensures memory { result ≡ Err FaultKind.NoMemory → out.new ≡ out.old }
         ensures leaves { Leaves order self.old result self.new }
     {
         match order {
@@ -143,6 +144,7 @@ impl Runner {
     ) -> Result<(), FaultKind>
         ensures few { IfErr result (λ kind. kind ≢ FaultKind.TooManyLines) }
         ensures lost { IfErr result (IsLost (Order.Ask question)) }
+        ensures memory { result ≡ Err FaultKind.NoMemory → out.new ≡ out.old }
         ensures looks { Looks question self.old self.new }
     {
         let written = match question {

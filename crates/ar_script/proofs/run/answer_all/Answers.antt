@@ -1,0 +1,11 @@
+use Rattle.std.proofs.Common.{rules}
+use Rattle.ar_orders.specs.Left.{lines_left}
+use Rattle.ar_script.proofs.Ending.{plays_finished, there_ended}
+use Rattle.ar_script.proofs.run.answer_all.Goals as goal
+
+pub returns-clause-plays : goal.returns-clause-plays
+returns-clause-plays g c =
+    plays_finished (lines_left c.args.lines.now) c.args.runner.now c.run_lines-done.new.runner c.number.result c.run_lines-done.result c.finish.result (search rules) c.finish.ensures.ends
+
+pub returns-clause-there : goal.returns-clause-there
+returns-clause-there g c = there_ended (lines_left c.args.lines.now) c.number.result c.run_lines-done.result c.finish.result (search rules) (search rules) c.finish.ensures.ends
