@@ -1,5 +1,5 @@
 // Sessions at once, behind a gate.
-ghost use Rattle.std.specs.Prelude.{◌≡◌, []};
+ghost use Rattle.std.specs.Prelude.{◌≡◌, [], true};
 
 use crate::frames::{LOGINS, TUR, put, put_request};
 use crate::rig::{Rig, array, closes, sink};
@@ -206,6 +206,8 @@ impl Door for Jammed {
     type Writer = MemSink;
 
     ghost to_come = { λ door. door.left };
+
+    ghost are_one = { λ _ _. true };
 
     fn left(&self) -> usize {
         self.left

@@ -1,6 +1,6 @@
 // Connections, of which one may find no thread, or the work in the background none. The gate refuses each allocation in turn, and
 // so each thread, by `.ci/scarce`; with ample memory all of them start.
-ghost use Rattle.std.specs.Prelude.{◌≡◌, []};
+ghost use Rattle.std.specs.Prelude.{◌≡◌, [], true};
 
 use crate::rig::{Rig, array, closes};
 use ar_core::Array;
@@ -32,6 +32,8 @@ impl Door for Brief {
     type Writer = MemSink;
 
     ghost to_come = { λ door. door.left };
+
+    ghost are_one = { λ _ _. true };
 
     fn left(&self) -> usize {
         self.left

@@ -7,6 +7,8 @@ use Rattle.ar_frames.specs.Stream.{SourceState, SinkState}
 use Rattle.ar_frames.specs.Session.{Session}
 use Rattle.ar_sessions.specs.declared.sessions.ConnectionEnd.{ConnectionEnd}
 use Rattle.ar_sessions.specs.declared.sessions.ConnectionEnd.TheVariants.{Served, NoThread}
+use Rattle.ar_sessions.specs.declared.sessions.Pending.{Pending}
+use Rattle.ar_sessions.specs.declared.sessions.Pending.TheVariants as pending
 use Rattle.ar_sessions.specs.Desk.{ReceiptState, receipt_for}
 use Rattle.ar_sessions.specs.Port.{TakesSeat, AsksKept}
 
@@ -42,3 +44,14 @@ unopened = record { frames = 0; why = Read }
 abbrev pub IsEnd : ConnectionEnd → Type 0
 IsEnd (Served end) = WasServed end ⊎ (end ≡ unopened)
 IsEnd NoThread = ⊤
+
+-- a connection ended with its session
+abbrev pub IsOfSession : ConnectionEnd → Type 0
+IsOfSession (Served end) = WasServed end
+IsOfSession NoThread = ⊥
+
+-- how a connection ended, by what became of it: it had a thread, couldn't be opened, or had none
+abbrev pub EndOf : Pending → ConnectionEnd → Type 0
+EndOf (pending.Served handle) end = IsOfSession end
+EndOf pending.Unopened end = end ≡ Served unopened
+EndOf pending.NoThread end = end ≡ NoThread

@@ -1,5 +1,5 @@
 // Where connections come from.
-ghost use Rattle.std.specs.Prelude.{◌≡◌, ◌<◌, ◌+◌, ◌++◌, ℕ, length};
+ghost use Rattle.std.specs.Prelude.{◌≡◌, ◌<◌, ◌+◌, ◌++◌, ℕ, Bool, true, length, IfSome};
 ghost use Rattle.std.specs.Option.{option_to_list};
 
 use ar_frames::{Sink, Source};
@@ -16,6 +16,10 @@ pub trait Door {
     /// How many connections are still to come.
     ghost to_come: { Self → ℕ };
 
+    /// Whether both are of one connection. A door alone says when they are, so that nobody else pairs the reader of one with the
+    /// writer of another.
+    ghost are_one: { Self.Reader → Self.Writer → Bool };
+
     /// How many connections are still to come.
     fn left(&self) -> usize
         ensures { result ≡ to_come self.now };
@@ -23,7 +27,8 @@ pub trait Door {
     /// Waits for the next connection. None: it could not be opened.
     fn accept(&mut self) -> Option<(Self::Reader, Self::Writer)>
         requires { 0 < to_come self.old }
-        ensures { to_come self.new + 1 ≡ to_come self.old };
+        ensures count { to_come self.new + 1 ≡ to_come self.old }
+        ensures one { IfSome result (λ pair. are_one pair.0 pair.1 ≡ true) };
 }
 
 /// A door to connections that are there from the start, each a reader and a writer.
@@ -47,6 +52,8 @@ impl<R: Source + Send + Drop, W: Sink + Send + Drop> Door for MemDoor<R, W> {
     type Writer = W;
 
     ghost to_come = { λ door. length door.pairs.items };
+
+    ghost are_one = { λ _ _. true };
 
     fn left(&self) -> usize {
         self.pairs.len()

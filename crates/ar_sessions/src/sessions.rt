@@ -1,7 +1,8 @@
 // Sessions in threads.
-ghost use Rattle.std.specs.Prelude.{◌≡◌, ◌≢◌, ◌+◌, ◌<◌, ◌≤◌, All, IfOk, OnOk, OnErr, vec_len, vec_capacity, length};
+ghost use Rattle.std.specs.Prelude.{◌≡◌, ◌≢◌, ◌+◌, ◌<◌, ◌≤◌, true, All, IfOk, OnOk, OnErr, vec_len, vec_capacity, length};
+ghost use Rattle.std.specs.List.{AllZip};
 ghost use Rattle.std.specs.VecDeque.{deque_len, deque_capacity};
-ghost use Rattle.ar_sessions.specs.Ends.{GivesBack, GaveBack, IsEnd};
+ghost use Rattle.ar_sessions.specs.Ends.{GivesBack, GaveBack, IsEnd, EndOf};
 
 use crate::{Desk, Door, LockPort, Receipt, run_background};
 use ar_disks::Disk;
@@ -202,33 +203,51 @@ where
         left,
     } = roll;
     for _ in 0..left {
-        let next = match door.accept() {
-            Some((reader, writer)) => begin(
-                scope,
-                Connection {
-                    hall,
-                    reader,
-                    writer,
-                },
-            ),
-            None => Pending::Unopened,
-        };
-        pending.push_back_reserved(next);
+        pending.push_back_reserved(open_next(scope, hall, door));
     }
     join_all(hall.rt, pending, ends)
 }
 
-// Starts the thread of a connection.
+// Waits for the next connection, and starts its thread.
+fn open_next<
+    's,
+    E,
+    R: Threads + Wait + Sync,
+    D: Disk + Drop + Send,
+    L: Ledger + Send + Sync,
+    O: Door,
+    G: Gate + Sync,
+>(scope: &'s Scope<'s, E>, hall: &'s Hall<'s, R, D, L, G>, door: &mut O) -> Pending
+where
+    O::Reader: 's,
+    O::Writer: 's,
+    requires { 0 < O.to_come door.old }
+    ensures { O.to_come door.new + 1 ≡ O.to_come door.old }
+{
+    let Some((reader, writer)) = door.accept() else {
+        return Pending::Unopened;
+    };
+    let connection = Connection {
+        hall,
+        reader,
+        writer,
+    };
+    begin::<E, R, D, L, O, G, O::Reader, O::Writer>(scope, connection)
+}
+
+// Starts the thread of a door's connection.
 fn begin<
     's,
     E,
     R: Wait + Sync,
     D: Disk + Drop + Send,
     L: Ledger + Send + Sync,
+    O: Door<Reader = S, Writer = W>,
     G: Gate + Sync,
     S: Source + Send + Drop + 's,
     W: Sink + Send + Drop + 's,
 >(scope: &'s Scope<'s, E>, connection: Connection<'s, R, D, L, G, S, W>) -> Pending
+    requires one { O.are_one connection.reader connection.writer ≡ true }
     ensures begun { result ≢ Pending.Unopened }
 {
     let session = move || -> (SessionEnd, Option<Receipt>)
@@ -250,6 +269,7 @@ fn join_all<R: Threads>(
     requires room { deque_len pending ≤ vec_capacity ends }
     ensures count { vec_len result ≡ deque_len pending }
     ensures ends { All IsEnd result.items }
+    ensures order { AllZip EndOf pending.items result.items }
 {
     while let Some(next) = pending.pop_front() {
         ends.push_reserved(end_of(rt, next));
@@ -259,7 +279,8 @@ fn join_all<R: Threads>(
 
 // Waits for the end of a connection.
 fn end_of<R: Threads>(rt: &R, pending: Pending) -> ConnectionEnd
-    ensures { IsEnd result }
+    ensures end { IsEnd result }
+    ensures known { EndOf pending result }
 {
     match pending {
         Pending::Served(handle) => {

@@ -1,5 +1,5 @@
 // Connections over TCP.
-ghost use Rattle.std.specs.Prelude.{◌≡◌, ◌<◌, ◌+◌, IfOk};
+ghost use Rattle.std.specs.Prelude.{◌≡◌, ◌<◌, ◌+◌, IfOk, true};
 
 use crate::Door;
 use ar_frames::Linked;
@@ -61,6 +61,8 @@ impl Door for TcpDoor {
     type Writer = Linked<TcpStream>;
 
     ghost to_come = { λ door. door };
+
+    ghost are_one = { λ _ _. true };
 
     fn left(&self) -> usize {
         self.left
