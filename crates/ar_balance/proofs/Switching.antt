@@ -42,15 +42,15 @@ pub filled_written : (class : Class) (a b : SetState) (from to : Place) → a.he
 filled_written Free a b from to whole same =
     subst (λ (x : SetState). HasWritten a x to) (sym same)
     (record { follows = follows_refl a; loose = refl; keeps = keeps_refl (λ p. p ≢ to) a; health = whole; faults = λ d. refl })
-filled_written Mirrored a b from to whole copied = copied.written
-filled_written Parity a b from to whole copied = copied.written
+filled_written Mirrored a b from to whole all = all.copied.written
+filled_written Parity a b from to whole all = all.copied.written
 
 -- and which rows stand in the new extent
 filled_rows : (class : Class) (a b : SetState) (from to : Place) → class ≢ Free → IsFilled class a b from to
     → (row : ℕ) → row < rows_of a.geometry → content b to row ≡ content a from row
 filled_rows Free a b from to taken_up same = absurd (taken_up refl)
-filled_rows Mirrored a b from to taken_up copied = copied.rows
-filled_rows Parity a b from to taken_up copied = copied.rows
+filled_rows Mirrored a b from to taken_up all = all.copied.rows
+filled_rows Parity a b from to taken_up all = all.copied.rows
 
 -- an extent that is there and not loose
 record IsUsed (s : SetState) (p : Place) : Type 0 where

@@ -1,5 +1,5 @@
 -- What the copying of an extent leaves.
-use Rattle.std.specs.Prelude.{◌≡◌, ◌≢◌, ◌⊎◌, ℕ, ◌<◌}
+use Rattle.std.specs.Prelude.{◌≡◌, ◌≢◌, ◌⊎◌, ℕ, zero, suc, ◌<◌}
 use Rattle.ar_disks.specs.declared.address.Place.{Place}
 use Rattle.ar_disks.specs.Geometry.{rows_of}
 use Rattle.ar_extents.specs.declared.health.Health.TheVariants.{Whole, Out}
@@ -44,6 +44,27 @@ pub record IsCutShort (old new : SetState) (from to : Place) : Type 0 where
   pub faulted : Faulted old new disk
   pub out : new.health ≡ Out disk
 
+-- the one extent's disk was asked, and only then the other's
+pub record AsksInTurn (from to : Place) (old new : SetState) : Type 0 where
+  pub between : SetState
+  pub reads : Spares (λ d. d ≢ from.disk) old between
+  pub writes : Spares (λ d. d ≢ to.disk) between new
+
+-- one row was copied so: it was read before the new extent was asked
+pub record CopiesRow (from to : Place) (row : ℕ) (old new : SetState) : Type 0 where
+  pub copied : IsRowCopied old new from to row
+  pub turn : AsksInTurn from to old new
+
+-- so many rows, one after another
+abbrev pub CopiesRows : Place → Place → ℕ → SetState → SetState → Type 0
+CopiesRows from to zero old new = new ≡ old
+CopiesRows from to (suc n) old new = (next : SetState) × CopiesRows from to n old next × CopiesRow from to n next new
+
+-- all rows of an extent were, and stand in the other
+pub record IsExtentCopied (old new : SetState) (from to : Place) : Type 0 where
+  pub copied : AreCopied old new from to (rows_of old.geometry)
+  pub turns : CopiesRows from to (rows_of old.geometry) old new
+
 -- The copy stopped at a row: those below it are copied, and those past it are as they were. So is the row itself, unless the disk
 -- of the new extent is the one that is out: nothing is written but what was read.
 pub record IsStopped (old new : SetState) (from to : Place) : Type 0 where
@@ -52,9 +73,13 @@ pub record IsStopped (old new : SetState) (from to : Place) : Type 0 where
   pub below : (r : ℕ) → r < row → content new to r ≡ content old from r
   pub past : (r : ℕ) → row < r → content new to r ≡ content old to r
   pub unread : new.health ≢ Out to.disk → content new to row ≡ content old to row
+  -- the rows below it were copied one after another, and where the row itself couldn't be read the new extent wasn't asked
+  pub before : SetState
+  pub turns : CopiesRows from to row old before
+  pub untouched : new.health ≢ Out to.disk → Spares (λ d. d ≢ from.disk) before new
 
 -- what is copied of a group's extent: all rows, and of a free group none, so that no disk is accessed
 abbrev pub IsFilled : Class → SetState → SetState → Place → Place → Type 0
 IsFilled Free old new from to = new ≡ old
-IsFilled Mirrored old new from to = AreCopied old new from to (rows_of old.geometry)
-IsFilled Parity old new from to = AreCopied old new from to (rows_of old.geometry)
+IsFilled Mirrored old new from to = IsExtentCopied old new from to
+IsFilled Parity old new from to = IsExtentCopied old new from to

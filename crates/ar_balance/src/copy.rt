@@ -3,7 +3,8 @@ ghost use Rattle.std.specs.Prelude.{◌≡◌, ◌≢◌, ◌<◌, ℕ, length, 
 ghost use Rattle.ar_disks.specs.Geometry.{rows_of, block_len_of};
 ghost use Rattle.ar_extents.specs.declared.health.Health.TheVariants.{Whole, Out};
 ghost use Rattle.ar_extents.specs.Set.{HasExtent, content};
-ghost use Rattle.ar_balance.specs.Copies.{AreCopied, IsRowCopied, IsCutShort, IsStopped};
+ghost use Rattle.ar_extents.specs.Follows.{Spares};
+ghost use Rattle.ar_balance.specs.Copies.{IsExtentCopied, IsRowCopied, IsCutShort, IsStopped, AsksInTurn};
 
 use ar_disks::{Block, Disk, Place};
 use ar_extents::{DiskSet, Got, Put};
@@ -20,7 +21,7 @@ pub(crate) fn copy_extent<D: Disk>(
     requires to { HasExtent set.old to }
     requires apart { from ≢ to }
     requires len { length block.old ≡ block_len_of set.old.geometry }
-    ensures copied { IsTrue result → AreCopied set.old set.new from to (rows_of set.old.geometry) }
+    ensures copied { IsTrue result → IsExtentCopied set.old set.new from to }
     ensures cut { result ≡ false → IsCutShort set.old set.new from to }
     ensures stopped { result ≡ false → IsStopped set.old set.new from to }
     ensures len { length block.new ≡ length block.old }
@@ -51,6 +52,8 @@ fn copy_row<D: Disk>(
     ensures others { result ≡ false → (r : ℕ) → r ≢ row → content set.new to r ≡ content set.old to r }
     // Nothing is written where nothing was read.
     ensures unread { result ≡ false → set.new.health ≢ Out to.disk → content set.new to row ≡ content set.old to row }
+    ensures turn { IsTrue result → AsksInTurn from to set.old set.new }
+    ensures untouched { result ≡ false → set.new.health ≢ Out to.disk → Spares (λ d. d ≢ from.disk) set.old set.new }
     ensures len { length block.new ≡ length block.old }
 {
     match set.get(from, row, block) {
