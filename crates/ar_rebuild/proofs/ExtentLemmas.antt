@@ -29,7 +29,7 @@ use Rattle.ar_store.specs.Slots.{ClassHolds}
 use Rattle.ar_store.specs.Kept.{IsSpace}
 use Rattle.ar_store.proofs.Spaces.{slot_group, slot_inside, groups_apart}
 use Rattle.ar_store.proofs.Alike.{class_alike}
-use Rattle.ar_rebuild.specs.Rows.{WritesNext, HasNothingNext, GroupIsWhole, WritesRows, CanBeDone, NeedsNext, AsksNext, WritesExtent}
+use Rattle.ar_rebuild.specs.Rows.{WritesNext, HasNothingNext, GroupIsWhole, WritesRows, CanBeDone, NeedsNext, AsksNext, WritesExtent, StopsAt, StopsWriting}
 use Rattle.ar_rebuild.proofs.RowLemmas.{next_same, writes_refl, writes_alike}
 
 -- the extent at the mark is the next one
@@ -187,3 +187,36 @@ mirrored_used e = cc
 
 pub parity_used : Parity ≢ Free
 parity_used e = cc
+
+-- The writing of a member of one group stopped at a row: no other group has the next extent, nor another position.
+pub stops_member : (c : Class) (a b : SetState) (t : Tables) (place : Place) (m : Members) (g position : ℕ) → IsSpace (store_of a t)
+    → a.health ≡ Rebuilding place.disk place.extent → g < length t.groups → c ≡ class_of t g → m ≡ (group_in t.groups g).members → position < 4 → member m position ≡ place
+    → StopsAt c a b m position → StopsWriting (store_of a t) b
+stops_member c a b t place m g position space is inside c_is m_is below at stopped = record {
+  stops = λ h i there lt same.
+      elim (eqb_tells h g) [
+        | inl one ↦ (let P : ℕ → Type 0 = λ n. Stops n i in subst P (sym one.1) (here i lt (let Q : ℕ → Type 0 = λ n. Next n i in subst Q one.1 same)))
+        | inr other ↦
+            absurd
+            (let place = own ∙ sym same in
+            groups_apart (store_of a t) g h space inside there (λ e. other.1 (sym e)) position i below lt (ap (λ (p : Place). p.disk) place)
+            (ap (λ (p : Place). p.extent) place))
+      ];
+}
+  where
+    Next : ℕ → ℕ → Type 0
+    Next h i = member (group_in t.groups h).members i ≡ next_place a
+
+    Stops : ℕ → ℕ → Type 0
+    Stops h i = StopsAt (class_of t h) a b (group_in t.groups h).members i
+
+    own : Next g position
+    own = subst (λ (x : Members). member x position ≡ next_place a) m_is (at ∙ next_is a place is)
+
+    here : (i : ℕ) → i < 4 → Next g i → Stops g i
+    here i lt same =
+        let position_is : i ≡ position = members_differ (group_in t.groups g).members i position (slot_group (store_of a t) g space inside).apart lt below (same ∙ sym own) in
+        let P : ℕ → Type 0 = λ n. Stops g n in
+        subst P (sym position_is)
+        (subst (λ (x : Class). StopsAt x a b (group_in t.groups g).members position) c_is
+        (subst (λ (x : Members). StopsAt c a b x position) m_is stopped))

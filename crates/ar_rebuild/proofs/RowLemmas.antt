@@ -1,5 +1,5 @@
 -- Rows of the extent that is rebuilt next, one after another.
-use Rattle.std.proofs.Common.{◌≡◌, ◌⊎◌, inl, inr, ℕ, ◌+◌, ◌*◌, ◌/◌, ◌<◌, List, refl, sym, ap, subst, ◌∙◌, arith}
+use Rattle.std.proofs.Common.{◌≡◌, ◌≢◌, ◌⊎◌, inl, inr, ℕ, ◌+◌, ◌*◌, ◌/◌, ◌<◌, ◌≤◌, List, refl, sym, ap, subst, ◌∙◌, arith}
 use Rattle.std.proofs.lemmas.Bool.Decides.{eqb_tells}
 use Rattle.ar_disks.specs.declared.geometry.Geometry.{Geometry}
 use Rattle.ar_disks.specs.declared.address.Place.{Place}
@@ -28,7 +28,9 @@ use Rattle.ar_parity.specs.Call.{IsRebuilt}
 use Rattle.ar_parity.proofs.Frames.{done_holds as parity_done}
 use Rattle.ar_book.specs.declared.class.Class.TheVariants.{Mirrored, Parity}
 use Rattle.ar_store.proofs.Alike.{AreAlike, class_alike}
-use Rattle.ar_rebuild.specs.Rows.{IsBesideNext, WritesNext, GroupIsWhole}
+use Rattle.ar_rebuild.specs.Rows.{IsBesideNext, WritesNext, GroupIsWhole, StopsAt}
+use Rattle.ar_extents.specs.Follows.{Keeps, Anywhere}
+use Rattle.ar_extents.specs.declared.health.Health.TheVariants.{Broken as AllBroken}
 
 -- the same extent is next where health is the same
 pub next_same : (a b : SetState) → b.health ≡ a.health → next_place b ≡ next_place a
@@ -87,9 +89,10 @@ pub record AreCopied (a b : SetState) (m : Members) (position rows : ℕ) : Type
   pub health : b.health ≡ a.health
   pub touches : Spares (HasNoneOf (IsEither (member m (partner_of position)) (next_place a))) a b
   pub copied : (r : ℕ) → r < rows → IsCopied a b (member m (partner_of position)) r
+  pub rest : (r : ℕ) → rows ≤ r → content b (next_place a) r ≡ content a (next_place a) r
 
 pub none_copied : (s : SetState) (m : Members) (position : ℕ) → AreCopied s s m position 0
-none_copied s m position = record { writes = writes_refl s; health = refl; touches = record { disks = λ d none. refl }; copied = λ r lt. absurd (omega arith) }
+none_copied s m position = record { writes = writes_refl s; health = refl; touches = record { disks = λ d none. refl }; copied = λ r lt. absurd (omega arith); rest = λ r le. refl }
 
 pub copied_then : (a b c : SetState) (m : Members) (position row : ℕ) → IsRebuilding a.health → AreCopied a b m position row
     → IsCopied b c (member m (partner_of position)) row → Follows b c → KeepsBut (next_place b) row b c
@@ -119,7 +122,13 @@ copied_then a b c m position row is before copied follows keeps touches loose =
                   health = copied.health ∙ before.health;
                 })
           ];
+      rest = λ r le. rest_of r (λ same. absurd (omega arith)) (omega arith);
     }
+  where
+    rest_of : (r : ℕ) → r ≢ row → row ≤ r → content c (next_place a) r ≡ content a (next_place a) r
+    rest_of r apart le =
+        let next = next_same a b before.health in
+        ap (λ (p : Place). content c p r) (sym next) ∙ keeps.other_rows r apart ∙ ap (λ (p : Place). content b p r) next ∙ before.rest r le
 
 -- Once all are, each slot of the group goes on holding its block when the extent counts as done.
 pub copied_whole : (a b : SetState) (m : Members) (position : ℕ) → IsGroup a m → position < 4 → IsRebuilding a.health → member m position ≡ next_place a
@@ -160,9 +169,10 @@ pub record AreSummed (a b : SetState) (m : Members) (position rows : ℕ) : Type
   pub touches : Spares (HasNoneOf (IsMember m)) a b
   pub agrees : (r : ℕ) (blocks : Blocks) → RowAgrees a m r blocks → RowAgrees b m r blocks
   pub summed : (r : ℕ) → r < rows → IsRebuilt a b m position r
+  pub rest : (r : ℕ) → rows ≤ r → content b (next_place a) r ≡ content a (next_place a) r
 
 pub none_summed : (s : SetState) (m : Members) (position : ℕ) → AreSummed s s m position 0
-none_summed s m position = record { writes = writes_refl s; health = refl; touches = record { disks = λ d none. refl }; agrees = λ r blocks has. has; summed = λ r lt. absurd (omega arith) }
+none_summed s m position = record { writes = writes_refl s; health = refl; touches = record { disks = λ d none. refl }; agrees = λ r blocks has. has; summed = λ r lt. absurd (omega arith); rest = λ r le. refl }
 
 pub summed_then : (a b c : SetState) (m : Members) (position row : ℕ) → member m position ≡ next_place a → AreSummed a b m position row
     → IsRebuilt b c m position row → ((r : ℕ) (blocks : Blocks) → RowAgrees b m r blocks → RowAgrees c m r blocks) → Follows b c
@@ -185,7 +195,11 @@ summed_then a b c m position row next before rebuilt agrees follows keeps touche
                 (let earlier = before.summed r (let ne = apart.1 in omega arith) in
                 record { agrees = λ blocks has. keeps.other_rows r apart.1 ∙ earlier.agrees blocks has; health = rebuilt.health ∙ before.health })
           ];
+      rest = λ r le. rest_of r (λ same. absurd (omega arith)) (omega arith);
     }
+  where
+    rest_of : (r : ℕ) → r ≢ row → row ≤ r → content c (next_place a) r ≡ content a (next_place a) r
+    rest_of r apart le = ap (λ (p : Place). content c p r) (sym next) ∙ keeps.other_rows r apart ∙ ap (λ (p : Place). content b p r) next ∙ before.rest r le
 
 pub summed_whole : (a b : SetState) (m : Members) (position : ℕ) → IsGroup a m → position < 4 → IsRebuilding a.health → member m position ≡ next_place a
     → AreSummed a b m position (rows_of a.geometry) → GroupIsWhole Parity a b m
@@ -204,3 +218,29 @@ summed_whole a b m position group below is next all = record {
         ap (λ (p : Place). content b p (parity_row_of i)) (next_same a b all.health ∙ sym next)
         ∙ (all.summed (parity_row_of i) (omega arith)).agrees has.blocks has.agrees
         ∙ ap (λ n. block has.blocks n) position_is
+
+-- the writing of a mirrored member's rows stopped at this one
+pub copied_stops : (a b c : SetState) (m : Members) (position row : ℕ) → row < rows_of a.geometry → AreCopied a b m position row
+    → KeepsBut (next_place b) row b c → (c.health ≡ AllBroken → Keeps Anywhere b c) → StopsAt Mirrored a c m position
+copied_stops a b c m position row there before keeps unwritten =
+    let next = next_same a b before.health in
+    record {
+      row = row;
+      there = there;
+      below = λ r lt. ap (λ (p : Place). content c p r) (sym next) ∙ keeps.other_rows r (λ same. absurd (omega arith)) ∙ ap (λ (p : Place). content b p r) next ∙ (before.copied r lt).same;
+      past = λ r lt. ap (λ (p : Place). content c p r) (sym next) ∙ keeps.other_rows r (λ same. absurd (omega arith)) ∙ ap (λ (p : Place). content b p r) next ∙ before.rest r (omega arith);
+      unread = λ broken. (unwritten broken).rows (next_place a) tt row ∙ before.rest row (omega arith);
+    }
+
+-- the same of a member of a group with parity
+pub summed_stops : (a b c : SetState) (m : Members) (position row : ℕ) → row < rows_of a.geometry → member m position ≡ next_place a → AreSummed a b m position row
+    → KeepsBut (member m position) row b c → (c.health ≡ AllBroken → Keeps Anywhere b c) → StopsAt Parity a c m position
+summed_stops a b c m position row there next before keeps unwritten = record {
+  row = row;
+  there = there;
+  below = λ r lt blocks has.
+      ap (λ (p : Place). content c p r) (sym next) ∙ keeps.other_rows r (λ same. absurd (omega arith)) ∙ (before.summed r lt).agrees blocks has;
+  past = λ r lt.
+      ap (λ (p : Place). content c p r) (sym next) ∙ keeps.other_rows r (λ same. absurd (omega arith)) ∙ ap (λ (p : Place). content b p r) next ∙ before.rest r (omega arith);
+  unread = λ broken. (unwritten broken).rows (next_place a) tt row ∙ before.rest row (omega arith);
+}

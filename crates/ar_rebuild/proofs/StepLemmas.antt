@@ -135,3 +135,7 @@ fields_advanced a b block sound old ready book advances = record {
   block_len = old.block_len ∙ ap block_len_of (sym advances.geometry);
   scratch_same = ready.scratch;
 }
+
+-- what counts as done isn't given up
+pub done_gave : (r : Rebuild) (b d : SetState) → r ≡ GivenUp → Counts b d r → ⊥
+done_gave r b d is counts = subst (λ (x : Rebuild). Counts b d x) is counts

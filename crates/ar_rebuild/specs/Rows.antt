@@ -7,12 +7,15 @@ use Rattle.ar_extents.specs.declared.health.Health.TheVariants.{Broken as AllBro
 use Rattle.ar_extents.specs.declared.outcome.RowOutcome.{RowOutcome}
 use Rattle.ar_extents.specs.declared.outcome.RowOutcome.TheVariants.{Done, GivenUp, Broken}
 use Rattle.ar_extents.specs.Health.{IsRebuilding, rebuilt_disk}
-use Rattle.ar_extents.specs.Set.{SetState, faults_of}
+use Rattle.ar_extents.specs.Set.{SetState, faults_of, content}
 use Rattle.ar_extents.specs.Follows.{Follows, Keeps, Spares, HasNoneOf, IsEither}
 use Rattle.ar_extents.specs.Access.{next_place, IsGivenUp}
 use Rattle.ar_extents.specs.Changes.{with_done}
 use Rattle.ar_extents.specs.Groups.{IsMember, IsOutside}
+use Rattle.ar_disks.specs.Geometry.{rows_of}
 use Rattle.ar_mirror.specs.Slots.{partner_of}
+use Rattle.ar_parity.specs.Row.{Blocks, block}
+use Rattle.ar_parity.specs.Group.{RowAgrees}
 use Rattle.ar_book.specs.declared.class.Class.{Class}
 use Rattle.ar_book.specs.declared.class.Class.TheVariants.{Free, Mirrored, Parity}
 use Rattle.ar_book.specs.Tables.{slots_of}
@@ -73,3 +76,24 @@ abbrev pub WritesExtent : StoreState → StoreState → RowOutcome → Type 0
 WritesExtent old new Done = CanBeDone old new
 WritesExtent old new GivenUp = IsGivenUp old.disks new.disks
 WritesExtent old new Broken = new.disks.health ≡ AllBroken
+
+-- a row of the extent that is rebuilt next, a group's member, is what the group's others say
+abbrev pub IsRowWritten : Class → SetState → SetState → Members → ℕ → ℕ → Type 0
+IsRowWritten Free old new m i row = Unit {0}
+IsRowWritten Mirrored old new m i row = content new (next_place old) row ≡ content old (member m (partner_of i)) row
+IsRowWritten Parity old new m i row = (blocks : Blocks) → RowAgrees old m row blocks → content new (next_place old) row ≡ block blocks i
+
+-- The writing stopped at a row: those below it are written, those past it are as they were, and so is the row itself where another
+-- disk broke the set, since nothing is written but what was read.
+pub record StopsAt (class : Class) (old new : SetState) (m : Members) (i : ℕ) : Type 0 where
+  pub row : ℕ
+  pub there : row < rows_of old.geometry
+  pub below : (r : ℕ) → r < row → IsRowWritten class old new m i r
+  pub past : (r : ℕ) → row < r → content new (next_place old) r ≡ content old (next_place old) r
+  pub unread : new.health ≡ AllBroken → content new (next_place old) row ≡ content old (next_place old) row
+
+-- Of the extent that is rebuilt next, if a group has it: the writing of this member stopped at a row.
+pub record StopsWriting (old : StoreState) (new : SetState) : Type 0 where
+  pub stops :
+      (g i : ℕ) → g < length old.book.groups → i < 4 → member (members_of old g) i ≡ next_place old.disks
+      → StopsAt (class_in old g) old.disks new (members_of old g) i

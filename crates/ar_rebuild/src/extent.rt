@@ -4,7 +4,7 @@ ghost use Rattle.ar_extents.specs.Follows.{Keeps};
 ghost use Rattle.ar_extents.specs.Changes.{with_done};
 ghost use Rattle.ar_store.specs.Slots.{AllStand, SlotsHold};
 ghost use Rattle.ar_store.specs.Spaces.{store_in, IsReady};
-ghost use Rattle.ar_rebuild.specs.Rows.{IsBesideNext, HasNothingNext, IsSpared, WritesNext, WritesExtent, AsksNext};
+ghost use Rattle.ar_rebuild.specs.Rows.{IsBesideNext, HasNothingNext, IsSpared, WritesNext, WritesExtent, AsksNext, StopsWriting};
 ghost use Rattle.ar_rebuild.specs.Rebuild.{Answers, Counts, Advances};
 
 use crate::Rebuild;
@@ -22,6 +22,8 @@ pub(crate) fn rebuild_extent<D: Disk>(space: &mut Space<D>, place: Place) -> Reb
 
     ensures answer { Answers space.old.disks space.new.disks result }
     ensures spared { result ≡ Rebuild.Broken → IsSpared space.old.disks space.new.disks }
+    ensures given_up { result ≡ Rebuild.GivenUp → StopsWriting (store_in space.old) space.new.disks }
+    ensures lost { result ≡ Rebuild.Broken → StopsWriting (store_in space.old) space.new.disks }
     ensures idle { result ≢ Rebuild.Idle }
     ensures broken { (result ≡ Rebuild.Broken) ↔ (space.new.disks.health ≡ Health.Broken) }
 
@@ -48,6 +50,7 @@ fn write_extent<D: Disk>(space: &mut Space<D>, place: Place) -> RowOutcome
     requires rebuilding { space.old.disks.health ≡ Health.Rebuilding place.disk place.extent }
     ensures answer { WritesExtent (store_in space.old) (store_in space.new) result }
     ensures spared { result ≡ RowOutcome.Broken → IsSpared space.old.disks space.new.disks }
+    ensures stopped { result ≢ RowOutcome.Done → StopsWriting (store_in space.old) space.new.disks }
     ensures writes { WritesNext space.old.disks space.new.disks }
     ensures asks { AsksNext (store_in space.old) space.new.disks }
     ensures nothing { HasNothingNext (store_in space.old) → (space.new.disks ≡ space.old.disks) × (result ≡ RowOutcome.Done) }

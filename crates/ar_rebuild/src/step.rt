@@ -3,7 +3,8 @@ ghost use Rattle.std.specs.Prelude.{◌≡◌, ◌↔◌};
 ghost use Rattle.ar_extents.specs.Follows.{Keeps};
 ghost use Rattle.ar_extents.specs.Changes.{with_done};
 ghost use Rattle.ar_store.specs.Slots.{AllStand, SlotsHold};
-ghost use Rattle.ar_rebuild.specs.Rows.{IsBesideNext, HasNothingNext, IsSpared, AsksNext};
+ghost use Rattle.ar_extents.specs.Health.{IsRebuilding};
+ghost use Rattle.ar_rebuild.specs.Rows.{IsBesideNext, HasNothingNext, IsSpared, AsksNext, StopsWriting};
 ghost use Rattle.ar_rebuild.specs.Rebuild.{IsQuiet, Answers, Advances};
 
 use crate::extent::rebuild_extent;
@@ -41,6 +42,9 @@ pub fn rebuild_one<D: Disk>(store: &mut Store<D>) -> Rebuild
     ensures broken { (result ≡ Rebuild.Broken) ↔ (store.new.disks.health ≡ Health.Broken) }
     // It is broken by another disk than the replaced one, once that has faulted nothing more is asked.
     ensures spared { result ≡ Rebuild.Broken → IsSpared store.old.disks store.new.disks }
+    // Of the extent at which it ends so, rows are written in their order, and none past the one that couldn't be.
+    ensures given_up { result ≡ Rebuild.GivenUp → StopsWriting store.old store.new.disks }
+    ensures lost { result ≡ Rebuild.Broken → IsRebuilding store.old.disks.health → StopsWriting store.old store.new.disks }
 
     ensures book { store.new.book ≡ store.old.book }
     ensures stands { AllStand store.old store.new }

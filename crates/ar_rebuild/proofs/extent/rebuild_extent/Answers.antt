@@ -7,7 +7,7 @@ use Rattle.ar_rebuild.specs.Rows.{IsBesideNext, AsksNext}
 use Rattle.ar_rebuild.specs.Rebuild.{Advances}
 use Rattle.ar_rebuild.proofs.ExtentLemmas.{rebuilding_is, asks_done}
 use Rattle.ar_rebuild.proofs.Advancing.{calm, advances_given_up, advances_lost, advances_done, done_not_broken, keeps_done, out_not_broken}
-use Rattle.ar_rebuild.proofs.StepLemmas.{unharmed_stopped, unharmed_done, counted, gave_up, gave_up_alone, lost_not_idle, given_up_not_done, broken_not_done}
+use Rattle.ar_rebuild.proofs.StepLemmas.{unharmed_stopped, unharmed_done, counted, gave_up, gave_up_alone, done_gave, lost_not_idle, given_up_not_done, broken_not_done}
 use Rattle.ar_rebuild.proofs.extent.rebuild_extent.Goals as goal
 
 pub returns-in-Done : goal.returns-in-Done
@@ -25,6 +25,8 @@ returns-in-Done g c =
     record {
       answer = told.answer;
       spared = λ lost. absurd (told.sound lost);
+      given_up = λ gave. absurd (done_gave c.count_done.result b.disks d gave c.count_done.ensures.counts);
+      lost = λ lost. absurd (told.sound lost);
       idle = told.some;
       broken = (
         (λ lost. absurd (told.sound lost)),
@@ -52,6 +54,8 @@ returns-in-GivenUp g c =
     record {
       answer = record { was = rebuilding; given_up = given_up };
       spared = λ lost. absurd (gave_up_alone lost);
+      given_up = λ _. call.stopped (λ done. given_up_not_done (sym c.in-GivenUp.is ∙ done));
+      lost = λ lost. absurd (gave_up_alone lost);
       idle = gave_up;
       broken = ((λ lost. absurd (gave_up_alone lost)), (λ broken. absurd (out_not_broken _ (sym given_up.out ∙ broken))));
       ready = record { space = left.space; scratch = call.scratch ∙ c.requires.ready.scratch ∙ sym call.writes.follows.geometry };
@@ -74,6 +78,8 @@ returns-in-Broken g c =
     record {
       answer = broken;
       spared = λ _. c.in-Broken.ensures.spared refl;
+      given_up = λ gave. absurd (gave_up_alone (sym gave));
+      lost = λ _. call.stopped (λ done. broken_not_done (sym c.in-Broken.is ∙ done));
       idle = lost_not_idle;
       broken = ((λ lost. broken), (λ _. refl));
       ready = record { space = left.space; scratch = call.scratch ∙ c.requires.ready.scratch ∙ sym call.writes.follows.geometry };

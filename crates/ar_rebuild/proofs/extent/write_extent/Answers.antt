@@ -1,7 +1,7 @@
 use Rattle.std.proofs.Common.{sym}
 use Rattle.ar_store.specs.Store.{store_of}
 use Rattle.ar_book.specs.declared.class.Class.TheVariants.{Mirrored, Parity}
-use Rattle.ar_rebuild.proofs.ExtentLemmas.{loose_done, free_done, rows_done, asks_none, asks_member, pair_asked, used_next, mirrored_used, parity_used}
+use Rattle.ar_rebuild.proofs.ExtentLemmas.{loose_done, free_done, rows_done, asks_none, asks_member, stops_member, pair_asked, used_next, mirrored_used, parity_used}
 use Rattle.ar_rebuild.proofs.extent.write_extent.Goals as goal
 
 pub returns-in_default-clause-answer : goal.returns-in_default-clause-answer
@@ -62,3 +62,17 @@ returns-in-Parity-clause-asks g c =
     asks_member Parity s.disks c.sum_rows.new.set s.book c.args.place c.members-members.result c.in-Some.group c.position_of-position.result
     c.requires.ready.space c.requires.rebuilding c.in-Some.ensures.there c.in-Parity.ensures c.members-members.ensures
     c.position_of-position.ensures.below c.position_of-position.ensures.is c.sum_rows.ensures.touches
+
+pub returns-in-Mirrored-clause-stopped : goal.returns-in-Mirrored-clause-stopped
+returns-in-Mirrored-clause-stopped g c = λ no.
+    let s = c.args.space.now in
+    stops_member Mirrored s.disks c.copy_rows.new.set s.book c.args.place c.members-members.result c.in-Some.group c.position_of-position.result
+    c.requires.ready.space c.requires.rebuilding c.in-Some.ensures.there c.in-Mirrored.ensures c.members-members.ensures
+    c.position_of-position.ensures.below c.position_of-position.ensures.is (c.copy_rows.ensures.stopped no)
+
+pub returns-in-Parity-clause-stopped : goal.returns-in-Parity-clause-stopped
+returns-in-Parity-clause-stopped g c = λ no.
+    let s = c.args.space.now in
+    stops_member Parity s.disks c.sum_rows.new.set s.book c.args.place c.members-members.result c.in-Some.group c.position_of-position.result
+    c.requires.ready.space c.requires.rebuilding c.in-Some.ensures.there c.in-Parity.ensures c.members-members.ensures
+    c.position_of-position.ensures.below c.position_of-position.ensures.is (c.sum_rows.ensures.stopped no)

@@ -3,7 +3,7 @@ use Rattle.ar_disks.specs.Geometry.{rows_of}
 use Rattle.ar_extents.specs.declared.health.Health.{Health}
 use Rattle.ar_extents.specs.Health.{IsRebuilding}
 use Rattle.ar_extents.proofs.GroupLemmas.{group_then}
-use Rattle.ar_rebuild.proofs.RowLemmas.{AreCopied, next_same, none_copied, copied_then, copied_whole, pair_then, writes_then, stopped_then}
+use Rattle.ar_rebuild.proofs.RowLemmas.{AreCopied, copied_stops, next_same, none_copied, copied_then, copied_whole, pair_then, writes_then, stopped_then}
 use Rattle.ar_rebuild.proofs.Advancing.{spared_then}
 use Rattle.ar_rebuild.proofs.rows.copy_rows.Goals as goal
 
@@ -47,6 +47,7 @@ returns g c =
           (subst (λ n. AreCopied a b c.args.members.now c.args.position n) rows copied);
       writes = copied.writes;
       spared = λ broken. absurd (cc);
+      stopped = λ no. absurd (no refl);
       touches = copied.touches;
       scratch = c.loop-row.invariant.scratch;
     }
@@ -59,6 +60,8 @@ returns-in-GivenUp g c =
       answer = stopped_then c.args.set.now c.loop-row.set c.rebuild_row.new.set before.writes.follows before.health c.in-GivenUp.ensures.answer;
       writes = writes_then c.args.set.now c.loop-row.set c.rebuild_row.new.set c.loop-row.row before.writes before.health call.follows call.keeps call.loose;
       spared = λ broken. absurd (cc);
+      stopped = λ no. copied_stops c.args.set.now c.loop-row.set c.rebuild_row.new.set c.args.members.now c.args.position c.loop-row.row (let rows = c.rows-row-end.ensures ∙ ap rows_of c.geometry.ensures in let below = c.loop-row-test.true in omega arith) before call.keeps
+          (λ broken. absurd (let out = sym c.in-GivenUp.ensures.answer.out ∙ broken in cc));
       touches = pair_then c.args.set.now c.loop-row.set c.rebuild_row.new.set _ before.health before.touches call.touches;
       scratch = call.scratch ∙ c.loop-row.invariant.scratch;
     }
@@ -71,6 +74,8 @@ returns-in-Broken g c =
       answer = c.in-Broken.ensures.answer;
       writes = writes_then c.args.set.now c.loop-row.set c.rebuild_row.new.set c.loop-row.row before.writes before.health call.follows call.keeps call.loose;
       spared = λ _. spared_then c.args.set.now c.loop-row.set c.rebuild_row.new.set before.writes.follows before.health c.requires.rebuilding (c.in-Broken.ensures.spared refl);
+      stopped = λ no. copied_stops c.args.set.now c.loop-row.set c.rebuild_row.new.set c.args.members.now c.args.position c.loop-row.row (let rows = c.rows-row-end.ensures ∙ ap rows_of c.geometry.ensures in let below = c.loop-row-test.true in omega arith) before call.keeps
+          (λ _. c.in-Broken.ensures.unwritten refl);
       touches = pair_then c.args.set.now c.loop-row.set c.rebuild_row.new.set _ before.health before.touches call.touches;
       scratch = call.scratch ∙ c.loop-row.invariant.scratch;
     }

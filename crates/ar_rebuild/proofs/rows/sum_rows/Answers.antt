@@ -5,7 +5,7 @@ use Rattle.ar_extents.specs.Health.{IsRebuilding}
 use Rattle.ar_extents.specs.Follows.{KeepsBut}
 use Rattle.ar_extents.proofs.GroupLemmas.{group_then}
 use Rattle.ar_disks.specs.declared.address.Place.{Place}
-use Rattle.ar_rebuild.proofs.RowLemmas.{AreSummed, next_same, none_summed, spares_then, summed_then, summed_whole, writes_then, stopped_then}
+use Rattle.ar_rebuild.proofs.RowLemmas.{AreSummed, summed_stops, next_same, none_summed, spares_then, summed_then, summed_whole, writes_then, stopped_then}
 use Rattle.ar_rebuild.proofs.Advancing.{spared_then}
 use Rattle.ar_rebuild.proofs.rows.sum_rows.Goals as goal
 
@@ -49,6 +49,7 @@ returns g c =
           (subst (λ n. AreSummed a b c.args.members.now c.args.position n) rows summed);
       writes = summed.writes;
       spared = λ broken. absurd (cc);
+      stopped = λ no. absurd (no refl);
       touches = summed.touches;
       scratch = c.loop-row.invariant.scratch;
     }
@@ -65,6 +66,8 @@ returns-in-GivenUp g c =
       writes = writes_then a b c.rebuild_row.new.set c.loop-row.row before.writes before.health call.follows
           (subst P (c.requires.next ∙ sym (next_same a b before.health)) call.keeps) call.loose;
       spared = λ broken. absurd (cc);
+      stopped = λ no. summed_stops c.args.set.now c.loop-row.set c.rebuild_row.new.set c.args.members.now c.args.position c.loop-row.row (let rows = c.rows-row-end.ensures ∙ ap rows_of c.geometry.ensures in let below = c.loop-row-test.true in omega arith) c.requires.next before call.keeps
+          (λ broken. absurd (let out = sym c.in-GivenUp.ensures.answer.out ∙ broken in cc));
       touches = spares_then _ a b c.rebuild_row.new.set before.touches call.touches;
       scratch = call.scratch ∙ c.loop-row.invariant.scratch;
     }
@@ -81,6 +84,8 @@ returns-in-Broken g c =
       writes = writes_then a b c.rebuild_row.new.set c.loop-row.row before.writes before.health call.follows
           (subst P (c.requires.next ∙ sym (next_same a b before.health)) call.keeps) call.loose;
       spared = λ _. spared_then a b c.rebuild_row.new.set before.writes.follows before.health c.requires.rebuilding (c.in-Broken.ensures.spared refl);
+      stopped = λ no. summed_stops c.args.set.now c.loop-row.set c.rebuild_row.new.set c.args.members.now c.args.position c.loop-row.row (let rows = c.rows-row-end.ensures ∙ ap rows_of c.geometry.ensures in let below = c.loop-row-test.true in omega arith) c.requires.next before call.keeps
+          (λ _. c.in-Broken.ensures.unwritten refl);
       touches = spares_then _ a b c.rebuild_row.new.set before.touches call.touches;
       scratch = call.scratch ∙ c.loop-row.invariant.scratch;
     }
