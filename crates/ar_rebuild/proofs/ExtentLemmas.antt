@@ -141,38 +141,54 @@ pair_asked a b place m position is at touches =
     let P : Place → Type 0 = λ p. Spares (HasNoneOf (IsEither (member m (partner_of position)) p)) a b in
     subst P (sym (at ∙ next_is a place is)) touches
 
--- What was accessed for a member of one group is what the next extent needs: no other group has it, nor another position.
-pub asks_member : (c : Class) (a b : SetState) (t : Tables) (place : Place) (m : Members) (g position : ℕ) → IsSpace (store_of a t)
-    → a.health ≡ Rebuilding place.disk place.extent → g < length t.groups → c ≡ class_of t g → m ≡ (group_in t.groups g).members → position < 4 → member m position ≡ place
-    → Spares (HasNoneOf (NeedsNext c m position)) a b → AsksNext (store_of a t) b
-asks_member c a b t place m g position space is inside c_is m_is below at touches = record {
-  spares = λ h i there lt same.
-      elim (eqb_tells h g) [
-        | inl one ↦ (let P : ℕ → Type 0 = λ n. Needs n i in subst P (sym one.1) (here i lt (let Q : ℕ → Type 0 = λ n. Next n i in subst Q one.1 same)))
-        | inr other ↦
-            absurd
-            (let place = own ∙ sym same in
-            groups_apart (store_of a t) g h space inside there (λ e. other.1 (sym e)) position i below lt (ap (λ (p : Place). p.disk) place)
-            (ap (λ (p : Place). p.extent) place))
-      ];
-}
+-- What holds of the member that has the next extent holds wherever that extent is met: no other group has it, nor another position.
+member_alone : (Holds : Class → Members → ℕ → Type 0) (c : Class) (a : SetState) (t : Tables) (place : Place) (m : Members) (g position : ℕ)
+    → IsSpace (store_of a t) → a.health ≡ Rebuilding place.disk place.extent → g < length t.groups → c ≡ class_of t g
+    → m ≡ (group_in t.groups g).members → position < 4 → member m position ≡ place → Holds c m position → (h i : ℕ)
+    → h < length t.groups → i < 4 → member (group_in t.groups h).members i ≡ next_place a → Holds (class_of t h) (group_in t.groups h).members i
+member_alone Holds c a t place m g position space is inside c_is m_is below at holds h i there lt same =
+    elim (eqb_tells h g) [
+      | inl one ↦ (let P : ℕ → Type 0 = λ n. HoldsAt n i in subst P (sym one.1) (here (let Q : ℕ → Type 0 = λ n. Next n i in subst Q one.1 same)))
+      | inr other ↦
+          absurd
+          (let place = own ∙ sym same in
+          groups_apart (store_of a t) g h space inside there (λ e. other.1 (sym e)) position i below lt (ap (λ (p : Place). p.disk) place)
+          (ap (λ (p : Place). p.extent) place))
+    ]
   where
     Next : ℕ → ℕ → Type 0
-    Next h i = member (group_in t.groups h).members i ≡ next_place a
+    Next n k = member (group_in t.groups n).members k ≡ next_place a
 
-    Needs : ℕ → ℕ → Type 0
-    Needs h i = Spares (HasNoneOf (NeedsNext (class_of t h) (group_in t.groups h).members i)) a b
+    HoldsAt : ℕ → ℕ → Type 0
+    HoldsAt n k = Holds (class_of t n) (group_in t.groups n).members k
 
     own : Next g position
     own = subst (λ (x : Members). member x position ≡ next_place a) m_is (at ∙ next_is a place is)
 
-    here : (i : ℕ) → i < 4 → Next g i → Needs g i
-    here i lt same =
-        let position_is : i ≡ position = members_differ (group_in t.groups g).members i position (slot_group (store_of a t) g space inside).apart lt below (same ∙ sym own) in
-        let P : ℕ → Type 0 = λ n. Needs g n in
+    here : Next g i → HoldsAt g i
+    here met =
+        let position_is : i ≡ position = members_differ (group_in t.groups g).members i position (slot_group (store_of a t) g space inside).apart lt below (met ∙ sym own) in
+        let P : ℕ → Type 0 = λ n. HoldsAt g n in
         subst P (sym position_is)
-        (subst (λ (x : Class). Spares (HasNoneOf (NeedsNext x (group_in t.groups g).members position)) a b) c_is
-        (subst (λ (x : Members). Spares (HasNoneOf (NeedsNext c x position)) a b) m_is touches))
+        (subst (λ (x : Class). Holds x (group_in t.groups g).members position) c_is (subst (λ (x : Members). Holds c x position) m_is holds))
+
+-- What was accessed for a member of one group is what the next extent needs.
+pub asks_member : (c : Class) (a b : SetState) (t : Tables) (place : Place) (m : Members) (g position : ℕ) → IsSpace (store_of a t)
+    → a.health ≡ Rebuilding place.disk place.extent → g < length t.groups → c ≡ class_of t g → m ≡ (group_in t.groups g).members → position < 4 → member m position ≡ place
+    → Spares (HasNoneOf (NeedsNext c m position)) a b → AsksNext (store_of a t) b
+asks_member c a b t place m g position space is inside c_is m_is below at touches = record {
+  spares =
+      member_alone (λ class members i. Spares (HasNoneOf (NeedsNext class members i)) a b) c a t place m g position space is inside c_is m_is below
+      at touches;
+}
+
+-- where the writing of a member of one group stopped, that of the next extent did
+pub stops_member : (c : Class) (a b : SetState) (t : Tables) (place : Place) (m : Members) (g position : ℕ) → IsSpace (store_of a t)
+    → a.health ≡ Rebuilding place.disk place.extent → g < length t.groups → c ≡ class_of t g → m ≡ (group_in t.groups g).members → position < 4 → member m position ≡ place
+    → StopsAt c a b m position → StopsWriting (store_of a t) b
+stops_member c a b t place m g position space is inside c_is m_is below at stopped = record {
+  stops = member_alone (λ class members i. StopsAt class a b members i) c a t place m g position space is inside c_is m_is below at stopped;
+}
 
 -- An extent whose group is in use isn't nothing to write.
 pub used_next : (c : Class) (a : SetState) (t : Tables) (place : Place) (m : Members) (g position : ℕ) → a.health ≡ Rebuilding place.disk place.extent
@@ -187,36 +203,3 @@ mirrored_used e = cc
 
 pub parity_used : Parity ≢ Free
 parity_used e = cc
-
--- The writing of a member of one group stopped at a row: no other group has the next extent, nor another position.
-pub stops_member : (c : Class) (a b : SetState) (t : Tables) (place : Place) (m : Members) (g position : ℕ) → IsSpace (store_of a t)
-    → a.health ≡ Rebuilding place.disk place.extent → g < length t.groups → c ≡ class_of t g → m ≡ (group_in t.groups g).members → position < 4 → member m position ≡ place
-    → StopsAt c a b m position → StopsWriting (store_of a t) b
-stops_member c a b t place m g position space is inside c_is m_is below at stopped = record {
-  stops = λ h i there lt same.
-      elim (eqb_tells h g) [
-        | inl one ↦ (let P : ℕ → Type 0 = λ n. Stops n i in subst P (sym one.1) (here i lt (let Q : ℕ → Type 0 = λ n. Next n i in subst Q one.1 same)))
-        | inr other ↦
-            absurd
-            (let place = own ∙ sym same in
-            groups_apart (store_of a t) g h space inside there (λ e. other.1 (sym e)) position i below lt (ap (λ (p : Place). p.disk) place)
-            (ap (λ (p : Place). p.extent) place))
-      ];
-}
-  where
-    Next : ℕ → ℕ → Type 0
-    Next h i = member (group_in t.groups h).members i ≡ next_place a
-
-    Stops : ℕ → ℕ → Type 0
-    Stops h i = StopsAt (class_of t h) a b (group_in t.groups h).members i
-
-    own : Next g position
-    own = subst (λ (x : Members). member x position ≡ next_place a) m_is (at ∙ next_is a place is)
-
-    here : (i : ℕ) → i < 4 → Next g i → Stops g i
-    here i lt same =
-        let position_is : i ≡ position = members_differ (group_in t.groups g).members i position (slot_group (store_of a t) g space inside).apart lt below (same ∙ sym own) in
-        let P : ℕ → Type 0 = λ n. Stops g n in
-        subst P (sym position_is)
-        (subst (λ (x : Class). StopsAt x a b (group_in t.groups g).members position) c_is
-        (subst (λ (x : Members). StopsAt c a b x position) m_is stopped))
