@@ -36,6 +36,7 @@ pub fn rebuild_row<D: Disk>(
     ensures unwritten { result ≡ RowOutcome.Broken → Keeps Anywhere set.old set.new }
     ensures spared { result ≡ RowOutcome.Broken
         → faults_of set.new (rebuilt_disk set.old.health) ≡ faults_of set.old (rebuilt_disk set.old.health) }
+    ensures unasked { result ≡ RowOutcome.Broken → Spares (λ d. d ≡ rebuilt_disk set.old.health) set.old set.new }
     ensures slots { AllSlotsHold set.old set.new }
 
     ensures follows { Follows set.old set.new }
@@ -60,6 +61,7 @@ fn copy_row<D: Disk>(set: &mut DiskSet<D>, from: Place, row: u16, block: &mut Bl
     ensures unwritten { result ≡ RowOutcome.Broken → Keeps Anywhere set.old set.new }
     ensures spared { result ≡ RowOutcome.Broken
         → faults_of set.new (rebuilt_disk set.old.health) ≡ faults_of set.old (rebuilt_disk set.old.health) }
+    ensures unasked { result ≡ RowOutcome.Broken → Spares (λ d. d ≡ rebuilt_disk set.old.health) set.old set.new }
 
     ensures follows { Follows set.old set.new }
     ensures touches { Spares (HasNoneOf (IsEither from (next_place set.old))) set.old set.new }
