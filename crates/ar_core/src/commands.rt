@@ -1,5 +1,5 @@
 // The array: what a command to a unit does.
-ghost use Rattle.std.specs.Prelude.{◌≡◌, ◌≢◌, ◌⊎◌, ◌+◌, ◌-◌, ◌*◌, ◌/◌, ◌≤◌, ◌<◌, ◌==◌, not, false, true, IsTrue, Ok, nat_lt, if◌then◌else◌, length, []};
+ghost use Rattle.std.specs.Prelude.{◌≡◌, ◌≢◌, ◌⊎◌, ℕ, ◌+◌, ◌-◌, ◌*◌, ◌/◌, ◌≤◌, ◌<◌, ◌==◌, not, false, true, IsTrue, Ok, nat_lt, if◌then◌else◌, length, []};
 ghost use Rattle.ar_disks.specs.declared.address.Key.{Key};
 ghost use Rattle.ar_disks.specs.Geometry.{block_len_of, sectors_of};
 ghost use Rattle.ar_scsi.specs.declared.reply.Status.TheVariants.{Good, CheckCondition, Busy};
@@ -8,20 +8,21 @@ ghost use Rattle.ar_scsi.specs.Reply.{good, check, busy};
 ghost use Rattle.ar_scsi.specs.Sense.{internal_target_failure, logical_block_address_out_of_range, data_phase_error, capacity_data_has_changed};
 ghost use Rattle.ar_unit.specs.Unit.{obeyed, IsGiven, leaving, read_reply, write_answer};
 ghost use Rattle.ar_unit.specs.Broken.{broken_obeyed};
-ghost use Rattle.ar_cache.specs.Backing.{InTurn, StopsInTurn, stored};
+ghost use Rattle.ar_cache.specs.Backing.{InTurn, Keeps, SameBlocks, StopsInTurn, stored};
 ghost use Rattle.ar_cache.specs.Cache.{cached};
 ghost use Rattle.ar_image.specs.Image.{is_broken, geometry_of, seen_at, unit_sectors, attention_at, with_book};
 ghost use Rattle.ar_image.specs.Seen.{IsUnit, SameSeen, IsSpared, Writes, present_at, sectors_read};
 ghost use Rattle.ar_core.specs.Served.{Serves, Settles, Commands};
 ghost use Rattle.ar_image.specs.Following.{Follows};
-ghost use Rattle.ar_image.specs.Sectors.{keys_in};
+ghost use Rattle.ar_image.specs.Sectors.{key_of, keys_in, sectors_in, unit_block};
+ghost use Rattle.std.specs.List.{concat};
 ghost use Rattle.ar_image.specs.Seen.{IsForced};
 ghost use Rattle.ar_image.specs.Storing.{BreaksForced, ForcesBlock, PutsBlocks, ReadsBlock, ReadsFirst, StopsPutting, StopsStoring, StoresBlocks};
 ghost use Rattle.ar_book.specs.Changes.{unmarked};
 
 use crate::{Array, Completion};
-use ar_disks::{Addr, Disk};
-use ar_image::{Transfer, read_sectors, write_sectors};
+use ar_disks::{Addr, Block, Disk, Geometry};
+use ar_image::{Backing, Transfer, read_sectors, write_sectors};
 use ar_scsi::{Command, Reply, Sense, decode, is_inquiry};
 use ar_unit::{absent, capacity, inquiry, is_past_end};
 use bytes::Bytes;
@@ -161,19 +162,15 @@ impl<D: Disk> Array<D> {
             return Reply::good(Bytes::new());
         }
         let geometry = self.blocks.geometry();
-        let Ok(mut out) = Vec::with_capacity(alloc, count as usize * 512) else {
-            return Reply::busy();
-        };
-        let transfer = read_sectors(
+        fetch(
             &mut self.blocks,
+            alloc,
             geometry,
             addr,
             lba,
             count,
             &mut self.block,
-            &mut out,
-        );
-        reply_to_read(transfer, out)
+        )
     }
 
     // Does what a WRITE with valid fields asks.
@@ -299,6 +296,45 @@ impl<D: Disk> Array<D> {
         let last = (lba + count - 1) / sectors_of_a_block;
         self.blocks.force(addr, first, last)
     }
+}
+
+// The reply to a READ of at least one sector: memory for all its bytes is asked for first, and then its blocks are read. (Over any
+// backing: a read of the array may leave no trace, and then to have read the first of its blocks is to have read them all.)
+fn fetch<B: Backing>(
+    blocks: &mut B,
+    alloc: Global,
+    geometry: Geometry,
+    addr: Addr,
+    lba: u32,
+    count: u32,
+    block: &mut Block,
+) -> Reply
+    requires sound { B.is_broken blocks.old ≡ false }
+    requires shape { geometry ≡ B.geometry blocks.old }
+    requires whole { length block.old ≡ block_len_of geometry }
+    requires known { (rb : ℕ) → rb * sectors_of geometry < lba + count → IsTrue (B.knows blocks.old (key_of addr rb)) }
+    requires small { lba + count ≤ 1048576 }
+    requires some { 0 < count }
+    requires few { count < 65536 }
+    ensures begun { ReadsFirst B.gets geometry addr lba count blocks.old blocks.new }
+    ensures got { result.status ≡ Good → InTurn B.gets (keys_in geometry addr lba count) blocks.old blocks.new }
+    ensures busy_read { result.status ≡ Busy
+        → (blocks.new ≡ blocks.old) ⊎ InTurn B.gets (keys_in geometry addr lba count) blocks.old blocks.new }
+    ensures done { result.status ≡ Good → result ≡ good (concat (sectors_in geometry (unit_block (B.block_at blocks.old) addr) lba count)) }
+    ensures busy { result.status ≡ Busy → result ≡ busy }
+    ensures failed { result.status ≡ CheckCondition → result ≡ check internal_target_failure }
+    ensures broken { result.status ≡ CheckCondition → IsTrue (B.is_broken blocks.new) }
+    ensures sound { result.status ≢ CheckCondition → B.is_broken blocks.new ≡ false }
+    ensures blocks { result.status ≢ CheckCondition → SameBlocks (B.block_at blocks.old) (B.block_at blocks.new) }
+    ensures keeps { Keeps B.geometry B.knows B.is_broken B.follows blocks.old blocks.new }
+    ensures few { length result.payload ≤ 65535 * 512 }
+    ensures len { length block.new ≡ length block.old }
+{
+    let Ok(mut out) = Vec::with_capacity(alloc, count as usize * 512) else {
+        return Reply::busy();
+    };
+    let transfer = read_sectors(blocks, geometry, addr, lba, count, block, &mut out);
+    reply_to_read(transfer, out)
 }
 
 // The reply to a READ whose transfer ended so, with these bytes.

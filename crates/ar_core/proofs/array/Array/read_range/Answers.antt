@@ -1,89 +1,63 @@
-use Rattle.std.proofs.Common.{◌≡◌, inr, ◌<◌, ◌*◌, ◌+◌, ◌++◌, ℕ, List, length, subst, sym, ap, ◌∙◌, arith}
-use Rattle.std.specs.List.{concat}
+use Rattle.std.proofs.Common.{◌≡◌, ◌≢◌, ℕ, [], false, IsTrue, List, length, refl, subst, sym, ap, ◌∙◌, arith}
+use Rattle.ar_disks.specs.declared.address.Addr.{Addr}
 use Rattle.ar_disks.specs.declared.address.Key.{Key}
 use Rattle.ar_disks.specs.declared.geometry.Geometry.{Geometry}
-use Rattle.ar_disks.specs.Geometry.{sectors_of, block_len_of}
-use Rattle.ar_scsi.specs.Reply.{good, check}
+use Rattle.ar_disks.specs.Geometry.{block_len_of}
+use Rattle.ar_scsi.specs.Reply.{good, check, busy}
 use Rattle.ar_scsi.specs.Sense.{internal_target_failure}
 use Rattle.ar_scsi.specs.declared.reply.Reply.{Reply}
+use Rattle.ar_scsi.specs.declared.reply.Status.{Status}
+use Rattle.ar_scsi.specs.declared.reply.Status.TheVariants.{Good, CheckCondition, Busy}
 use Rattle.ar_unit.specs.Unit.{IsGiven, leaving}
+use Rattle.ar_image.specs.declared.transfer.Transfer.TheVariants as transfers
 use Rattle.ar_image.specs.Image.{ArrayState, is_broken, geometry_of, seen_at}
 use Rattle.ar_image.specs.Following.{Follows}
-use Rattle.ar_cache.specs.Backing.{InTurn}
-use Rattle.ar_image.specs.Sectors.{sectors_in, keys_in, unit_block}
-use Rattle.ar_image.specs.Storing.{ReadsBlock, ReadsFirst}
-use Rattle.ar_image.specs.Seen.{IsUnit, present_at, sectors_read}
+use Rattle.std.specs.List.{concat}
+use Rattle.ar_image.specs.Sectors.{sectors_in, unit_block}
+use Rattle.ar_image.specs.Seen.{SameSeen, present_at, sectors_read}
 use Rattle.ar_core.specs.Served.{Serves}
 use Rattle.ar_core.proofs.Events.{padded_follows}
-use Rattle.ar_core.proofs.Serving.{key_known, moved_all, serves_quiet, serves_read, sectors_read-some, given_busy, transfer_sound}
+use Rattle.ar_core.proofs.Serving.{serves_read, sectors_read-some}
 use Rattle.ar_core.proofs.array.Array.read_range.Goals as goal
 
-pub returns-in_default-clause-serves : goal.returns-in_default-clause-serves
-returns-in_default-clause-serves g c =
-    serves_quiet c.args.self.now c.args.addr (good (sectors_read c.args.self.now c.args.addr c.args.lba c.args.count)) (check internal_target_failure) c.busy.result
-    (λ now.
-    subst (λ (r : Reply). IsGiven (good (sectors_read c.args.self.now c.args.addr c.args.lba c.args.count)) r) (sym c.busy.ensures)
-    (given_busy _ (sectors_read-some c.args.self.now c.args.addr c.args.lba c.args.count c.requires.blocks (omega arith))))
-    (λ lost. (let sound = c.requires.sound in absurd (cc)))
+-- what is given is a reply that is the table's
+given_same : (payload : List ℕ) (reply : Reply) → reply ≡ good payload → IsGiven (good payload) reply
+given_same payload reply is = subst (λ (r : Reply). IsGiven (good payload) r) (sym is) (record { answered = λ _. refl; refused = λ e. absurd (cc); memory = λ e. absurd (cc) })
 
-pub read_sectors-transfer-requires-clause-known : goal.read_sectors-transfer-requires-clause-known
-read_sectors-transfer-requires-clause-known g c = λ rb within.
-    let unit = subst (λ (s : ArrayState). IsUnit s c.args.addr c.args.sectors) (sym c.self.view_is) c.requires.unit in
-    let below : rb * sectors_of (geometry_of c.self.inside.blocks) < c.args.lba + c.args.count =
-    subst (λ (h : Geometry). rb * sectors_of h < c.args.lba + c.args.count) c.geometry-geometry.ensures within in
-    key_known c.self.inside.blocks c.args.addr c.args.sectors rb unit (omega (arith, below, c.requires.within))
-
-pub reply_to_read-requires-clause-some : goal.reply_to_read-requires-clause-some
-reply_to_read-requires-clause-some g c = λ done none.
-    let bytes : c.read_sectors-transfer.new.out.items ≡ sectors_read c.self.inside.blocks c.args.addr c.args.lba c.args.count =
-    c.read_sectors-transfer.ensures.done done
-    ∙ ap (λ (l : List ℕ). l ++ concat (sectors_in c.geometry-geometry.result (unit_block (seen_at c.self.inside.blocks) c.args.addr) c.args.lba c.args.count)) c.in-Ok.ensures.items
-    ∙ ap (λ (h : Geometry). concat (sectors_in h (unit_block (seen_at c.self.inside.blocks) c.args.addr) c.args.lba c.args.count)) c.geometry-geometry.ensures in
-    let whole = subst (λ (s : ArrayState). (k : Key) → length (seen_at s k) ≡ block_len_of (geometry_of s)) (sym c.self.view_is) c.requires.blocks in
-    sectors_read-some c.self.inside.blocks c.args.addr c.args.lba c.args.count whole (omega arith) (sym bytes ∙ none)
+serves_fetched : (old new : ArrayState) (addr : Addr) (lba count : ℕ) (reply : Reply) (status : Status) → reply.status ≡ status
+    → Follows old new → sectors_read old addr lba count ≢ []
+    → (reply.status ≢ CheckCondition → SameSeen old new) → (reply.status ≢ CheckCondition → is_broken new ≡ false) → (reply.status ≡ CheckCondition → IsTrue (is_broken new))
+    → (reply.status ≡ Good → reply ≡ good (sectors_read old addr lba count)) → (reply.status ≡ Busy → reply ≡ busy) → (reply.status ≡ CheckCondition → reply ≡ check internal_target_failure)
+    → Serves old addr (leaving (present_at old addr) (good (sectors_read old addr lba count))) (check internal_target_failure) reply new
+serves_fetched old new addr lba count reply Good is follows some seen sound broken done refused failed =
+    serves_read old new addr lba count transfers.Done (sectors_read old addr lba count) reply follows (λ _. seen (λ e. cc)) some (λ _. sound (λ e. cc)) (λ e. absurd (cc))
+    (λ _. refl) (λ _. given_same (sectors_read old addr lba count) reply (done is)) (λ e. absurd (cc)) (λ e. absurd (cc))
+serves_fetched old new addr lba count reply Busy is follows some seen sound broken done refused failed =
+    serves_read old new addr lba count transfers.NoMemory (sectors_read old addr lba count) reply follows (λ _. seen (λ e. cc)) some (λ _. sound (λ e. cc)) (λ e. absurd (cc))
+    (λ _. refl) (λ e. absurd (cc)) (λ e. absurd (cc)) (λ _. refused is)
+serves_fetched old new addr lba count reply CheckCondition is follows some seen sound broken done refused failed =
+    serves_read old new addr lba count transfers.Broken (sectors_read old addr lba count) reply follows (λ e. absurd (e refl)) some (λ e. absurd (e refl)) (λ _. broken is)
+    (λ _. refl) (λ e. absurd (cc)) (λ _. failed is) (λ e. absurd (cc))
 
 pub invariant_of-self : goal.invariant_of-self
 invariant_of-self g c =
-    let follows : Follows c.self.inside.blocks c.read_sectors-transfer.new.blocks = c.read_sectors-transfer.ensures.keeps.joined in (
-      padded_follows c.self.inside.blocks c.read_sectors-transfer.new.blocks c.self.invariant.0 follows
-          (λ now. record { same = (c.read_sectors-transfer.ensures.blocks (transfer_sound c.read_sectors-transfer.result (is_broken c.read_sectors-transfer.new.blocks) c.read_sectors-transfer.ensures.broken now)).same }),
-      c.read_sectors-transfer.ensures.len ∙ c.self.invariant.1 ∙ ap block_len_of (sym follows.store.accessed.follows.geometry),
+    let follows : Follows c.self.inside.blocks c.fetch.new.blocks = c.fetch.ensures.keeps.joined in (
+      padded_follows c.self.inside.blocks c.fetch.new.blocks c.self.invariant.0 follows
+          (λ now. record { same = (c.fetch.ensures.blocks (λ failed. (let lost = c.fetch.ensures.broken failed in absurd (cc)))).same }),
+      c.fetch.ensures.len ∙ c.self.invariant.1 ∙ ap block_len_of (sym follows.store.accessed.follows.geometry),
     )
 
 pub returns-clause-serves : goal.returns-clause-serves
 returns-clause-serves g c =
     let whole = subst (λ (s : ArrayState). (k : Key) → length (seen_at s k) ≡ block_len_of (geometry_of s)) (sym c.self.view_is) c.requires.blocks in
     subst
-    (λ (s : ArrayState). Serves s c.args.addr (leaving (present_at s c.args.addr) (good (sectors_read s c.args.addr c.args.lba c.args.count))) (check internal_target_failure) c.reply_to_read.result c.read_sectors-transfer.new.blocks)
+    (λ (s : ArrayState). Serves s c.args.addr (leaving (present_at s c.args.addr) (good (sectors_read s c.args.addr c.args.lba c.args.count))) (check internal_target_failure) c.fetch.result c.fetch.new.blocks)
     c.self.view_is
-    (serves_read c.self.inside.blocks c.read_sectors-transfer.new.blocks c.args.addr c.args.lba c.args.count c.read_sectors-transfer.result c.read_sectors-transfer.new.out.items c.reply_to_read.result
-    c.read_sectors-transfer.ensures.keeps.joined
-    (λ sound. record { same = (c.read_sectors-transfer.ensures.blocks sound).same })
+    (serves_fetched c.self.inside.blocks c.fetch.new.blocks c.args.addr c.args.lba c.args.count c.fetch.result c.fetch.result.status refl
+    c.fetch.ensures.keeps.joined
     (sectors_read-some c.self.inside.blocks c.args.addr c.args.lba c.args.count whole (omega arith))
-    c.read_sectors-transfer.ensures.sound c.read_sectors-transfer.ensures.broken
-    (λ done.
-    c.read_sectors-transfer.ensures.done done
-    ∙ ap (λ (l : List ℕ). l ++ concat (sectors_in c.geometry-geometry.result (unit_block (seen_at c.self.inside.blocks) c.args.addr) c.args.lba c.args.count)) c.in-Ok.ensures.items
-    ∙ ap (λ (h : Geometry). concat (sectors_in h (unit_block (seen_at c.self.inside.blocks) c.args.addr) c.args.lba c.args.count)) c.geometry-geometry.ensures)
-    c.reply_to_read.ensures.done c.reply_to_read.ensures.broken c.reply_to_read.ensures.memory)
-
-pub returns-clause-begun : goal.returns-clause-begun
-returns-clause-begun g c =
-    subst (λ (s : ArrayState). ReadsFirst ReadsBlock (geometry_of s) c.args.addr c.args.lba c.args.count s c.read_sectors-transfer.new.blocks) c.self.view_is
-    (subst (λ (h : Geometry). ReadsFirst ReadsBlock h c.args.addr c.args.lba c.args.count c.self.inside.blocks c.read_sectors-transfer.new.blocks) c.geometry-geometry.ensures c.read_sectors-transfer.ensures.gets)
-
-pub returns-clause-got : goal.returns-clause-got
-returns-clause-got g c = λ good.
-    subst (λ (s : ArrayState). InTurn ReadsBlock (keys_in (geometry_of s) c.args.addr c.args.lba c.args.count) s c.read_sectors-transfer.new.blocks) c.self.view_is
-    (subst (λ (h : Geometry). InTurn ReadsBlock (keys_in h c.args.addr c.args.lba c.args.count) c.self.inside.blocks c.read_sectors-transfer.new.blocks) c.geometry-geometry.ensures
-    (c.read_sectors-transfer.ensures.all (c.reply_to_read.ensures.whole good)))
-
-pub returns-clause-busy_read : goal.returns-clause-busy_read
-returns-clause-busy_read g c = λ busy.
-    let len = c.in-Ok.ensures.len in
-    let capacity = c.in-Ok.ensures.capacity in
-    let all = c.read_sectors-transfer.ensures.all
-    (moved_all c.read_sectors-transfer.result c.reply_to_read.result busy c.reply_to_read.ensures.broken (c.read_sectors-transfer.ensures.room (omega arith))) in
-    inr (subst (λ (s : ArrayState). InTurn ReadsBlock (keys_in (geometry_of s) c.args.addr c.args.lba c.args.count) s c.read_sectors-transfer.new.blocks) c.self.view_is
-    (subst (λ (h : Geometry). InTurn ReadsBlock (keys_in h c.args.addr c.args.lba c.args.count) c.self.inside.blocks c.read_sectors-transfer.new.blocks)
-    c.geometry-geometry.ensures all))
+    (λ fine. record { same = (c.fetch.ensures.blocks fine).same })
+    c.fetch.ensures.sound c.fetch.ensures.broken
+    (λ done. c.fetch.ensures.done done
+    ∙ ap (λ (h : Geometry). good (concat (sectors_in h (unit_block (seen_at c.self.inside.blocks) c.args.addr) c.args.lba c.args.count))) c.geometry-geometry.ensures)
+    c.fetch.ensures.busy c.fetch.ensures.failed)
