@@ -45,7 +45,7 @@ impl Book {
         ensures empty { IfSome result (IsEmpty self.new) }
         ensures unchanged { IfNone result (self.new ≡ self.old) }
         ensures still { IfNone result (steps.new.count ≡ steps.old.count) }
-        ensures few { length self.old.groups ≤ 4096 → steps.new.count ≤ steps.old.count + (8 * rows_of self.old.geometry + 120) }
+        ensures few { length self.old.groups ≤ 4096 → steps.new.count ≤ steps.old.count + (3 * rows_of self.old.geometry + 12) }
         ensures on { steps.old.count ≤ steps.new.count }
     {
         if self.free_groups() < 2 {

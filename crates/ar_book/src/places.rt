@@ -19,7 +19,7 @@ impl Book {
         requires slot { HasSlot self.old slot }
         requires empty { key_at self.old slot ≡ None }
         ensures assigned { self.new ≡ assigned self.old key slot }
-        ensures few { length self.old.groups ≤ 4096 → steps.new.count ≤ steps.old.count + (8 * rows_of self.old.geometry + 120) }
+        ensures few { length self.old.groups ≤ 4096 → steps.new.count ≤ steps.old.count + (6 * rows_of self.old.geometry + 24) }
         ensures on { steps.old.count ≤ steps.new.count }
     {
         let former = home_in(&self.units, key);
@@ -48,7 +48,7 @@ impl Book {
     pub fn release(&mut self, key: Key, steps: &mut Steps)
         requires { HasBlock self.old key }
         ensures released { self.new ≡ released self.old key }
-        ensures few { length self.old.groups ≤ 4096 → steps.new.count ≤ steps.old.count + (8 * rows_of self.old.geometry + 120) }
+        ensures few { length self.old.groups ≤ 4096 → steps.new.count ≤ steps.old.count + (3 * rows_of self.old.geometry + 12) }
         ensures on { steps.old.count ≤ steps.new.count }
     {
         let home = home_in(&self.units, key);
@@ -71,7 +71,7 @@ impl Book {
         ensures stamped { self.new ≡ stamped self.old key }
         ensures still { ForSome (home self.old key) (λ slot. KeepsOldest (oldest_in self.old slot.group) key self.new.puts)
             → steps.new.count ≡ steps.old.count }
-        ensures few { length self.old.groups ≤ 4096 → steps.new.count ≤ steps.old.count + (8 * rows_of self.old.geometry + 120) }
+        ensures few { length self.old.groups ≤ 4096 → steps.new.count ≤ steps.old.count + (3 * rows_of self.old.geometry + 12) }
         ensures on { steps.old.count ≤ steps.new.count }
     {
         self.puts = self.puts.saturating_add(1);
