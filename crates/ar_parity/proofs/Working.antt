@@ -1,8 +1,8 @@
 -- Which members of a group are worked on.
-use Rattle.std.proofs.Common.{◌≡◌, inl, inr, ℕ, ◌<◌, Bool, refl, sym, ◌∙◌, ap, subst}
+use Rattle.std.proofs.Common.{◌≡◌, ◌≢◌, inl, inr, ℕ, ◌<◌, Bool, refl, sym, ◌∙◌, ap, subst}
 use Rattle.ar_disks.specs.declared.address.Place.{Place}
 use Rattle.ar_disks.specs.declared.address.Members.{Members}
-use Rattle.ar_disks.specs.Members.{member}
+use Rattle.ar_disks.specs.Members.{member, AreApart}
 use Rattle.ar_extents.specs.declared.health.Health.{Health}
 use Rattle.ar_extents.specs.Health.{IsRebuilding, rebuilt_disk}
 use Rattle.ar_extents.specs.Set.{SetState, IsSound}
@@ -14,6 +14,7 @@ use Rattle.ar_extents.proofs.Access.{works_read}
 use Rattle.ar_extents.proofs.Losses.{missing_lost, next_missing, lost_not_sound}
 use Rattle.ar_parity.specs.Row.{Blocks}
 use Rattle.ar_parity.specs.Group.{RowAgrees}
+use Rattle.ar_parity.specs.Call.{IsOffDiskOf}
 use Rattle.ar_parity.proofs.Agrees.{add_up_then, agrees_read}
 
 -- a member was read, by its place
@@ -28,6 +29,13 @@ first_of_two m i j a b works = works_more (IsPlace (member m i)) (IsEither (memb
 
 pub second_of_two : (m : Members) (i j : ℕ) (a b : SetState) → WorksOn (IsPlace (member m j)) a b → WorksOn (IsEither (member m i) (member m j)) a b
 second_of_two m i j a b works = works_more (IsPlace (member m j)) (IsEither (member m i) (member m j)) a b (λ p is. inr is) works
+
+-- work on a member leaves the disk of another
+pub off_disk : (m : Members) (i j : ℕ) (a b : SetState) → AreApart m → i < 4 → j < 4 → i ≢ j → WorksOn (IsPlace (member m i)) a b
+    → WorksOn (IsOffDiskOf (member m j)) a b
+off_disk m i j a b apart li lj ne works =
+    works_more (IsPlace (member m i)) (IsOffDiskOf (member m j)) a b
+    (λ p is same. apart i j li lj ne (sym (ap (λ (x : Place). x.disk) is) ∙ same)) works
 
 -- The extent that is rebuilt was written, once its group was read: no disk but the members' was accessed,
 pub row_spares : (a b c : SetState) (m : Members) (position : ℕ) (answered : Bool) → position < 4 → member m position ≡ next_place a

@@ -24,11 +24,15 @@ Tells s Broken = s.health ≡ AllBroken
 pub record Changes (old new : SetState) (m : Members) (row position : ℕ) (bytes : List ℕ) : Type 0 where
   pub agrees : (blocks : Blocks) → RowAgrees old m row blocks → RowAgrees new m row (changed blocks position (parity_position row) bytes)
 
--- Rows were read, and nothing was written; and then no extent was asked but a slot's own and the one with its row's parity. So
--- what is written was known before, and none that is only read for it is asked once it stands.
+-- the extent is on another disk than this one
+abbrev pub IsOffDiskOf : Place → Place → Type 0
+IsOffDiskOf one place = place.disk ≢ one.disk
+
+-- Rows of other disks than the parity's were read, and nothing was written; and then no extent was asked but a slot's own and the
+-- one with its row's parity. So what is written was known before, and none that is only read for it is asked once it stands.
 pub record ReadsBefore (own parity : Place) (old new : SetState) : Type 0 where
   pub read : SetState
-  pub reads : WorksOn Anywhere old read
+  pub reads : WorksOn (IsOffDiskOf parity) old read
   pub kept : Keeps Anywhere old read
   pub writes : WorksOn (IsEither own parity) read new
 

@@ -9,7 +9,7 @@ ghost use Rattle.ar_extents.specs.Groups.{IsGroup, IsMember};
 ghost use Rattle.ar_parity.specs.Row.{Blocks, block};
 ghost use Rattle.ar_parity.specs.Group.{RowAgrees};
 ghost use Rattle.ar_disks.specs.Endings.{OnDone};
-ghost use Rattle.ar_parity.specs.Call.{Tells};
+ghost use Rattle.ar_parity.specs.Call.{Tells, IsOffDiskOf};
 
 use crate::slots::{another, highest_beside, lowest_beside};
 use crate::steps::{add_beside, read_beside};
@@ -38,6 +38,8 @@ pub fn sum_of_two<D: Disk>(
     ensures answer { Tells set.new result }
     ensures sum { OnDone result ((blocks : Blocks) → RowAgrees set.old members.now row blocks
         → into.new ≡ xor (block blocks beside) (block blocks lost)) }
+    // The one beside the lost one isn't asked.
+    ensures beside { WorksOn (IsOffDiskOf (member members.now beside)) set.old set.new }
     ensures health { OnDone result (set.new.health ≡ set.old.health) }
 
     ensures keeps { Keeps Anywhere set.old set.new }

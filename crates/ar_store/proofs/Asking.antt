@@ -14,7 +14,7 @@ use Rattle.ar_extents.specs.Follows.{Follows, Keeps, Anywhere, IsPlace, IsEither
 use Rattle.ar_extents.proofs.Follows.{keeps_refl, keeps_then, keeps_fewer, works_refl, works_more}
 use Rattle.ar_mirror.specs.Calls.{IsInPair, OtherSlotsHold as OtherMirrorSlotsHold, KeepsButSlot}
 use Rattle.ar_parity.specs.Group.{Holds as ParityHolds}
-use Rattle.ar_parity.specs.Call.{AsksOwnFirst}
+use Rattle.ar_parity.specs.Call.{AsksOwnFirst, IsOffDiskOf}
 use Rattle.ar_mirror.proofs.Frames.{keeps_outside as mirror_outside}
 use Rattle.ar_parity.proofs.Frames.{keeps_outside as parity_outside}
 use Rattle.ar_mirror.specs.Slots.{row_of as mirror_row_of}
@@ -34,7 +34,7 @@ use Rattle.ar_store.specs.declared.way.Way.{Way}
 use Rattle.ar_store.specs.declared.way.Way.TheVariants.{Home, Hole, Broken}
 use Rattle.ar_store.specs.Store.{StoreState, store_of, members_of, class_in}
 use Rattle.ar_store.specs.Slots.{ClassHolds, NeedsIn, ReadsIn, WritesIn, first_in, AsksFor, AsksForSlot}
-use Rattle.ar_store.specs.Placing.{slot_at, moved_from, moved_first, squeezed, LeadsHome, LeadsToHole, Leads, IsReadyFor, HasNoHole, HasNoWay}
+use Rattle.ar_store.specs.Placing.{slot_at, moved_from, moved_first, squeezed, LeadsHome, LeadsToHole, Leads, IsReadyFor, HasNoHole, HasNoWay, LeavesOpened}
 use Rattle.ar_store.specs.Calls.{WasBroken, IsZerosOnWay}
 use Rattle.ar_store.specs.Asking.{WorksWithin, KeepsButTwo, KeepsButRowsOf, AsksAlone, AsksInOrder, WritesSlot, ReadsAt, WritesAt, MovesAt, MovesAll, ReadsPairs}
 use Rattle.ar_store.specs.Asking.{AsksSlot, AsksSlots, AsksGroup, AsksGroups, AsksNothing, AsksToPut, AsksToSqueeze, AsksOnWay, AsksWay}
@@ -264,7 +264,7 @@ asked_in_order Parity a m i =
       reads = works_refl (IsPlace (member m (data_position i))) a;
       kept = keeps_refl Anywhere a;
       known = λ sound. none;
-      before = record { read = a; reads = works_refl Anywhere a; kept = keeps_refl Anywhere a; writes = none };
+      before = record { read = a; reads = works_refl (IsOffDiskOf (member m (parity_position (parity_row_of i)))) a; kept = keeps_refl Anywhere a; writes = none };
     }
 
 -- no slot was written
@@ -440,6 +440,20 @@ module _ (a b c : StoreState) (k : Key) where
   asks_way Broken leads ready zeros (inl nothing) asks unwritten =
       asks_none a c k (asks ∙ nothing.same) (λ from to at none full few. absurd (nothing.needs.way at none full few))
   asks_way Broken leads ready zeros (inr squeeze) asks unwritten = asks_squeezed a c k squeeze.0 (squeeze_broken ready squeeze.1 asks unwritten)
+
+-- a group that a put wanted is open, whatever comes of the write
+pub leaves_opened : (a b : StoreState) (k : Key) (way : Way) → Leads a.book k b.book way → IsReadyFor b k way → AsksOnWay a k b → a.disks.health ≢ AllBroken
+    → LeavesOpened a.book k b.book
+leaves_opened a b k (Home s) leads ready asks sound = record {
+  stays_open = λ g wants many lowest. absurd (elim leads.when [ inl at ↦ wants.low at | inr rest ↦ (let few = rest.2 in omega arith) ]);
+}
+leaves_opened a b k (Hole s) leads ready asks sound = record { stays_open = λ g wants many lowest. (leads.opened_group g wants.none many lowest).0 }
+leaves_opened a b k Broken leads ready asks sound = record {
+  stays_open = λ g wants many lowest. absurd (elim asks [
+    | inl nothing ↦ sound (ap (λ (x : SetState). x.health) (sym nothing.same) ∙ ready)
+    | inr squeeze ↦ (let few = squeeze.0.mirrored.few in omega arith)
+  ]);
+}
 
 -- no row was written but the new slot's
 move_rows : (a b c : StoreState) (other : Slot) → b.book ≡ a.book → b.disks.geometry ≡ a.disks.geometry → Keeps Anywhere a.disks b.disks

@@ -174,6 +174,10 @@ pub record WantsGroup (t : Tables) (k : Key) : Type 0 where
 abbrev pub MayHavePrepared : Tables → Key → Tables → Type 0
 MayHavePrepared t k new = (new ≡ t) ⊎ ((WantsGroup t k × HasOpened t new) ⊎ (HasNoWay t k t × HasBegunSqueeze t new))
 
+-- Where a put wanted a group and two were free, the lowest is open, also where the disks broke in the write after it.
+pub record LeavesOpened (t : Tables) (k : Key) (new : Tables) : Type 0 where
+  pub stays_open : (g : ℕ) → WantsGroup t k → 2 ≤ free_groups t → IsLowestFree t g → new ≡ opened t g Mirrored
+
 -- a way is there: the block's home, or a slot that names none
 abbrev pub IsThere : Tables → Key → Way → Type 0
 IsThere t k (Home s) = home t k ≡ Some s

@@ -40,7 +40,7 @@ impl<D: Disk> Store<D> {
     ghost use Rattle.ar_book.specs.Choices.{IsLowestFree};
     ghost use Rattle.ar_store.specs.Slots.{stands, AllStand, OthersStand, BesideHold, AsksForSlot, SurvivesLossOf};
     ghost use Rattle.ar_store.specs.Kept.{IsKept};
-    ghost use Rattle.ar_store.specs.Placing.{Puts, SameUnits, IsVacant, MayHavePrepared};
+    ghost use Rattle.ar_store.specs.Placing.{Puts, SameUnits, IsVacant, MayHavePrepared, LeavesOpened};
     ghost use Rattle.ar_store.specs.Asking.{AsksToPut, AsksSlots, AsksGroup, ReadsThenWrites};
     ghost use Rattle.ar_store.specs.Calls.{IsAccessed, Opens, IfOpened, HoldsZeros, LeavesZeros};
 
@@ -119,6 +119,7 @@ impl<D: Disk> Store<D> {
         ensures zeros { result ≡ Completion.Done → LeavesZeros self.old key self.new }
         ensures unmoved { result ≡ Completion.Broken → home self.new.book key ≡ home self.old.book key }
         ensures prepared { result ≡ Completion.Broken → MayHavePrepared self.old.book key self.new.book }
+        ensures opened { result ≡ Completion.Broken → self.old.disks.health ≢ Health.Broken → LeavesOpened self.old.book key self.new.book }
 
         ensures units { SameUnits self.old.book self.new.book }
         ensures asks { AsksToPut self.old key self.new }
@@ -146,6 +147,7 @@ impl<D: Disk> Store<D> {
         ensures stands { AllStand self.old self.new }
         ensures unmoved { result ≡ Completion.Broken → home self.new.book key ≡ home self.old.book key }
         ensures prepared { result ≡ Completion.Broken → MayHavePrepared self.old.book key self.new.book }
+        ensures opened { result ≡ Completion.Broken → self.old.disks.health ≢ Health.Broken → LeavesOpened self.old.book key self.new.book }
         ensures units { SameUnits self.old.book self.new.book }
         ensures asks { AsksToPut self.old key self.new }
         ensures accessed { IsAccessed self.old.disks self.new.disks }

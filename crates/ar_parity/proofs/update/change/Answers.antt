@@ -4,6 +4,7 @@ use Rattle.ar_extents.specs.Follows.{IsPlace}
 use Rattle.ar_extents.proofs.Follows.{follows_refl, keeps_refl, works_refl}
 use Rattle.ar_disks.specs.Members.{member}
 use Rattle.ar_parity.proofs.Working.{first_of_two}
+use Rattle.ar_parity.specs.Call.{IsOffDiskOf}
 use Rattle.ar_parity.specs.Row.{parity_position}
 use Rattle.ar_parity.proofs.Updates.{alone_changed}
 use Rattle.ar_parity.proofs.update.change.Goals as goal
@@ -26,5 +27,5 @@ returns-then-missing-clause-first g c =
       reads = works_refl (IsPlace (member m c.args.position)) a;
       kept = keeps_refl Anywhere a;
       known = λ sound. alone;
-      before = record { read = a; reads = works_refl Anywhere a; kept = keeps_refl Anywhere a; writes = alone };
+      before = record { read = a; reads = works_refl (IsOffDiskOf (member m (parity_position c.args.row))) a; kept = keeps_refl Anywhere a; writes = alone };
     }

@@ -10,6 +10,7 @@ use Rattle.ar_extents.proofs.Follows.{keeps_refl, works_refl, works_then}
 use Rattle.ar_extents.proofs.GroupLemmas.{works_member, works_pair}
 use Rattle.ar_extents.proofs.Losses.{missing_lost, broken_lost, lost_not_sound}
 use Rattle.ar_parity.proofs.Working.{member_read}
+use Rattle.ar_parity.specs.Call.{IsOffDiskOf}
 use Rattle.ar_parity.proofs.update.change_by_reading.Goals as goal
 
 pub returns-in-Read-clause-changes : goal.returns-in-Read-clause-changes
@@ -54,7 +55,7 @@ returns-in-Read-clause-first g c =
       reads = member_read m c.args.position c.args.set.now c.get.new.self c.at.result _ c.at.ensures c.get.ensures.access c.get.ensures.keeps;
       kept = c.get.ensures.keeps;
       known = λ sound. c.update.ensures.works;
-      before = record { read = c.get.new.self; reads = works_refl Anywhere c.get.new.self; kept = keeps_refl Anywhere c.get.new.self; writes = c.update.ensures.works };
+      before = record { read = c.get.new.self; reads = works_refl (IsOffDiskOf (member m (parity_position c.args.row))) c.get.new.self; kept = keeps_refl Anywhere c.get.new.self; writes = c.update.ensures.works };
     }
 
 pub returns-in-Missing-clause-first : goal.returns-in-Missing-clause-first
@@ -83,7 +84,7 @@ returns-in-Broken-clause-first g c =
       known = λ sound. absurd (lost_not_sound b own (broken_lost b own c.in-Broken.ensures.answer) sound);
       before = record {
         read = b;
-        reads = works_refl Anywhere b;
+        reads = works_refl (IsOffDiskOf (member m (parity_position c.args.row))) b;
         kept = keeps_refl Anywhere b;
         writes = works_refl (IsEither own (member m (parity_position c.args.row))) b;
       };

@@ -4,6 +4,7 @@ use Rattle.ar_parity.specs.Row.{parity_position}
 use Rattle.ar_parity.proofs.Updates.{lost_changed, broken_changed}
 use Rattle.ar_extents.specs.Groups.{IsMember}
 use Rattle.ar_extents.specs.Follows.{Anywhere, IsEither, WorksOn}
+use Rattle.ar_parity.specs.Call.{IsOffDiskOf}
 use Rattle.ar_extents.proofs.Follows.{works_then, works_more, works_refl}
 use Rattle.ar_parity.proofs.Working.{second_of_two}
 use Rattle.ar_extents.proofs.GroupLemmas.{works_member}
@@ -37,9 +38,10 @@ returns-in-Done-clause-before g c =
     let b = c.sum_of_two.new.set in
     let d = c.write.new.set in
     let P : ℕ → Type 0 = λ n. WorksOn (IsEither (member m i) (member m n)) b d in
+    let Q : ℕ → Type 0 = λ n. WorksOn (IsOffDiskOf (member m n)) c.args.set.now b in
     record {
       read = b;
-      reads = works_more (IsMember m) Anywhere c.args.set.now b (λ p is. tt) c.in-Done.ensures.works;
+      reads = subst Q c.parity_at-parity.ensures.position c.in-Done.ensures.beside;
       kept = c.in-Done.ensures.keeps;
       writes = subst P c.parity_at-parity.ensures.position (second_of_two m i c.parity_at-parity.result b d c.write.ensures.works);
     }
@@ -48,9 +50,10 @@ pub returns-in-Broken-clause-before : goal.returns-in-Broken-clause-before
 returns-in-Broken-clause-before g c =
     let m = c.args.members.now in
     let b = c.sum_of_two.new.set in
+    let Q : ℕ → Type 0 = λ n. WorksOn (IsOffDiskOf (member m n)) c.args.set.now b in
     record {
       read = b;
-      reads = works_more (IsMember m) Anywhere c.args.set.now b (λ p is. tt) c.in-Broken.ensures.works;
+      reads = subst Q c.parity_at-parity.ensures.position c.in-Broken.ensures.beside;
       kept = c.in-Broken.ensures.keeps;
       writes = works_refl (IsEither (member m c.args.position) (member m (parity_position c.args.row))) b;
     }

@@ -7,7 +7,7 @@ use Rattle.ar_extents.proofs.Outcomes.{done_sound, sound_done}
 use Rattle.ar_book.specs.Tables.{Tables, home, HasBlock}
 use Rattle.ar_store.specs.Store.{StoreState}
 use Rattle.ar_store.specs.Slots.{AllStand}
-use Rattle.ar_store.specs.Placing.{Puts, SameUnits, MayHavePrepared}
+use Rattle.ar_store.specs.Placing.{Puts, SameUnits, MayHavePrepared, LeavesOpened}
 use Rattle.ar_store.specs.Calls.{IsAccessed, LeavesZeros}
 use Rattle.ar_store.specs.Asking.{AsksToPut}
 use Rattle.ar_store.specs.Spaces.{store_in}
@@ -18,7 +18,7 @@ use Rattle.ar_store.proofs.Stays.{stays_then}
 use Rattle.ar_store.proofs.Fields.{ready_in, fields_stay, put_others, way_sound, placed_stand, written_home}
 use Rattle.ar_store.proofs.Ways.{puts_way}
 use Rattle.ar_store.proofs.Zeros.{zeros_put}
-use Rattle.ar_store.proofs.Asking.{asks_way, asks_still}
+use Rattle.ar_store.proofs.Asking.{asks_way, asks_still, leaves_opened}
 use Rattle.ar_store.proofs.store.Store.place.Goals as goal
 
 pub find_way-way-requires : goal.find_way-way-requires
@@ -83,6 +83,10 @@ returns g c =
           (λ sound. wrote.here (wrote.outcome ∙ sound_done d.disks.health sound) ∙ c.bytes.ensures));
       unmoved = λ broke.
           ap (λ (x : Tables). home x c.args.key) (wrote.unwritten broke) ∙ way.home ∙ ap (λ (s : StoreState). home s.book c.args.key) view;
+      opened = λ broke sound. subst (λ (s : StoreState). LeavesOpened s.book c.args.key d.book) view
+          (subst (λ (x : Tables). LeavesOpened a.book c.args.key x) (sym (wrote.unwritten broke))
+          (leaves_opened (store_in a) (store_in b) c.args.key c.find_way-way.result way.leads way.way way.asks
+          (λ broken. c.in_default.not-Broken (c.health.ensures.same ∙ broken))));
       prepared = λ broke.
           subst (λ (s : StoreState). MayHavePrepared s.book c.args.key d.book) view
           (subst (λ (x : Tables). MayHavePrepared a.book c.args.key x) (sym (wrote.unwritten broke)) way.prepared);
@@ -108,6 +112,7 @@ returns-in-Broken g c =
       tables = λ done. absurd (done_not_broken (sym done));
       stands = record { blocks = λ _ k. refl };
       unmoved = λ _. refl;
+      opened = λ _ sound. absurd (sound broken);
       prepared = λ _. inl refl;
       zeros = λ done. absurd (done_not_broken (sym done));
       units = units_refl s.book;

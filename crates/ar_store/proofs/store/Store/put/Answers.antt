@@ -6,7 +6,7 @@ use Rattle.ar_extents.proofs.Outcomes.{done_sound}
 use Rattle.ar_book.specs.Tables.{Tables, home, HasBlock}
 use Rattle.ar_store.specs.Store.{StoreState}
 use Rattle.ar_store.specs.Slots.{OthersStand}
-use Rattle.ar_store.specs.Placing.{Puts, SameUnits, MayHavePrepared}
+use Rattle.ar_store.specs.Placing.{Puts, SameUnits, MayHavePrepared, LeavesOpened}
 use Rattle.ar_store.specs.Calls.{IsAccessed, LeavesZeros}
 use Rattle.ar_store.specs.Asking.{AsksToPut}
 use Rattle.ar_store.specs.Spaces.{store_in}
@@ -17,7 +17,7 @@ use Rattle.ar_store.proofs.Stays.{stays_then}
 use Rattle.ar_store.proofs.Fields.{ready_in, fields_stay, put_others, way_sound}
 use Rattle.ar_store.proofs.Ways.{puts_way}
 use Rattle.ar_store.proofs.Zeros.{zeros_put}
-use Rattle.ar_store.proofs.Asking.{asks_way, asks_still}
+use Rattle.ar_store.proofs.Asking.{asks_way, asks_still, leaves_opened}
 use Rattle.ar_store.proofs.store.Store.put.Goals as goal
 
 pub find_way-way-requires : goal.find_way-way-requires
@@ -73,6 +73,10 @@ returns g c =
           (way_sound (store_in b) d.disks c.args.key c.find_way-way.result way.way wrote.stays.accessed.follows (done_sound d.disks.health (sym done ∙ wrote.outcome))));
       unmoved = λ broke.
           ap (λ (x : Tables). home x c.args.key) (wrote.unwritten broke) ∙ way.home ∙ ap (λ (s : StoreState). home s.book c.args.key) view;
+      opened = λ broke sound. subst (λ (s : StoreState). LeavesOpened s.book c.args.key d.book) view
+          (subst (λ (x : Tables). LeavesOpened a.book c.args.key x) (sym (wrote.unwritten broke))
+          (leaves_opened (store_in a) (store_in b) c.args.key c.find_way-way.result way.leads way.way way.asks
+          (λ broken. c.in_default.not-Broken (c.health.ensures.same ∙ broken))));
       prepared = λ broke.
           subst (λ (s : StoreState). MayHavePrepared s.book c.args.key d.book) view
           (subst (λ (x : Tables). MayHavePrepared a.book c.args.key x) (sym (wrote.unwritten broke)) way.prepared);
@@ -98,6 +102,7 @@ returns-in-Broken g c =
       others = none_stands s s c.args.key broken;
       tables = λ done. absurd (done_not_broken (sym done));
       unmoved = λ _. refl;
+      opened = λ _ sound. absurd (sound broken);
       prepared = λ _. inl refl;
       zeros = λ done. absurd (done_not_broken (sym done));
       units = units_refl s.book;
