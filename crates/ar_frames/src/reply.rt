@@ -16,6 +16,7 @@ pub fn send_reply<W: Sink>(writer: &mut W, buffer: &mut Vec<u8>, tag: u64, reply
     requires { IsReply reply.now }
     ensures sends { SendsReply (W.state writer.old) (W.state writer.new) tag reply.now result }
     ensures room { vec_capacity buffer.new ≤ max (vec_capacity buffer.old) (reply_len reply.now) }
+    ensures kept { vec_capacity buffer.old ≤ vec_capacity buffer.new }
 {
     match &reply.sense {
         Some(sense) => send(writer, &sense_frame(tag, sense)),
@@ -31,6 +32,10 @@ pub fn send_reply<W: Sink>(writer: &mut W, buffer: &mut Vec<u8>, tag: u64, reply
 pub fn send_joined<W: Sink>(writer: &mut W, buffer: &mut Vec<u8>, front: &[u8], rest: &[u8]) -> Sent
     ensures sends { Sending (W.state writer.old) (W.state writer.new) (front.now ++ rest.now) result }
     ensures room { vec_capacity buffer.new ≤ max (vec_capacity buffer.old) (length front.now + length rest.now) }
+    ensures kept { vec_capacity buffer.old ≤ vec_capacity buffer.new }
+    // Where the buffer has the place for them, they were put together there.
+    ensures joined { 0 < length rest.now → length front.now + length rest.now ≤ vec_capacity buffer.new
+        → take (length front.now + length rest.now) buffer.new.items ≡ front.now ++ rest.now }
 {
     if rest.is_empty() {
         return send(writer, front);
@@ -47,6 +52,7 @@ fn join(buffer: &mut Vec<u8>, front: &[u8], rest: &[u8]) -> bool
     ensures joined { IsTrue result → take (length front.now + length rest.now) buffer.new.items ≡ front.now ++ rest.now }
     ensures long { IsTrue result → length front.now + length rest.now ≤ vec_len buffer.new }
     ensures room { vec_capacity buffer.new ≤ max (vec_capacity buffer.old) (length front.now + length rest.now) }
+    ensures kept { vec_capacity buffer.old ≤ vec_capacity buffer.new }
     ensures refused { IsFalse result → vec_capacity buffer.old < length front.now + length rest.now }
     ensures lacking { IsFalse result → vec_capacity buffer.new < length front.now + length rest.now }
 {
@@ -74,6 +80,7 @@ fn put(into: &mut [u8], front: &[u8], rest: &[u8])
 fn lengthen(buffer: &mut Vec<u8>, len: usize) -> bool
     ensures long { IsTrue result → len ≤ vec_len buffer.new }
     ensures room { vec_capacity buffer.new ≤ max (vec_capacity buffer.old) len }
+    ensures kept { vec_capacity buffer.old ≤ vec_capacity buffer.new }
     ensures refused { IsFalse result → vec_capacity buffer.old < len }
     ensures lacking { IsFalse result → vec_capacity buffer.new < len }
 {

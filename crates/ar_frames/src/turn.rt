@@ -1,5 +1,5 @@
 // One frame of a session.
-ghost use Rattle.std.specs.Prelude.{◌≡◌, ◌<◌, ◌≤◌, ◌+◌, ◌^◌, true, vec_capacity};
+ghost use Rattle.std.specs.Prelude.{◌≡◌, ◌⊎◌, ◌<◌, ◌≤◌, ◌+◌, ◌^◌, true, vec_capacity};
 ghost use Rattle.ar_frames.specs.Frame.{most_bytes};
 ghost use Rattle.ar_frames.specs.Turn.{AnswersRequest, RefusesRequest, Turns, turn_after};
 
@@ -50,6 +50,8 @@ pub fn serve_frame<R: Source, W: Sink, P: Port, G: Gate>(
         (W.state writer.old) (W.state writer.new) port.old port.new result }
     ensures logged { P.has_login port.new ≡ true }
     ensures given { work.new.given ≤ work.old.given + 1 }
+    // The frame counts as one command, or as none, and then the port is as it was.
+    ensures counted { (work.new.given ≡ work.old.given + 1) ⊎ ((work.new.given ≡ work.old.given) × (port.new ≡ port.old)) }
 {
     match receive(alloc, reader) {
         Incoming::Whole(request) => answer(writer, port, gate, host, work, request),

@@ -8,4 +8,5 @@ invariant-loop l =
       added : vec_len l.buffer ≡ vec_len l.fn.buffer + l.counter;
       place : vec_len l.fn.buffer + l.missing ≤ vec_capacity l.buffer;
       room : vec_capacity l.buffer ≤ max (vec_capacity l.fn.buffer) l.len;
+      kept : vec_capacity l.fn.buffer ≤ vec_capacity l.buffer;
     }
