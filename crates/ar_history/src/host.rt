@@ -56,6 +56,8 @@ impl<D: Disk + Drop, L: Ledger> Kept<D, L> {
         ensures seat_placed { length seat.old.transcript < seat.old.room → seat.new.room ≡ seat.old.room }
         ensures grown { MayDouble self.old.room self.new.room }
         ensures seat_grown { MayDouble seat.old.room seat.new.room }
+        // Where the history got no place, the transcript asks for none.
+        ensures seat_unasked { self.new.room ≡ length self.old.history → seat.new.room ≡ seat.old.room }
     {
         if is_lost(&self.array) {
             return self.unrecorded(seat.host, lun, cdb, payload);
@@ -96,6 +98,7 @@ impl<D: Disk + Drop, L: Ledger> Kept<D, L> {
         ensures seat_placed { length seat.old.transcript < seat.old.room → seat.new.room ≡ seat.old.room }
         ensures grown { MayDouble self.old.room self.new.room }
         ensures seat_grown { MayDouble seat.old.room seat.new.room }
+        ensures seat_unasked { self.new.room ≡ length self.old.history → seat.new.room ≡ seat.old.room }
 
         ensures array { self.new.array ≡ self.old.array }
         ensures history { self.new.history ≡ self.old.history }
