@@ -239,7 +239,11 @@ payload_fits Good sense payload h = h.1
 payload_fits CheckCondition sense payload h = let none : length payload ≡ 0 = ap length h.1 in omega (arith, none)
 payload_fits Busy sense payload h = let none : length payload ≡ 0 = ap length h.1 in omega (arith, none)
 
--- a reply with sense data as it is written
+-- a reply with sense data has no bytes
+pub sense_alone : (reply : Reply) (sense : List ℕ) → IsReply reply → reply.sense ≡ Some sense → reply.payload ≡ []
+sense_alone reply sense suits some = (sense_checks reply.status reply.sense reply.payload sense some suits).1
+
+-- and is written so
 pub sense_written : (tag : ℕ) (reply : Reply) (sense : List ℕ) → tag < 2 ^ 64 → IsReply reply → reply.sense ≡ Some sense
     → IsReplyFrame tag reply (big_bytes 4 28 ++ (big_bytes 8 tag ++ (0x02 ∷ 0x12 ∷ sense)))
 sense_written tag reply sense tag_fits suits some =

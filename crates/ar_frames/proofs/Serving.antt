@@ -82,8 +82,8 @@ served_none commands source sink port = record {
 }
 
 -- one more frame was served
-pub served_more : {P : Type 0} (commands : Commands P) (s0 s1 s2 : SourceState) (w0 w1 w2 : SinkState) (p0 p1 p2 : P) (count : ℕ)
-    → Served commands s0 s1 w0 w1 p0 p1 count → ServesFrame commands s1 s2 w1 w2 p1 p2 Answered → Served commands s0 s2 w0 w2 p0 p2 (count + 1)
+pub served_more : {P : Type 0} {r0 r1 : ℕ} (commands : Commands P) (s0 s1 s2 : SourceState) (w0 w1 w2 : SinkState) (p0 p1 p2 : P) (count : ℕ)
+    → Served commands s0 s1 w0 w1 p0 p1 count → ServesFrame commands s1 s2 w1 w2 p1 p2 r0 r1 Answered → Served commands s0 s2 w0 w2 p0 p2 (count + 1)
 served_more commands s0 s1 s2 w0 w1 w2 p0 p1 p2 count served turn = record {
   frames = served.frames ++ turn.reads.body;
   answers = served.answers ++ turn.answers.frame;
@@ -129,7 +129,7 @@ last_len_more len [] reply = refl
 last_len_more len (r ∷ rs) reply = last_len_more (reply_len r) rs reply
 
 -- the frame of a reply has its length
-frame_len : (tag : ℕ) (reply : Reply) (frame : List ℕ) → IsReplyFrame tag reply frame → length frame ≡ reply_len reply
+pub frame_len : (tag : ℕ) (reply : Reply) (frame : List ℕ) → IsReplyFrame tag reply frame → length frame ≡ reply_len reply
 frame_len tag reply frame is =
     let sense = sense_bytes reply.sense in
     let tail = status_byte reply.status ∷ (length sense ∷ (sense ++ reply.payload)) in
@@ -141,8 +141,8 @@ last_len_grows len [] = omega arith
 last_len_grows len (r ∷ rs) = le_refl (last_len (reply_len r) rs)
 
 -- the reply to the last frame wasn't written whole
-pub serves_unsent : {P : Type 0} (commands : Commands P) (s0 s1 s2 : SourceState) (w0 w1 w2 : SinkState) (p0 p1 p2 : P) (count : ℕ)
-    → Served commands s0 s1 w0 w1 p0 p1 count → count < most_frames → ServesFrame commands s1 s2 w1 w2 p1 p2 Unsent
+pub serves_unsent : {P : Type 0} {r0 r1 : ℕ} (commands : Commands P) (s0 s1 s2 : SourceState) (w0 w1 w2 : SinkState) (p0 p1 p2 : P) (count : ℕ)
+    → Served commands s0 s1 w0 w1 p0 p1 count → count < most_frames → ServesFrame commands s1 s2 w1 w2 p1 p2 r0 r1 Unsent
     → ServesAll commands s0 s2 w0 w2 p0 p2 (record { frames = count + 1; why = why.Write })
 unfolding part_after talks_more
 serves_unsent commands s0 s1 s2 w0 w1 w2 p0 p1 p2 count served below turn = record {
@@ -168,8 +168,8 @@ serves_unsent commands s0 s1 s2 w0 w1 w2 p0 p1 p2 count served below turn = reco
 }
 
 -- no whole frame came after those served
-pub serves_ended : {P : Type 0} (commands : Commands P) (s0 s1 s2 : SourceState) (w0 w1 w2 : SinkState) (p0 p1 p2 : P) (count : ℕ) (end : Why)
-    → Served commands s0 s1 w0 w1 p0 p1 count → count < most_frames → EndsTurn s1 s2 w1 w2 p1 p2 end
+pub serves_ended : {P : Type 0} {r0 r1 : ℕ} (commands : Commands P) (s0 s1 s2 : SourceState) (w0 w1 w2 : SinkState) (p0 p1 p2 : P) (count : ℕ) (end : Why)
+    → Served commands s0 s1 w0 w1 p0 p1 count → count < most_frames → EndsTurn s1 s2 w1 w2 p1 p2 r0 r1 end
     → ServesAll commands s0 s2 w0 w2 p0 p2 (record { frames = count; why = end })
 serves_ended commands s0 s1 s2 w0 w1 w2 p0 p1 p2 count end served below turn =
     let talk = subst (λ p. Conversation commands p0 p served.frames served.answers count) (sym turn.same_port) served.conversation in

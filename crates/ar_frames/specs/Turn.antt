@@ -1,5 +1,5 @@
 -- One frame of a session: how it is read, asked of the port, and answered.
-use Rattle.std.specs.Prelude.{◌≡◌, ◌<◌, ℕ, false, List, [], ◌++◌, length}
+use Rattle.std.specs.Prelude.{◌≡◌, ◌<◌, ◌≤◌, max, ℕ, false, List, [], ◌++◌, length}
 use Rattle.ar_scsi.specs.declared.reply.Reply.{Reply}
 use Rattle.ar_scsi.specs.Reply.{busy}
 use Rattle.ar_frames.specs.declared.frame.Request.{Request}
@@ -13,7 +13,7 @@ use Rattle.ar_frames.specs.declared.end.Why.{Why}
 use Rattle.ar_frames.specs.declared.end.SessionEnd.{SessionEnd}
 use Rattle.ar_frames.specs.Stream.{SourceState, SinkState, Reading, Writing, Sending}
 use Rattle.ar_frames.specs.Frame.{IsFrame, IsReplyFrame}
-use Rattle.ar_frames.specs.Talk.{Commands, Answers, Conversation, last_len}
+use Rattle.ar_frames.specs.Talk.{Commands, Answers, Conversation, last_len, reply_len}
 use Rattle.ar_frames.specs.Session.{admitted, most_frames, Closes, EndsInput, WritesAnswers, WritesPart, is_read}
 
 -- after these first bytes of a frame the rest of it was read
@@ -66,37 +66,44 @@ abbrev pub turn_after : Sent → Turn
 turn_after sent.Whole = Answered
 turn_after (sent.Part n) = Unsent
 
--- BUSY was written under this tag as far as the stream allowed
-pub record RefusesRequest (sink sink' : SinkState) (tag : ℕ) (turn : Turn) : Type 0 where
+-- BUSY was written under this tag as far as the stream allowed. (For `room` bytes the session's buffer has the place.)
+pub record RefusesRequest (sink sink' : SinkState) (tag : ℕ) (turn : Turn) (room room' : ℕ) : Type 0 where
   pub frame : List ℕ
   pub is_frame : IsReplyFrame tag busy frame
   pub written : WritesReply sink sink' frame turn
+  -- the buffer keeps its memory, and gets no more than the frame takes
+  pub kept : room ≤ room'
+  pub grown : room' ≤ max room (reply_len busy)
 
 -- a request was answered, and the reply written as far as the stream allowed
-pub record AnswersRequest {P : Type 0} (commands : Commands P) (sink sink' : SinkState) (port port' : P) (request : Request) (turn : Turn) : Type 0 where
+pub record AnswersRequest {P : Type 0} (commands : Commands P) (sink sink' : SinkState) (port port' : P) (request : Request) (turn : Turn) (room room' : ℕ) : Type 0 where
   pub reply : Reply
   pub frame : List ℕ
   pub answers : Answers commands port request reply port'
   pub is_frame : IsReplyFrame request.tag reply frame
   pub written : WritesReply sink sink' frame turn
+  -- the buffer keeps its memory, and gets no more than the frame takes
+  pub kept : room ≤ room'
+  pub grown : room' ≤ max room (reply_len reply)
 
 -- a whole frame was read and answered
-pub record ServesFrame {P : Type 0} (commands : Commands P) (source source' : SourceState) (sink sink' : SinkState) (port port' : P) (turn : Turn) : Type 0 where
+pub record ServesFrame {P : Type 0} (commands : Commands P) (source source' : SourceState) (sink sink' : SinkState) (port port' : P) (room room' : ℕ) (turn : Turn) : Type 0 where
   pub request : Request
   pub reads : ReadsFrame [] source source' request
-  pub answers : AnswersRequest commands sink sink' port port' request turn
+  pub answers : AnswersRequest commands sink sink' port port' request turn room room'
 
 -- no whole frame came
-pub record EndsTurn {P : Type 0} (source source' : SourceState) (sink sink' : SinkState) (port port' : P) (end : Why) : Type 0 where
+pub record EndsTurn {P : Type 0} (source source' : SourceState) (sink sink' : SinkState) (port port' : P) (room room' : ℕ) (end : Why) : Type 0 where
   pub stops : StopsAfter [] source source' end
   pub same_sink : sink' ≡ sink
   pub same_port : port' ≡ port
+  pub same_room : room' ≡ room
 
 -- one frame of a session
-abbrev pub Turns : {P : Type 0} → Commands P → SourceState → SourceState → SinkState → SinkState → P → P → Turn → Type 0
-Turns commands source source' sink sink' port port' Answered = ServesFrame commands source source' sink sink' port port' Answered
-Turns commands source source' sink sink' port port' Unsent = ServesFrame commands source source' sink sink' port port' Unsent
-Turns commands source source' sink sink' port port' (TurnEnded end) = EndsTurn source source' sink sink' port port' end
+abbrev pub Turns : {P : Type 0} → Commands P → SourceState → SourceState → SinkState → SinkState → P → P → ℕ → ℕ → Turn → Type 0
+Turns commands source source' sink sink' port port' room room' Answered = ServesFrame commands source source' sink sink' port port' room room' Answered
+Turns commands source source' sink sink' port port' room room' Unsent = ServesFrame commands source source' sink sink' port port' room room' Unsent
+Turns commands source source' sink sink' port port' room room' (TurnEnded end) = EndsTurn source source' sink sink' port port' room room' end
 
 -- so many frames were read and answered whole
 pub record Served {P : Type 0} (commands : Commands P) (source source' : SourceState) (sink sink' : SinkState) (port port' : P) (count : ℕ) : Type 0 where

@@ -1,7 +1,7 @@
 // Writes of frames: in one piece where memory for it is there, as a stream may send each piece on by itself.
 ghost use Rattle.std.specs.Prelude.{◌≡◌, ◌<◌, ◌≤◌, ◌+◌, ◌++◌, IsTrue, IsFalse, length, max, take, vec_len, vec_capacity};
 ghost use Rattle.ar_frames.specs.Stream.{Sending};
-ghost use Rattle.ar_frames.specs.Frame.{IsReply};
+ghost use Rattle.ar_frames.specs.Frame.{IsReply, IsReplyFrame};
 ghost use Rattle.ar_frames.specs.Talk.{reply_len};
 ghost use Rattle.ar_frames.specs.Turn.{SendsReply};
 
@@ -14,6 +14,9 @@ use ar_scsi::Reply;
 // most.
 pub fn send_reply<W: Sink>(writer: &mut W, buffer: &mut Vec<u8>, tag: u64, reply: &Reply) -> Sent
     requires { IsReply reply.now }
+    // Where the buffer has the place for a frame with bytes, it was put together there.
+    ensures joined { 0 < length reply.now.payload → reply_len reply.now ≤ vec_capacity buffer.new
+        → IsReplyFrame tag reply.now (take (reply_len reply.now) buffer.new.items) }
     ensures sends { SendsReply (W.state writer.old) (W.state writer.new) tag reply.now result }
     ensures room { vec_capacity buffer.new ≤ max (vec_capacity buffer.old) (reply_len reply.now) }
     ensures kept { vec_capacity buffer.old ≤ vec_capacity buffer.new }

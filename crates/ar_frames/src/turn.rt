@@ -47,7 +47,8 @@ pub fn serve_frame<R: Source, W: Sink, P: Port, G: Gate>(
     requires logged { P.has_login port.old ≡ true }
     requires room { work.old.given < 2 ^ 63 }
     ensures turn { Turns P.commands (R.state reader.old) (R.state reader.new)
-        (W.state writer.old) (W.state writer.new) port.old port.new result }
+        (W.state writer.old) (W.state writer.new) port.old port.new
+        (vec_capacity work.old.buffer) (vec_capacity work.new.buffer) result }
     ensures logged { P.has_login port.new ≡ true }
     ensures given { work.new.given ≤ work.old.given + 1 }
     // The frame counts as one command, or as none, and then the port is as it was.
@@ -71,7 +72,8 @@ fn answer<W: Sink, P: Port, G: Gate>(
 ) -> Turn
     requires logged { P.has_login port.old ≡ true }
     requires room { work.old.given < 2 ^ 63 }
-    ensures answers { AnswersRequest P.commands (W.state writer.old) (W.state writer.new) port.old port.new request result }
+    ensures answers { AnswersRequest P.commands (W.state writer.old) (W.state writer.new) port.old port.new request result
+        (vec_capacity work.old.buffer) (vec_capacity work.new.buffer) }
     ensures logged { P.has_login port.new ≡ true }
     ensures given { work.new.given ≡ work.old.given + 1 }
 {
@@ -91,7 +93,8 @@ fn answer<W: Sink, P: Port, G: Gate>(
 
 // Answers BUSY to a frame whose data found no memory.
 fn refuse<W: Sink>(writer: &mut W, work: &mut Work, tag: u64) -> Turn
-    ensures answers { RefusesRequest (W.state writer.old) (W.state writer.new) tag result }
+    ensures answers { RefusesRequest (W.state writer.old) (W.state writer.new) tag result
+        (vec_capacity work.old.buffer) (vec_capacity work.new.buffer) }
     ensures given { work.new.given ≡ work.old.given }
 {
     turn_of(send_reply(writer, &mut work.buffer, tag, &Reply::busy()))
