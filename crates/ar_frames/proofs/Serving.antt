@@ -11,7 +11,7 @@ use Rattle.ar_frames.specs.Frame.{IsFrame, IsReplyFrame, status_byte, sense_byte
 use Rattle.ar_frames.specs.Talk.{Commands, Answers, Talk, AreFrames, AreReplyFrames, Conversation, reply_len, last_len}
 use Rattle.ar_frames.specs.Port.{Logins}
 use Rattle.ar_frames.specs.Session.{admitted, most_frames, is_read, WritesAnswers, WritesPart, WritesAllButLast, Session}
-use Rattle.ar_frames.specs.Turn.{ServesFrame, EndsTurn, Served, ServesAll}
+use Rattle.ar_frames.specs.Turn.{ServesFrame, EndsTurn, Served, ServesAll, WorkState}
 use Rattle.ar_disks.specs.declared.address.Host.{Host}
 use Rattle.ar_frames.specs.Entry.{IsAdmitted}
 use Rattle.ar_frames.proofs.Streams.{Reading-trans, Reading-same, Reading-none, Writing-trans, Writing-same, Writing-none, take-append_more}
@@ -82,7 +82,7 @@ served_none commands source sink port = record {
 }
 
 -- one more frame was served
-pub served_more : {P : Type 0} {r0 r1 : ℕ} (commands : Commands P) (s0 s1 s2 : SourceState) (w0 w1 w2 : SinkState) (p0 p1 p2 : P) (count : ℕ)
+pub served_more : {P : Type 0} {r0 r1 : WorkState} (commands : Commands P) (s0 s1 s2 : SourceState) (w0 w1 w2 : SinkState) (p0 p1 p2 : P) (count : ℕ)
     → Served commands s0 s1 w0 w1 p0 p1 count → ServesFrame commands s1 s2 w1 w2 p1 p2 r0 r1 Answered → Served commands s0 s2 w0 w2 p0 p2 (count + 1)
 served_more commands s0 s1 s2 w0 w1 w2 p0 p1 p2 count served turn = record {
   frames = served.frames ++ turn.reads.body;
@@ -141,7 +141,7 @@ last_len_grows len [] = omega arith
 last_len_grows len (r ∷ rs) = le_refl (last_len (reply_len r) rs)
 
 -- the reply to the last frame wasn't written whole
-pub serves_unsent : {P : Type 0} {r0 r1 : ℕ} (commands : Commands P) (s0 s1 s2 : SourceState) (w0 w1 w2 : SinkState) (p0 p1 p2 : P) (count : ℕ)
+pub serves_unsent : {P : Type 0} {r0 r1 : WorkState} (commands : Commands P) (s0 s1 s2 : SourceState) (w0 w1 w2 : SinkState) (p0 p1 p2 : P) (count : ℕ)
     → Served commands s0 s1 w0 w1 p0 p1 count → count < most_frames → ServesFrame commands s1 s2 w1 w2 p1 p2 r0 r1 Unsent
     → ServesAll commands s0 s2 w0 w2 p0 p2 (record { frames = count + 1; why = why.Write })
 unfolding part_after talks_more
@@ -168,7 +168,7 @@ serves_unsent commands s0 s1 s2 w0 w1 w2 p0 p1 p2 count served below turn = reco
 }
 
 -- no whole frame came after those served
-pub serves_ended : {P : Type 0} {r0 r1 : ℕ} (commands : Commands P) (s0 s1 s2 : SourceState) (w0 w1 w2 : SinkState) (p0 p1 p2 : P) (count : ℕ) (end : Why)
+pub serves_ended : {P : Type 0} {r0 r1 : WorkState} (commands : Commands P) (s0 s1 s2 : SourceState) (w0 w1 w2 : SinkState) (p0 p1 p2 : P) (count : ℕ) (end : Why)
     → Served commands s0 s1 w0 w1 p0 p1 count → count < most_frames → EndsTurn s1 s2 w1 w2 p1 p2 r0 r1 end
     → ServesAll commands s0 s2 w0 w2 p0 p2 (record { frames = count; why = end })
 serves_ended commands s0 s1 s2 w0 w1 w2 p0 p1 p2 count end served below turn =

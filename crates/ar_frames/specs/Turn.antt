@@ -1,5 +1,5 @@
 -- One frame of a session: how it is read, asked of the port, and answered.
-use Rattle.std.specs.Prelude.{◌≡◌, ◌<◌, ◌≤◌, max, ℕ, false, List, [], ◌++◌, length}
+use Rattle.std.specs.Prelude.{◌≡◌, ◌⊎◌, ◌<◌, ◌≤◌, ◌+◌, max, ℕ, false, List, [], ◌++◌, length}
 use Rattle.ar_scsi.specs.declared.reply.Reply.{Reply}
 use Rattle.ar_scsi.specs.Reply.{busy}
 use Rattle.ar_frames.specs.declared.frame.Request.{Request}
@@ -66,44 +66,58 @@ abbrev pub turn_after : Sent → Turn
 turn_after sent.Whole = Answered
 turn_after (sent.Part n) = Unsent
 
--- BUSY was written under this tag as far as the stream allowed. (For `room` bytes the session's buffer has the place.)
-pub record RefusesRequest (sink sink' : SinkState) (tag : ℕ) (turn : Turn) (room room' : ℕ) : Type 0 where
+-- what a session keeps from frame to frame: for so many bytes its buffer has the place, and so many commands were given to the port
+pub record WorkState : Type 0 where
+  pub room : ℕ
+  pub given : ℕ
+
+-- the buffer keeps its memory, and gets no more than this reply takes
+pub record GrowsFor (reply : Reply) (work work' : WorkState) : Type 0 where
+  pub kept : work.room ≤ work'.room
+  pub grown : work'.room ≤ max work.room (reply_len reply)
+
+-- a command that the port was given is counted, and one that was answered BUSY in its place isn't
+abbrev pub Counts : {P : Type 0} → Commands P → P → Request → Reply → P → ℕ → ℕ → Type 0
+Counts commands port request reply port' given given' =
+    (commands port request.lun request.cdb request.payload reply port' × (given' ≡ given + 1))
+    ⊎ ((0 < length request.payload) × (reply ≡ busy) × (port' ≡ port) × (given' ≡ given))
+
+-- BUSY was written under this tag as far as the stream allowed
+pub record RefusesRequest (sink sink' : SinkState) (tag : ℕ) (turn : Turn) (work work' : WorkState) : Type 0 where
   pub frame : List ℕ
   pub is_frame : IsReplyFrame tag busy frame
   pub written : WritesReply sink sink' frame turn
-  -- the buffer keeps its memory, and gets no more than the frame takes
-  pub kept : room ≤ room'
-  pub grown : room' ≤ max room (reply_len busy)
+  pub memory : GrowsFor busy work work'
+  pub uncounted : work'.given ≡ work.given
 
 -- a request was answered, and the reply written as far as the stream allowed
-pub record AnswersRequest {P : Type 0} (commands : Commands P) (sink sink' : SinkState) (port port' : P) (request : Request) (turn : Turn) (room room' : ℕ) : Type 0 where
+pub record AnswersRequest {P : Type 0} (commands : Commands P) (sink sink' : SinkState) (port port' : P) (request : Request) (turn : Turn) (work work' : WorkState) : Type 0 where
   pub reply : Reply
   pub frame : List ℕ
   pub answers : Answers commands port request reply port'
   pub is_frame : IsReplyFrame request.tag reply frame
   pub written : WritesReply sink sink' frame turn
-  -- the buffer keeps its memory, and gets no more than the frame takes
-  pub kept : room ≤ room'
-  pub grown : room' ≤ max room (reply_len reply)
+  pub memory : GrowsFor reply work work'
+  pub counts : Counts commands port request reply port' work.given work'.given
 
 -- a whole frame was read and answered
-pub record ServesFrame {P : Type 0} (commands : Commands P) (source source' : SourceState) (sink sink' : SinkState) (port port' : P) (room room' : ℕ) (turn : Turn) : Type 0 where
+pub record ServesFrame {P : Type 0} (commands : Commands P) (source source' : SourceState) (sink sink' : SinkState) (port port' : P) (work work' : WorkState) (turn : Turn) : Type 0 where
   pub request : Request
   pub reads : ReadsFrame [] source source' request
-  pub answers : AnswersRequest commands sink sink' port port' request turn room room'
+  pub answers : AnswersRequest commands sink sink' port port' request turn work work'
 
 -- no whole frame came
-pub record EndsTurn {P : Type 0} (source source' : SourceState) (sink sink' : SinkState) (port port' : P) (room room' : ℕ) (end : Why) : Type 0 where
+pub record EndsTurn {P : Type 0} (source source' : SourceState) (sink sink' : SinkState) (port port' : P) (work work' : WorkState) (end : Why) : Type 0 where
   pub stops : StopsAfter [] source source' end
   pub same_sink : sink' ≡ sink
   pub same_port : port' ≡ port
-  pub same_room : room' ≡ room
+  pub same_work : work' ≡ work
 
 -- one frame of a session
-abbrev pub Turns : {P : Type 0} → Commands P → SourceState → SourceState → SinkState → SinkState → P → P → ℕ → ℕ → Turn → Type 0
-Turns commands source source' sink sink' port port' room room' Answered = ServesFrame commands source source' sink sink' port port' room room' Answered
-Turns commands source source' sink sink' port port' room room' Unsent = ServesFrame commands source source' sink sink' port port' room room' Unsent
-Turns commands source source' sink sink' port port' room room' (TurnEnded end) = EndsTurn source source' sink sink' port port' room room' end
+abbrev pub Turns : {P : Type 0} → Commands P → SourceState → SourceState → SinkState → SinkState → P → P → WorkState → WorkState → Turn → Type 0
+Turns commands source source' sink sink' port port' work work' Answered = ServesFrame commands source source' sink sink' port port' work work' Answered
+Turns commands source source' sink sink' port port' work work' Unsent = ServesFrame commands source source' sink sink' port port' work work' Unsent
+Turns commands source source' sink sink' port port' work work' (TurnEnded end) = EndsTurn source source' sink sink' port port' work work' end
 
 -- so many frames were read and answered whole
 pub record Served {P : Type 0} (commands : Commands P) (source source' : SourceState) (sink sink' : SinkState) (port port' : P) (count : ℕ) : Type 0 where

@@ -1,5 +1,5 @@
 // One frame of a session.
-ghost use Rattle.std.specs.Prelude.{◌≡◌, ◌⊎◌, ◌<◌, ◌≤◌, ◌+◌, ◌^◌, true, vec_capacity};
+ghost use Rattle.std.specs.Prelude.{◌≡◌, ◌<◌, ◌≤◌, ◌+◌, ◌^◌, true, vec_capacity};
 ghost use Rattle.ar_frames.specs.Frame.{most_bytes};
 ghost use Rattle.ar_frames.specs.Turn.{AnswersRequest, RefusesRequest, Turns, turn_after};
 
@@ -48,11 +48,10 @@ pub fn serve_frame<R: Source, W: Sink, P: Port, G: Gate>(
     requires room { work.old.given < 2 ^ 63 }
     ensures turn { Turns P.commands (R.state reader.old) (R.state reader.new)
         (W.state writer.old) (W.state writer.new) port.old port.new
-        (vec_capacity work.old.buffer) (vec_capacity work.new.buffer) result }
+        (record { room = vec_capacity work.old.buffer; given = work.old.given })
+        (record { room = vec_capacity work.new.buffer; given = work.new.given }) result }
     ensures logged { P.has_login port.new ≡ true }
     ensures given { work.new.given ≤ work.old.given + 1 }
-    // The frame counts as one command, or as none, and then the port is as it was.
-    ensures counted { (work.new.given ≡ work.old.given + 1) ⊎ ((work.new.given ≡ work.old.given) × (port.new ≡ port.old)) }
 {
     match receive(alloc, reader) {
         Incoming::Whole(request) => answer(writer, port, gate, host, work, request),
@@ -73,7 +72,8 @@ fn answer<W: Sink, P: Port, G: Gate>(
     requires logged { P.has_login port.old ≡ true }
     requires room { work.old.given < 2 ^ 63 }
     ensures answers { AnswersRequest P.commands (W.state writer.old) (W.state writer.new) port.old port.new request result
-        (vec_capacity work.old.buffer) (vec_capacity work.new.buffer) }
+        (record { room = vec_capacity work.old.buffer; given = work.old.given })
+        (record { room = vec_capacity work.new.buffer; given = work.new.given }) }
     ensures logged { P.has_login port.new ≡ true }
     ensures given { work.new.given ≡ work.old.given + 1 }
 {
@@ -94,7 +94,8 @@ fn answer<W: Sink, P: Port, G: Gate>(
 // Answers BUSY to a frame whose data found no memory.
 fn refuse<W: Sink>(writer: &mut W, work: &mut Work, tag: u64) -> Turn
     ensures answers { RefusesRequest (W.state writer.old) (W.state writer.new) tag result
-        (vec_capacity work.old.buffer) (vec_capacity work.new.buffer) }
+        (record { room = vec_capacity work.old.buffer; given = work.old.given })
+        (record { room = vec_capacity work.new.buffer; given = work.new.given }) }
     ensures given { work.new.given ≡ work.old.given }
 {
     turn_of(send_reply(writer, &mut work.buffer, tag, &Reply::busy()))
