@@ -1,5 +1,5 @@
 -- What reads and writes of blocks leave of a store and of the cache before it.
-use Rattle.std.specs.Prelude.{◌≡◌, false, None, Some}
+use Rattle.std.specs.Prelude.{◌≡◌, ◌≢◌, false, None, Some}
 use Rattle.ar_disks.specs.declared.address.Key.{Key}
 use Rattle.ar_extents.specs.declared.health.Health.TheVariants.{Broken}
 use Rattle.ar_extents.specs.Changes.{is_broken}
@@ -8,7 +8,7 @@ use Rattle.ar_book.specs.declared.class.Slot.{Slot}
 use Rattle.ar_book.specs.Tables.{home}
 use Rattle.ar_store.specs.Store.{StoreState}
 use Rattle.ar_store.specs.Slots.{AsksForSlot}
-use Rattle.ar_store.specs.Placing.{Puts, MayHavePrepared, SameUnits}
+use Rattle.ar_store.specs.Placing.{Puts, MayHavePrepared, LeavesOpened, SameUnits}
 use Rattle.ar_store.specs.Asking.{AsksToPut}
 use Rattle.ar_store.specs.Calls.{IsAccessed, LeavesZeros}
 use Rattle.ar_image.specs.Image.{ArrayState}
@@ -40,11 +40,13 @@ pub record PutsStored (old : StoreState) (key : Key) (new : StoreState) : Type 0
   pub zeros : LeavesZeros old key new
   pub sound : is_broken new.disks.health ≡ false
 
--- The put of one block ended on broken disks: the block has its old home, and the tables are at most made ready for it; no disk
--- was asked but those that its step asks, and where the disks were broken before nothing has changed.
+-- The put of one block ended on broken disks: the block has its old home, and the tables are at most made ready for it, with a group
+-- that was opened for it still open; no disk was asked but those that its step asks, and where the disks were broken before nothing
+-- has changed.
 pub record BreaksStored (old : StoreState) (key : Key) (new : StoreState) : Type 0 where
   pub unmoved : home new.book key ≡ home old.book key
   pub prepared : MayHavePrepared old.book key new.book
+  pub opened : old.disks.health ≢ Broken → LeavesOpened old.book key new.book
   pub asks : AsksToPut old key new
   pub broken : new.disks.health ≡ Broken
   pub lost : old.disks.health ≡ Broken → new ≡ old

@@ -11,6 +11,7 @@ returns-clause-breaks g c = λ lost.
     record {
       unmoved = put.unmoved lost;
       prepared = put.prepared lost;
+      opened = put.opened lost;
       asks = put.asks;
       broken = broken_is new.disks.health (lost_told (is_broken_set new.disks.health) (sym lost ∙ put.outcome ∙ heard new.disks.health));
       lost = put.broken;
