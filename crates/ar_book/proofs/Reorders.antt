@@ -1,6 +1,6 @@
 -- The tree where a unit comes or goes: the others keep their order, and it has no block in a group.
-use Rattle.std.proofs.Common.{◌≡◌, ◌≢◌, ℕ, suc, ◌+◌, ◌<◌, ◌≤◌, true, false, Option, None, Some, is_some, List, [], ◌∷◌, ◌++◌, length, get_or, map, set, fold, refl, sym, ap, subst, ◌∙◌, inl, inr, arith, true≢false, get_or-set_same, get_or-set_other}
-use Rattle.std.specs.Prelude.{not}
+use Rattle.std.proofs.Common.{◌≡◌, ◌≢◌, ℕ, suc, ◌+◌, ◌*◌, ◌<◌, ◌≤◌, cond, count_by, true, false, Option, None, Some, is_some, List, [], ◌∷◌, ◌++◌, length, get_or, map, set, fold, refl, sym, ap, subst, ◌∙◌, inl, inr, arith, true≢false, get_or-set_same, get_or-set_other}
+use Rattle.std.specs.Prelude.{Bool, not}
 use Rattle.std.specs.List.{position_or_len}
 use Rattle.std.specs.Map.{lookup, keys_of, remove_entry}
 use Rattle.std.specs.Option.{option_map}
@@ -22,7 +22,8 @@ use Rattle.ar_book.specs.declared.class.Slot.{Slot}
 use Rattle.ar_book.specs.Tables.{GroupState, UnitState, Tables, no_group, group_in, unit_in, home_in, HasBlock}
 use Rattle.ar_book.specs.Changes.{vacated, made, without_key}
 use Rattle.ar_book.specs.Book.{TablesAgree}
-use Rattle.ar_book.specs.Index.{age_of, choices_by, choices_in, choices_of, leaves_from, leaves_of, leaf, IsOutside, IsAmong, IsBlanked, IsLeafOrBlank}
+use Rattle.ar_book.specs.Index.{age_of, choices_by, choices_in, choices_of, leaves_from, leaves_of, leaf, IsOutside, IsAmong, IsBlanked, IsLeafOrBlank, HaveChoices, blanks}
+use Rattle.std.proofs.lemmas.List.Sums.{sum_by-set}
 use Rattle.ar_disks.proofs.Addresses.{addr_same, addr_apart}
 use Rattle.ar_book.proofs.UnitLemmas.{has_by_block}
 use Rattle.ar_book.proofs.Homes.{key_block}
@@ -283,3 +284,27 @@ module _ (g : Geometry) (us : List (Addr × UnitState)) (gs : List GroupState) (
     | inl right ↦ right
     | inr none ↦ absurd (none-some none.1.slot (sym (get_or_past homes none.1.place None (omega (arith, none.1.behind))) ∙ none.1.is))
   ]
+
+-- 1 where it is so
+abbrev one_if : Bool → ℕ
+one_if b = cond b 1 0
+
+-- a leaf that is put counts in place of the former one
+put_blanks : (cs : List Choices) (i : ℕ) (c : Choices) → i < length cs
+    → count_by is_nothing (set cs i c) + one_if (is_nothing (get_or cs i nothing)) ≡ count_by is_nothing cs + one_if (is_nothing c)
+put_blanks cs i c inside = sum_by-set (λ (y : Choices). one_if (is_nothing y)) cs i c nothing inside
+
+-- one blank leaf less
+pub blanks_less : (index now : TreeState) (i : ℕ) (c : Choices) → i < length (leaves index) → leaves now ≡ set (leaves index) i c
+    → is_nothing (leaf index i) ≡ true → is_nothing c ≡ false → blanks now + 1 ≡ blanks index
+blanks_less index now i c inside put was is =
+    let all = put_blanks (leaves index) i c inside in
+    let one : one_if (is_nothing (leaf index i)) ≡ 1 = ap one_if was in
+    let none : one_if (is_nothing c) ≡ 0 = ap one_if is in
+    let same : blanks now ≡ count_by is_nothing (set (leaves index) i c) = ap (λ (l : List Choices). count_by is_nothing l) put in
+    omega (arith, all, one, none, same)
+
+-- each blank leaf less took 60 steps at most
+pub record CountsBlanks (g : Geometry) (us : List (Addr × UnitState)) (gs : List GroupState) (homes : List (Option Slot)) (old : TreeState) (before : ℕ)
+    (index : TreeState) (steps : ℕ) : Type 0 where
+  pub few : length gs ≤ 4096 → HaveChoices g us gs homes → steps + 60 * blanks index ≤ before + 60 * blanks old

@@ -1,9 +1,10 @@
 -- What the tree over the groups keeps: the choices of each group, by a plain reading of its slots.
-use Rattle.std.specs.Prelude.{◌≡◌, ◌≢◌, ℕ, suc, ◌<◌, ◌≤◌, ◌⊎◌, true, nat_lt, if◌then◌else◌, List, [], ◌∷◌, map, slice_index_or, Option, None, Some}
+use Rattle.std.specs.Prelude.{◌≡◌, ◌≢◌, ℕ, suc, ◌*◌, ◌<◌, ◌≤◌, ◌⊎◌, true, false, length, count_by, nat_lt, if◌then◌else◌, List, [], ◌∷◌, map, slice_index_or, Option, None, Some}
 use Rattle.std.specs.Option.{option_map}
 use Rattle.ar_disks.specs.declared.address.Addr.{Addr}
 use Rattle.ar_disks.specs.declared.address.Key.{Key}
 use Rattle.ar_disks.specs.declared.geometry.Geometry.{Geometry}
+use Rattle.ar_disks.specs.Geometry.{rows_of}
 use Rattle.ar_index.specs.declared.choices.Age.{Age}
 use Rattle.ar_index.specs.declared.choices.Choices.{Choices}
 use Rattle.ar_index.specs.Choices.{place_in, nothing, is_nothing, oldest}
@@ -111,3 +112,12 @@ IsBlanked homes n old new i =
 abbrev pub IsLeafOrBlank : Geometry → List (Addr × UnitState) → List GroupState → List (Option Slot) → ℕ → TreeState → ℕ → Type 0
 IsLeafOrBlank g units groups homes from index i =
     (leaf index i ≡ choices_of g units i (group_in groups i)) ⊎ ((is_nothing (leaf index i) ≡ true) × IsAmong homes from i)
+
+-- how many leaves have no choice
+abbrev pub blanks : TreeState → ℕ
+blanks index = count_by is_nothing (leaves index)
+
+-- each group has its slots, and the group of each of these homes has a choice, as one from which a block went has
+pub record HaveChoices (g : Geometry) (units : List (Addr × UnitState)) (groups : List GroupState) (homes : List (Option Slot)) : Type 0 where
+  pub long : (i : ℕ) → i < length groups → length (group_in groups i).slots ≡ 3 * rows_of g
+  pub some : (j : ℕ) (s : Slot) → slice_index_or homes j None ≡ Some s → is_nothing (choices_of g units s.group (group_in groups s.group)) ≡ false

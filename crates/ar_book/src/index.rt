@@ -1,5 +1,5 @@
 // The tree over the groups, kept right: the choices of a group, by one scan of its slots, and one climb.
-ghost use Rattle.std.specs.Prelude.{◌≡◌, ℕ, ◌+◌, ◌<◌, ◌≤◌, length, slice_index_or, slice_set, true, false, Some, None, IfSome, IfNone};
+ghost use Rattle.std.specs.Prelude.{◌≡◌, ◌≢◌, ℕ, ◌+◌, ◌*◌, ◌<◌, ◌≤◌, length, slice_index_or, slice_set, true, false, Some, None, IfSome, IfNone};
 ghost use Rattle.std.specs.Option.{ForSome, MatchOption};
 ghost use Rattle.std.specs.Map.{lookup};
 ghost use Rattle.ar_disks.specs.Addresses.{same_addr};
@@ -7,7 +7,7 @@ ghost use Rattle.ar_index.specs.Choices.{place_in};
 ghost use Rattle.ar_index.specs.Tree.{leaves, IsRight};
 ghost use Rattle.ar_book.specs.Tables.{group_in};
 ghost use Rattle.ar_book.specs.Index as spec;
-ghost use Rattle.ar_book.specs.Index.{oldest_named, leaves_of, leaf, KeepsOldest, AreInside, IsBlanked, IsLeafOrBlank};
+ghost use Rattle.ar_book.specs.Index.{oldest_named, leaves_of, leaf, blanks, KeepsOldest, AreInside, IsBlanked, IsLeafOrBlank, HaveChoices};
 
 use crate::group::slots_of;
 use crate::{Class, Group, Slot, UnitTable};
@@ -107,6 +107,8 @@ pub(crate) fn choices_of(
     steps: &mut Steps,
 ) -> Choices
     ensures choices { result ≡ spec.choices_of geometry units.now.entries number group.now }
+    // Of a group that isn't mirrored no slot is looked at.
+    ensures still { group.now.class ≢ Class.Mirrored → steps.new.count ≡ steps.old.count }
     ensures few { steps.new.count ≤ steps.old.count + length group.now.slots }
     ensures on { steps.old.count ≤ steps.new.count }
 {
@@ -234,6 +236,7 @@ pub(crate) fn refresh_blank(
     groups: &Vec<Group>,
     units: &IndexMap<Addr, UnitTable>,
     geometry: Geometry,
+    steps: &mut Steps,
     homes: &[Option<Slot>],
 )
     requires there { AreInside homes.now (length groups.now.items) }
@@ -241,14 +244,16 @@ pub(crate) fn refresh_blank(
     requires right { IsRight (place_in units.now.entries) index.old }
     requires each { (i : ℕ) → i < length groups.now.items
         → IsLeafOrBlank geometry units.now.entries groups.now.items homes.now 0 index.old i }
+    // Each group whose leaf is blank is refreshed once: one scan and one climb are 60 steps at most.
+    ensures few { length groups.now.items ≤ 4096 → HaveChoices geometry units.now.entries groups.now.items homes.now
+        → steps.new.count ≤ steps.old.count + 60 * blanks index.old }
     ensures leaves { leaves index.new ≡ leaves_of geometry units.now.entries groups.now.items }
     ensures right { IsRight (place_in units.now.entries) index.new }
 {
-    let mut steps = Steps::new();
     for home in homes {
         if let Some(slot) = home {
             if index.is_blank(slot.group as usize) {
-                refresh(index, groups, units, geometry, slot.group, &mut steps);
+                refresh(index, groups, units, geometry, slot.group, steps);
             }
         }
     }

@@ -15,6 +15,7 @@ use crate::tables::{add_unit, grow_unit, take_unit, vacate_all};
 use crate::unit::blocks_of;
 use crate::{Book, Refusal};
 use ar_disks::Addr;
+use ar_index::Steps;
 
 /// The greatest LUN that can be made.
 const MAX_LUN: u8 = 7;
@@ -127,6 +128,7 @@ impl Book {
         let Some(unit) = self.units.get(&addr) else {
             return Err(Refusal::Absent);
         };
+        let mut steps = Steps::new();
         // The tree forgets the unit's blocks before the unit goes: it is right for the order of the others then, as theirs stays.
         blank_all(&mut self.index, unit.homes(), &self.units);
         let Some(unit) = take_unit(&mut self.units, addr) else {
@@ -139,6 +141,7 @@ impl Book {
             &self.groups,
             &self.units,
             self.geometry,
+            &mut steps,
             unit.homes(),
         );
         Ok(())
