@@ -9,7 +9,7 @@ use Rattle.ar_extents.specs.declared.health.Health.TheVariants.{Whole, Out, Rebu
 use Rattle.ar_extents.specs.Health.{IsDown, is_out}
 use Rattle.ar_extents.specs.Set.{SetState, HasExtent, disk_in, faults_of, no_disk, content, IsLost}
 use Rattle.ar_extents.specs.Changes.{replaced, added}
-use Rattle.ar_extents.specs.Follows.{Follows, Faulted, IsHit, TwoHit, Keeps, WorksOn}
+use Rattle.ar_extents.specs.Follows.{Follows, Faulted, IsHit, TwoHit, Keeps, IsPlace, IsEither, WorksOn, WorksInTurn}
 use Rattle.ar_extents.proofs.Losses.{stays_lost, stays_out}
 
 -- nothing happened
@@ -132,6 +132,17 @@ works_more these those a b more ab = record {
   lost = ab.lost;
   touches = record { disks = λ d none. ab.touches.disks d (λ p is sound. none p (more p is) sound) };
 }
+
+-- work on two extents in turn is work on both
+pub works_in_turn : (one other : Place) (a b : SetState) → WorksInTurn one other a b → WorksOn (IsEither one other) a b
+works_in_turn one other a b works =
+    works_then (IsEither one other) a works.between b
+    (works_more (IsPlace one) (IsEither one other) a works.between (λ p is. inl is) works.first)
+    (works_more (IsPlace other) (IsEither one other) works.between b (λ p is. inr is) works.second)
+
+-- work on the first alone
+pub in_turn_first : (one other : Place) (a b : SetState) → WorksOn (IsPlace one) a b → WorksInTurn one other a b
+in_turn_first one other a b works = record { between = b; first = works; second = works_refl (IsPlace other) b }
 
 -- what isn't about disks or health may change in any run
 pub follows_loose : (s : SetState) (loose : List (List Bool)) → Follows s (record s { loose = loose })

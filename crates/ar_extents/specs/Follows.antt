@@ -77,3 +77,9 @@ pub record WorksOn (these : Place → Type 0) (old new : SetState) : Type 0 wher
   pub loose : new.loose ≡ old.loose
   pub lost : Keeps (IsLost old) old new
   pub touches : Spares (HasNoUsed old these) old new
+
+-- One extent was worked on, and then the other: where the disks broke at the one, the other wasn't asked any more.
+pub record WorksInTurn (one other : Place) (old new : SetState) : Type 0 where
+  pub between : SetState
+  pub first : WorksOn (IsPlace one) old between
+  pub second : WorksOn (IsPlace other) between new

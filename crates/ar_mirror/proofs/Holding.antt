@@ -7,11 +7,11 @@ use Rattle.ar_disks.specs.Geometry.{rows_of}
 use Rattle.ar_disks.specs.Members.{member, AreApart, AreDisjoint}
 use Rattle.ar_extents.specs.declared.health.Health.TheVariants.{Broken}
 use Rattle.ar_extents.specs.Set.{SetState, content, IsSound}
-use Rattle.ar_extents.specs.Follows.{Follows, Keeps, KeepsBut, IsPlace, WorksOn}
+use Rattle.ar_extents.specs.Follows.{Follows, Keeps, KeepsBut, IsPlace, WorksOn, WorksInTurn}
 use Rattle.ar_extents.specs.Access.{Accesses, Puts, is_written}
 use Rattle.ar_extents.specs.declared.answers.Put.{Put}
 use Rattle.ar_extents.specs.declared.answers.Put.TheVariants.{Written, Missing, Broken as PutBroken}
-use Rattle.ar_extents.proofs.Follows.{works_then, works_more}
+use Rattle.ar_extents.proofs.Follows.{works_in_turn}
 use Rattle.ar_extents.proofs.Access.{works_written}
 use Rattle.ar_extents.proofs.Losses.{missing_lost, broken_lost, lost_not_sound}
 use Rattle.ar_extents.specs.Groups.{IsGroup}
@@ -148,15 +148,18 @@ pub record SlotWritten (m : Members) (slot : ℕ) (a c : SetState) (block : List
   pub groups : OtherGroupsHold m a c
   pub keeps : KeepsButSlot m slot a c
   pub works : WorksOn (IsInPair a.geometry m slot) a c
+  pub order : WorksInTurn (one_of a.geometry m slot) (other_of a.geometry m slot) a c
 
 both_written : (m : Members) (slot : ℕ) (a b c : SetState) (block : List ℕ) (first second : Put) → IsGroup a m → slot < slots_of a.geometry
     → Wrote a b (one_of a.geometry m slot) (row_of a.geometry slot) block first → Wrote b c (other_of a.geometry m slot) (row_of a.geometry slot) block second
     → SlotWritten m slot a c block
 both_written m slot a b c block first second group hs one other =
-    let pair = IsInPair a.geometry m slot in
-    let works = works_then pair a b c
-    (works_more (IsPlace (one_of a.geometry m slot)) pair a b (λ p is. inl is) (wrote_works a b (one_of a.geometry m slot) (row_of a.geometry slot) block first one))
-    (works_more (IsPlace (other_of a.geometry m slot)) pair b c (λ p is. inr is) (wrote_works b c (other_of a.geometry m slot) (row_of a.geometry slot) block second other)) in
+    let order : WorksInTurn (one_of a.geometry m slot) (other_of a.geometry m slot) a c = record {
+      between = b;
+      first = wrote_works a b (one_of a.geometry m slot) (row_of a.geometry slot) block first one;
+      second = wrote_works b c (other_of a.geometry m slot) (row_of a.geometry slot) block second other;
+    } in
+    let works = works_in_turn (one_of a.geometry m slot) (other_of a.geometry m slot) a c order in
     let follows = works.follows in
     let keeps = pair_kept m slot a b c one.keeps other.keeps in
     record {
@@ -167,6 +170,7 @@ both_written m slot a b c block first second group hs one other =
       groups = groups_hold m slot a c hs follows keeps;
       keeps = keeps;
       works = works;
+      order = order;
     }
 
 -- the same, of extents and a row that are found to be the slot's

@@ -1,11 +1,8 @@
 -- What slots hold while an extent is rebuilt.
-use Rattle.std.proofs.Common.{◌≡◌, ◌⊎◌, inl, inr, ℕ, zero, suc, ◌+◌, ◌*◌, ◌/◌, ◌<◌, Bool, true, List, refl, sym, ◌∙◌, ap, subst, arith}
-use Rattle.std.proofs.lemmas.Bool.Decides.{nat_tests}
+use Rattle.std.proofs.Common.{◌≡◌, ◌⊎◌, inl, inr, ℕ, zero, suc, ◌+◌, ◌*◌, ◌/◌, ◌<◌, Bool, List, refl, sym, ◌∙◌, ap, subst, arith}
 use Rattle.ar_disks.specs.declared.address.Place.{Place}
 use Rattle.ar_disks.specs.declared.address.Members.{Members}
-use Rattle.ar_extents.specs.declared.health.Health.{Health}
-use Rattle.ar_extents.specs.declared.health.Health.TheVariants.{Whole, Out, Rebuilding, Broken}
-use Rattle.ar_extents.specs.Health.{is_missing, IsRebuilding, rebuilt_disk, next_extent}
+use Rattle.ar_extents.specs.Health.{IsRebuilding, rebuilt_disk}
 use Rattle.ar_extents.specs.Set.{SetState, content, IsSound, IsMissing}
 use Rattle.ar_extents.specs.Follows.{Follows, Keeps, KeepsBut, Anywhere, Spares, HasNoneOf, IsEither}
 use Rattle.ar_extents.specs.Access.{Accesses, Touches, next_place}

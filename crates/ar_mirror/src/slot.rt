@@ -1,10 +1,10 @@
 // Reads and writes of slots.
 ghost use Rattle.std.specs.Prelude.{◌≡◌, ◌<◌, length};
 ghost use Rattle.ar_disks.specs.Geometry.{block_len_of};
-ghost use Rattle.ar_extents.specs.Follows.{Keeps, Anywhere, IsPlace, WorksOn};
+ghost use Rattle.ar_extents.specs.Follows.{Keeps, Anywhere, IsPlace, WorksOn, WorksInTurn};
 ghost use Rattle.ar_extents.specs.Set.{IsSound};
 ghost use Rattle.ar_extents.specs.Groups.{IsGroup, outcome_of};
-ghost use Rattle.ar_mirror.specs.Slots.{slots_of, one_of};
+ghost use Rattle.ar_mirror.specs.Slots.{slots_of, one_of, other_of};
 ghost use Rattle.ar_mirror.specs.Holds.{Holds};
 ghost use Rattle.ar_mirror.specs.Calls.{Gives, IsInPair, KeepsButSlot, OtherSlotsHold, OtherGroupsHold};
 
@@ -47,7 +47,7 @@ pub fn get<D: Disk>(
 }
 
 /// Writes a slot, below twice the rows of an extent, from a block of the set's length. It writes every member of the slot's
-/// pair that isn't missing. After `Broken` any bytes may stand in the slot's rows.
+/// pair that isn't missing, the first before the other. After `Broken` any bytes may stand in the slot's rows.
 pub fn put<D: Disk>(set: &mut DiskSet<D>, members: &Members, slot: u16, from: &[u8]) -> Completion
     requires group { IsGroup set.old members.now }
     requires slot { slot < slots_of set.old.geometry }
@@ -61,6 +61,8 @@ pub fn put<D: Disk>(set: &mut DiskSet<D>, members: &Members, slot: u16, from: &[
 
     ensures keeps { KeepsButSlot members.now slot set.old set.new }
     ensures works { WorksOn (IsInPair set.old.geometry members.now slot) set.old set.new }
+    // The first member of the pair, and then the other.
+    ensures order { WorksInTurn (one_of set.old.geometry members.now slot) (other_of set.old.geometry members.now slot) set.old set.new }
 {
     let pair = pair_of(set.geometry(), members, slot);
     match set.put(pair.one, pair.row, from) {

@@ -9,12 +9,12 @@ use Rattle.ar_extents.specs.Set.{SetState, IsSound}
 use Rattle.ar_extents.specs.Follows.{Follows, Keeps, KeepsBut, Anywhere, Spares, HasNoneOf, IsPlace, IsEither, WorksOn}
 use Rattle.ar_extents.specs.Access.{Accesses, Touches, next_place}
 use Rattle.ar_extents.specs.Groups.{IsMember}
-use Rattle.ar_extents.proofs.Follows.{works_more}
+use Rattle.ar_extents.proofs.Follows.{keeps_refl, works_refl, works_then, works_more, works_in_turn, in_turn_first}
 use Rattle.ar_extents.proofs.Access.{works_read}
 use Rattle.ar_extents.proofs.Losses.{missing_lost, next_missing, lost_not_sound}
 use Rattle.ar_parity.specs.Row.{Blocks}
 use Rattle.ar_parity.specs.Group.{RowAgrees}
-use Rattle.ar_parity.specs.Call.{IsOffDiskOf}
+use Rattle.ar_parity.specs.Call.{IsOffDiskOf, WritesInTurn}
 use Rattle.ar_parity.proofs.Agrees.{add_up_then, agrees_read}
 
 -- a member was read, by its place
@@ -29,6 +29,22 @@ first_of_two m i j a b works = works_more (IsPlace (member m i)) (IsEither (memb
 
 pub second_of_two : (m : Members) (i j : ℕ) (a b : SetState) → WorksOn (IsPlace (member m j)) a b → WorksOn (IsEither (member m i) (member m j)) a b
 second_of_two m i j a b works = works_more (IsPlace (member m j)) (IsEither (member m i) (member m j)) a b (λ p is. inr is) works
+
+-- where the parity is read before both are written, no other extent is asked
+pub in_order_works : (own parity : Place) (a b : SetState) → WritesInTurn own parity a b → WorksOn (IsEither own parity) a b
+in_order_works own parity a b order =
+    works_then (IsEither own parity) a order.read b
+    (works_more (IsPlace parity) (IsEither own parity) a order.read (λ p is. inr is) order.reads)
+    (works_in_turn own parity order.read b order.writes)
+
+-- the parity wasn't read, and the own extent alone written
+pub own_alone : (own parity : Place) (a b : SetState) → WorksOn (IsPlace own) a b → WritesInTurn own parity a b
+own_alone own parity a b works = record {
+  read = a;
+  reads = works_refl (IsPlace parity) a;
+  kept = keeps_refl Anywhere a;
+  writes = in_turn_first own parity a b works;
+}
 
 -- work on a member leaves the disk of another
 pub off_disk : (m : Members) (i j : ℕ) (a b : SetState) → AreApart m → i < 4 → j < 4 → i ≢ j → WorksOn (IsPlace (member m i)) a b

@@ -5,7 +5,7 @@ use Rattle.ar_disks.specs.declared.address.Place.{Place}
 use Rattle.ar_disks.specs.Members.{member}
 use Rattle.ar_extents.specs.declared.health.Health.TheVariants.{Broken as AllBroken}
 use Rattle.ar_extents.specs.Set.{SetState, content, IsSound}
-use Rattle.ar_extents.specs.Follows.{Keeps, Anywhere, IsPlace, IsEither, WorksOn}
+use Rattle.ar_extents.specs.Follows.{Keeps, Anywhere, IsPlace, IsEither, WorksOn, WorksInTurn}
 use Rattle.ar_extents.specs.Access.{IsGivenUp}
 use Rattle.ar_disks.specs.declared.completion.Completion.{Completion}
 use Rattle.ar_disks.specs.declared.completion.Completion.TheVariants.{Done, Broken}
@@ -36,13 +36,22 @@ pub record ReadsBefore (own parity : Place) (old new : SetState) : Type 0 where
   pub kept : Keeps Anywhere old read
   pub writes : WorksOn (IsEither own parity) read new
 
+-- At first no extent but the one with a row's parity was asked, and nothing was written; and then a slot's own was, and the parity's
+-- behind it.
+pub record WritesInTurn (own parity : Place) (old new : SetState) : Type 0 where
+  pub read : SetState
+  pub reads : WorksOn (IsPlace parity) old read
+  pub kept : Keeps Anywhere old read
+  pub writes : WorksInTurn own parity read new
+
 -- At first no extent but a slot's own was asked, and nothing was written. Where it could be used after that, no other was asked but
--- the one with the row's parity, whatever faulted then; and where it couldn't, the others were read before anything was written.
+-- the one with the row's parity, whatever faulted then, and that one was read before the own was written, and written after it; and
+-- where it couldn't, the others were read before anything was written.
 pub record AsksOwnFirst (own parity : Place) (old new : SetState) : Type 0 where
   pub between : SetState
   pub reads : WorksOn (IsPlace own) old between
   pub kept : Keeps Anywhere old between
-  pub known : IsSound between own → WorksOn (IsEither own parity) between new
+  pub known : IsSound between own → WritesInTurn own parity between new
   pub before : ReadsBefore own parity between new
 
 -- The member's row has the block that agrees with the three others, and nothing was lost.

@@ -1,15 +1,16 @@
 -- What a group with parity holds.
-use Rattle.std.specs.Prelude.{◌≡◌, ◌≢◌, ℕ, zero, suc, ◌<◌, List, if◌then◌else◌}
+use Rattle.std.specs.Prelude.{◌≡◌, ◌≢◌, ℕ, zero, suc, ◌<◌, ◌≤◌, List, if◌then◌else◌}
 use Rattle.ar_disks.specs.declared.address.Place.{Place}
 use Rattle.ar_disks.specs.declared.address.Members.{Members}
 use Rattle.ar_disks.specs.Block.{xor}
-use Rattle.ar_disks.specs.Geometry.{block_len_of}
+use Rattle.ar_disks.specs.Geometry.{rows_of, block_len_of}
 use Rattle.ar_disks.specs.Members.{member}
+use Rattle.ar_extents.specs.declared.health.Health.TheVariants.{Broken}
 use Rattle.ar_extents.specs.Health.{is_lost}
 use Rattle.ar_extents.specs.Set.{SetState, content, IsSound}
 use Rattle.ar_extents.specs.Follows.{Keeps}
 use Rattle.ar_extents.specs.Groups.{IsOutside}
-use Rattle.ar_parity.specs.Row.{Blocks, block, AddUp, row_of, data_position}
+use Rattle.ar_parity.specs.Row.{Blocks, block, AddUp, zero_blocks, row_of, data_position}
 
 -- a member that can be used has these bytes in a row
 pub record Stands (s : SetState) (m : Members) (row i : ℕ) (bytes : List ℕ) : Type 0 where
@@ -30,6 +31,17 @@ pub record Holds (s : SetState) (m : Members) (slot : ℕ) (bytes : List ℕ) : 
 pub record KeepsButRow (m : Members) (row : ℕ) (old new : SetState) : Type 0 where
   pub other_rows : (place : Place) (r : ℕ) → r ≢ row → content new place r ≡ content old place r
   pub other_places : Keeps (IsOutside m) old new
+
+-- The opening of a group stopped at a row: those before it agree on zeros, in a state in which the set could still be used, and of
+-- those past it nothing was written.
+pub record StopsOpening (m : Members) (old new : SetState) : Type 0 where
+  pub row : ℕ
+  pub there : row < rows_of old.geometry
+  pub opened : SetState
+  pub zeros : (r : ℕ) → r < row → RowAgrees opened m r (zero_blocks (block_len_of old.geometry))
+  pub usable : 0 < row → opened.health ≢ Broken
+  pub past : (place : Place) (r : ℕ) → row ≤ r → content opened place r ≡ content old place r
+  pub here : KeepsButRow m row opened new
 
 -- the sum of the contents of a row's three members beside a position, in order of position
 abbrev pub sum_beside : SetState → Members → ℕ → ℕ → List ℕ

@@ -7,7 +7,7 @@ ghost use Rattle.ar_extents.specs.Follows.{Keeps, Anywhere, IsPlace, IsEither, W
 ghost use Rattle.ar_extents.specs.Set.{IsMissing, IsSound, content};
 ghost use Rattle.ar_extents.specs.Groups.{IsGroup, IsMember, IsOutside, outcome_of};
 ghost use Rattle.ar_parity.specs.Row.{row_of, data_position, parity_position, zero_blocks};
-ghost use Rattle.ar_parity.specs.Group.{RowAgrees, Holds, KeepsButRow};
+ghost use Rattle.ar_parity.specs.Group.{RowAgrees, Holds, KeepsButRow, StopsOpening};
 ghost use Rattle.ar_disks.specs.Endings.{OnDone};
 ghost use Rattle.ar_parity.specs.Call.{Changes, AsksOwnFirst};
 
@@ -20,7 +20,7 @@ use ar_extents::{DiskSet, Got};
 
 /// Writes zeros to every row of the members that aren't missing, whatever stood there: every slot holds zeros then.
 ///
-/// `Broken` says that the set is broken; any bytes may stand in the members then.
+/// `Broken` says that the set is broken; any bytes may stand then in the row at which it broke.
 pub fn open_zero<D: Disk>(
     set: &mut DiskSet<D>,
     members: &Members,
@@ -33,6 +33,9 @@ pub fn open_zero<D: Disk>(
         → Holds set.new members.now slot (zeros (block_len_of set.old.geometry)) }
     ensures rows { (row : ℕ) → row < rows_of set.old.geometry
         → RowAgrees set.new members.now row (zero_blocks (block_len_of set.old.geometry)) }
+    // The rows are written in their order, up to the one at which the set broke.
+    ensures stopped { result ≡ Completion.Broken → StopsOpening members.now set.old set.new }
+
     ensures keeps { Keeps (IsOutside members.now) set.old set.new }
     ensures works { WorksOn (IsMember members.now) set.old set.new }
     ensures scratch { scratch.new.geometry ≡ scratch.old.geometry }

@@ -3,11 +3,11 @@ ghost use Rattle.std.specs.Prelude.{◌≡◌, ◌≢◌, ℕ, ◌<◌, length};
 ghost use Rattle.ar_disks.specs.Geometry.{rows_of, block_len_of};
 ghost use Rattle.ar_disks.specs.Members.{member};
 ghost use Rattle.ar_extents.specs.Set.{IsLost, IsMissing, IsSound, content};
-ghost use Rattle.ar_extents.specs.Follows.{IsPlace, IsEither, WorksOn};
+ghost use Rattle.ar_extents.specs.Follows.{IsPlace, IsEither, WorksOn, WorksInTurn};
 ghost use Rattle.ar_extents.specs.Groups.{IsGroup, IsMember};
 ghost use Rattle.ar_parity.specs.Row.{Blocks, block, changed, parity_position};
 ghost use Rattle.ar_parity.specs.Group.{Stands, RowAgrees, KeepsButRow};
-ghost use Rattle.ar_parity.specs.Call.{Tells, Changes, ReadsBefore, AsksOwnFirst};
+ghost use Rattle.ar_parity.specs.Call.{Tells, Changes, ReadsBefore, WritesInTurn, AsksOwnFirst};
 
 use crate::degraded::sum_of_two;
 use crate::slots::parity_at;
@@ -15,7 +15,7 @@ use crate::steps::write;
 use ar_disks::{Block, Completion, Disk, Members, Scratch};
 use ar_extents::{DiskSet, Got};
 
-// Writes a block and the parity of its row, each unless its member is missing.
+// Writes a block, and then the parity of its row, each unless its member is missing.
 fn write_both<D: Disk>(
     set: &mut DiskSet<D>,
     members: &Members,
@@ -40,7 +40,7 @@ fn write_both<D: Disk>(
         → content set.new (member members.now i) row ≡ content set.old (member members.now i) row }
 
     ensures keeps { KeepsButRow members.now row set.old set.new }
-    ensures works { WorksOn (IsEither (member members.now position) (member members.now parity)) set.old set.new }
+    ensures order { WorksInTurn (member members.now position) (member members.now parity) set.old set.new }
 {
     match write(set, members, position, row, from) {
         Completion::Done => write(set, members, parity, row, sum),
@@ -74,7 +74,7 @@ fn update<D: Disk>(
         → content set.new (member members.now i) row ≡ content set.old (member members.now i) row }
 
     ensures keeps { KeepsButRow members.now row set.old set.new }
-    ensures works { WorksOn (IsEither (member members.now position) (member members.now (parity_position row))) set.old set.new }
+    ensures order { WritesInTurn (member members.now position) (member members.now (parity_position row)) set.old set.new }
     ensures sum_len { length sum.new ≡ length sum.old }
 {
     let parity = parity_at(row);

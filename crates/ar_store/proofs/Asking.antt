@@ -10,14 +10,15 @@ use Rattle.ar_extents.specs.declared.health.Health.TheVariants.{Broken as AllBro
 use Rattle.ar_extents.specs.Health.{is_lost}
 use Rattle.ar_extents.specs.Set.{SetState, content, IsSound, IsMissing}
 use Rattle.ar_extents.specs.Groups.{IsMember, IsOutside}
-use Rattle.ar_extents.specs.Follows.{Follows, Keeps, Anywhere, IsPlace, IsEither, WorksOn}
-use Rattle.ar_extents.proofs.Follows.{keeps_refl, keeps_then, keeps_fewer, works_refl, works_more}
+use Rattle.ar_extents.specs.Follows.{Follows, Keeps, Anywhere, IsPlace, IsEither, WorksOn, WorksInTurn}
+use Rattle.ar_extents.proofs.Follows.{keeps_refl, keeps_then, keeps_fewer, works_refl, works_more, in_turn_first}
 use Rattle.ar_mirror.specs.Calls.{IsInPair, OtherSlotsHold as OtherMirrorSlotsHold, KeepsButSlot}
 use Rattle.ar_parity.specs.Group.{Holds as ParityHolds}
 use Rattle.ar_parity.specs.Call.{AsksOwnFirst, IsOffDiskOf}
 use Rattle.ar_mirror.proofs.Frames.{keeps_outside as mirror_outside}
 use Rattle.ar_parity.proofs.Frames.{keeps_outside as parity_outside}
-use Rattle.ar_mirror.specs.Slots.{row_of as mirror_row_of}
+use Rattle.ar_parity.proofs.Working.{own_alone}
+use Rattle.ar_mirror.specs.Slots.{one_of, other_of, row_of as mirror_row_of}
 use Rattle.ar_book.specs.declared.class.Class.{Class}
 use Rattle.ar_book.specs.declared.class.Class.TheVariants.{Free, Mirrored, Parity}
 use Rattle.ar_book.specs.declared.class.Level.TheVariants.{Unplaced, Mirrored as MirroredLevel, Parity as ParityLevel}
@@ -105,10 +106,10 @@ writes_parity a b m i works known =
 
 -- What a put to a slot of a mirrored group does, and to one of a group with parity, in one word each.
 pub wrote_mirrored : (a b : SetState) (m : Members) (i : ℕ) → WorksOn (IsInPair a.geometry m i) a b → OtherMirrorSlotsHold m i a b → KeepsButSlot m i a b
-    → WritesSlot Mirrored a b m i
-wrote_mirrored a b m i works slots keeps = record {
+    → WorksInTurn (one_of a.geometry m i) (other_of a.geometry m i) a b → WritesSlot Mirrored a b m i
+wrote_mirrored a b m i works slots keeps order = record {
   within = record { works = works; keeps = mirror_outside a b m i keeps };
-  order = tt;
+  order = order;
   alone = tt;
   rows = keeps;
   beside = λ k block inside ne has. slots.slots k inside ne block has;
@@ -256,15 +257,16 @@ asked_alone Parity a m i = λ missing. works_refl (IsPlace (member m (data_posit
 
 asked_in_order : (class : Class) (a : SetState) (m : Members) (i : ℕ) → AsksInOrder class a a m i
 asked_in_order Free a m i = tt
-asked_in_order Mirrored a m i = tt
+asked_in_order Mirrored a m i = in_turn_first (one_of a.geometry m i) (other_of a.geometry m i) a a (works_refl (IsPlace (one_of a.geometry m i)) a)
 asked_in_order Parity a m i =
-    let none = works_refl (IsEither (member m (data_position i)) (member m (parity_position (parity_row_of i)))) a in
+    let own = member m (data_position i) in
+    let parity = member m (parity_position (parity_row_of i)) in
     record {
       between = a;
-      reads = works_refl (IsPlace (member m (data_position i))) a;
+      reads = works_refl (IsPlace own) a;
       kept = keeps_refl Anywhere a;
-      known = λ sound. none;
-      before = record { read = a; reads = works_refl (IsOffDiskOf (member m (parity_position (parity_row_of i)))) a; kept = keeps_refl Anywhere a; writes = none };
+      known = λ sound. own_alone own parity a a (works_refl (IsPlace own) a);
+      before = record { read = a; reads = works_refl (IsOffDiskOf parity) a; kept = keeps_refl Anywhere a; writes = works_refl (IsEither own parity) a };
     }
 
 -- no slot was written

@@ -11,7 +11,8 @@ use Rattle.ar_disks.specs.Members.{member}
 use Rattle.ar_extents.specs.declared.health.Health.TheVariants.{Broken as AllBroken}
 use Rattle.ar_extents.specs.Set.{SetState, content, IsMissing}
 use Rattle.ar_extents.specs.Groups.{IsMember, IsOutside}
-use Rattle.ar_extents.specs.Follows.{Keeps, Anywhere, IsPlace, WorksOn}
+use Rattle.ar_extents.specs.Follows.{Keeps, Anywhere, IsPlace, WorksOn, WorksInTurn}
+use Rattle.ar_mirror.specs.Slots.{one_of, other_of}
 use Rattle.ar_mirror.specs.Calls.{KeepsButSlot}
 use Rattle.ar_parity.specs.Group.{KeepsButRow}
 use Rattle.ar_parity.specs.Call.{AsksOwnFirst}
@@ -76,11 +77,11 @@ AsksAlone Mirrored old new m i = Unit {0}
 AsksAlone Parity old new m i =
     IsMissing old (member m (parity_position (parity_row_of i))) → WorksOn (IsPlace (member m (data_position i))) old new
 
--- with parity: at first no extent but the slot's own is asked, and where it can be used then, none later but it and the row's parity;
--- nor is another asked once anything was written
+-- The first of a pair is asked before the other. With parity: at first no extent but the slot's own is asked, and where it can be used
+-- then, none later but it and the row's parity; nor is another asked once anything was written.
 abbrev pub AsksInOrder : Class → SetState → SetState → Members → ℕ → Type 0
 AsksInOrder Free old new m i = Unit {0}
-AsksInOrder Mirrored old new m i = Unit {0}
+AsksInOrder Mirrored old new m i = WorksInTurn (one_of old.geometry m i) (other_of old.geometry m i) old new
 AsksInOrder Parity old new m i = AsksOwnFirst (member m (data_position i)) (member m (parity_position (parity_row_of i))) old new
 
 -- One slot of four extents was written: no disk was asked but those that this asks, no row was written but the slot's, and each

@@ -40,3 +40,19 @@ returns-in-Written-put-clause-works g c =
     let second = c.put-in-Written.ensures in
     (slot_written c.args.members.now c.args.slot _ _ _ _ _ _ _ _ _ _ c.requires.group c.requires.slot c.geometry.ensures pair.one pair.other pair.row
     first.answer first.access first.keeps second.answer second.access second.keeps).works
+
+pub returns-in-Broken-put-clause-order : goal.returns-in-Broken-put-clause-order
+returns-in-Broken-put-clause-order g c =
+    let pair = c.pair_of-pair.ensures in
+    let first = c.put.ensures in
+    let second = c.put-in-Written.ensures in
+    (slot_written c.args.members.now c.args.slot _ _ _ _ _ _ _ _ _ _ c.requires.group c.requires.slot c.geometry.ensures pair.one pair.other pair.row
+    first.answer first.access first.keeps second.answer second.access second.keeps).order
+
+pub returns-in-Written-put-clause-order : goal.returns-in-Written-put-clause-order
+returns-in-Written-put-clause-order g c =
+    let pair = c.pair_of-pair.ensures in
+    let first = c.put.ensures in
+    let second = c.put-in-Written.ensures in
+    (slot_written c.args.members.now c.args.slot _ _ _ _ _ _ _ _ _ _ c.requires.group c.requires.slot c.geometry.ensures pair.one pair.other pair.row
+    first.answer first.access first.keeps second.answer second.access second.keeps).order

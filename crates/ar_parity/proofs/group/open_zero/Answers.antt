@@ -14,6 +14,7 @@ loop-row-preserved g c =
       works = works_then (IsMember c.args.members.now) c.args.set.now c.loop-row.set c.zero_row.new.set inv.works row.works;
       keeps = keeps_then (IsOutside c.args.members.now) c.args.set.now c.loop-row.set c.zero_row.new.set inv.keeps row.keeps.other_places;
       agrees = zeros_then c.args.set.now c.loop-row.set c.zero_row.new.set c.args.members.now c.loop-row.row inv.works.follows row.works.follows row.keeps inv.agrees row.agrees;
+      past = λ p r le. row.keeps.other_rows p r (omega arith) ∙ inv.past p r (omega arith);
       healthy = λ lt. c.in-Done.ensures.answer;
     }
 
@@ -29,3 +30,18 @@ returns-clause-slots g c =
 pub returns-in-Broken-clause-works : goal.returns-in-Broken-clause-works
 returns-in-Broken-clause-works g c =
     works_then (IsMember c.args.members.now) c.args.set.now c.loop-row.set c.zero_row.new.set c.loop-row.invariant.works c.zero_row.ensures.works
+
+pub returns-in-Broken-clause-stopped : goal.returns-in-Broken-clause-stopped
+returns-in-Broken-clause-stopped g c = λ broken.
+    let inv = c.loop-row.invariant in
+    let rows = c.rows-row-end.ensures ∙ ap rows_of c.geometry.ensures in
+    let below = c.loop-row-test.true in
+    record {
+      row = c.loop-row.row;
+      there = omega arith;
+      opened = c.loop-row.set;
+      zeros = inv.agrees;
+      usable = inv.healthy;
+      past = inv.past;
+      here = c.zero_row.ensures.keeps;
+    }

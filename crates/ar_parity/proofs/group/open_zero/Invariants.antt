@@ -1,6 +1,8 @@
-use Rattle.std.proofs.Common.{◌≢◌, ℕ, ◌<◌}
+use Rattle.std.proofs.Common.{◌≡◌, ◌≢◌, ℕ, ◌<◌, ◌≤◌}
+use Rattle.ar_disks.specs.declared.address.Place.{Place}
 use Rattle.ar_disks.specs.Geometry.{block_len_of}
 use Rattle.ar_extents.specs.declared.health.Health.TheVariants.{Broken as AllBroken}
+use Rattle.ar_extents.specs.Set.{content}
 use Rattle.ar_extents.specs.Follows.{Keeps, WorksOn}
 use Rattle.ar_extents.specs.Groups.{IsMember, IsOutside}
 use Rattle.ar_parity.specs.Row.{zero_blocks}
@@ -12,5 +14,6 @@ invariant-loop-row g l = record {
   works : WorksOn (IsMember l.members) l.initial.set l.set;
   keeps : Keeps (IsOutside l.members) l.initial.set l.set;
   agrees : (r : ℕ) → r < l.row → RowAgrees l.set l.members r (zero_blocks (block_len_of l.initial.set.geometry));
+  past : (p : Place) (r : ℕ) → l.row ≤ r → content l.set p r ≡ content l.initial.set p r;
   healthy : 0 < l.row → l.set.health ≢ AllBroken;
 }

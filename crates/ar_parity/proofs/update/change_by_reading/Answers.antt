@@ -9,7 +9,7 @@ use Rattle.ar_extents.specs.Follows.{Anywhere, IsEither}
 use Rattle.ar_extents.proofs.Follows.{keeps_refl, works_refl, works_then}
 use Rattle.ar_extents.proofs.GroupLemmas.{works_member, works_pair}
 use Rattle.ar_extents.proofs.Losses.{missing_lost, broken_lost, lost_not_sound}
-use Rattle.ar_parity.proofs.Working.{member_read}
+use Rattle.ar_parity.proofs.Working.{member_read, first_of_two, in_order_works}
 use Rattle.ar_parity.specs.Call.{IsOffDiskOf}
 use Rattle.ar_parity.proofs.update.change_by_reading.Goals as goal
 
@@ -36,7 +36,8 @@ returns-in-Read-clause-works g c =
     let d = c.update.new.set in
     works_then (IsMember m) a b d
     (works_member m c.args.position a b c.requires.below (member_read m c.args.position a b c.at.result _ c.at.ensures c.get.ensures.access c.get.ensures.keeps))
-    (works_pair m c.args.position (parity_position c.args.row) b d c.requires.below (omega arith) c.update.ensures.works)
+    (works_pair m c.args.position (parity_position c.args.row) b d c.requires.below (omega arith)
+    (in_order_works (member m c.args.position) (member m (parity_position c.args.row)) b d c.update.ensures.order))
 
 pub returns-in-Missing-clause-works : goal.returns-in-Missing-clause-works
 returns-in-Missing-clause-works g c =
@@ -47,15 +48,30 @@ returns-in-Missing-clause-works g c =
     (works_member m c.args.position a b c.requires.below (member_read m c.args.position a b c.at.result _ c.at.ensures c.get.ensures.access c.get.ensures.keeps))
     c.put_lost.ensures.works
 
+pub returns-in-Read-clause-known : goal.returns-in-Read-clause-known
+returns-in-Read-clause-known g c = λ sound.
+    let m = c.args.members.now in
+    let i = c.args.position in
+    let j = parity_position c.args.row in
+    let a = c.args.set.now in
+    let b = c.get.new.self in
+    let d = c.update.new.set in
+    works_then (IsEither (member m i) (member m j)) a b d
+    (first_of_two m i j a b (member_read m i a b c.at.result _ c.at.ensures c.get.ensures.access c.get.ensures.keeps))
+    (in_order_works (member m i) (member m j) b d c.update.ensures.order)
+
 pub returns-in-Read-clause-first : goal.returns-in-Read-clause-first
 returns-in-Read-clause-first g c =
     let m = c.args.members.now in
+    let own = member m c.args.position in
+    let parity = member m (parity_position c.args.row) in
+    let b = c.get.new.self in
     record {
       between = c.get.new.self;
       reads = member_read m c.args.position c.args.set.now c.get.new.self c.at.result _ c.at.ensures c.get.ensures.access c.get.ensures.keeps;
       kept = c.get.ensures.keeps;
-      known = λ sound. c.update.ensures.works;
-      before = record { read = c.get.new.self; reads = works_refl (IsOffDiskOf (member m (parity_position c.args.row))) c.get.new.self; kept = keeps_refl Anywhere c.get.new.self; writes = c.update.ensures.works };
+      known = λ sound. c.update.ensures.order;
+      before = record { read = b; reads = works_refl (IsOffDiskOf parity) b; kept = keeps_refl Anywhere b; writes = in_order_works own parity b c.update.new.set c.update.ensures.order };
     }
 
 pub returns-in-Missing-clause-first : goal.returns-in-Missing-clause-first

@@ -3,9 +3,9 @@ use Rattle.ar_disks.specs.Members.{member}
 use Rattle.ar_parity.specs.Row.{parity_position}
 use Rattle.ar_parity.proofs.Updates.{lost_changed, broken_changed}
 use Rattle.ar_extents.specs.Groups.{IsMember}
-use Rattle.ar_extents.specs.Follows.{Anywhere, IsEither, WorksOn}
+use Rattle.ar_extents.specs.Follows.{IsEither, WorksOn}
 use Rattle.ar_parity.specs.Call.{IsOffDiskOf}
-use Rattle.ar_extents.proofs.Follows.{works_then, works_more, works_refl}
+use Rattle.ar_extents.proofs.Follows.{works_then, works_refl}
 use Rattle.ar_parity.proofs.Working.{second_of_two}
 use Rattle.ar_extents.proofs.GroupLemmas.{works_member}
 use Rattle.ar_parity.proofs.update.put_lost.Goals as goal

@@ -3,9 +3,9 @@ use Rattle.ar_parity.specs.Row.{parity_position}
 use Rattle.ar_parity.proofs.Updates.{both_changed, alone_changed, broken_changed}
 use Rattle.std.proofs.Common.{◌∙◌, ℕ, ap, subst}
 use Rattle.ar_disks.specs.Members.{member}
-use Rattle.ar_extents.specs.Follows.{IsEither, WorksOn}
-use Rattle.ar_extents.proofs.Follows.{works_then}
-use Rattle.ar_parity.proofs.Working.{member_read, first_of_two, second_of_two}
+use Rattle.ar_extents.specs.Follows.{IsPlace, WorksInTurn}
+use Rattle.ar_extents.proofs.Follows.{works_refl, works_in_turn, in_turn_first}
+use Rattle.ar_parity.proofs.Working.{member_read}
 use Rattle.ar_parity.proofs.update.update.Goals as goal
 
 pub returns-in-Read-clause-agrees : goal.returns-in-Read-clause-agrees
@@ -14,7 +14,8 @@ returns-in-Read-clause-agrees g c =
     (parity_position c.args.row) c.at.result c.args.from.now c.args.before.now c.get.new.into c.xor_into.new.target c.bytes.result.now
     c.at.ensures c.parity_at-parity.ensures.position c.requires.below c.parity_at-parity.ensures.below c.requires.apart c.requires.whole
     c.get.ensures.access.follows c.get.ensures.keeps c.in-Read.ensures.answer c.xor_into.ensures.sum (c.bytes.ensures ∙ c.add.ensures.sum)
-    c.write_both.ensures.works.follows c.write_both.ensures.block c.write_both.ensures.parity c.write_both.ensures.others
+    (works_in_turn (member c.args.members.now c.args.position) (member c.args.members.now c.parity_at-parity.result) c.get.new.self c.write_both.new.set
+    c.write_both.ensures.order).follows c.write_both.ensures.block c.write_both.ensures.parity c.write_both.ensures.others
 
 pub returns-in-Missing-clause-agrees : goal.returns-in-Missing-clause-agrees
 returns-in-Missing-clause-agrees g c = λ blocks agrees before.
@@ -28,8 +29,8 @@ returns-in-Broken-clause-agrees g c = λ blocks agrees before.
     broken_changed c.args.set.now c.get.new.self c.args.members.now c.args.row c.args.position (parity_position c.args.row) c.args.from.now
     c.get.ensures.access.follows c.in-Broken.ensures.answer c.requires.below (omega arith) c.requires.apart c.requires.whole blocks agrees
 
-pub returns-in-Read-clause-works : goal.returns-in-Read-clause-works
-returns-in-Read-clause-works g c =
+pub returns-in-Read-clause-order : goal.returns-in-Read-clause-order
+returns-in-Read-clause-order g c =
     let m = c.args.members.now in
     let a = c.args.set.now in
     let b = c.get.new.self in
@@ -37,20 +38,36 @@ returns-in-Read-clause-works g c =
     let i = c.args.position in
     let j = parity_position c.args.row in
     let is = c.parity_at-parity.ensures.position in
-    let P : ℕ → Type 0 = λ n. WorksOn (IsEither (member m i) (member m n)) b d in
-    works_then (IsEither (member m i) (member m j)) a b d
-    (second_of_two m i j a b (member_read m j a b c.at.result _ (c.at.ensures ∙ ap (member m) is) c.get.ensures.access c.get.ensures.keeps))
-    (subst P is c.write_both.ensures.works)
+    let P : ℕ → Type 0 = λ n. WorksInTurn (member m i) (member m n) b d in
+    record {
+      read = b;
+      reads = member_read m j a b c.at.result _ (c.at.ensures ∙ ap (member m) is) c.get.ensures.access c.get.ensures.keeps;
+      kept = c.get.ensures.keeps;
+      writes = subst P is c.write_both.ensures.order;
+    }
 
-pub returns-in-Missing-clause-works : goal.returns-in-Missing-clause-works
-returns-in-Missing-clause-works g c =
+pub returns-in-Missing-clause-order : goal.returns-in-Missing-clause-order
+returns-in-Missing-clause-order g c =
     let m = c.args.members.now in
     let a = c.args.set.now in
     let b = c.get.new.self in
-    let d = c.write.new.set in
-    let i = c.args.position in
     let j = parity_position c.args.row in
-    works_then (IsEither (member m i) (member m j)) a b d
-    (second_of_two m i j a b
-    (member_read m j a b c.at.result _ (c.at.ensures ∙ ap (member m) c.parity_at-parity.ensures.position) c.get.ensures.access c.get.ensures.keeps))
-    (first_of_two m i j b d c.write.ensures.works)
+    record {
+      read = b;
+      reads = member_read m j a b c.at.result _ (c.at.ensures ∙ ap (member m) c.parity_at-parity.ensures.position) c.get.ensures.access c.get.ensures.keeps;
+      kept = c.get.ensures.keeps;
+      writes = in_turn_first (member m c.args.position) (member m j) b c.write.new.set c.write.ensures.works;
+    }
+
+pub returns-in-Broken-clause-order : goal.returns-in-Broken-clause-order
+returns-in-Broken-clause-order g c =
+    let m = c.args.members.now in
+    let a = c.args.set.now in
+    let b = c.get.new.self in
+    let j = parity_position c.args.row in
+    record {
+      read = b;
+      reads = member_read m j a b c.at.result _ (c.at.ensures ∙ ap (member m) c.parity_at-parity.ensures.position) c.get.ensures.access c.get.ensures.keeps;
+      kept = c.get.ensures.keeps;
+      writes = in_turn_first (member m c.args.position) (member m j) b b (works_refl (IsPlace (member m c.args.position)) b);
+    }

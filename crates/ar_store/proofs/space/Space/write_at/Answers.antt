@@ -41,7 +41,7 @@ returns-in-Mirrored g c =
       others = slots_written s.disks b s.book c.args.slot c.args.from.now c.requires.ready.space c.requires.slot put.works.follows written;
       book = refl;
       asks = wrote_in s c.args.slot c.members-members.result c.requires.ready.space c.requires.slot c.members-members.ensures Mirrored b
-          (sym c.in-Mirrored.is ∙ c.class.ensures) (wrote_mirrored s.disks b c.members-members.result c.args.slot.slot put.works put.slots put.keeps);
+          (sym c.in-Mirrored.is ∙ c.class.ensures) (wrote_mirrored s.disks b c.members-members.result c.args.slot.slot put.works put.slots put.keeps put.order);
       stays = record {
         ready = record {
           space = space_written s.disks b s.book c.args.slot c.args.from.now c.requires.ready.space c.requires.slot access c.requires.whole written;
