@@ -38,20 +38,21 @@ last_dropped es n k within last =
     let same : suc (n - 1) ≡ n = omega (arith, first) in
     (found.0, drop-cons es (n - 1) e inside ∙ ap (λ x. x ∷ drop (suc (n - 1)) es) is ∙ ap (λ m. e ∷ drop m es) same)
 
+module _ {S X : Type 0} (step : S → X → S → Type 0) where
+  -- some, and then others
+  pub in_turn_then : (xs ys : List X) (a b c : S) → InTurn step xs a b → InTurn step ys b c → InTurn step (xs ++ ys) a c
+  in_turn_then [] ys a b c p q = subst (λ s. InTurn step ys s c) p q
+  in_turn_then (x ∷ xs) ys a b c p q = (p.0, p.1, in_turn_then xs ys p.0 b c p.2 q)
+
+  -- one
+  pub in_turn_one : (x : X) (a b : S) → step a x b → InTurn step (x ∷ []) a b
+  in_turn_one x a b h = (b, h, refl)
+
 module _ {S : Type 0} (step : S → Key → S → Type 0) where
-  -- some keys, and then others
-  pub in_turn_then : (ks ls : List Key) (a b c : S) → InTurn step ks a b → InTurn step ls b c → InTurn step (ks ++ ls) a c
-  in_turn_then [] ls a b c p q = subst (λ s. InTurn step ls s c) p q
-  in_turn_then (k ∷ ks) ls a b c p q = (p.0, p.1, in_turn_then ks ls p.0 b c p.2 q)
-
-  -- one key
-  pub in_turn_one : (k : Key) (a b : S) → step a k b → InTurn step (k ∷ []) a b
-  in_turn_one k a b h = (b, h, refl)
-
   -- the least recently used was destaged, if there was one
   pub in_turn_last : (answer : Flush) (es : List (Key × List ℕ)) (f g : Key → List ℕ) (a b : S) → answer ≢ Broken → Gives answer es f g → IsPut step answer a b → (answer ≡ Idle → b ≡ a)
       → InTurn step (last_keys es) a b
-  in_turn_last (Flushed k) es f g a b ok given put quiet = subst (λ ks. InTurn step ks a b) (sym (last_keys_is es (k, given.0) given.1)) (in_turn_one k a b put)
+  in_turn_last (Flushed k) es f g a b ok given put quiet = subst (λ ks. InTurn step ks a b) (sym (last_keys_is es (k, given.0) given.1)) (in_turn_one step k a b put)
   in_turn_last Idle es f g a b ok given put quiet = subst (λ ks. InTurn step ks a b) (ap last_keys (sym given)) (quiet refl)
   in_turn_last Broken es f g a b ok given put quiet = absurd (ok refl)
 
@@ -60,7 +61,7 @@ module _ {S : Type 0} (step : S → Key → S → Type 0) where
       → InTurn step (reverse (keys_of (drop n es))) a b → step b k c → InTurn step (reverse (keys_of (drop (n - 1) es))) a c
   in_turn_next es n k a b c within last before put =
       subst (λ ks. InTurn step ks a c) (sym (ap (λ l. reverse (keys_of l)) (last_dropped es n k within last).1 ∙ reverse_onto (keys_of (drop n es)) k []))
-      (in_turn_then (reverse (keys_of (drop n es))) (k ∷ []) a b c before (in_turn_one k b c put))
+      (in_turn_then step (reverse (keys_of (drop n es))) (k ∷ []) a b c before (in_turn_one step k b c put))
 
   -- the same, where a flush says so
   pub in_turn_flushed : (answer : Flush) (es : List (Key × List ℕ)) (s t : CacheState) (a b c : S) → answer ≢ Broken → answer ≢ Idle → Flushes answer s t → IsPut step answer b c

@@ -33,10 +33,10 @@ pub record Writes (old new : Key → List ℕ) (key : Key) (block : List ℕ) : 
   pub written : new key ≡ block
   pub others : (other : Key) → other ≢ key → new other ≡ old other
 
--- a step was made for each of these keys, in turn
-abbrev pub InTurn : {S : Type 0} → (S → Key → S → Type 0) → List Key → S → S → Type 0
+-- a step was made for each of these, in turn
+abbrev pub InTurn : {S X : Type 0} → (S → X → S → Type 0) → List X → S → S → Type 0
 InTurn step [] from to = to ≡ from
-InTurn {S} step (key ∷ keys) from to = (next : S) × step from key next × InTurn step keys next to
+InTurn {S} step (this ∷ rest) from to = (next : S) × step from this next × InTurn step rest next to
 
 -- a step was made for the first of these keys, in turn, and at the next one it stopped
 abbrev pub StopsInTurn : {S : Type 0} → (step stop : S → Key → S → Type 0) → List Key → S → S → Type 0

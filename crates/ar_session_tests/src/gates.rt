@@ -1,5 +1,5 @@
 // Sessions at once, behind a gate.
-ghost use Rattle.std.specs.Prelude.{◌≡◌, [], true};
+ghost use Rattle.std.specs.Prelude.{◌≡◌, [], true, None};
 
 use crate::frames::{LOGINS, TUR, put, put_request};
 use crate::rig::{Rig, array, closes, sink};
@@ -208,6 +208,8 @@ impl Door for Jammed {
     ghost to_come = { λ door. door.left };
 
     ghost are_one = { λ _ _. true };
+
+    ghost opens = { λ _ pair _. pair ≡ None };
 
     fn left(&self) -> usize {
         self.left

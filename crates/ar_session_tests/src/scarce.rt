@@ -1,6 +1,6 @@
 // Connections, of which one may find no thread, or the work in the background none. The gate refuses each allocation in turn, and
 // so each thread, by `.ci/scarce`; with ample memory all of them start.
-ghost use Rattle.std.specs.Prelude.{◌≡◌, [], true};
+ghost use Rattle.std.specs.Prelude.{◌≡◌, [], true, ⊤};
 
 use crate::rig::{Rig, array, closes};
 use ar_core::Array;
@@ -34,6 +34,8 @@ impl Door for Brief {
     ghost to_come = { λ door. door.left };
 
     ghost are_one = { λ _ _. true };
+
+    ghost opens = { λ _ _ _. ⊤ };
 
     fn left(&self) -> usize {
         self.left

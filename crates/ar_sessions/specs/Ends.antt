@@ -1,5 +1,5 @@
 -- How connections end.
-use Rattle.std.specs.Prelude.{◌≡◌, ◌⊎◌, None, Option, ⊤}
+use Rattle.std.specs.Prelude.{◌≡◌, ◌⊎◌, None, Some, Option}
 use Rattle.ar_history.specs.Seat.{SeatState}
 use Rattle.ar_frames.specs.declared.end.SessionEnd.{SessionEnd}
 use Rattle.ar_frames.specs.declared.end.Why.TheVariants.{Read}
@@ -40,10 +40,22 @@ pub record GaveBack (end : SessionEnd) (receipt : Option ReceiptState) : Type 0 
 abbrev pub unopened : SessionEnd
 unopened = record { frames = 0; why = Read }
 
--- a connection ended with its session, or could not be opened, or had no thread
-abbrev pub IsEnd : ConnectionEnd → Type 0
-IsEnd (Served end) = WasServed end ⊎ (end ≡ unopened)
-IsEnd NoThread = ⊤
+-- a door opened its next connection, in the way in which it says that it does
+pub record HasOpened {D P : Type 0} (opens : D → Option P → D → Type 0) (old new : D) : Type 0 where
+  pub pair : P
+  pub opened : opens old (Some pair) new
+
+-- what became of a door's next connection: it was opened, and had a thread or none, or it couldn't be opened
+abbrev pub Becomes : {D P : Type 0} → (D → Option P → D → Type 0) → D → Pending → D → Type 0
+Becomes opens old (pending.Served handle) new = HasOpened opens old new
+Becomes opens old pending.Unopened new = opens old None new
+Becomes opens old pending.NoThread new = HasOpened opens old new
+
+-- How a door's next connection ended: with its session where it was opened, or as one that couldn't be opened where it couldn't; or it
+-- was opened and had no thread.
+abbrev pub Ends : {D P : Type 0} → (D → Option P → D → Type 0) → D → ConnectionEnd → D → Type 0
+Ends opens old (Served end) new = (HasOpened opens old new × WasServed end) ⊎ (opens old None new × (end ≡ unopened))
+Ends opens old NoThread new = HasOpened opens old new
 
 -- a connection ended with its session
 abbrev pub IsOfSession : ConnectionEnd → Type 0

@@ -1,5 +1,5 @@
 // Where connections come from.
-ghost use Rattle.std.specs.Prelude.{◌≡◌, ◌<◌, ◌+◌, ◌++◌, ℕ, Bool, true, length, IfSome};
+ghost use Rattle.std.specs.Prelude.{◌≡◌, ◌<◌, ◌+◌, ◌++◌, ℕ, Bool, true, length, Option, IfSome};
 ghost use Rattle.std.specs.Option.{option_to_list};
 
 use ar_frames::{Sink, Source};
@@ -20,6 +20,10 @@ pub trait Door {
     /// writer of another.
     ghost are_one: { Self.Reader → Self.Writer → Bool };
 
+    /// What it is for the next connection to be opened, or not: the door before, what came, and the door after. A door alone says
+    /// that, too, so that nobody else tells one that was opened as one that couldn't be.
+    ghost opens: { Self → Option (Self.Reader × Self.Writer) → Self → Type 0 };
+
     /// How many connections are still to come.
     fn left(&self) -> usize
         ensures { result ≡ to_come self.now };
@@ -28,6 +32,7 @@ pub trait Door {
     fn accept(&mut self) -> Option<(Self::Reader, Self::Writer)>
         requires { 0 < to_come self.old }
         ensures count { to_come self.new + 1 ≡ to_come self.old }
+        ensures opens { opens self.old result self.new }
         ensures one { IfSome result (λ pair. are_one pair.0 pair.1 ≡ true) };
 }
 
@@ -55,6 +60,9 @@ impl<R: Source + Send + Drop, W: Sink + Send + Drop> Door for MemDoor<R, W> {
 
     ghost are_one = { λ _ _. true };
 
+    // The first of them.
+    ghost opens = { λ old pair new. old.pairs.items ≡ option_to_list pair ++ new.pairs.items };
+
     fn left(&self) -> usize {
         self.pairs.len()
     }
@@ -62,7 +70,6 @@ impl<R: Source + Send + Drop, W: Sink + Send + Drop> Door for MemDoor<R, W> {
     fn accept(&mut self) -> Option<(R, W)>
         requires { 0 < length self.old.pairs.items }
         ensures count { length self.new.pairs.items + 1 ≡ length self.old.pairs.items }
-        // The first of them.
         ensures first { self.old.pairs.items ≡ option_to_list result ++ self.new.pairs.items }
     {
         self.pairs.pop_front()

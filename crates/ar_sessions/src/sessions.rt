@@ -1,8 +1,9 @@
 // Sessions in threads.
-ghost use Rattle.std.specs.Prelude.{◌≡◌, ◌≢◌, ◌+◌, ◌<◌, ◌≤◌, true, All, IfOk, OnOk, OnErr, vec_len, vec_capacity, length};
+ghost use Rattle.std.specs.Prelude.{◌≡◌, ◌≢◌, ◌+◌, ◌<◌, ◌≤◌, true, IfOk, OnOk, OnErr, vec_len, vec_capacity, length};
 ghost use Rattle.std.specs.List.{AllZip};
 ghost use Rattle.std.specs.VecDeque.{deque_len, deque_capacity};
-ghost use Rattle.ar_sessions.specs.Ends.{GivesBack, GaveBack, IsEnd, EndOf};
+ghost use Rattle.ar_cache.specs.Backing.{InTurn};
+ghost use Rattle.ar_sessions.specs.Ends.{GivesBack, GaveBack, Becomes, Ends, EndOf};
 
 use crate::{Desk, Door, LockPort, Receipt, run_background};
 use ar_disks::Disk;
@@ -103,9 +104,10 @@ pub fn run_sessions<
     gate: &G,
 ) -> (O, Result<Vec<ConnectionEnd>, NoMemory>)
     ensures count { IfOk result.1 (λ ends. vec_len ends ≡ O.to_come door) }
-    ensures ends { IfOk result.1 (λ ends. All IsEnd ends.items) }
+    // Each is that of one connection, in the order in which the door opened them, or couldn't.
+    ensures ends { IfOk result.1 (λ ends. InTurn (Ends O.opens) ends.items door result.0) }
     ensures opened { OnOk result.1 (O.to_come result.0 ≡ 0) }
-    ensures refused { OnErr result.1 (O.to_come result.0 ≡ O.to_come door) }
+    ensures refused { OnErr result.1 (result.0 ≡ door) }
 {
     let Ok(roll) = Roll::new(alloc, door.left()) else {
         return (door, Err(NoMemory));
@@ -123,7 +125,9 @@ pub fn run_sessions<
         rt,
         move |scope| -> (O, Vec<ConnectionEnd>)
             requires { O.to_come door ≡ roll.left }
-            ensures { (O.to_come result.0 ≡ 0) × (vec_len result.1 ≡ roll.left) × All IsEnd result.1.items }
+            ensures { (O.to_come result.0 ≡ 0)
+                × (vec_len result.1 ≡ roll.left)
+                × InTurn (Ends O.opens) result.1.items door result.0 }
         {
             let mut door = door;
             let ends = serve_all(scope, shared, &mut door, roll);
@@ -150,9 +154,10 @@ pub fn run_beside_background<
     gate: &G,
 ) -> (O, Result<Vec<ConnectionEnd>, NoMemory>)
     ensures count { IfOk result.1 (λ ends. vec_len ends ≡ O.to_come door) }
-    ensures ends { IfOk result.1 (λ ends. All IsEnd ends.items) }
+    // Each is that of one connection, in the order in which the door opened them, or couldn't.
+    ensures ends { IfOk result.1 (λ ends. InTurn (Ends O.opens) ends.items door result.0) }
     ensures opened { OnOk result.1 (O.to_come result.0 ≡ 0) }
-    ensures refused { OnErr result.1 (O.to_come result.0 ≡ O.to_come door) }
+    ensures refused { OnErr result.1 (result.0 ≡ door) }
 {
     let stop = AtomicBool::new(false);
     let flag = &stop;
@@ -160,9 +165,9 @@ pub fn run_beside_background<
         thread::scope_env(),
         rt,
         move |scope| -> (O, Result<Vec<ConnectionEnd>, NoMemory>)
-            ensures { IfOk result.1 (λ ends. (vec_len ends ≡ O.to_come door) × All IsEnd ends.items)
+            ensures { IfOk result.1 (λ ends. (vec_len ends ≡ O.to_come door) × InTurn (Ends O.opens) ends.items door result.0)
                 × OnOk result.1 (O.to_come result.0 ≡ 0)
-                × OnErr result.1 (O.to_come result.0 ≡ O.to_come door) }
+                × OnErr result.1 (result.0 ≡ door) }
         {
             let Ok(_worker) = scope.spawn(move || run_background(rt, kept, flag)) else {
                 return (door, Err(NoMemory));
@@ -194,7 +199,7 @@ where
     O::Writer: 's,
     requires { O.to_come door.old ≡ roll.left }
     ensures count { vec_len result ≡ roll.left }
-    ensures ends { All IsEnd result.items }
+    ensures ends { InTurn (Ends O.opens) result.items door.old door.new }
     ensures opened { O.to_come door.new ≡ 0 }
 {
     let Roll {
@@ -222,7 +227,8 @@ where
     O::Reader: 's,
     O::Writer: 's,
     requires { 0 < O.to_come door.old }
-    ensures { O.to_come door.new + 1 ≡ O.to_come door.old }
+    ensures count { O.to_come door.new + 1 ≡ O.to_come door.old }
+    ensures becomes { Becomes O.opens door.old result door.new }
 {
     let Some((reader, writer)) = door.accept() else {
         return Pending::Unopened;
@@ -268,7 +274,6 @@ fn join_all<R: Threads>(
     requires none { vec_len ends ≡ 0 }
     requires room { deque_len pending ≤ vec_capacity ends }
     ensures count { vec_len result ≡ deque_len pending }
-    ensures ends { All IsEnd result.items }
     ensures order { AllZip EndOf pending.items result.items }
 {
     while let Some(next) = pending.pop_front() {
@@ -279,8 +284,7 @@ fn join_all<R: Threads>(
 
 // Waits for the end of a connection.
 fn end_of<R: Threads>(rt: &R, pending: Pending) -> ConnectionEnd
-    ensures end { IsEnd result }
-    ensures known { EndOf pending result }
+    ensures { EndOf pending result }
 {
     match pending {
         Pending::Served(handle) => {

@@ -1,5 +1,5 @@
 // Connections over TCP.
-ghost use Rattle.std.specs.Prelude.{◌≡◌, ◌<◌, ◌+◌, IfOk, true};
+ghost use Rattle.std.specs.Prelude.{◌≡◌, ◌<◌, ◌+◌, IfOk, true, ⊤};
 
 use crate::Door;
 use ar_frames::Linked;
@@ -63,6 +63,9 @@ impl Door for TcpDoor {
     ghost to_come = { λ door. door };
 
     ghost are_one = { λ _ _. true };
+
+    // Of sockets nothing can be said.
+    ghost opens = { λ _ _ _. ⊤ };
 
     fn left(&self) -> usize {
         self.left

@@ -1,8 +1,8 @@
-use Rattle.std.proofs.Common.{◌≡◌, ◌+◌, ◌++◌, ◌≤◌, List, All, vec_len, vec_capacity}
+use Rattle.std.proofs.Common.{◌≡◌, ◌+◌, ◌++◌, ◌≤◌, List, vec_len, vec_capacity}
 use Rattle.std.specs.List.{AllZip}
 use Rattle.std.specs.VecDeque.{deque_len}
 use Rattle.ar_sessions.specs.declared.sessions.ConnectionEnd.{ConnectionEnd}
-use Rattle.ar_sessions.specs.Ends.{IsEnd, EndOf}
+use Rattle.ar_sessions.specs.Ends.{EndOf}
 use Rattle.ar_sessions.proofs.sessions.join_all.Given as goal
 
 abbrev pub invariant-loop-next : goal.invariant-loop-next
@@ -10,7 +10,6 @@ invariant-loop-next g l =
     record {
       count : vec_len l.ends + deque_len l.pending ≡ deque_len l.fn.pending;
       room : vec_len l.ends + deque_len l.pending ≤ vec_capacity l.ends;
-      ends : All IsEnd l.ends.items;
       order : (rest : List ConnectionEnd) → AllZip EndOf l.pending.items rest → AllZip EndOf l.fn.pending.items (l.ends.items ++ rest);
     }
 
