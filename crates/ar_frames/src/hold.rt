@@ -1,11 +1,11 @@
 // Reads of data into memory of their own, and past it.
-ghost use Rattle.std.specs.Prelude.{◌≡◌, length};
+ghost use Rattle.std.specs.Prelude.{◌≡◌, IfOk, length, vec_len, vec_capacity};
 ghost use Rattle.ar_frames.specs.Stream.{Passes, Shares, Holds, Fetches};
 
 use crate::fill::{Filled, fill};
 use crate::stream::Source;
 use bytes::Bytes;
-use std::alloc::Global;
+use std::alloc::{AllocError, Global};
 
 // How far bytes were passed over.
 #[derive(Clone, Copy)]
@@ -63,10 +63,9 @@ pub fn hold<R: Source>(alloc: Global, reader: &mut R, len: usize) -> Held
     if len == 0 {
         return Held::Kept(Bytes::new());
     }
-    let mut bytes = Vec::new(alloc);
-    if bytes.resize(len, 0).is_err() {
+    let Ok(mut bytes) = zeros(alloc, len) else {
         return Held::Refused;
-    }
+    };
     match fill(reader, &mut bytes) {
         Filled::Full => shared(bytes),
         Filled::Ended(_) => Held::Ended,
@@ -74,8 +73,22 @@ pub fn hold<R: Source>(alloc: Global, reader: &mut R, len: usize) -> Held
     }
 }
 
-// The bytes of a vector, to be shared.
+// So many zeros, in just the memory that they take. (Of `resize` std says how much memory it leaves at least. These pushes are
+// compiled to one fill of the whole.)
+fn zeros(alloc: Global, len: usize) -> Result<Vec<u8>, AllocError>
+    ensures len { IfOk result (λ bytes. vec_len bytes ≡ len) }
+    ensures exact { IfOk result (λ bytes. vec_capacity bytes ≡ len) }
+{
+    let mut bytes = Vec::with_capacity(alloc, len)?;
+    for _ in 0..len {
+        bytes.push_reserved(0);
+    }
+    Ok(bytes)
+}
+
+// The bytes of a vector, to be shared, with no more memory than they take.
 fn shared(bytes: Vec<u8>) -> Held
+    requires exact { vec_capacity bytes ≡ vec_len bytes }
     ensures { Shares bytes.items result }
 {
     match Bytes::from_vec(bytes) {

@@ -1,4 +1,4 @@
-use Rattle.std.proofs.Common.{◌≡◌, ◌++◌, ◌+◌, ◌<◌, ℕ, List, sym, subst, ap, ◌∙◌, length, length-append, take, arith}
+use Rattle.std.proofs.Common.{◌≡◌, ◌++◌, ◌+◌, ℕ, List, sym, subst, ap, ◌∙◌, length, length-append, take, arith}
 use Rattle.ar_frames.specs.Frame.{IsReplyFrame}
 use Rattle.ar_frames.specs.Talk.{reply_len}
 use Rattle.ar_frames.proofs.Serving.{frame_len}
