@@ -6,7 +6,7 @@ use Rattle.ar_sessions.specs.declared.sessions.ConnectionEnd.{ConnectionEnd}
 use Rattle.ar_sessions.specs.declared.sessions.ConnectionEnd.TheVariants.{Served, NoThread}
 use Rattle.ar_sessions.specs.declared.sessions.Pending.{Pending}
 use Rattle.ar_sessions.specs.declared.sessions.Pending.TheVariants as pending
-use Rattle.ar_sessions.specs.Ends.{HasOpened, Becomes, Ends, EndOf}
+use Rattle.ar_sessions.specs.Ends.{HasOpened, Becomes, ConnectionEnds, EndOf}
 
 module _ {D P : Type 0} (opens : D → Option P → D → Type 0) where
   -- one that was opened, and isn't told as one that couldn't be
@@ -16,15 +16,15 @@ module _ {D P : Type 0} (opens : D → Option P → D → Type 0) where
   became pending.NoThread a b ne opened = opened
 
   -- one connection
-  ended : (this : Pending) (end : ConnectionEnd) (a b : D) → Becomes opens a this b → EndOf this end → Ends opens a end b
+  ended : (this : Pending) (end : ConnectionEnd) (a b : D) → Becomes opens a this b → EndOf this end → ConnectionEnds opens a end b
   ended (pending.Served handle) (Served end) a b opened served = inl (opened, served)
   ended (pending.Served handle) NoThread a b opened none = absurd none
-  ended pending.Unopened end a b not is = subst (λ e. Ends opens a e b) (sym is) (inr (not, refl))
-  ended pending.NoThread end a b opened is = subst (λ e. Ends opens a e b) (sym is) opened
+  ended pending.Unopened end a b not is = subst (λ e. ConnectionEnds opens a e b) (sym is) (inr (not, refl))
+  ended pending.NoThread end a b opened is = subst (λ e. ConnectionEnds opens a e b) (sym is) opened
 
   -- all of them
   pub all_ended : (these : List Pending) (ends : List ConnectionEnd) (a b : D) → InTurn (Becomes opens) these a b → AllZip EndOf these ends
-      → InTurn (Ends opens) ends a b
+      → InTurn (ConnectionEnds opens) ends a b
   all_ended [] [] a b became are = became
   all_ended [] (end ∷ ends) a b became are = absurd are
   all_ended (this ∷ these) [] a b became are = absurd are

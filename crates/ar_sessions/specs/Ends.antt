@@ -53,9 +53,9 @@ Becomes opens old pending.NoThread new = HasOpened opens old new
 
 -- How a door's next connection ended: with its session where it was opened, or as one that couldn't be opened where it couldn't; or it
 -- was opened and had no thread.
-abbrev pub Ends : {D P : Type 0} → (D → Option P → D → Type 0) → D → ConnectionEnd → D → Type 0
-Ends opens old (Served end) new = (HasOpened opens old new × WasServed end) ⊎ (opens old None new × (end ≡ unopened))
-Ends opens old NoThread new = HasOpened opens old new
+abbrev pub ConnectionEnds : {D P : Type 0} → (D → Option P → D → Type 0) → D → ConnectionEnd → D → Type 0
+ConnectionEnds opens old (Served end) new = (HasOpened opens old new × WasServed end) ⊎ (opens old None new × (end ≡ unopened))
+ConnectionEnds opens old NoThread new = HasOpened opens old new
 
 -- a connection ended with its session
 abbrev pub IsOfSession : ConnectionEnd → Type 0

@@ -3,7 +3,7 @@ ghost use Rattle.std.specs.Prelude.{◌≡◌, ◌≢◌, ◌+◌, ◌<◌, ◌�
 ghost use Rattle.std.specs.List.{AllZip};
 ghost use Rattle.std.specs.VecDeque.{deque_len, deque_capacity};
 ghost use Rattle.ar_cache.specs.Backing.{InTurn};
-ghost use Rattle.ar_sessions.specs.Ends.{GivesBack, GaveBack, Becomes, Ends, EndOf};
+ghost use Rattle.ar_sessions.specs.Ends.{GivesBack, GaveBack, Becomes, ConnectionEnds, EndOf};
 
 use crate::{Desk, Door, LockPort, Receipt, run_background};
 use ar_disks::Disk;
@@ -105,7 +105,7 @@ pub fn run_sessions<
 ) -> (O, Result<Vec<ConnectionEnd>, NoMemory>)
     ensures count { IfOk result.1 (λ ends. vec_len ends ≡ O.to_come door) }
     // Each is that of one connection, in the order in which the door opened them, or couldn't.
-    ensures ends { IfOk result.1 (λ ends. InTurn (Ends O.opens) ends.items door result.0) }
+    ensures ends { IfOk result.1 (λ ends. InTurn (ConnectionEnds O.opens) ends.items door result.0) }
     ensures opened { OnOk result.1 (O.to_come result.0 ≡ 0) }
     ensures refused { OnErr result.1 (result.0 ≡ door) }
 {
@@ -127,7 +127,7 @@ pub fn run_sessions<
             requires { O.to_come door ≡ roll.left }
             ensures { (O.to_come result.0 ≡ 0)
                 × (vec_len result.1 ≡ roll.left)
-                × InTurn (Ends O.opens) result.1.items door result.0 }
+                × InTurn (ConnectionEnds O.opens) result.1.items door result.0 }
         {
             let mut door = door;
             let ends = serve_all(scope, shared, &mut door, roll);
@@ -155,7 +155,7 @@ pub fn run_beside_background<
 ) -> (O, Result<Vec<ConnectionEnd>, NoMemory>)
     ensures count { IfOk result.1 (λ ends. vec_len ends ≡ O.to_come door) }
     // Each is that of one connection, in the order in which the door opened them, or couldn't.
-    ensures ends { IfOk result.1 (λ ends. InTurn (Ends O.opens) ends.items door result.0) }
+    ensures ends { IfOk result.1 (λ ends. InTurn (ConnectionEnds O.opens) ends.items door result.0) }
     ensures opened { OnOk result.1 (O.to_come result.0 ≡ 0) }
     ensures refused { OnErr result.1 (result.0 ≡ door) }
 {
@@ -165,7 +165,7 @@ pub fn run_beside_background<
         thread::scope_env(),
         rt,
         move |scope| -> (O, Result<Vec<ConnectionEnd>, NoMemory>)
-            ensures { IfOk result.1 (λ ends. (vec_len ends ≡ O.to_come door) × InTurn (Ends O.opens) ends.items door result.0)
+            ensures { IfOk result.1 (λ ends. (vec_len ends ≡ O.to_come door) × InTurn (ConnectionEnds O.opens) ends.items door result.0)
                 × OnOk result.1 (O.to_come result.0 ≡ 0)
                 × OnErr result.1 (result.0 ≡ door) }
         {
@@ -199,7 +199,7 @@ where
     O::Writer: 's,
     requires { O.to_come door.old ≡ roll.left }
     ensures count { vec_len result ≡ roll.left }
-    ensures ends { InTurn (Ends O.opens) result.items door.old door.new }
+    ensures ends { InTurn (ConnectionEnds O.opens) result.items door.old door.new }
     ensures opened { O.to_come door.new ≡ 0 }
 {
     let Roll {
