@@ -16,14 +16,16 @@ use Rattle.ar_disks.specs.declared.address.Members.{Members}
 use Rattle.ar_disks.specs.declared.geometry.Geometry.{Geometry}
 use Rattle.ar_index.specs.declared.choices.Choices.{Choices}
 use Rattle.ar_index.specs.Choices.{place_in, nothing}
+use Rattle.ar_index.specs.Tree.{TreeState, leaves}
 use Rattle.ar_book.specs.declared.class.Class.{Class}
 use Rattle.ar_book.specs.declared.class.Class.TheVariants.{Free, Mirrored, Parity}
+use Rattle.ar_book.specs.declared.class.Level.TheVariants.{Mirrored as MirroredLevel}
 use Rattle.ar_book.specs.declared.class.Slot.{Slot}
 use Rattle.ar_disks.specs.Addresses.{same_addr}
-use Rattle.ar_book.specs.Tables.{GroupState, UnitState, Tables, group_in, unit_in, key_at, home, reserved, HasBlock, HasSlot}
+use Rattle.ar_book.specs.Tables.{GroupState, UnitState, Tables, group_in, unit_in, key_at, home, level, level_in, level_of, reserved, HasBlock, HasSlot}
 use Rattle.ar_book.specs.Changes.{with_key, without_key, named, vacated, homed, restamped, grown, unmarked, opened, free_group, formed, shifted}
 use Rattle.ar_book.specs.Book.{TablesAgree}
-use Rattle.ar_book.specs.Index.{age_of, choices_by, choices_in, choices_of, leaves_from, leaves_of, free_leaf, oldest_by, oldest_in, KeepsOldest}
+use Rattle.ar_book.specs.Index.{age_of, choices_by, choices_in, choices_of, leaves_from, leaves_of, free_leaf, oldest_by, oldest_in, KeepsOldest, NeedsNoScan}
 use Rattle.ar_disks.proofs.Addresses.{addr_tells, make_key}
 use Rattle.ar_book.proofs.UnitLemmas.{has_by_block, unit_same, unit_other}
 use Rattle.ar_book.proofs.GroupLemmas.{there_group, named_shape, vacated_size, vacated_shape}
@@ -108,6 +110,28 @@ kept_still t k n ok index o (Some q) former same needed before keeps =
     let inside : q.group < length t.groups = there_group t.groups q k (ok.agree.to_slot k q at) in
     let leaf : get_or index q.group nothing ≡ choices_of t.geometry t.units q.group (group_in t.groups q.group) = ap (λ l. get_or l q.group nothing) before ∙ leaf_of t.geometry t.units t.groups q.group inside in
     absurd (needed (subst (λ x. KeepsOldest x k n) (sym (ap (λ c. c.oldest) leaf ∙ oldest_chosen t q.group q.group)) (keeps q at)))
+
+-- the choices of a group that isn't mirrored have nothing to do with the units
+pub unlooked_choices : (g : Geometry) (units new : List (Addr × UnitState)) (n : ℕ) (x : GroupState) → x.class ≢ Mirrored → choices_of g units n x ≡ choices_of g new n x
+unlooked_choices g units new n x other = by x.class other
+  where
+    by : (c : Class) → c ≢ Mirrored → choices_by c g (place_in units) (age_of units) n x ≡ choices_by c g (place_in new) (age_of new) n x
+    by Free ne = refl
+    by Mirrored ne = absurd (ne refl)
+    by Parity ne = refl
+
+-- a block that isn't at the mirrored level gets a stamp: no slot of the group of its home is looked at for that
+pub unlooked_still : (t : Tables) (k : Key) (units : List (Addr × UnitState)) (ok : TablesAgree t) (index : TreeState) (o changed : Option Slot) → o ≡ home t k → IfSome changed (λ q. o ≡ Some q)
+    → leaves index ≡ leaves_of t.geometry t.units t.groups → level t k ≢ MirroredLevel → ForSome changed (λ q. NeedsNoScan t.geometry units t.groups index q.group)
+unlooked_still t k units ok index o changed former same before low q e =
+    let at : home t k ≡ Some q = sym former ∙ changed_home o changed same q e in
+    let inside : q.group < length t.groups = there_group t.groups q k (ok.agree.to_slot k q at) in
+    let other : (group_in t.groups q.group).class ≢ Mirrored = λ is. low (ap (level_in t.groups) at ∙ ap level_of is) in
+    record {
+      class = other;
+      same = ap (λ l. get_or l q.group nothing) before ∙ leaf_of t.geometry t.units t.groups q.group inside
+          ∙ unlooked_choices t.geometry t.units units q.group (group_in t.groups q.group) other;
+    }
 
 -- a block has another stamp
 module _ (t : Tables) (k : Key) (n : ℕ) (ok : TablesAgree t) (block : HasBlock t k) where

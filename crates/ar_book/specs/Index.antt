@@ -87,6 +87,11 @@ pub record KeepsOldest (chosen : Option Age) (key : Key) (stamp : ℕ) : Type 0 
   pub other : oldest.key ≢ key
   pub older : oldest.stamp < stamp
 
+-- the group isn't mirrored, so that its choices are read off its counts, and the leaf has them
+pub record NeedsNoScan (g : Geometry) (units : List (Addr × UnitState)) (groups : List GroupState) (index : TreeState) (i : ℕ) : Type 0 where
+  pub class : (group_in groups i).class ≢ Mirrored
+  pub same : leaf index i ≡ choices_of g units i (group_in groups i)
+
 -- none of the first of these homes is in the group
 abbrev pub IsOutside : List (Option Slot) → ℕ → ℕ → Type 0
 IsOutside homes n group = (j : ℕ) (s : Slot) → j < n → slice_index_or homes j None ≡ Some s → s.group ≢ group

@@ -7,7 +7,7 @@ ghost use Rattle.ar_index.specs.Choices.{place_in};
 ghost use Rattle.ar_index.specs.Tree.{leaves, IsRight};
 ghost use Rattle.ar_book.specs.Tables.{group_in};
 ghost use Rattle.ar_book.specs.Index as spec;
-ghost use Rattle.ar_book.specs.Index.{oldest_named, leaves_of, leaf, blanks, KeepsOldest, AreInside, IsBlanked, IsLeafOrBlank, HaveChoices};
+ghost use Rattle.ar_book.specs.Index.{oldest_named, leaves_of, leaf, blanks, KeepsOldest, NeedsNoScan, AreInside, IsBlanked, IsLeafOrBlank, HaveChoices};
 
 use crate::group::slots_of;
 use crate::{Class, Group, Slot, UnitTable};
@@ -144,6 +144,7 @@ pub(crate) fn refresh(
     ensures set { leaves index.new
         ≡ slice_set (leaves index.old) number (spec.choices_of geometry units.now.entries number (group_in groups.now.items number)) }
     ensures right { IsRight (place_in units.now.entries) index.new }
+    ensures unlooked { NeedsNoScan geometry units.now.entries groups.now.items index.old number → steps.new.count ≡ steps.old.count }
     ensures few { length groups.now.items ≤ 4096
         → steps.new.count ≤ steps.old.count + (length (group_in groups.now.items number).slots + 12) }
     ensures on { steps.old.count ≤ steps.new.count }
@@ -172,6 +173,8 @@ pub(crate) fn refresh_home(
         → MatchOption home (steps.new.count ≡ steps.old.count)
         (λ slot. steps.new.count ≤ steps.old.count + (length (group_in groups.now.items slot.group).slots + 12)) }
     ensures still { home ≡ None → steps.new.count ≡ steps.old.count }
+    ensures unlooked { ForSome home (λ slot. NeedsNoScan geometry units.now.entries groups.now.items index.old slot.group)
+        → steps.new.count ≡ steps.old.count }
     ensures on { steps.old.count ≤ steps.new.count }
 {
     if let Some(slot) = home {

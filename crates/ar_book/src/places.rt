@@ -1,8 +1,9 @@
 // Changes of homes and stamps.
-ghost use Rattle.std.specs.Prelude.{◌≡◌, ◌+◌, ◌*◌, ◌≤◌, length, None};
+ghost use Rattle.std.specs.Prelude.{◌≡◌, ◌≢◌, ◌+◌, ◌*◌, ◌≤◌, length, None};
 ghost use Rattle.std.specs.Option.{ForSome};
 ghost use Rattle.ar_disks.specs.Geometry.{rows_of};
-ghost use Rattle.ar_book.specs.Tables.{key_at, home, HasBlock, HasSlot};
+ghost use Rattle.ar_book.specs.Tables.{key_at, home, level, HasBlock, HasSlot};
+ghost use Rattle.ar_book.specs.declared.class.Level.TheVariants.{Mirrored};
 ghost use Rattle.ar_book.specs.Index.{oldest_in, KeepsOldest};
 ghost use Rattle.ar_book.specs.Changes.{assigned, released, stamped};
 
@@ -20,6 +21,9 @@ impl Book {
         requires empty { key_at self.old slot ≡ None }
         ensures assigned { self.new ≡ assigned self.old key slot }
         ensures few { length self.old.groups ≤ 4096 → steps.new.count ≤ steps.old.count + (6 * rows_of self.old.geometry + 24) }
+        // Where the block had no home, half of that.
+        ensures first { home self.old key ≡ None → length self.old.groups ≤ 4096
+            → steps.new.count ≤ steps.old.count + (3 * rows_of self.old.geometry + 12) }
         ensures on { steps.old.count ≤ steps.new.count }
     {
         let former = home_in(&self.units, key);
@@ -44,10 +48,11 @@ impl Book {
         set_home(&mut self.units, key, Some(slot));
     }
 
-    /// Takes a unit's block out of its home, if it has one.
+    /// Takes a unit's block out of its home, if it has one; else it takes no step.
     pub fn release(&mut self, key: Key, steps: &mut Steps)
         requires { HasBlock self.old key }
         ensures released { self.new ≡ released self.old key }
+        ensures still { home self.old key ≡ None → steps.new.count ≡ steps.old.count }
         ensures few { length self.old.groups ≤ 4096 → steps.new.count ≤ steps.old.count + (3 * rows_of self.old.geometry + 12) }
         ensures on { steps.old.count ≤ steps.new.count }
     {
@@ -64,13 +69,14 @@ impl Book {
         set_home(&mut self.units, key, None);
     }
 
-    /// Gives a unit's block the next stamp. It takes no step where the block has no home, or another block is the oldest of its
-    /// home's group and older than the stamp.
+    /// Gives a unit's block the next stamp. It takes no step where the block isn't at the mirrored level, or another block is the
+    /// oldest of its home's group and older than the stamp.
     pub fn stamp(&mut self, key: Key, steps: &mut Steps)
         requires { HasBlock self.old key }
         ensures stamped { self.new ≡ stamped self.old key }
         ensures still { ForSome (home self.old key) (λ slot. KeepsOldest (oldest_in self.old slot.group) key self.new.puts)
             → steps.new.count ≡ steps.old.count }
+        ensures unlooked { level self.old key ≢ Mirrored → steps.new.count ≡ steps.old.count }
         ensures few { length self.old.groups ≤ 4096 → steps.new.count ≤ steps.old.count + (3 * rows_of self.old.geometry + 12) }
         ensures on { steps.old.count ≤ steps.new.count }
     {

@@ -1,9 +1,6 @@
-use Rattle.std.proofs.Common.{◌≡◌, ◌+◌, ◌*◌, ◌<◌, ◌≤◌, ◌∙◌, true, length, sym, ap, subst, arith}
+use Rattle.std.proofs.Common.{◌<◌, ◌∙◌, length, sym, ap, arith}
 use Rattle.std.proofs.lemmas.List.{length-set}
-use Rattle.ar_index.specs.Choices.{is_nothing}
 use Rattle.ar_index.specs.Tree.{leaves}
-use Rattle.ar_book.specs.Tables.{group_in}
-use Rattle.ar_book.specs.Index.{choices_of, leaf}
 use Rattle.ar_book.proofs.GroupLemmas.{slots_few}
 use Rattle.ar_book.proofs.IndexLemmas.{all_leaves}
 use Rattle.ar_book.proofs.Reorders.{right_none, right_skip, right_set, right_leaf, blanks_less}

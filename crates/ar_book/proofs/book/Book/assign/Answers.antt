@@ -13,7 +13,7 @@ use Rattle.ar_book.proofs.AfterAssign.{assigned_order}
 use Rattle.ar_book.proofs.IndexAfter.{assigned_leaves, few_home, named_long, vacated_long}
 use Rattle.std.proofs.Common.{◌≡◌, sym, subst, ◌∙◌, None, Some}
 use Rattle.ar_book.specs.contracts.book.Book.{the_view}
-use Rattle.ar_book.specs.Tables.{Tables, key_at, HasBlock, HasSlot}
+use Rattle.ar_book.specs.Tables.{Tables, key_at, home, HasBlock, HasSlot}
 use Rattle.ar_book.proofs.KeptLemmas.{former_group, former_slot, assigned_kept}
 use Rattle.ar_book.proofs.book.Book.assign.Goals as goal
 
@@ -88,3 +88,17 @@ returns-clause-few c most =
     let two = few_home t.geometry (vacated gs o) _ _ o (λ q e. vacated_long t.geometry gs o there long q.group (there q e)) second in
     let rows = ap (λ (x : Tables). rows_of x.geometry) c.self.view_is in
     omega (arith, first, one, two)
+
+pub returns-clause-first : goal.returns-clause-first
+returns-clause-first c = λ none most.
+    let t : Tables = the_view c.self.inside in
+    let slot : HasSlot t c.args.slot = subst (λ x. HasSlot x c.args.slot) (sym c.self.view_is) c.requires.slot in
+    let gs : List GroupState = named t.groups c.args.slot c.args.key in
+    let count : length t.groups ≡ length c.args.self.now.groups = ap (λ (x : Tables). length x.groups) c.self.view_is in
+    let size : length gs ≡ length t.groups = named_size t.groups c.args.slot c.args.key in
+    let long : (i : ℕ) → i < length gs → length (group_in gs i).slots ≡ 3 * rows_of t.geometry = λ i h. named_long t.geometry t.groups c.args.slot c.args.key slot.0 c.self.invariant.kept.tables.groups.long i (omega arith) in
+    let first = (rw c.name_slot.ensures at c.refresh.ensures.few) (let few : length gs ≤ 4096 = omega arith in few) in
+    let one = long c.args.slot.group (let inside : c.args.slot.group < length gs = omega (arith, slot.0) in inside) in
+    let second = c.refresh_home.ensures.still (c.home_in-former.ensures ∙ ap (λ (x : Tables). home x c.args.key) c.self.view_is ∙ none) in
+    let rows = ap (λ (x : Tables). rows_of x.geometry) c.self.view_is in
+    omega (arith, first, one, second, rows)

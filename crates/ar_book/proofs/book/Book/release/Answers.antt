@@ -8,7 +8,7 @@ use Rattle.ar_book.proofs.AfterRelease.{released_order}
 use Rattle.ar_book.proofs.IndexAfter.{released_leaves, few_home, vacated_long}
 use Rattle.std.proofs.Common.{None, sym, subst, ◌∙◌}
 use Rattle.ar_book.specs.contracts.book.Book.{the_view}
-use Rattle.ar_book.specs.Tables.{Tables, HasBlock}
+use Rattle.ar_book.specs.Tables.{Tables, home, HasBlock}
 use Rattle.ar_book.proofs.GroupLemmas.{there_group, there_slot}
 use Rattle.ar_book.proofs.KeptLemmas.{released_kept}
 use Rattle.ar_book.proofs.book.Book.release.Goals as goal
@@ -54,3 +54,7 @@ returns-clause-few c most =
     (λ q e. vacated_long t.geometry t.groups c.home_in-home.result there c.self.invariant.kept.tables.groups.long q.group (there q e)) steps in
     let rows = ap (λ (x : Tables). rows_of x.geometry) c.self.view_is in
     omega (arith, few)
+
+pub returns-clause-still : goal.returns-clause-still
+returns-clause-still c = λ none.
+    c.refresh_home.ensures.still (c.home_in-home.ensures ∙ ap (λ (x : Tables). home x c.args.key) c.self.view_is ∙ none)

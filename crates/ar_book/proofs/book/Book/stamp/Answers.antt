@@ -1,16 +1,17 @@
-use Rattle.std.proofs.Common.{◌<◌, ◌≤◌, ◌∙◌, length, sym, ap, subst, arith}
+use Rattle.std.proofs.Common.{◌≢◌, ◌<◌, ◌≤◌, ◌∙◌, length, sym, ap, subst, arith}
 use Rattle.std.specs.Option.{ForSome}
 use Rattle.std.specs.Map.{keys_of}
 use Rattle.std.proofs.lemmas.Map.{keys-set_value}
 use Rattle.ar_disks.specs.Addresses.{same_addr}
 use Rattle.ar_disks.specs.Geometry.{rows_of}
+use Rattle.ar_book.specs.declared.class.Level.TheVariants.{Mirrored}
 use Rattle.ar_book.specs.contracts.book.Book.{the_view}
-use Rattle.ar_book.specs.Tables.{Tables, home, HasBlock}
+use Rattle.ar_book.specs.Tables.{Tables, home, level, HasBlock}
 use Rattle.ar_book.specs.Index.{oldest_in, KeepsOldest}
 use Rattle.ar_book.proofs.GroupLemmas.{there_group}
 use Rattle.ar_book.proofs.UnitChanges.{restamped_kept, stamps_long}
 use Rattle.ar_book.proofs.IndexLemmas.{index_length, same_order}
-use Rattle.ar_book.proofs.IndexAfter.{changed_group, restamped_leaves, kept_still, few_home}
+use Rattle.ar_book.proofs.IndexAfter.{changed_group, restamped_leaves, kept_still, unlooked_still, few_home}
 use Rattle.ar_book.proofs.book.Book.stamp.Goals as goal
 
 pub restamp-home-requires : goal.restamp-home-requires
@@ -63,3 +64,9 @@ returns-clause-still c = λ keeps.
     c.refresh_home.ensures.still (kept_still t c.args.key c.saturating_add-self-inside.result c.self.invariant.kept.tables _ c.restamp-home.result c.home_to_refresh-changed.result c.restamp-home.ensures.home
     c.home_to_refresh-changed.ensures.same c.home_to_refresh-changed.ensures.needed c.self.invariant.leaves
     (subst (λ (x : Tables). ForSome (home x c.args.key) (λ q. KeepsOldest (oldest_in x q.group) c.args.key c.saturating_add-self-inside.result)) (sym c.self.view_is) keeps))
+
+pub returns-clause-unlooked : goal.returns-clause-unlooked
+returns-clause-unlooked c = λ low.
+    let t : Tables = the_view c.self.inside in
+    c.refresh_home.ensures.unlooked (unlooked_still t c.args.key c.restamp-home.new.units.entries c.self.invariant.kept.tables c.self.inside.index c.restamp-home.result c.home_to_refresh-changed.result
+    c.restamp-home.ensures.home c.home_to_refresh-changed.ensures.same c.self.invariant.leaves (subst (λ (x : Tables). level x c.args.key ≢ Mirrored) (sym c.self.view_is) low))
