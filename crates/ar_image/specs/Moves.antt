@@ -1,5 +1,6 @@
 -- What a demotion and a clean do.
-use Rattle.std.specs.Prelude.{◌≡◌, ◌↔◌, ◌<◌, ◌≤◌, IsTrue}
+use Rattle.std.specs.Prelude.{◌≡◌, ◌≢◌, ◌↔◌, ◌<◌, ◌≤◌, IsTrue}
+use Rattle.ar_extents.specs.declared.health.Health.TheVariants.{Broken as AllBroken}
 use Rattle.ar_book.specs.declared.class.Class.TheVariants.{Parity}
 use Rattle.ar_book.specs.Tables.{free_groups}
 use Rattle.ar_store.specs.Placing.{HasNoHole}
@@ -7,7 +8,7 @@ use Rattle.ar_store.specs.Slots.{BesideHold}
 use Rattle.ar_moves.specs.declared.step.Move.{Move}
 use Rattle.ar_moves.specs.declared.step.Move.TheVariants.{Idle, Broken}
 use Rattle.ar_moves.specs.Moves.{IfMoved, LeavesBlocks, IsLeft}
-use Rattle.ar_moves.specs.Demotion.{Demotes, NamesNoDemotion, MayHaveOpened, HoldsZerosBeside, AsksToDemote}
+use Rattle.ar_moves.specs.Demotion.{Demotes, NamesNoDemotion, MayHaveOpened, LeavesReady, HoldsZerosBeside, AsksToDemote}
 use Rattle.ar_moves.specs.Cleaning.{Cleans, NothingToClean, AsksToClean, cleaning_left}
 use Rattle.ar_image.specs.Image.{ArrayState, is_broken}
 
@@ -18,7 +19,7 @@ pub record MovesBlock (old : ArrayState) (answer : Move) (new : ArrayState) : Ty
   pub broken : (answer ≡ Broken) ↔ IsTrue (is_broken new)
 
 -- The block that the rule of demotion names went to the slot that it names, in a group that was opened for it where the rule says
--- so; or the rule names nothing, and nothing has changed. Where the array broke, a group may have been opened. Each other slot of
+-- so; or the rule names nothing, and nothing has changed. Where the array broke, a group that the rule opens is open. Each other slot of
 -- the block's new group that held a block holds it; no disk was asked but those that this asks, and no row was written but the
 -- slot's, or those of the group that was opened.
 pub record DemotesOne (old : ArrayState) (answer : Move) (new : ArrayState) : Type 0 where
@@ -29,6 +30,7 @@ pub record DemotesOne (old : ArrayState) (answer : Move) (new : ArrayState) : Ty
   pub idle : answer ≡ Idle → IsLeft old.store new.store (NamesNoDemotion old.store.book)
   pub nothing : NamesNoDemotion old.store.book → new.store ≡ old.store
   pub opened : answer ≡ Broken → MayHaveOpened old.store.book new.store.book
+  pub ready : answer ≡ Broken → old.store.disks.health ≢ AllBroken → LeavesReady old.store.book new.store.book
   pub asks : AsksToDemote old.store new.store
 
 -- The block that the rule of cleaning names went to the slot that it names, and less is left to be cleaned; or the rule names

@@ -1,5 +1,5 @@
 -- Each rule names one block and one slot at most.
-use Rattle.std.proofs.Common.{◌≡◌, ◌⊎◌, ℕ, ◌<◌, ◌≤◌, Option, Some, IsSome, slice_get, refl, sym, ap, subst, ◌∙◌, inl, inr, arith}
+use Rattle.std.proofs.Common.{◌≡◌, ◌≢◌, ◌⊎◌, ℕ, ◌<◌, ◌≤◌, Option, Some, IsSome, slice_get, refl, sym, ap, subst, ◌∙◌, inl, inr, arith}
 use Rattle.std.proofs.lemmas.Bool.{cases_lt}
 use Rattle.std.proofs.lemmas.Option.{same_Some}
 use Rattle.ar_disks.specs.declared.address.Addr.{Addr}
@@ -16,8 +16,11 @@ use Rattle.ar_disks.proofs.Addresses.{make_key}
 use Rattle.ar_book.proofs.Keys.{make_slot}
 use Rattle.ar_book.proofs.UnitLemmas.{has_by_block}
 use Rattle.ar_book.proofs.UnitPlaces.{some_place}
-use Rattle.ar_store.specs.Placing.{slot_at}
-use Rattle.ar_moves.specs.Demotion.{IsOldestMirrored, IsSlotFor}
+use Rattle.ar_extents.specs.declared.health.Health.TheVariants.{Broken as AllBroken}
+use Rattle.ar_store.specs.Store.{StoreState}
+use Rattle.ar_store.specs.Placing.{slot_at, HasNoHole}
+use Rattle.ar_store.specs.Calls.{IsCutShort}
+use Rattle.ar_moves.specs.Demotion.{IsOldestMirrored, IsSlotFor, LeavesReady}
 use Rattle.ar_moves.specs.Cleaning.{NamesCleaningOf, NamesCleaning}
 
 -- the orders of slots, groups and stamps leave no two that are equal
@@ -80,6 +83,18 @@ demoted_single t ready tables s r (inr a) (inr b) =
       slots = a.first ∙ ap (λ n. slot_at n 0) group ∙ sym b.first;
       tables = a.opened.tables ∙ ap (λ n. opened t n Parity) group ∙ sym b.opened.tables;
     }
+
+-- the tables in which some slot is ready are those in which the slot is that the rule names
+pub leaves_ready : (t new ready : Tables) (s : Slot) → IsSlotFor t s ready → new ≡ ready → LeavesReady t new
+leaves_ready t new ready s slot same = record { ready = λ key to tables names. same ∙ (demoted_single t ready tables s to slot names.slot).tables }
+
+-- so they are where the disks broke while the group was opened
+pub cut_ready : (old new : StoreState) → HasNoHole old.book Parity → old.disks.health ≢ AllBroken → IsCutShort old new Parity → LeavesReady old.book new.book
+cut_ready old new none sound cut = elim cut.tables [
+  | inl was ↦ absurd (sound was.was)
+  | inr opening ↦
+      leaves_ready old.book new.book new.book (slot_at opening.0 0) (inr (record { none = none; group = opening.0; opened = opening.1; first = refl })) refl
+]
 
 some_of : (o : Option Key) (k : Key) → o ≡ Some k → IsSome o
 some_of o k e = subst (λ x. IsSome x) (sym e) refl

@@ -65,6 +65,11 @@ pub record DemotesTo (t : Tables) (key : Key) (new : Tables) (moved_key : Key) (
 abbrev pub MayHaveOpened : Tables → Tables → Type 0
 MayHaveOpened t new = (new ≡ t) ⊎ ((key : Key) × (to : Slot) × NamesDemotion t key to new)
 
+-- Where the rule names a block and a slot, the slot is ready: a group that was opened for it stays open, also where the disks broke
+-- then.
+pub record LeavesReady (t new : Tables) : Type 0 where
+  pub ready : (key : Key) (to : Slot) (tables : Tables) → NamesDemotion t key to tables → new ≡ tables
+
 -- each other slot of the group holds the zero block
 pub record HoldsZerosBeside (s : StoreState) (to : Slot) : Type 0 where
   pub slots : (i : ℕ) → i < 3 * rows_of s.disks.geometry → i ≢ to.slot → SlotHolds s (slot_at to.group i) (zeros (block_len_of s.disks.geometry))

@@ -1,12 +1,12 @@
 // Demotion: the mirrored block that was written longest ago goes to a group with parity.
-ghost use Rattle.std.specs.Prelude.{◌≡◌, ◌↔◌};
+ghost use Rattle.std.specs.Prelude.{◌≡◌, ◌≢◌, ◌↔◌};
 ghost use Rattle.ar_book.specs.declared.class.Class.TheVariants.{Parity};
 ghost use Rattle.ar_store.specs.Kept.{IsKept};
 ghost use Rattle.ar_store.specs.Slots.{BesideHold};
 ghost use Rattle.ar_store.specs.Placing.{HasNoHole};
 ghost use Rattle.ar_moves.specs.Moves.{IfMoved, LeavesBlocks, IsLeft};
 ghost use Rattle.ar_moves.specs.Demotion.{IsOldestMirrored, Demotes, DemotesTo, NamesNoSlot, NamesNoDemotion};
-ghost use Rattle.ar_moves.specs.Demotion.{MayHaveOpened, HoldsZerosBeside, AsksToDemote};
+ghost use Rattle.ar_moves.specs.Demotion.{MayHaveOpened, LeavesReady, HoldsZerosBeside, AsksToDemote};
 
 use crate::Move;
 use crate::step::move_to;
@@ -22,7 +22,7 @@ use ar_store::{Opening, Store};
 /// those that the block's move asks, and those of the group that is opened; and no row is written but the slot's, or those of the
 /// group that is opened. No memory is taken.
 ///
-/// `Broken` says that the disks are. The group may have been opened then, and every block has its old home; of a store that
+/// `Broken` says that the disks are. A group that the rule opens is open then, and every block has its old home; of a store that
 /// was broken before nothing has changed.
 pub fn demote_one<D: Disk>(store: &mut Store<D>) -> Move
     ensures moved { IfMoved result (λ key to. Demotes store.old.book key to store.new.book) }
@@ -30,6 +30,7 @@ pub fn demote_one<D: Disk>(store: &mut Store<D>) -> Move
     ensures nothing { NamesNoDemotion store.old.book → store.new ≡ store.old }
     ensures broken { (result ≡ Move.Broken) ↔ (store.new.disks.health ≡ Health.Broken) }
     ensures opened { result ≡ Move.Broken → MayHaveOpened store.old.book store.new.book }
+    ensures ready { result ≡ Move.Broken → store.old.disks.health ≢ Health.Broken → LeavesReady store.old.book store.new.book }
     ensures zeros { IfMoved result (λ key to. HasNoHole store.old.book Parity → HoldsZerosBeside store.new to) }
     ensures beside { IfMoved result (λ key to. BesideHold store.old store.new to) }
     ensures asks { AsksToDemote store.old store.new }
@@ -53,6 +54,7 @@ fn demote<D: Disk>(store: &mut Store<D>, key: Key) -> Move
     ensures nothing { NamesNoSlot store.old.book → store.new ≡ store.old }
     ensures broken { (result ≡ Move.Broken) ↔ (store.new.disks.health ≡ Health.Broken) }
     ensures opened { result ≡ Move.Broken → MayHaveOpened store.old.book store.new.book }
+    ensures ready { result ≡ Move.Broken → store.old.disks.health ≢ Health.Broken → LeavesReady store.old.book store.new.book }
     ensures zeros { IfMoved result (λ key to. HasNoHole store.old.book Parity → HoldsZerosBeside store.new to) }
     ensures beside { IfMoved result (λ key to. BesideHold store.old store.new to) }
     ensures asks { AsksToDemote store.old store.new }
@@ -76,6 +78,7 @@ fn demote_to_new<D: Disk>(store: &mut Store<D>, key: Key) -> Move
     ensures broken { (result ≡ Move.Broken) ↔ (store.new.disks.health ≡ Health.Broken) }
 
     ensures opened { result ≡ Move.Broken → MayHaveOpened store.old.book store.new.book }
+    ensures ready { result ≡ Move.Broken → store.old.disks.health ≢ Health.Broken → LeavesReady store.old.book store.new.book }
     ensures zeros { IfMoved result (λ key to. HoldsZerosBeside store.new to) }
     ensures beside { IfMoved result (λ key to. BesideHold store.old store.new to) }
     ensures asks { AsksToDemote store.old store.new }

@@ -21,6 +21,7 @@ returns-in-Some g c =
       nothing = λ named. demoted.nothing (record { none = λ to ready slot. named.none c.in-Some.key to ready (record { oldest = oldest; slot = slot }) });
       broken = demoted.broken;
       opened = demoted.opened;
+      ready = demoted.ready;
       zeros = demoted.zeros;
       beside = demoted.beside;
       asks = demoted.asks;
@@ -33,3 +34,6 @@ returns-in-None-clause-asks g c =
 
 pub returns-in-Broken-clause-asks : goal.returns-in-Broken-clause-asks
 returns-in-Broken-clause-asks g c = demotes_none c.args.store.now (sym c.health.ensures.health ∙ c.in-Broken.is)
+
+pub returns-in-Broken-clause-ready : goal.returns-in-Broken-clause-ready
+returns-in-Broken-clause-ready g c = λ _ sound. absurd (sound (sym c.health.ensures.health ∙ c.in-Broken.is))

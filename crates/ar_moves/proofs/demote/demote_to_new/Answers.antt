@@ -5,6 +5,7 @@ use Rattle.ar_book.specs.Tables.{Tables}
 use Rattle.ar_moves.specs.Demotion.{DemotesTo, HoldsZerosBeside, MayHaveOpened}
 use Rattle.ar_moves.proofs.Answers.{if_moved_then, leaves_then, hole_made, ready_for, opens_slot, cut_tables, cut_nothing, moved_beside}
 use Rattle.ar_moves.proofs.Asking.{asks_made, asks_nothing, asks_opened}
+use Rattle.ar_moves.proofs.Single.{leaves_ready, cut_ready}
 use Rattle.ar_moves.proofs.Readiness.{opened_first, zeros_beside, free_beside}
 use Rattle.ar_moves.proofs.demote.demote_to_new.Goals as goal
 
@@ -76,3 +77,11 @@ returns-in-Opened-clause-nothing g c = λ named.
 
 pub returns-in-Broken-clause-nothing : goal.returns-in-Broken-clause-nothing
 returns-in-Broken-clause-nothing g c = cut_nothing c.args.store.now c.open_group.new.self c.requires.none c.in-Broken.ensures.opens
+
+pub returns-in-Opened-clause-ready : goal.returns-in-Opened-clause-ready
+returns-in-Opened-clause-ready g c = λ broke _.
+    let slot = inr (record { none = c.requires.none; group = c.in-Opened.group; opened = c.in-Opened.ensures.opens; first = refl }) in
+    leaves_ready c.args.store.now.book c.move_to.new.store.book c.open_group.new.self.book (slot_at c.in-Opened.group 0) slot (c.move_to.ensures.unmoved broke)
+
+pub returns-in-Broken-clause-ready : goal.returns-in-Broken-clause-ready
+returns-in-Broken-clause-ready g c = λ _ sound. cut_ready c.args.store.now c.open_group.new.self c.requires.none sound c.in-Broken.ensures.opens
