@@ -219,10 +219,15 @@ summed_whole a b m position group below is next all = record {
         ∙ (all.summed (parity_row_of i) (omega arith)).agrees has.blocks has.agrees
         ∙ ap (λ n. block has.blocks n) position_is
 
+-- a disk that wasn't asked is the one that is rebuilt, by its name in either state
+pub rebuilt_spared : (a b c : SetState) → b.health ≡ a.health → Spares (λ d. d ≡ rebuilt_disk b.health) b c → Spares (λ d. d ≡ rebuilt_disk a.health) b c
+rebuilt_spared a b c health spares = record { disks = λ d is. spares.disks d (is ∙ sym (ap rebuilt_disk health)) }
+
 -- the writing of a mirrored member's rows stopped at this one
 pub copied_stops : (a b c : SetState) (m : Members) (position row : ℕ) → row < rows_of a.geometry → AreCopied a b m position row
-    → KeepsBut (next_place b) row b c → (c.health ≡ AllBroken → Keeps Anywhere b c) → StopsAt Mirrored a c m position
-copied_stops a b c m position row there before keeps unwritten =
+    → (row ≡ 0 → b ≡ a) → KeepsBut (next_place b) row b c → (c.health ≡ AllBroken → Keeps Anywhere b c)
+    → (c.health ≡ AllBroken → Spares (λ d. d ≡ rebuilt_disk b.health) b c) → StopsAt Mirrored a c m position
+copied_stops a b c m position row there before first keeps unwritten unasked =
     let next = next_same a b before.health in
     record {
       row = row;
@@ -230,12 +235,17 @@ copied_stops a b c m position row there before keeps unwritten =
       below = λ r lt. ap (λ (p : Place). content c p r) (sym next) ∙ keeps.other_rows r (λ same. absurd (omega arith)) ∙ ap (λ (p : Place). content b p r) next ∙ (before.copied r lt).same;
       past = λ r lt. ap (λ (p : Place). content c p r) (sym next) ∙ keeps.other_rows r (λ same. absurd (omega arith)) ∙ ap (λ (p : Place). content b p r) next ∙ before.rest r (omega arith);
       unread = λ broken. (unwritten broken).rows (next_place a) tt row ∙ before.rest row (omega arith);
+      before = b;
+      written = λ r lt. (before.copied r lt).same;
+      first = first;
+      unasked = λ broken. rebuilt_spared a b c before.health (unasked broken);
     }
 
 -- the same of a member of a group with parity
 pub summed_stops : (a b c : SetState) (m : Members) (position row : ℕ) → row < rows_of a.geometry → member m position ≡ next_place a → AreSummed a b m position row
-    → KeepsBut (member m position) row b c → (c.health ≡ AllBroken → Keeps Anywhere b c) → StopsAt Parity a c m position
-summed_stops a b c m position row there next before keeps unwritten = record {
+    → (row ≡ 0 → b ≡ a) → KeepsBut (member m position) row b c → (c.health ≡ AllBroken → Keeps Anywhere b c)
+    → (c.health ≡ AllBroken → Spares (λ d. d ≡ rebuilt_disk b.health) b c) → StopsAt Parity a c m position
+summed_stops a b c m position row there next before first keeps unwritten unasked = record {
   row = row;
   there = there;
   below = λ r lt blocks has.
@@ -243,4 +253,8 @@ summed_stops a b c m position row there next before keeps unwritten = record {
   past = λ r lt.
       ap (λ (p : Place). content c p r) (sym next) ∙ keeps.other_rows r (λ same. absurd (omega arith)) ∙ ap (λ (p : Place). content b p r) next ∙ before.rest r (omega arith);
   unread = λ broken. (unwritten broken).rows (next_place a) tt row ∙ before.rest row (omega arith);
+  before = b;
+  written = λ r lt blocks has. ap (λ (p : Place). content b p r) (sym next) ∙ (before.summed r lt).agrees blocks has;
+  first = first;
+  unasked = λ broken. rebuilt_spared a b c before.health (unasked broken);
 }

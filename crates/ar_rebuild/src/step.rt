@@ -42,7 +42,8 @@ pub fn rebuild_one<D: Disk>(store: &mut Store<D>) -> Rebuild
     ensures broken { (result ≡ Rebuild.Broken) ↔ (store.new.disks.health ≡ Health.Broken) }
     // It is broken by another disk than the replaced one, once that has faulted nothing more is asked.
     ensures spared { result ≡ Rebuild.Broken → IsSpared store.old.disks store.new.disks }
-    // Of the extent at which it ends so, rows are written in their order, and none past the one that couldn't be.
+    // Of the extent at which it ends so, rows are written in their order, and none past the one that couldn't be. For one whose sources
+    // couldn't be read the new disk isn't asked.
     ensures given_up { result ≡ Rebuild.GivenUp → StopsWriting store.old store.new.disks }
     ensures lost { result ≡ Rebuild.Broken → IsRebuilding store.old.disks.health → StopsWriting store.old store.new.disks }
 

@@ -24,7 +24,7 @@ rebuild_row-requires g c =
     }
 
 pub loop-row-init : goal.loop-row-init
-loop-row-init g c = record { copied = none_copied c.args.set.now c.args.members.now c.args.position; scratch = refl }
+loop-row-init g c = record { copied = none_copied c.args.set.now c.args.members.now c.args.position; begun = λ _. refl; scratch = refl }
 
 pub loop-row-preserved : goal.loop-row-preserved
 loop-row-preserved g c =
@@ -32,6 +32,7 @@ loop-row-preserved g c =
     record {
       copied = copied_then c.args.set.now c.loop-row.set c.rebuild_row.new.set c.args.members.now c.args.position c.loop-row.row c.requires.rebuilding
           c.loop-row.invariant.copied c.in-Done.ensures.answer call.follows call.keeps call.touches call.loose;
+      begun = λ none. absurd (omega arith);
       scratch = call.scratch ∙ c.loop-row.invariant.scratch;
     }
 
@@ -60,7 +61,8 @@ returns-in-GivenUp g c =
       answer = stopped_then c.args.set.now c.loop-row.set c.rebuild_row.new.set before.writes.follows before.health c.in-GivenUp.ensures.answer;
       writes = writes_then c.args.set.now c.loop-row.set c.rebuild_row.new.set c.loop-row.row before.writes before.health call.follows call.keeps call.loose;
       spared = λ broken. absurd (cc);
-      stopped = λ no. copied_stops c.args.set.now c.loop-row.set c.rebuild_row.new.set c.args.members.now c.args.position c.loop-row.row (let rows = c.rows-row-end.ensures ∙ ap rows_of c.geometry.ensures in let below = c.loop-row-test.true in omega arith) before call.keeps
+      stopped = λ no. copied_stops c.args.set.now c.loop-row.set c.rebuild_row.new.set c.args.members.now c.args.position c.loop-row.row (let rows = c.rows-row-end.ensures ∙ ap rows_of c.geometry.ensures in let below = c.loop-row-test.true in omega arith) before c.loop-row.invariant.begun call.keeps
+          (λ broken. absurd (let out = sym c.in-GivenUp.ensures.answer.out ∙ broken in cc))
           (λ broken. absurd (let out = sym c.in-GivenUp.ensures.answer.out ∙ broken in cc));
       touches = pair_then c.args.set.now c.loop-row.set c.rebuild_row.new.set _ before.health before.touches call.touches;
       scratch = call.scratch ∙ c.loop-row.invariant.scratch;
@@ -74,8 +76,8 @@ returns-in-Broken g c =
       answer = c.in-Broken.ensures.answer;
       writes = writes_then c.args.set.now c.loop-row.set c.rebuild_row.new.set c.loop-row.row before.writes before.health call.follows call.keeps call.loose;
       spared = λ _. spared_then c.args.set.now c.loop-row.set c.rebuild_row.new.set before.writes.follows before.health c.requires.rebuilding (c.in-Broken.ensures.spared refl);
-      stopped = λ no. copied_stops c.args.set.now c.loop-row.set c.rebuild_row.new.set c.args.members.now c.args.position c.loop-row.row (let rows = c.rows-row-end.ensures ∙ ap rows_of c.geometry.ensures in let below = c.loop-row-test.true in omega arith) before call.keeps
-          (λ _. c.in-Broken.ensures.unwritten refl);
+      stopped = λ no. copied_stops c.args.set.now c.loop-row.set c.rebuild_row.new.set c.args.members.now c.args.position c.loop-row.row (let rows = c.rows-row-end.ensures ∙ ap rows_of c.geometry.ensures in let below = c.loop-row-test.true in omega arith) before c.loop-row.invariant.begun call.keeps
+          (λ _. c.in-Broken.ensures.unwritten refl) (λ _. c.in-Broken.ensures.unasked refl);
       touches = pair_then c.args.set.now c.loop-row.set c.rebuild_row.new.set _ before.health before.touches call.touches;
       scratch = call.scratch ∙ c.loop-row.invariant.scratch;
     }

@@ -26,7 +26,7 @@ rebuild_row-requires g c =
     }
 
 pub loop-row-init : goal.loop-row-init
-loop-row-init g c = record { summed = none_summed c.args.set.now c.args.members.now c.args.position; scratch = refl }
+loop-row-init g c = record { summed = none_summed c.args.set.now c.args.members.now c.args.position; begun = λ _. refl; scratch = refl }
 
 pub loop-row-preserved : goal.loop-row-preserved
 loop-row-preserved g c =
@@ -34,6 +34,7 @@ loop-row-preserved g c =
     record {
       summed = summed_then c.args.set.now c.loop-row.set c.rebuild_row.new.set c.args.members.now c.args.position c.loop-row.row c.requires.next
           c.loop-row.invariant.summed c.in-Done.ensures.answer call.agrees call.follows call.keeps call.touches call.loose;
+      begun = λ none. absurd (omega arith);
       scratch = call.scratch ∙ c.loop-row.invariant.scratch;
     }
 
@@ -66,7 +67,8 @@ returns-in-GivenUp g c =
       writes = writes_then a b c.rebuild_row.new.set c.loop-row.row before.writes before.health call.follows
           (subst P (c.requires.next ∙ sym (next_same a b before.health)) call.keeps) call.loose;
       spared = λ broken. absurd (cc);
-      stopped = λ no. summed_stops c.args.set.now c.loop-row.set c.rebuild_row.new.set c.args.members.now c.args.position c.loop-row.row (let rows = c.rows-row-end.ensures ∙ ap rows_of c.geometry.ensures in let below = c.loop-row-test.true in omega arith) c.requires.next before call.keeps
+      stopped = λ no. summed_stops c.args.set.now c.loop-row.set c.rebuild_row.new.set c.args.members.now c.args.position c.loop-row.row (let rows = c.rows-row-end.ensures ∙ ap rows_of c.geometry.ensures in let below = c.loop-row-test.true in omega arith) c.requires.next before c.loop-row.invariant.begun call.keeps
+          (λ broken. absurd (let out = sym c.in-GivenUp.ensures.answer.out ∙ broken in cc))
           (λ broken. absurd (let out = sym c.in-GivenUp.ensures.answer.out ∙ broken in cc));
       touches = spares_then _ a b c.rebuild_row.new.set before.touches call.touches;
       scratch = call.scratch ∙ c.loop-row.invariant.scratch;
@@ -84,8 +86,8 @@ returns-in-Broken g c =
       writes = writes_then a b c.rebuild_row.new.set c.loop-row.row before.writes before.health call.follows
           (subst P (c.requires.next ∙ sym (next_same a b before.health)) call.keeps) call.loose;
       spared = λ _. spared_then a b c.rebuild_row.new.set before.writes.follows before.health c.requires.rebuilding (c.in-Broken.ensures.spared refl);
-      stopped = λ no. summed_stops c.args.set.now c.loop-row.set c.rebuild_row.new.set c.args.members.now c.args.position c.loop-row.row (let rows = c.rows-row-end.ensures ∙ ap rows_of c.geometry.ensures in let below = c.loop-row-test.true in omega arith) c.requires.next before call.keeps
-          (λ _. c.in-Broken.ensures.unwritten refl);
+      stopped = λ no. summed_stops c.args.set.now c.loop-row.set c.rebuild_row.new.set c.args.members.now c.args.position c.loop-row.row (let rows = c.rows-row-end.ensures ∙ ap rows_of c.geometry.ensures in let below = c.loop-row-test.true in omega arith) c.requires.next before c.loop-row.invariant.begun call.keeps
+          (λ _. c.in-Broken.ensures.unwritten refl) (λ _. c.in-Broken.ensures.unasked refl);
       touches = spares_then _ a b c.rebuild_row.new.set before.touches call.touches;
       scratch = call.scratch ∙ c.loop-row.invariant.scratch;
     }
