@@ -12,6 +12,7 @@ ghost use Rattle.ar_cache.specs.Backing.{InTurn, Keeps, SameBlocks, StopsInTurn,
 ghost use Rattle.ar_cache.specs.Cache.{cached};
 ghost use Rattle.ar_image.specs.Image.{is_broken, geometry_of, seen_at, unit_sectors, attention_at, with_book};
 ghost use Rattle.ar_image.specs.Seen.{IsUnit, SameSeen, IsSpared, Writes, present_at, sectors_read};
+ghost use Rattle.ar_core.specs.Fetched.{BreaksReading};
 ghost use Rattle.ar_core.specs.Served.{Serves, Settles, Commands};
 ghost use Rattle.ar_image.specs.Following.{Follows};
 ghost use Rattle.ar_image.specs.Sectors.{key_of, keys_in, sectors_in, unit_block};
@@ -320,6 +321,7 @@ fn fetch<B: Backing>(
     ensures got { result.status ≡ Good → InTurn B.gets (keys_in geometry addr lba count) blocks.old blocks.new }
     ensures busy_read { result.status ≡ Busy
         → (blocks.new ≡ blocks.old) ⊎ InTurn B.gets (keys_in geometry addr lba count) blocks.old blocks.new }
+    ensures stopped { result.status ≡ CheckCondition → BreaksReading B.gets B.is_broken geometry addr lba count blocks.old blocks.new }
     ensures done { result.status ≡ Good → result ≡ good (concat (sectors_in geometry (unit_block (B.block_at blocks.old) addr) lba count)) }
     ensures busy { result.status ≡ Busy → result ≡ busy }
     ensures failed { result.status ≡ CheckCondition → result ≡ check internal_target_failure }
@@ -346,6 +348,7 @@ fn reply_to_read(transfer: Transfer, bytes: Vec<u8>) -> Reply
     ensures broken { transfer ≡ Transfer.Broken → result ≡ check internal_target_failure }
     ensures memory { transfer ≡ Transfer.NoMemory → result ≡ busy }
     ensures whole { result.status ≡ Good → transfer ≡ Transfer.Done }
+    ensures lost { result.status ≡ CheckCondition → transfer ≡ Transfer.Broken }
     ensures failed { result.status ≡ CheckCondition → result ≡ check internal_target_failure }
 {
     match transfer {
