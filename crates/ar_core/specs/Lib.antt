@@ -1,6 +1,5 @@
 pub mod Causes
 pub mod Events
-pub mod Fetched
 pub mod Laws
 pub mod Map
 pub mod Quiet

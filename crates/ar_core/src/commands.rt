@@ -12,13 +12,12 @@ ghost use Rattle.ar_cache.specs.Backing.{InTurn, Keeps, SameBlocks, StopsInTurn,
 ghost use Rattle.ar_cache.specs.Cache.{cached};
 ghost use Rattle.ar_image.specs.Image.{is_broken, geometry_of, seen_at, unit_sectors, attention_at, with_book};
 ghost use Rattle.ar_image.specs.Seen.{IsUnit, SameSeen, IsSpared, Writes, present_at, sectors_read};
-ghost use Rattle.ar_core.specs.Fetched.{BreaksReading};
 ghost use Rattle.ar_core.specs.Served.{Serves, Settles, Commands};
 ghost use Rattle.ar_image.specs.Following.{Follows};
 ghost use Rattle.ar_image.specs.Sectors.{key_of, keys_in, sectors_in, unit_block};
 ghost use Rattle.std.specs.List.{concat};
 ghost use Rattle.ar_image.specs.Seen.{IsForced};
-ghost use Rattle.ar_image.specs.Storing.{BreaksForced, ForcesBlock, PutsBlocks, ReadsBlock, ReadsFirst, StopsPutting, StopsStoring, StoresBlocks};
+ghost use Rattle.ar_image.specs.Storing.{BreaksForced, FailsReading, ForcesBlock, PutsBlocks, ReadsBlock, ReadsFirst, StopsPutting, StopsStoring, StoresBlocks};
 ghost use Rattle.ar_book.specs.Changes.{unmarked};
 
 use crate::{Array, Completion};
@@ -321,7 +320,7 @@ fn fetch<B: Backing>(
     ensures got { result.status ≡ Good → InTurn B.gets (keys_in geometry addr lba count) blocks.old blocks.new }
     ensures busy_read { result.status ≡ Busy
         → (blocks.new ≡ blocks.old) ⊎ InTurn B.gets (keys_in geometry addr lba count) blocks.old blocks.new }
-    ensures stopped { result.status ≡ CheckCondition → BreaksReading B.gets B.is_broken geometry addr lba count blocks.old blocks.new }
+    ensures stopped { result.status ≡ CheckCondition → FailsReading B.gets B.is_broken geometry addr lba count blocks.old blocks.new }
     ensures done { result.status ≡ Good → result ≡ good (concat (sectors_in geometry (unit_block (B.block_at blocks.old) addr) lba count)) }
     ensures busy { result.status ≡ Busy → result ≡ busy }
     ensures failed { result.status ≡ CheckCondition → result ≡ check internal_target_failure }

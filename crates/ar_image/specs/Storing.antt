@@ -27,17 +27,21 @@ pub record ReadsFirst {S : Type 0} (gets : S → Key → S → Type 0) (g : Geom
   pub within : many ≤ count
   pub in_turn : InTurn gets (keys_in g addr lba many) old new
 
--- A READ failed: the blocks of the first so many sectors were read in turn, and these sectors given; then the block of the next sector
--- was read, of which nothing was given, and no other was.
-pub record StopsReading {S : Type 0} (gets : S → Key → S → Type 0) (broken : S → Bool) (g : Geometry) (blocks : ℕ → List ℕ) (addr : Addr)
-    (lba count : ℕ) (old new : S) (given after : List ℕ) : Type 0 where
+-- A READ failed: the blocks of the first so many sectors were read in turn; then the block of the next sector was, and no other.
+pub record FailsReading {S : Type 0} (gets : S → Key → S → Type 0) (broken : S → Bool) (g : Geometry) (addr : Addr) (lba count : ℕ)
+    (old new : S) : Type 0 where
   pub many : ℕ
   pub below : many < count
   pub next : S
   pub in_turn : InTurn gets (keys_in g addr lba many) old next
   pub sound : broken next ≡ false
   pub last : gets next (key_of addr ((lba + many) / sectors_of g)) new
-  pub bytes : after ≡ given ++ concat (sectors_in g blocks lba many)
+
+-- The same, and the first sectors were given, of the block at which it failed nothing.
+pub record StopsReading {S : Type 0} (gets : S → Key → S → Type 0) (broken : S → Bool) (g : Geometry) (blocks : ℕ → List ℕ) (addr : Addr)
+    (lba count : ℕ) (old new : S) (given after : List ℕ) : Type 0 where
+  pub fails : FailsReading gets broken g addr lba count old new
+  pub bytes : after ≡ given ++ concat (sectors_in g blocks lba fails.many)
 
 -- the keys whose blocks a put of this one gives to the disks: what it pushes out of the cache, and its own where there was no
 -- memory for an entry, or there is no cache

@@ -78,12 +78,14 @@ returns-in_default-clause-stopped g c _ =
     let got : g.B.Backing.gets c.loop-at.blocks (key_of c.args.addr (at / sectors_of c.args.geometry)) c.read_part.new.blocks =
     subst (λ (s : ℕ). g.B.Backing.gets c.loop-at.blocks (key_of c.args.addr (at / s)) c.read_part.new.blocks) sectors c.read_part.ensures.gets in
     record {
-      many = at - c.args.lba;
-      below = omega arith;
-      next = c.loop-at.blocks;
-      in_turn = c.loop-at.invariant.gets;
-      sound = c.loop-at.invariant.sound;
-      last = subst (λ (n : ℕ). g.B.Backing.gets c.loop-at.blocks (key_of c.args.addr (n / sectors_of c.args.geometry)) c.read_part.new.blocks) reached got;
+      fails = record {
+        many = at - c.args.lba;
+        below = omega arith;
+        next = c.loop-at.blocks;
+        in_turn = c.loop-at.invariant.gets;
+        sound = c.loop-at.invariant.sound;
+        last = subst (λ (n : ℕ). g.B.Backing.gets c.loop-at.blocks (key_of c.args.addr (n / sectors_of c.args.geometry)) c.read_part.new.blocks) reached got;
+      };
       bytes = c.read_part.ensures.failed (search rules) ∙ c.loop-at.invariant.bytes;
     }
 
