@@ -11,7 +11,10 @@ use Rattle.ar_orders.specs.Lines.{Took, AreThere, IsOfStream, IsReached, IsAllTa
 use Rattle.ar_script.specs.Orders.{Meets, MeetsLine}
 use Rattle.ar_orders.proofs.Going.{none_there, there_behind}
 use Rattle.ar_script.specs.Ends.{Ends}
-use Rattle.ar_script.specs.Plays.{IsThere, IsLostAt, IsUnanswered, NeedsMemory, AreFirst, AreAll, SaysWrong, IsSo, PlaysScript, PlaysAll, PlaysTo}
+use Rattle.std.specs.declared.io.traits.Read.{Ghosts}
+use Rattle.ar_orders.specs.declared.lines.Lines.{Lines}
+use Rattle.ar_orders.specs.Left.{lines_begun, IsStopped}
+use Rattle.ar_script.specs.Plays.{IsToldAt, IsToldOf, IsThere, IsLostAt, IsUnanswered, NeedsMemory, AreFirst, AreAll, SaysWrong, IsSo, PlaysScript, PlaysAll, PlaysTo}
 use Rattle.ar_script.proofs.Playing.{none_played, met_all, met_or_not}
 
 -- ---- lines that were taken
@@ -98,7 +101,7 @@ so_answered : (script left rest : Option (List (List ℕ))) (lines : List (List 
 so_answered script left rest lines line n kind took count next told =
     elim told [
       | inl lost ↦ elim lost [
-        | inl write ↦ so_stream script (n + 1) kind (inr write)
+        | inl write ↦ so_stream script (n + 1) kind (inr write.0)
         | inr memory ↦ so_taken script left rest lines line n kind took count next (inl (memory.1, memory.0))
       ]
       | inr says ↦ so_taken script left rest lines line n kind took count next (inr says)
@@ -308,3 +311,37 @@ there_given (Some all) left new old mid n line done took =
     let taken = took_more (Some all) left new done.lines (line ∷ []) done.took took in
     let len = one_taken done.lines line n done.all in
     subst (λ k. AreThere (Some all) k) (add-zero (length (done.lines ++ line ∷ [])) ∙ len) (there_behind (Some all) new (done.lines ++ line ∷ []) 0 taken (none_there new))
+
+-- ---- why it is told
+
+-- the next line couldn't be gone on to
+pub told_next : {R : Type 0} {reads : Ghosts R} (lines : Lines R reads) (result : Result (Unit {0}) Fault) → IfErr result (IsStopped lines) → IfErr result (IsToldAt lines)
+told_next lines (Ok done) is = tt
+told_next lines (Err Start) is = absurd is
+told_next lines (Err (Line n kind)) is = inl is
+
+last_is : (given : ℕ) (begun : Bool) → begun ≡ false → 1 ≤ given → max (given + cond begun 1 0) 1 ≡ given
+last_is given true closed some = absurd (cc)
+last_is given false closed some = omega arith
+
+-- the last line that was given has no answer
+pub told_last : {R : Type 0} {reads : Ghosts R} (lines : Lines R reads) (kind : FaultKind) (fault : Fault) → lines.is_begun ≡ false → 1 ≤ lines.given
+    → fault ≡ Line (max (lines_begun lines) 1) kind → IsUnanswered lines.line.items kind ⊎ SaysWrong lines.line.items kind → IsToldAt lines fault
+told_last lines kind fault closed some is told =
+    subst (λ (f : Fault). IsToldAt lines f) (sym is) (inr (last_is lines.given lines.is_begun closed some, told))
+
+told_then : {R : Type 0} {reads : Ghosts R} (lines : Lines R reads) (fault : Fault) → IsToldAt lines fault → IsToldOf lines fault
+told_then lines Start told = absurd told
+told_then lines (Line n kind) told = inr told
+
+-- once what was left of the answers is written, or can't be
+pub told_ended : {R : Type 0} {reads : Ghosts R} (lines : Lines R reads) (begun : ℕ) (done result : Result (Unit {0}) Fault) → IfErr done (IsToldAt lines) → Ends begun done result
+    → IfErr result (IsToldOf lines)
+told_ended lines begun done (Ok end) told ends = tt
+told_ended lines begun done (Err fault) told (inl write) =
+    let is : fault ≡ Line (max begun 1) WriteFault = (let same = write in cc) in
+    subst (λ (f : Fault). IsToldOf lines f) (sym is) (inl refl)
+told_ended lines begun (Ok end) (Err fault) told (inr same) = let no = same.0 in absurd (cc)
+told_ended lines begun (Err before) (Err fault) told (inr same) =
+    let is : before ≡ fault = (let one = same.0 in cc) in
+    subst (λ (f : Fault). IsToldOf lines f) is (told_then lines before told)

@@ -11,7 +11,10 @@ use Rattle.ar_orders.specs.declared.fault.FaultKind.TheVariants.{TooManyLines, N
 use Rattle.ar_orders.specs.declared.order.Order.{Order}
 use Rattle.ar_orders.specs.declared.order.Order.TheVariants.{Act, Ask}
 use Rattle.ar_orders.specs.declared.order.Question.{Question}
+use Rattle.std.specs.declared.io.traits.Read.{Ghosts}
+use Rattle.ar_orders.specs.declared.lines.Lines.{Lines}
 use Rattle.ar_orders.specs.Forms.{ReadsLine}
+use Rattle.ar_orders.specs.Left.{IsStopped}
 use Rattle.ar_orders.specs.Lines.{line_fault, line_at, IsLine, IsOfStream, Took}
 use Rattle.ar_script.specs.Orders.{event_in, Looks, TakesMemory}
 
@@ -95,9 +98,26 @@ pub record AsksToSee (line : List ℕ) : Type 0 where
 abbrev pub IsLostAt : List ℕ → FaultKind → Type 0
 IsLostAt line kind = (kind ≡ WriteFault) ⊎ ((kind ≡ NoMemory) × AsksToSee line)
 
--- a line is answered with no answer so: it could not be written, or memory for what the line asks for was refused
+-- the line asks for something
+pub record AsksSomething (line : List ℕ) : Type 0 where
+  pub order : Order
+  pub reads : ReadsLine line (Ok (Some order))
+
+-- a line is answered with no answer so: what it asks for could not be written, or memory for that was refused
 abbrev pub IsUnanswered : List ℕ → FaultKind → Type 0
-IsUnanswered line kind = (kind ≡ WriteFault) ⊎ ((kind ≡ NoMemory) × NeedsMemory line)
+IsUnanswered line kind = ((kind ≡ WriteFault) × AsksSomething line) ⊎ ((kind ≡ NoMemory) × NeedsMemory line)
+
+-- What is told where lines are answered: a fault of the next line, which couldn't be gone on to (`IsStopped`), or of the last that
+-- was given, which has no answer or says what can't be asked for.
+abbrev pub IsToldAt : {R : Type 0} {reads : Ghosts R} → Lines R reads → Fault → Type 0
+IsToldAt lines Start = ⊥
+IsToldAt lines (Line n kind) =
+    IsStopped lines (Line n kind) ⊎ ((n ≡ lines.given) × (IsUnanswered lines.line.items kind ⊎ SaysWrong lines.line.items kind))
+
+-- and in the end, unless that answers couldn't be written
+abbrev pub IsToldOf : {R : Type 0} {reads : Ghosts R} → Lines R reads → Fault → Type 0
+IsToldOf lines Start = ⊥
+IsToldOf lines (Line n kind) = (kind ≡ WriteFault) ⊎ IsToldAt lines (Line n kind)
 
 -- it is told at the line after the last that was met, or at that one, where an answer was lost
 abbrev pub IsToldAfter : Option (List (List ℕ)) → List (List ℕ) → Fault → Type 0

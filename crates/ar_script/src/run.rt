@@ -8,7 +8,7 @@ ghost use Rattle.ar_orders.specs.Left.{lines_left, lines_begun, IsFresh};
 ghost use Rattle.ar_orders.specs.Lines.{lines_of, AreThere, IsNumbered, IsReached};
 ghost use Rattle.ar_script.specs.Ends.{Ends, is_write_fault as tells_write_fault};
 ghost use Rattle.ar_script.specs.Orders.{MeetsLine};
-ghost use Rattle.ar_script.specs.Plays.{SaysWrong, IsUnanswered, IsThere, PlaysScript, PlaysTo, HasPlayed};
+ghost use Rattle.ar_script.specs.Plays.{SaysWrong, IsUnanswered, IsThere, IsToldAt, IsToldOf, PlaysScript, PlaysTo, HasPlayed};
 ghost use Rattle.ar_script.specs.Setups.{disks_of};
 
 use crate::runner::Runner;
@@ -82,6 +82,7 @@ fn write_answers<R: Read + Drop, W: Write + Drop>(
     ensures ended { OnOk result (lines.new.is_at_end ≡ true) }
     // Behind a fault no more is read. That memory was refused for the buffer is told of the first line, which isn't read then.
     ensures reached { IfErr result (λ fault. fault ≢ Fault.Line 1 FaultKind.NoMemory → IsReached (lines_begun lines.new) fault) }
+    ensures told { IfErr result (λ fault. fault ≢ Fault.Line 1 FaultKind.NoMemory → IsToldOf lines.new fault) }
 {
     let Ok(mut out) = BufWriter::new(alloc, writer) else {
         return Err(fault_at(1, FaultKind::NoMemory));
@@ -104,6 +105,7 @@ fn answer_all<R: Read + Drop, W: Write + Drop>(
     ensures there { IfErr result (IsThere (lines_left lines.old)) }
     ensures ended { OnOk result (lines.new.is_at_end ≡ true) }
     ensures reached { IfErr result (IsReached (lines_begun lines.new)) }
+    ensures told { IfErr result (IsToldOf lines.new) }
     // Unless a write fault is told, all answers are with the writer.
     ensures written { tells_write_fault result ≡ false → writer_buffer out.new ≡ [] }
 {
@@ -134,6 +136,8 @@ fn run_lines<R: Read + Drop, W: Write + Drop>(
     ensures there { AreThere (lines_left lines.old) (lines_begun lines.new) }
     ensures ended { OnOk result (lines.new.is_at_end ≡ true) }
     ensures reached { IfErr result (IsReached (lines_begun lines.new)) }
+    // That the input couldn't be read is told only while a line is waited for, and no fault of a line as another.
+    ensures told { IfErr result (IsToldAt lines.new) }
     ensures numbered { IfErr result IsNumbered }
 {
     for _ in 0..u32::MAX {

@@ -1,6 +1,6 @@
 use Rattle.std.proofs.Common.{rules}
 use Rattle.ar_orders.specs.Left.{lines_left}
-use Rattle.ar_script.proofs.Ending.{plays_finished, there_ended}
+use Rattle.ar_script.proofs.Ending.{plays_finished, there_ended, told_ended}
 use Rattle.ar_script.proofs.run.answer_all.Goals as goal
 
 pub returns-clause-plays : goal.returns-clause-plays
@@ -9,3 +9,6 @@ returns-clause-plays g c =
 
 pub returns-clause-there : goal.returns-clause-there
 returns-clause-there g c = there_ended (lines_left c.args.lines.now) c.number.result c.run_lines-done.result c.finish.result (search rules) (search rules) c.finish.ensures.ends
+
+pub returns-clause-told : goal.returns-clause-told
+returns-clause-told g c = told_ended c.run_lines-done.new.lines c.number.result c.run_lines-done.result c.finish.result c.run_lines-done.ensures.told c.finish.ensures.ends

@@ -1,10 +1,10 @@
 use Rattle.std.proofs.Common.{rules, ◌≡◌, ◌∙◌, max, suc, true, false, ◌+◌, ◌≤◌, Ok, Err, IfErr, add-zero, refl, sym, ap, subst, arith}
 use Rattle.ar_orders.specs.declared.fault.Fault.TheVariants.{Line}
-use Rattle.ar_orders.specs.Left.{lines_left, lines_begun}
+use Rattle.ar_orders.specs.Left.{lines_left, lines_begun, IsStopped}
 use Rattle.ar_orders.proofs.Going.{begun_there}
 use Rattle.ar_orders.specs.Lines.{AreThere, StopsAt, IsOfNext, IsNumbered, is_given, is_lacking}
 use Rattle.ar_script.specs.Plays.{PlaysAll, PlaysTo}
-use Rattle.ar_script.proofs.Ending.{plays_none, plays_line, plays_fault, plays_ended, plays_unread, begun_as, begun_within, there_begun, there_given}
+use Rattle.ar_script.proofs.Ending.{plays_none, plays_line, plays_fault, plays_ended, plays_unread, begun_as, begun_within, there_begun, there_given, told_next, told_last}
 use Rattle.ar_script.proofs.run.run_lines.Goals as goal
 
 pub loop-init : goal.loop-init
@@ -100,3 +100,18 @@ returns-in-Err-clause-there g c =
     let begun = begun_as c.loop.lines.given new.given new.is_begun count (goes.closed one) in
     subst (λ n. AreThere script n) (sym begun)
     (there_given script (lines_left c.loop.lines) (lines_left new) c.args.runner.now c.loop.runner c.loop.lines.given new.line.items c.loop.invariant.1 (goes.taken one))
+
+pub returns-in_err-next_line-clause-told : goal.returns-in_err-next_line-clause-told
+returns-in_err-next_line-clause-told g c =
+    let new = c.next_line.new.lines in
+    let stopped : IfErr c.from_residual.result (IsStopped new) = search rules in
+    told_next new c.from_residual.result stopped
+
+pub returns-in-Err-clause-told : goal.returns-in-Err-clause-told
+returns-in-Err-clause-told g c =
+    let new = c.next_line.new.lines in
+    let goes = c.next_line.ensures.goes_on in
+    let one : is_given c.next_line.result ≡ true = search rules in
+    let count : new.given ≡ c.loop.lines.given + 1 = search rules in
+    let is = c.fault_at.ensures.same ∙ ap (λ m. Line (max m 1) c.in-Err.kind) c.number.ensures.number in
+    told_last new c.in-Err.kind c.fault_at.result (goes.closed one) (omega arith) is c.in-Err.ensures.told
