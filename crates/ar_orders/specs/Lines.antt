@@ -4,7 +4,7 @@ use Rattle.std.specs.List.{list_all, All}
 use Rattle.std.specs.Io.Buffered.{reader_inner, reader_capacity}
 use Rattle.std.specs.declared.io.buffered.BufReader.{BufReader}
 use Rattle.ar_orders.specs.declared.fault.FaultKind.{FaultKind}
-use Rattle.ar_orders.specs.declared.fault.FaultKind.TheVariants.{LineTooLong, TooManyLines, BadCharacter, ReadFault, WriteFault}
+use Rattle.ar_orders.specs.declared.fault.FaultKind.TheVariants.{UnknownWord, BadArgument, LineTooLong, TooManyLines, BadCharacter, NoMemory, ReadFault, WriteFault}
 use Rattle.ar_orders.specs.declared.fault.Fault.{Fault}
 use Rattle.ar_orders.specs.declared.fault.Fault.TheVariants.{Start, Line}
 
@@ -121,6 +121,23 @@ is_lacking (Err fault) = false
 pub record IsUnasked {R A : Type 0} (old new : BufReader R A) : Type 0 where
   pub inner : reader_inner new ≡ reader_inner old
   pub capacity : reader_capacity new ≡ reader_capacity old
+
+-- the answers couldn't be written
+abbrev pub is_write : FaultKind → Bool
+is_write WriteFault = true
+is_write UnknownWord = false
+is_write BadArgument = false
+is_write LineTooLong = false
+is_write TooManyLines = false
+is_write BadCharacter = false
+is_write NoMemory = false
+is_write ReadFault = false
+
+-- that is told
+abbrev pub is_write_fault : {T : Type 0} → Result T Fault → Bool
+is_write_fault (Ok done) = false
+is_write_fault (Err Start) = false
+is_write_fault (Err (Line n kind)) = is_write kind
 
 -- a stream faulted: the input couldn't be read, or the answers not be written
 abbrev pub IsOfStream : FaultKind → Type 0

@@ -3,7 +3,7 @@ ghost use Rattle.std.specs.Prelude.{◌≡◌, ◌≢◌, ◌==◌, ◌⊎◌, I
 ghost use Rattle.std.specs.List.{position};
 ghost use Rattle.std.specs.Io.Buffered.{reader_buffer, writer_buffer, writer_contents};
 ghost use Rattle.std.specs.Io.KnownBytes.{Keeps};
-ghost use Rattle.ar_orders.specs.Lines.{Took, IsFirst, IsFaultFrom, IsUnasked, is_given, StopsAt, IsOfNext, IsReached, IsNumbered};
+ghost use Rattle.ar_orders.specs.Lines.{Took, IsFirst, IsFaultFrom, IsUnasked, is_given, is_write_fault, StopsAt, IsOfNext, IsReached, IsNumbered};
 ghost use Rattle.ar_orders.specs.Left.{bytes_read, lines_begun, lines_left, IsAwaited, IsBegunByByte, IsStopped, GoesOn};
 
 use crate::{Fault, FaultKind, Lines};
@@ -28,11 +28,11 @@ pub fn next_line<R: Read + Drop, W: Write + Drop>(
         → IsFirst lines.old.is_at_end (bytes_read lines.old) lines.new.line.items (bytes_read lines.new) }
     ensures ended { lines.old.is_at_end ≡ true → IsUnasked lines.old.source lines.new.source }
 
-    // Nor are the answers written then; and where it was asked, none is left in the buffer.
+    // Nor are the answers written then; and where it was asked, none is left in the buffer, unless they couldn't be written.
     ensures answers { Keeps (writer_contents W.contents out.old) (writer_contents W.contents out.new) }
     ensures untouched { IsSome (position (λ byte. byte == 10) (reader_buffer lines.old.source)) → out.new ≡ out.old }
     ensures over { lines.old.is_at_end ≡ true → out.new ≡ out.old }
-    ensures written { OnOk result (IsUnasked lines.old.source lines.new.source ⊎ (writer_buffer out.new ≡ [])) }
+    ensures written { is_write_fault result ≡ false → IsUnasked lines.old.source lines.new.source ⊎ (writer_buffer out.new ≡ []) }
 
     // Neither is done where what was read tells a fault: the line's own, or that it is one too many.
     ensures faulty { (kind : FaultKind) → IsFaultFrom (bytes_read lines.old) kind
@@ -57,7 +57,7 @@ fn await_line<R: Read + Drop, W: Write + Drop>(
     ensures begun { IsBegunByByte lines.old → IsBegunByByte lines.new }
     ensures awaited { OnOk result (lines.new.is_awaited ≡ false) }
     ensures answers { Keeps (writer_contents W.contents out.old) (writer_contents W.contents out.new) }
-    ensures written { OnOk result (writer_buffer out.new ≡ []) }
+    ensures written { is_write_fault result ≡ false → writer_buffer out.new ≡ [] }
 {
     for _ in 0..u32::MAX {
         wait(lines, out)?;
@@ -77,7 +77,9 @@ fn wait<R: Read + Drop, W: Write + Drop>(
 ) -> Result<(), Fault>
     requires { IsAwaited lines.old }
     ensures answers { Keeps (writer_contents W.contents out.old) (writer_contents W.contents out.new) }
-    ensures written { OnOk result (writer_buffer out.new ≡ []) }
+    // Where they couldn't be written, the input isn't asked.
+    ensures written { is_write_fault result ≡ false → writer_buffer out.new ≡ [] }
+    ensures unasked { is_write_fault result ≡ true → lines.new ≡ lines.old }
     ensures kept { Took (lines_left lines.old) (lines_left lines.new) [] }
     ensures begun { IsBegunByByte lines.old → IsBegunByByte lines.new }
     ensures same { (lines.new.line.items ≡ lines.old.line.items) × (lines.new.is_begun ≡ lines.old.is_begun)
