@@ -1,5 +1,5 @@
 -- One frame of a session: how it is read, asked of the port, and answered.
-use Rattle.std.specs.Prelude.{◌≡◌, ◌⊎◌, ◌<◌, ◌≤◌, ◌+◌, max, ℕ, false, List, [], ◌++◌, length}
+use Rattle.std.specs.Prelude.{◌≡◌, ◌⊎◌, ◌<◌, ◌≤◌, ◌+◌, max, ℕ, false, List, [], ◌++◌, length, take}
 use Rattle.ar_scsi.specs.declared.reply.Reply.{Reply}
 use Rattle.ar_scsi.specs.Reply.{busy}
 use Rattle.ar_frames.specs.declared.frame.Request.{Request}
@@ -66,9 +66,11 @@ abbrev pub turn_after : Sent → Turn
 turn_after sent.Whole = Answered
 turn_after (sent.Part n) = Unsent
 
--- what a session keeps from frame to frame: for so many bytes its buffer has the place, and so many commands were given to the port
+-- what a session keeps from frame to frame: for so many bytes its buffer has the place, these stand in it, and so many commands were
+-- given to the port
 pub record WorkState : Type 0 where
   pub room : ℕ
+  pub bytes : List ℕ
   pub given : ℕ
 
 -- the buffer keeps its memory, and gets no more than this reply takes
@@ -81,6 +83,10 @@ abbrev pub Counts : {P : Type 0} → Commands P → P → Request → Reply → 
 Counts commands port request reply port' given given' =
     (commands port request.lun request.cdb request.payload reply port' × (given' ≡ given + 1))
     ⊎ ((0 < length request.payload) × (reply ≡ busy) × (port' ≡ port) × (given' ≡ given))
+
+-- where the buffer has the place for the frame of a reply with bytes, that was put together there
+abbrev pub IsJoined : ℕ → Reply → WorkState → Type 0
+IsJoined tag reply work = 0 < length reply.payload → reply_len reply ≤ work.room → IsReplyFrame tag reply (take (reply_len reply) work.bytes)
 
 -- BUSY was written under this tag as far as the stream allowed
 pub record RefusesRequest (sink sink' : SinkState) (tag : ℕ) (turn : Turn) (work work' : WorkState) : Type 0 where
@@ -98,6 +104,7 @@ pub record AnswersRequest {P : Type 0} (commands : Commands P) (sink sink' : Sin
   pub is_frame : IsReplyFrame request.tag reply frame
   pub written : WritesReply sink sink' frame turn
   pub memory : GrowsFor reply work work'
+  pub joined : IsJoined request.tag reply work'
   pub counts : Counts commands port request reply port' work.given work'.given
 
 -- a whole frame was read and answered

@@ -48,8 +48,8 @@ pub fn serve_frame<R: Source, W: Sink, P: Port, G: Gate>(
     requires room { work.old.given < 2 ^ 63 }
     ensures turn { Turns P.commands (R.state reader.old) (R.state reader.new)
         (W.state writer.old) (W.state writer.new) port.old port.new
-        (record { room = vec_capacity work.old.buffer; given = work.old.given })
-        (record { room = vec_capacity work.new.buffer; given = work.new.given }) result }
+        (record { room = vec_capacity work.old.buffer; bytes = work.old.buffer.items; given = work.old.given })
+        (record { room = vec_capacity work.new.buffer; bytes = work.new.buffer.items; given = work.new.given }) result }
     ensures logged { P.has_login port.new ≡ true }
     ensures given { work.new.given ≤ work.old.given + 1 }
 {
@@ -72,8 +72,8 @@ fn answer<W: Sink, P: Port, G: Gate>(
     requires logged { P.has_login port.old ≡ true }
     requires room { work.old.given < 2 ^ 63 }
     ensures answers { AnswersRequest P.commands (W.state writer.old) (W.state writer.new) port.old port.new request result
-        (record { room = vec_capacity work.old.buffer; given = work.old.given })
-        (record { room = vec_capacity work.new.buffer; given = work.new.given }) }
+        (record { room = vec_capacity work.old.buffer; bytes = work.old.buffer.items; given = work.old.given })
+        (record { room = vec_capacity work.new.buffer; bytes = work.new.buffer.items; given = work.new.given }) }
     ensures logged { P.has_login port.new ≡ true }
     ensures given { work.new.given ≡ work.old.given + 1 }
 {
@@ -94,8 +94,8 @@ fn answer<W: Sink, P: Port, G: Gate>(
 // Answers BUSY to a frame whose data found no memory.
 fn refuse<W: Sink>(writer: &mut W, work: &mut Work, tag: u64) -> Turn
     ensures answers { RefusesRequest (W.state writer.old) (W.state writer.new) tag result
-        (record { room = vec_capacity work.old.buffer; given = work.old.given })
-        (record { room = vec_capacity work.new.buffer; given = work.new.given }) }
+        (record { room = vec_capacity work.old.buffer; bytes = work.old.buffer.items; given = work.old.given })
+        (record { room = vec_capacity work.new.buffer; bytes = work.new.buffer.items; given = work.new.given }) }
     ensures given { work.new.given ≡ work.old.given }
 {
     turn_of(send_reply(writer, &mut work.buffer, tag, &Reply::busy()))
