@@ -73,10 +73,11 @@ pub record WorkState : Type 0 where
   pub bytes : List ℕ
   pub given : ℕ
 
--- the buffer keeps its memory, and gets no more than this reply takes
+-- the buffer keeps its memory, and gets no more than this reply takes, and none for a reply without bytes, which leaves it alone
 pub record GrowsFor (reply : Reply) (work work' : WorkState) : Type 0 where
   pub kept : work.room ≤ work'.room
   pub grown : work'.room ≤ max work.room (reply_len reply)
+  pub still : length reply.payload ≡ 0 → (work'.room ≡ work.room) × (work'.bytes ≡ work.bytes)
 
 -- a command that the port was given is counted, and one that was answered BUSY in its place isn't
 abbrev pub Counts : {P : Type 0} → Commands P → P → Request → Reply → P → ℕ → ℕ → Type 0

@@ -20,6 +20,7 @@ pub fn send_reply<W: Sink>(writer: &mut W, buffer: &mut Vec<u8>, tag: u64, reply
     ensures sends { SendsReply (W.state writer.old) (W.state writer.new) tag reply.now result }
     ensures room { vec_capacity buffer.new ≤ max (vec_capacity buffer.old) (reply_len reply.now) }
     ensures kept { vec_capacity buffer.old ≤ vec_capacity buffer.new }
+    ensures still { length reply.now.payload ≡ 0 → buffer.new ≡ buffer.old }
 {
     match &reply.sense {
         Some(sense) => send(writer, &sense_frame(tag, sense)),
@@ -36,6 +37,7 @@ pub fn send_joined<W: Sink>(writer: &mut W, buffer: &mut Vec<u8>, front: &[u8], 
     ensures sends { Sending (W.state writer.old) (W.state writer.new) (front.now ++ rest.now) result }
     ensures room { vec_capacity buffer.new ≤ max (vec_capacity buffer.old) (length front.now + length rest.now) }
     ensures kept { vec_capacity buffer.old ≤ vec_capacity buffer.new }
+    ensures still { length rest.now ≡ 0 → buffer.new ≡ buffer.old }
     // Where the buffer has the place for them, they were put together there.
     ensures joined { 0 < length rest.now → length front.now + length rest.now ≤ vec_capacity buffer.new
         → take (length front.now + length rest.now) buffer.new.items ≡ front.now ++ rest.now }
