@@ -311,9 +311,11 @@ fn single_writes_that_fail(rt: HostRuntime) {
 
 fn ends_refused<R: Abort + AllocGlobal>(rt: &R, fails: u32, end: Result<(), Fault>) {
     let script = b"make 0 0 20000\nlevels 0 0\ntur 0 0\n".as_slice();
-    let writer = RefusingWriter { fails, calls: 0 };
-    let done = run_script(rt.alloc(), script, writer, LARGE);
+    let mut writer = RefusingWriter { fails, calls: 0 };
+    let done = run_script(rt.alloc(), script, &mut writer, LARGE);
     assert!(rt; done == end, "write {fails}: {done:?}");
+    // There are two, and none is tried behind one that failed.
+    assert!(rt; writer.calls == fails.min(1) + 1, "write {fails}: {} calls", writer.calls);
 }
 
 #[test]
