@@ -19,22 +19,14 @@ pub record IsServed (source : SourceState) (sink : SinkState) (end : SessionEnd)
   pub port : Option SeatState
   pub session : Session TakesSeat AsksKept source source' sink sink' None port end
 
+-- A session over a connection's two streams, as they were when it was opened, ended so.
+abbrev pub IsServedOver : {S W : Type 0} → (S → SourceState) → (W → SinkState) → S × W → SessionEnd → Type 0
+IsServedOver source sink pair end = IsServed (source pair.0) (sink pair.1) end
+
 -- The same, and the seat that the port had in the end is on the desk again: this is the receipt for it, none where it had none.
 pub record GivesBack (source : SourceState) (sink : SinkState) (end : SessionEnd) (receipt : Option ReceiptState) : Type 0 where
   pub served : IsServed source sink end
   pub receipt_is : receipt ≡ receipt_for served.port
-
--- the session was served, over some streams
-pub record WasServed (end : SessionEnd) : Type 0 where
-  pub source : SourceState
-  pub sink : SinkState
-  pub served : IsServed source sink end
-
--- and its seat was given back
-pub record GaveBack (end : SessionEnd) (receipt : Option ReceiptState) : Type 0 where
-  pub source : SourceState
-  pub sink : SinkState
-  pub given : GivesBack source sink end receipt
 
 -- the end of a connection that could not be opened
 abbrev pub unopened : SessionEnd
@@ -45,25 +37,43 @@ pub record HasOpened {D P : Type 0} (opens : D → Option P → D → Type 0) (o
   pub pair : P
   pub opened : opens old (Some pair) new
 
--- what became of a door's next connection: it was opened, and had a thread or none, or it couldn't be opened
-abbrev pub Becomes : {D P : Type 0} → (D → Option P → D → Type 0) → D → Pending → D → Type 0
-Becomes opens old (pending.Served handle) new = HasOpened opens old new
-Becomes opens old pending.Unopened new = opens old None new
-Becomes opens old pending.NoThread new = HasOpened opens old new
+-- a door opened its next connection, and this is the end of a session over it
+pub record HasEnded {D P : Type 0} (opens : D → Option P → D → Type 0) (served : P → SessionEnd → Type 0) (old : D) (end : SessionEnd) (new : D) : Type 0 where
+  pub pair : P
+  pub opened : opens old (Some pair) new
+  pub ended : served pair end
 
--- How a door's next connection ended: with its session where it was opened, or as one that couldn't be opened where it couldn't; or it
--- was opened and had no thread.
-abbrev pub ConnectionEnds : {D P : Type 0} → (D → Option P → D → Type 0) → D → ConnectionEnd → D → Type 0
-ConnectionEnds opens old (Served end) new = (HasOpened opens old new × WasServed end) ⊎ (opens old None new × (end ≡ unopened))
-ConnectionEnds opens old NoThread new = HasOpened opens old new
+-- a door opened its next connection, and whatever end its thread keeps is one of a session over it
+pub record HasThread {D P H : Type 0} (opens : D → Option P → D → Type 0) (keeps : H → SessionEnd → Type 0) (served : P → SessionEnd → Type 0) (old : D) (handle : H) (new : D) : Type 0 where
+  pub pair : P
+  pub opened : opens old (Some pair) new
+  pub kept : (end : SessionEnd) → keeps handle end → served pair end
+
+-- a connection was begun: it has a thread of which this is so, or none could be started
+abbrev pub IsBegun : {H : Type 0} → (H → Type 0) → Pending H → Type 0
+IsBegun is (pending.Served handle) = is handle
+IsBegun is pending.Unopened = ⊥
+IsBegun is pending.NoThread = Unit {0}
+
+-- what became of a door's next connection: it was opened, and had a thread or none, or it couldn't be opened
+abbrev pub Becomes : {D P H : Type 0} → (D → Option P → D → Type 0) → (H → SessionEnd → Type 0) → (P → SessionEnd → Type 0) → D → Pending H → D → Type 0
+Becomes opens keeps served old (pending.Served handle) new = HasThread opens keeps served old handle new
+Becomes opens keeps served old pending.Unopened new = opens old None new
+Becomes opens keeps served old pending.NoThread new = HasOpened opens old new
+
+-- How a door's next connection ended: with a session over it where it was opened, or as one that couldn't be opened where it couldn't; or
+-- it was opened and had no thread.
+abbrev pub ConnectionEnds : {D P : Type 0} → (D → Option P → D → Type 0) → (P → SessionEnd → Type 0) → D → ConnectionEnd → D → Type 0
+ConnectionEnds opens served old (Served end) new = HasEnded opens served old end new ⊎ (opens old None new × (end ≡ unopened))
+ConnectionEnds opens served old NoThread new = HasOpened opens old new
 
 -- a connection ended with its session
-abbrev pub IsOfSession : ConnectionEnd → Type 0
-IsOfSession (Served end) = WasServed end
-IsOfSession NoThread = ⊥
+abbrev pub IsOfSession : (SessionEnd → Type 0) → ConnectionEnd → Type 0
+IsOfSession served (Served end) = served end
+IsOfSession served NoThread = ⊥
 
 -- how a connection ended, by what became of it: it had a thread, couldn't be opened, or had none
-abbrev pub EndOf : Pending → ConnectionEnd → Type 0
-EndOf (pending.Served handle) end = IsOfSession end
-EndOf pending.Unopened end = end ≡ Served unopened
-EndOf pending.NoThread end = end ≡ NoThread
+abbrev pub EndOf : {H : Type 0} → (H → SessionEnd → Type 0) → Pending H → ConnectionEnd → Type 0
+EndOf keeps (pending.Served handle) end = IsOfSession (keeps handle) end
+EndOf keeps pending.Unopened end = end ≡ Served unopened
+EndOf keeps pending.NoThread end = end ≡ NoThread

@@ -66,9 +66,10 @@ pub record DoesTask (old : KeptState) (task : Task) (told : Bool) (new : KeptSta
   pub worked : told ≡ not (is_idle outcome)
 
 -- A turn, and whether it is told to have done something: a task that is due is one step, one that isn't is nothing. The history
--- stays, and until the data are lost every unit.
+-- stays, with the places that it has, and until the data are lost every unit.
 pub record TakesTurn (old : KeptState) (task : Task) (told : Bool) (new : KeptState) : Type 0 where
   pub due : is_due task (free_groups old.array.store.book) ≡ true → DoesTask old task told new
   pub idle : is_due task (free_groups old.array.store.book) ≡ false → (told ≡ false) × (new ≡ old)
   pub history : new.history ≡ old.history
+  pub room : new.room ≡ old.room
   pub images : is_broken new.array ≡ false → (a : Address) → image new.array a ≡ image old.array a

@@ -3,7 +3,7 @@ ghost use Rattle.std.specs.Prelude.{◌≡◌, ◌≢◌, ◌+◌, ◌<◌, ◌�
 ghost use Rattle.std.specs.List.{AllZip};
 ghost use Rattle.std.specs.VecDeque.{deque_len, deque_capacity};
 ghost use Rattle.ar_cache.specs.Backing.{InTurn};
-ghost use Rattle.ar_sessions.specs.Ends.{GivesBack, GaveBack, Becomes, ConnectionEnds, EndOf};
+ghost use Rattle.ar_sessions.specs.Ends.{IsServed, IsServedOver, GivesBack, IsBegun, Becomes, ConnectionEnds, EndOf};
 
 use crate::{Desk, Door, LockPort, Receipt, run_background};
 use ar_disks::Disk;
@@ -11,6 +11,7 @@ use ar_frames::{Gate, SessionEnd, Sink, Source, Why, serve_gated};
 use ar_history::Kept;
 use std::alloc::Global;
 use std::collections::VecDeque;
+use std::snapshot::Snapshot;
 use std::sync::atomic::{AtomicBool, Ordering};
 use std::sync::ledger::Ledger;
 use std::sync::{Mutex, Wait};
@@ -57,28 +58,34 @@ struct Connection<
     writer: W,
 }
 
-// What a session's thread promises of its end, and of the receipt for its seat.
-#[derive(Clone, Copy)]
-struct AsServed;
-
-impl Promise<(SessionEnd, Option<Receipt>)> for AsServed {
-    ghost use Rattle.ar_sessions.specs.Ends.{GaveBack};
-
-    ghost kept_by = { λ _ ended. GaveBack ended.0 ended.1 };
+// What a session's thread promises of its end, and of the receipt for its seat: by the streams that it was given.
+#[derive(Drop)]
+struct AsServed<S: Source, W: Sink> {
+    reader: Snapshot<S>,
+    writer: Snapshot<W>,
 }
+
+impl<S: Source, W: Sink> Promise<(SessionEnd, Option<Receipt>)> for AsServed<S, W> {
+    ghost use Rattle.ar_sessions.specs.Ends.{GivesBack};
+
+    ghost kept_by = { λ promise ended. GivesBack (S.state promise.reader.value) (W.state promise.writer.value) ended.0 ended.1 };
+}
+
+// A session's thread.
+type Handle<S, W> = PromisedHandle<(SessionEnd, Option<Receipt>), AsServed<S, W>>;
 
 // A connection whose end isn't known yet, or which had none.
 #[derive(Drop)]
-enum Pending {
-    Served(PromisedHandle<(SessionEnd, Option<Receipt>), AsServed>),
+enum Pending<H> {
+    Served(H),
     Unopened,
     NoThread,
 }
 
 // Room for what becomes of so many connections.
 #[derive(Drop)]
-struct Roll {
-    pending: VecDeque<Pending>,
+struct Roll<H> {
+    pending: VecDeque<Pending<H>>,
     ends: Vec<ConnectionEnd>,
     left: usize,
     ghost none_pending: { deque_len pending ≡ 0 },
@@ -105,7 +112,7 @@ pub fn run_sessions<
 ) -> (O, Result<Vec<ConnectionEnd>, NoMemory>)
     ensures count { IfOk result.1 (λ ends. vec_len ends ≡ O.to_come door) }
     // Each is that of one connection, in the order in which the door opened them, or couldn't.
-    ensures ends { IfOk result.1 (λ ends. InTurn (ConnectionEnds O.opens) ends.items door result.0) }
+    ensures ends { IfOk result.1 (λ ends. InTurn (ConnectionEnds O.opens (IsServedOver O.Reader.state O.Writer.state)) ends.items door result.0) }
     ensures opened { OnOk result.1 (O.to_come result.0 ≡ 0) }
     ensures refused { OnErr result.1 (result.0 ≡ door) }
 {
@@ -127,7 +134,7 @@ pub fn run_sessions<
             requires { O.to_come door ≡ roll.left }
             ensures { (O.to_come result.0 ≡ 0)
                 × (vec_len result.1 ≡ roll.left)
-                × InTurn (ConnectionEnds O.opens) result.1.items door result.0 }
+                × InTurn (ConnectionEnds O.opens (IsServedOver O.Reader.state O.Writer.state)) result.1.items door result.0 }
         {
             let mut door = door;
             let ends = serve_all(scope, shared, &mut door, roll);
@@ -155,7 +162,7 @@ pub fn run_beside_background<
 ) -> (O, Result<Vec<ConnectionEnd>, NoMemory>)
     ensures count { IfOk result.1 (λ ends. vec_len ends ≡ O.to_come door) }
     // Each is that of one connection, in the order in which the door opened them, or couldn't.
-    ensures ends { IfOk result.1 (λ ends. InTurn (ConnectionEnds O.opens) ends.items door result.0) }
+    ensures ends { IfOk result.1 (λ ends. InTurn (ConnectionEnds O.opens (IsServedOver O.Reader.state O.Writer.state)) ends.items door result.0) }
     ensures opened { OnOk result.1 (O.to_come result.0 ≡ 0) }
     ensures refused { OnErr result.1 (result.0 ≡ door) }
 {
@@ -165,7 +172,7 @@ pub fn run_beside_background<
         thread::scope_env(),
         rt,
         move |scope| -> (O, Result<Vec<ConnectionEnd>, NoMemory>)
-            ensures { IfOk result.1 (λ ends. (vec_len ends ≡ O.to_come door) × InTurn (ConnectionEnds O.opens) ends.items door result.0)
+            ensures { IfOk result.1 (λ ends. (vec_len ends ≡ O.to_come door) × InTurn (ConnectionEnds O.opens (IsServedOver O.Reader.state O.Writer.state)) ends.items door result.0)
                 × OnOk result.1 (O.to_come result.0 ≡ 0)
                 × OnErr result.1 (result.0 ≡ door) }
         {
@@ -192,14 +199,14 @@ fn serve_all<
     scope: &'s Scope<'s, E>,
     hall: &'s Hall<'s, R, D, L, G>,
     door: &mut O,
-    roll: Roll,
+    roll: Roll<Handle<O::Reader, O::Writer>>,
 ) -> Vec<ConnectionEnd>
 where
     O::Reader: 's,
     O::Writer: 's,
     requires { O.to_come door.old ≡ roll.left }
     ensures count { vec_len result ≡ roll.left }
-    ensures ends { InTurn (ConnectionEnds O.opens) result.items door.old door.new }
+    ensures ends { InTurn (ConnectionEnds O.opens (IsServedOver O.Reader.state O.Writer.state)) result.items door.old door.new }
     ensures opened { O.to_come door.new ≡ 0 }
 {
     let Roll {
@@ -222,13 +229,18 @@ fn open_next<
     L: Ledger + Send + Sync,
     O: Door,
     G: Gate + Sync,
->(scope: &'s Scope<'s, E>, hall: &'s Hall<'s, R, D, L, G>, door: &mut O) -> Pending
+>(
+    scope: &'s Scope<'s, E>,
+    hall: &'s Hall<'s, R, D, L, G>,
+    door: &mut O,
+) -> Pending<Handle<O::Reader, O::Writer>>
 where
     O::Reader: 's,
     O::Writer: 's,
     requires { 0 < O.to_come door.old }
     ensures count { O.to_come door.new + 1 ≡ O.to_come door.old }
-    ensures becomes { Becomes O.opens door.old result door.new }
+    ensures becomes { Becomes O.opens (λ handle. IsServed (O.Reader.state handle.promise.reader.value) (O.Writer.state handle.promise.writer.value))
+        (IsServedOver O.Reader.state O.Writer.state) door.old result door.new }
 {
     let Some((reader, writer)) = door.accept() else {
         return Pending::Unopened;
@@ -252,29 +264,33 @@ fn begin<
     G: Gate + Sync,
     S: Source + Send + Drop + 's,
     W: Sink + Send + Drop + 's,
->(scope: &'s Scope<'s, E>, connection: Connection<'s, R, D, L, G, S, W>) -> Pending
+>(scope: &'s Scope<'s, E>, connection: Connection<'s, R, D, L, G, S, W>) -> Pending<Handle<S, W>>
     requires one { O.are_one connection.reader connection.writer ≡ true }
-    ensures begun { result ≢ Pending.Unopened }
+    ensures begun { IsBegun (λ handle. (handle.promise.reader.value ≡ connection.entry.reader) × (handle.promise.writer.value ≡ connection.entry.writer)) result }
 {
+    let promise = AsServed {
+        reader: Snapshot::of(&connection.reader),
+        writer: Snapshot::of(&connection.writer),
+    };
     let session = move || -> (SessionEnd, Option<Receipt>)
-        ensures { GaveBack result.0 result.1 }
+        ensures { GivesBack (S.state connection.entry.reader) (W.state connection.entry.writer) result.0 result.1 }
     { connection.serve() };
-    match scope.spawn_with(AsServed, session) {
+    match scope.spawn_with(promise, session) {
         Ok(handle) => Pending::Served(handle),
         Err(_) => Pending::NoThread,
     }
 }
 
 // Waits for each thread, in order.
-fn join_all<R: Threads>(
+fn join_all<R: Threads, S: Source, W: Sink>(
     rt: &R,
-    mut pending: VecDeque<Pending>,
+    mut pending: VecDeque<Pending<Handle<S, W>>>,
     mut ends: Vec<ConnectionEnd>,
 ) -> Vec<ConnectionEnd>
     requires none { vec_len ends ≡ 0 }
     requires room { deque_len pending ≤ vec_capacity ends }
     ensures count { vec_len result ≡ deque_len pending }
-    ensures order { AllZip EndOf pending.items result.items }
+    ensures order { AllZip (EndOf (λ handle. IsServed (S.state handle.promise.reader.value) (W.state handle.promise.writer.value))) pending.items result.items }
 {
     while let Some(next) = pending.pop_front() {
         ends.push_reserved(end_of(rt, next));
@@ -283,8 +299,8 @@ fn join_all<R: Threads>(
 }
 
 // Waits for the end of a connection.
-fn end_of<R: Threads>(rt: &R, pending: Pending) -> ConnectionEnd
-    ensures { EndOf pending result }
+fn end_of<R: Threads, S: Source, W: Sink>(rt: &R, pending: Pending<Handle<S, W>>) -> ConnectionEnd
+    ensures { EndOf (λ handle. IsServed (S.state handle.promise.reader.value) (W.state handle.promise.writer.value)) pending result }
 {
     match pending {
         Pending::Served(handle) => {
@@ -299,9 +315,9 @@ fn end_of<R: Threads>(rt: &R, pending: Pending) -> ConnectionEnd
     }
 }
 
-impl Roll {
+impl<H: Drop> Roll<H> {
     // Room for so many connections.
-    fn new(alloc: Global, left: usize) -> Result<Roll, NoMemory>
+    fn new(alloc: Global, left: usize) -> Result<Roll<H>, NoMemory>
         ensures { IfOk result (λ roll. roll.left ≡ left) }
     {
         let Ok(pending) = VecDeque::with_capacity(alloc, left) else {
