@@ -38,13 +38,15 @@ pub record HasOpened {D P : Type 0} (opens : D → Option P → D → Type 0) (o
   pub opened : opens old (Some pair) new
 
 -- a door opened its next connection, and this is the end of a session over it
-pub record HasEnded {D P : Type 0} (opens : D → Option P → D → Type 0) (served : P → SessionEnd → Type 0) (old : D) (end : SessionEnd) (new : D) : Type 0 where
+pub record HasEnded {D P : Type 0} (opens : D → Option P → D → Type 0) (served : P → SessionEnd → Type 0) (old : D) (end : SessionEnd)
+    (new : D) : Type 0 where
   pub pair : P
   pub opened : opens old (Some pair) new
   pub ended : served pair end
 
 -- a door opened its next connection, and whatever end its thread keeps is one of a session over it
-pub record HasThread {D P H : Type 0} (opens : D → Option P → D → Type 0) (keeps : H → SessionEnd → Type 0) (served : P → SessionEnd → Type 0) (old : D) (handle : H) (new : D) : Type 0 where
+pub record HasThread {D P H : Type 0} (opens : D → Option P → D → Type 0) (keeps : H → SessionEnd → Type 0)
+    (served : P → SessionEnd → Type 0) (old : D) (handle : H) (new : D) : Type 0 where
   pub pair : P
   pub opened : opens old (Some pair) new
   pub kept : (end : SessionEnd) → keeps handle end → served pair end
@@ -56,7 +58,8 @@ IsBegun is pending.Unopened = ⊥
 IsBegun is pending.NoThread = Unit {0}
 
 -- what became of a door's next connection: it was opened, and had a thread or none, or it couldn't be opened
-abbrev pub Becomes : {D P H : Type 0} → (D → Option P → D → Type 0) → (H → SessionEnd → Type 0) → (P → SessionEnd → Type 0) → D → Pending H → D → Type 0
+abbrev pub Becomes : {D P H : Type 0} → (D → Option P → D → Type 0) → (H → SessionEnd → Type 0) → (P → SessionEnd → Type 0) → D
+    → Pending H → D → Type 0
 Becomes opens keeps served old (pending.Served handle) new = HasThread opens keeps served old handle new
 Becomes opens keeps served old pending.Unopened new = opens old None new
 Becomes opens keeps served old pending.NoThread new = HasOpened opens old new

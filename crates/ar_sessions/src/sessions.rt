@@ -112,7 +112,8 @@ pub fn run_sessions<
 ) -> (O, Result<Vec<ConnectionEnd>, NoMemory>)
     ensures count { IfOk result.1 (λ ends. vec_len ends ≡ O.to_come door) }
     // Each is that of one connection, in the order in which the door opened them, or couldn't.
-    ensures ends { IfOk result.1 (λ ends. InTurn (ConnectionEnds O.opens (IsServedOver O.Reader.state O.Writer.state)) ends.items door result.0) }
+    ensures ends { IfOk result.1 (λ ends.
+        InTurn (ConnectionEnds O.opens (IsServedOver O.Reader.state O.Writer.state)) ends.items door result.0) }
     ensures opened { OnOk result.1 (O.to_come result.0 ≡ 0) }
     ensures refused { OnErr result.1 (result.0 ≡ door) }
 {
@@ -162,7 +163,8 @@ pub fn run_beside_background<
 ) -> (O, Result<Vec<ConnectionEnd>, NoMemory>)
     ensures count { IfOk result.1 (λ ends. vec_len ends ≡ O.to_come door) }
     // Each is that of one connection, in the order in which the door opened them, or couldn't.
-    ensures ends { IfOk result.1 (λ ends. InTurn (ConnectionEnds O.opens (IsServedOver O.Reader.state O.Writer.state)) ends.items door result.0) }
+    ensures ends { IfOk result.1 (λ ends.
+        InTurn (ConnectionEnds O.opens (IsServedOver O.Reader.state O.Writer.state)) ends.items door result.0) }
     ensures opened { OnOk result.1 (O.to_come result.0 ≡ 0) }
     ensures refused { OnErr result.1 (result.0 ≡ door) }
 {
@@ -172,7 +174,8 @@ pub fn run_beside_background<
         thread::scope_env(),
         rt,
         move |scope| -> (O, Result<Vec<ConnectionEnd>, NoMemory>)
-            ensures { IfOk result.1 (λ ends. (vec_len ends ≡ O.to_come door) × InTurn (ConnectionEnds O.opens (IsServedOver O.Reader.state O.Writer.state)) ends.items door result.0)
+            ensures { IfOk result.1 (λ ends. (vec_len ends ≡ O.to_come door)
+                × InTurn (ConnectionEnds O.opens (IsServedOver O.Reader.state O.Writer.state)) ends.items door result.0)
                 × OnOk result.1 (O.to_come result.0 ≡ 0)
                 × OnErr result.1 (result.0 ≡ door) }
         {
@@ -239,7 +242,8 @@ where
     O::Writer: 's,
     requires { 0 < O.to_come door.old }
     ensures count { O.to_come door.new + 1 ≡ O.to_come door.old }
-    ensures becomes { Becomes O.opens (λ handle. IsServed (O.Reader.state handle.promise.reader.value) (O.Writer.state handle.promise.writer.value))
+    ensures becomes { Becomes O.opens
+        (λ handle. IsServed (O.Reader.state handle.promise.reader.value) (O.Writer.state handle.promise.writer.value))
         (IsServedOver O.Reader.state O.Writer.state) door.old result door.new }
 {
     let Some((reader, writer)) = door.accept() else {
@@ -266,7 +270,8 @@ fn begin<
     W: Sink + Send + Drop + 's,
 >(scope: &'s Scope<'s, E>, connection: Connection<'s, R, D, L, G, S, W>) -> Pending<Handle<S, W>>
     requires one { O.are_one connection.reader connection.writer ≡ true }
-    ensures begun { IsBegun (λ handle. (handle.promise.reader.value ≡ connection.entry.reader) × (handle.promise.writer.value ≡ connection.entry.writer)) result }
+    ensures begun { IsBegun (λ handle. (handle.promise.reader.value ≡ connection.entry.reader)
+        × (handle.promise.writer.value ≡ connection.entry.writer)) result }
 {
     let promise = AsServed {
         reader: Snapshot::of(&connection.reader),
@@ -290,7 +295,8 @@ fn join_all<R: Threads, S: Source, W: Sink>(
     requires none { vec_len ends ≡ 0 }
     requires room { deque_len pending ≤ vec_capacity ends }
     ensures count { vec_len result ≡ deque_len pending }
-    ensures order { AllZip (EndOf (λ handle. IsServed (S.state handle.promise.reader.value) (W.state handle.promise.writer.value))) pending.items result.items }
+    ensures order { AllZip (EndOf (λ handle. IsServed (S.state handle.promise.reader.value) (W.state handle.promise.writer.value)))
+        pending.items result.items }
 {
     while let Some(next) = pending.pop_front() {
         ends.push_reserved(end_of(rt, next));
