@@ -247,7 +247,7 @@ pub(crate) fn refresh_blank(
     requires right { IsRight (place_in units.now.entries) index.old }
     requires each { (i : ℕ) → i < length groups.now.items
         → IsLeafOrBlank geometry units.now.entries groups.now.items homes.now 0 index.old i }
-    // Each group whose leaf is blank is refreshed once: one scan and one climb are 60 steps at most.
+    // There are no more refreshes than leaves that are blank, and one scan and one climb are 60 steps at most.
     ensures few { length groups.now.items ≤ 4096 → HaveChoices geometry units.now.entries groups.now.items homes.now
         → steps.new.count ≤ steps.old.count + 60 * blanks index.old }
     ensures leaves { leaves index.new ≡ leaves_of geometry units.now.entries groups.now.items }

@@ -86,8 +86,8 @@ impl PlainUnit {
         self.sectors.clear();
     }
 
-    /// Answers a command that came with these bytes. BUSY stands only for want of memory for the bytes of
-    /// a reply, and leaves the unit as it was.
+    /// Answers a command that came with these bytes. BUSY stands only where the reply has bytes, for which memory may be refused, and
+    /// leaves the unit as it was.
     pub fn answer(&mut self, alloc: Global, cdb: &[u8; 16], bytes: &[u8]) -> Reply
         ensures { IsServed self.old (answer self.old cdb.now bytes.now) result self.new }
     {
