@@ -5,6 +5,7 @@ use Rattle.ar_frames.specs.declared.end.SessionEnd.{SessionEnd}
 use Rattle.ar_frames.specs.declared.end.Why.TheVariants.{Read}
 use Rattle.ar_frames.specs.Stream.{SourceState, SinkState}
 use Rattle.ar_frames.specs.Session.{Session}
+use Rattle.ar_sessions.specs.declared.sessions.AsServed.{AsServed}
 use Rattle.ar_sessions.specs.declared.sessions.ConnectionEnd.{ConnectionEnd}
 use Rattle.ar_sessions.specs.declared.sessions.ConnectionEnd.TheVariants.{Served, NoThread}
 use Rattle.ar_sessions.specs.declared.sessions.Pending.{Pending}
@@ -19,14 +20,18 @@ pub record IsServed (source : SourceState) (sink : SinkState) (end : SessionEnd)
   pub port : Option SeatState
   pub session : Session TakesSeat AsksKept source source' sink sink' None port end
 
--- A session over a connection's two streams, as they were when it was opened, ended so.
-abbrev pub IsServedOver : {S W : Type 0} → (S → SourceState) → (W → SinkState) → S × W → SessionEnd → Type 0
-IsServedOver source sink pair end = IsServed (source pair.0) (sink pair.1) end
-
 -- The same, and the seat that the port had in the end is on the desk again: this is the receipt for it, none where it had none.
 pub record GivesBack (source : SourceState) (sink : SinkState) (end : SessionEnd) (receipt : Option ReceiptState) : Type 0 where
   pub served : IsServed source sink end
   pub receipt_is : receipt ≡ receipt_for served.port
+
+-- A session over a connection's two streams, as they were when it was opened, ended so.
+abbrev pub IsServedOver : {S W : Type 0} → (S → SourceState) → (W → SinkState) → S × W → SessionEnd → Type 0
+IsServedOver source sink pair end = IsServed (source pair.0) (sink pair.1) end
+
+-- a session ended so over the two streams of which a session's thread has promised an end
+abbrev pub IsPromised : {S W : Type 0} → (S → SourceState) → (W → SinkState) → AsServed S W → SessionEnd → Type 0
+IsPromised source sink promise end = IsServed (source promise.reader.value) (sink promise.writer.value) end
 
 -- the end of a connection that could not be opened
 abbrev pub unopened : SessionEnd

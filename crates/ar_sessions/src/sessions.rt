@@ -3,7 +3,7 @@ ghost use Rattle.std.specs.Prelude.{◌≡◌, ◌≢◌, ◌+◌, ◌<◌, ◌�
 ghost use Rattle.std.specs.List.{AllZip};
 ghost use Rattle.std.specs.VecDeque.{deque_len, deque_capacity};
 ghost use Rattle.ar_cache.specs.Backing.{InTurn};
-ghost use Rattle.ar_sessions.specs.Ends.{IsServed, IsServedOver, GivesBack, IsBegun, Becomes, ConnectionEnds, EndOf};
+ghost use Rattle.ar_sessions.specs.Ends.{IsServedOver, IsPromised, GivesBack, IsBegun, Becomes, ConnectionEnds, EndOf};
 
 use crate::{Desk, Door, LockPort, Receipt, run_background};
 use ar_disks::Disk;
@@ -242,8 +242,7 @@ where
     O::Writer: 's,
     requires { 0 < O.to_come door.old }
     ensures count { O.to_come door.new + 1 ≡ O.to_come door.old }
-    ensures becomes { Becomes O.opens
-        (λ handle. IsServed (O.Reader.state handle.promise.reader.value) (O.Writer.state handle.promise.writer.value))
+    ensures becomes { Becomes O.opens (λ handle. IsPromised O.Reader.state O.Writer.state handle.promise)
         (IsServedOver O.Reader.state O.Writer.state) door.old result door.new }
 {
     let Some((reader, writer)) = door.accept() else {
@@ -295,8 +294,7 @@ fn join_all<R: Threads, S: Source, W: Sink>(
     requires none { vec_len ends ≡ 0 }
     requires room { deque_len pending ≤ vec_capacity ends }
     ensures count { vec_len result ≡ deque_len pending }
-    ensures order { AllZip (EndOf (λ handle. IsServed (S.state handle.promise.reader.value) (W.state handle.promise.writer.value)))
-        pending.items result.items }
+    ensures order { AllZip (EndOf (λ handle. IsPromised S.state W.state handle.promise)) pending.items result.items }
 {
     while let Some(next) = pending.pop_front() {
         ends.push_reserved(end_of(rt, next));
@@ -306,7 +304,7 @@ fn join_all<R: Threads, S: Source, W: Sink>(
 
 // Waits for the end of a connection.
 fn end_of<R: Threads, S: Source, W: Sink>(rt: &R, pending: Pending<Handle<S, W>>) -> ConnectionEnd
-    ensures { EndOf (λ handle. IsServed (S.state handle.promise.reader.value) (W.state handle.promise.writer.value)) pending result }
+    ensures { EndOf (λ handle. IsPromised S.state W.state handle.promise) pending result }
 {
     match pending {
         Pending::Served(handle) => {

@@ -1,11 +1,11 @@
 use Rattle.std.proofs.Common.{subst}
-use Rattle.ar_sessions.specs.Ends.{IsServed, IsServedOver}
+use Rattle.ar_sessions.specs.Ends.{IsServed, IsServedOver, IsPromised}
 use Rattle.ar_sessions.proofs.Ending.{became}
 use Rattle.ar_sessions.proofs.sessions.open_next.Goals as goal
 
 pub returns-clause-becomes : goal.returns-clause-becomes
 returns-clause-becomes g c =
-    became g.O.Door.opens (λ handle. IsServed (g.O.Reader.Source.state handle.promise.reader.value) (g.O.Writer.Sink.state handle.promise.writer.value))
+    became g.O.Door.opens (λ handle. IsPromised g.O.Reader.Source.state g.O.Writer.Sink.state handle.promise)
     (IsServedOver g.O.Reader.Source.state g.O.Writer.Sink.state) _ c.begin.result c.args.door.now c.accept.new.self _
     (subst (λ came. g.O.Door.opens c.args.door.now came c.accept.new.self) c.in-Some.is c.accept.ensures.opens)
     (λ handle same end kept.

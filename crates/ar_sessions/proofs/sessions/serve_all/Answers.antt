@@ -1,13 +1,13 @@
 use Rattle.std.proofs.Common.{rules, [], ◌∷◌, sym, subst, arith}
 use Rattle.ar_cache.specs.Backing.{InTurn}
 use Rattle.ar_cache.proofs.Turns.{in_turn_then, in_turn_one}
-use Rattle.ar_sessions.specs.Ends.{IsServed, IsServedOver, Becomes}
+use Rattle.ar_sessions.specs.Ends.{IsServedOver, IsPromised, Becomes}
 use Rattle.ar_sessions.proofs.Ending.{all_ended}
 use Rattle.ar_sessions.proofs.sessions.serve_all.Goals as goal
 
 pub loop-preserved : goal.loop-preserved
 loop-preserved g c =
-    let step = Becomes g.O.Door.opens (λ handle. IsServed (g.O.Reader.Source.state handle.promise.reader.value) (g.O.Writer.Sink.state handle.promise.writer.value))
+    let step = Becomes g.O.Door.opens (λ handle. IsPromised g.O.Reader.Source.state g.O.Writer.Sink.state handle.promise)
     (IsServedOver g.O.Reader.Source.state g.O.Writer.Sink.state) in
     let inv = c.loop.invariant in
     let next = c.open_next.ensures in
@@ -23,5 +23,5 @@ loop-preserved g c =
 
 pub returns-clause-ends : goal.returns-clause-ends
 returns-clause-ends g c =
-    all_ended g.O.Door.opens (λ handle. IsServed (g.O.Reader.Source.state handle.promise.reader.value) (g.O.Writer.Sink.state handle.promise.writer.value))
+    all_ended g.O.Door.opens (λ handle. IsPromised g.O.Reader.Source.state g.O.Writer.Sink.state handle.promise)
     (IsServedOver g.O.Reader.Source.state g.O.Writer.Sink.state) c.loop.pending.items c.join_all.result.items c.args.door.now c.loop.door c.loop.invariant.became c.join_all.ensures.order
