@@ -45,13 +45,17 @@ impl Scale {
         ensures apart { result.height ≤ result.pitch }
         ensures bar { result.bar.0 + result.bar.1 ≤ result.height }
         ensures seen { 0 < result.bar.1 }
+        // A bar takes a third of its extent or more, and no more than 4 are left free between two extents.
+        ensures thick { result.height ≤ 3 * result.bar.1 }
+        ensures near { result.pitch ≤ result.height + 4 }
         // Words stand above the bar, and few extents have them. Many are no taller than 3,072 in all.
         ensures words { 24 < result.height → 14 ≤ result.bar.0 }
         ensures few { extents ≤ 16 → 24 < result.height }
         ensures many { extents ≤ 1024 → result.pitch * extents ≤ 3072 }
-        // Numbers, 11 tall, don't overlap, and there is one in each 384.
+        // Numbers, 11 tall, don't overlap, and there is one in each 384. Where there are words, each extent has its number.
         ensures numbers { 11 ≤ result.pitch * result.numbered }
         ensures often { result.pitch * result.numbered ≤ 384 }
+        ensures each { 24 < result.height → result.numbered ≡ 1 }
         ensures thin { result.outline.now ≡ outline_of result.height }
     {
         let (pitch, height, bar, outline, numbered) = match extents {

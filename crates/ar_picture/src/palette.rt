@@ -1,6 +1,7 @@
 // Colours of units.
 ghost use Rattle.std.specs.Prelude.{◌≡◌, ◌+◌, ◌*◌, true, ◌∷◌, map, slice_index_or};
-ghost use Rattle.ar_picture.specs.Looks.{are_apart};
+ghost use Rattle.std.specs.List.{list_all};
+ghost use Rattle.ar_picture.specs.Looks.{are_apart, is_colour};
 
 use crate::{UNITS_MAX, Unit};
 
@@ -22,7 +23,9 @@ const NO_UNIT: &str = "#000000";
 
 /// Each unit has a colour of its own, and what is no unit another.
 pub fn colours_differ()
-    ensures { are_apart (NO_UNIT.now ∷ map (λ colour. colour.now) COLOURS) ≡ true }
+    // Each is written in the one way. So where the texts differ, the colours do.
+    ensures written { list_all is_colour (NO_UNIT.now ∷ map (λ colour. colour.now) COLOURS) ≡ true }
+    ensures apart { are_apart (NO_UNIT.now ∷ map (λ colour. colour.now) COLOURS) ≡ true }
 {}
 
 /// A unit's colour: the one at its place, or black where there is none.
