@@ -315,7 +315,11 @@ fn ends_refused<R: Abort + AllocGlobal>(rt: &R, fails: u32, end: Result<(), Faul
     let done = run_script(rt.alloc(), script, &mut writer, LARGE);
     assert!(rt; done == end, "write {fails}: {done:?}");
     // There are two, and none is tried behind one that failed.
-    assert!(rt; writer.calls == fails.min(1) + 1, "write {fails}: {} calls", writer.calls);
+    assert!(rt;
+        writer.calls == fails.min(1) + 1,
+        "write {fails}: {} calls",
+        writer.calls
+    );
 }
 
 #[test]
