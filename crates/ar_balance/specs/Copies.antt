@@ -50,7 +50,7 @@ pub record AsksInTurn (from to : Place) (old new : SetState) : Type 0 where
   pub reads : Spares (λ d. d ≢ from.disk) old between
   pub writes : Spares (λ d. d ≢ to.disk) between new
 
--- one row was copied so: it was read before the new extent was asked
+-- one row was copied so: at first no disk was asked but that of the old extent, and then none but that of the new one
 pub record CopiesRow (from to : Place) (row : ℕ) (old new : SetState) : Type 0 where
   pub copied : IsRowCopied old new from to row
   pub turn : AsksInTurn from to old new
