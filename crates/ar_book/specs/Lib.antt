@@ -7,3 +7,4 @@ pub mod Choices
 pub mod Refusals
 pub mod Cleaning
 pub mod Index
+pub mod Texts

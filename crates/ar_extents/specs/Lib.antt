@@ -5,6 +5,7 @@ pub mod Access
 pub mod Loose
 pub mod Changes
 pub mod Groups
+pub mod Texts
 -- the words of ar_disks that clauses of this crate cite
 pub use Rattle.ar_disks.specs.Geometry
 pub use Rattle.ar_disks.specs.Disk

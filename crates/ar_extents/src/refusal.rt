@@ -1,27 +1,42 @@
 // Why disks aren't taken.
+use std::fmt;
+use std::fmt::{Display, Formatter};
 use thiserror::Error;
 
 /// Why a disk isn't added, replaced or taken out. The set is then as it was.
 #[derive(Clone, Copy, Debug, PartialEq, Eq, Error)]
 pub enum DiskRefusal {
     /// The set has 12 disks already.
-    #[error("E1 TooManyDisks")]
     TooManyDisks,
     /// The disk's geometry or number of extents isn't the set's.
-    #[error("E2 WrongSize")]
     WrongSize,
     /// The disk that was to be replaced isn't out.
-    #[error("E3 NotOut")]
     NotOut,
     /// There is no disk of this number.
-    #[error("E4 NoSuchDisk")]
     NoSuchDisk,
     /// Memory was refused.
-    #[error("E5 NoMemory")]
     NoMemory,
     /// The set is broken.
-    #[error("E6 Broken")]
     Broken,
+}
+
+// (By hand, as the text that a derived one writes is stated by no clause.)
+impl Display for DiskRefusal {
+    ghost use Rattle.std.specs.Prelude.{Some};
+    ghost use Rattle.ar_extents.specs.Texts.{disk_refusal_text};
+
+    ghost output = { λ refusal. Some (disk_refusal_text refusal) };
+
+    fn fmt<W: fmt::Write>(&self, f: &mut Formatter<W>) -> fmt::Result {
+        f.write_str(match self {
+            DiskRefusal::TooManyDisks => "E1 TooManyDisks",
+            DiskRefusal::WrongSize => "E2 WrongSize",
+            DiskRefusal::NotOut => "E3 NotOut",
+            DiskRefusal::NoSuchDisk => "E4 NoSuchDisk",
+            DiskRefusal::NoMemory => "E5 NoMemory",
+            DiskRefusal::Broken => "E6 Broken",
+        })
+    }
 }
 
 /// Why a set doesn't begin.

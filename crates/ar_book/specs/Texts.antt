@@ -1,0 +1,14 @@
+-- How refusals are written.
+use Rattle.std.specs.Prelude.{ℕ, List, ◌++◌, codes}
+use Rattle.std.specs.Fmt.{decimal}
+use Rattle.ar_book.specs.declared.refusal.Refusal.{Refusal}
+use Rattle.ar_book.specs.declared.refusal.Refusal.TheVariants.{Exists, Size, NoRoom, NoMemory, Absent, BadLun}
+
+-- a unit's refusal, with its number; for want of room the room is written behind it
+abbrev pub refusal_text : Refusal → List ℕ
+refusal_text Exists = codes "M1 Exists"
+refusal_text Size = codes "M2 Size"
+refusal_text (NoRoom room) = codes "M3 NoRoom " ++ decimal room
+refusal_text NoMemory = codes "M4 NoMemory"
+refusal_text Absent = codes "M5 Absent"
+refusal_text BadLun = codes "M7 BadLun"
