@@ -1,3 +1,4 @@
 pub mod Cells
 pub mod Folds
 pub mod Looks
+pub mod Writing

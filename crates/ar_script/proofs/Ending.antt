@@ -7,7 +7,7 @@ use Rattle.ar_orders.specs.declared.fault.Fault.{Fault}
 use Rattle.ar_orders.specs.declared.fault.Fault.TheVariants.{Start, Line}
 use Rattle.ar_orders.specs.declared.fault.FaultKind.{FaultKind}
 use Rattle.ar_orders.specs.declared.fault.FaultKind.TheVariants.{TooManyLines, NoMemory, ReadFault, WriteFault}
-use Rattle.ar_orders.specs.Lines.{Took, AreThere, IsOfStream, IsReached, IsAllTaken, first_of, line_at, line_fault, IsToldOfNext, StopsAt, IsNumbered, IsOfNext}
+use Rattle.ar_orders.specs.Lines.{Took, AreThere, IsOfStream, IsReached, IsAllTaken, first_of, line_at, line_fault, IsToldOfNext, StopsAt, IsNumbered, IsOfNext, is_write_fault}
 use Rattle.ar_script.specs.Orders.{Meets, MeetsLine}
 use Rattle.ar_orders.proofs.Going.{none_there, there_behind}
 use Rattle.ar_script.specs.Ends.{Ends}
@@ -345,3 +345,12 @@ told_ended lines begun (Ok end) (Err fault) told (inr same) = let no = same.0 in
 told_ended lines begun (Err before) (Err fault) told (inr same) =
     let is : before ≡ fault = (let one = same.0 in cc) in
     subst (λ (f : Fault). IsToldOf lines f) is (told_then lines before told)
+
+-- where no write fault is told of a line's answer, none was met
+pub not_write : (kind : FaultKind) (n : ℕ) (fault : Fault) (r : Result (Unit {0}) FaultKind) → r ≡ Err kind → fault ≡ Line n kind
+    → is_write_fault {T = Unit {0}} (Err fault) ≡ false → r ≢ Err WriteFault
+not_write kind n fault r is same told write =
+    let met : kind ≡ WriteFault = cc in
+    let also : fault ≡ Line n WriteFault = same ∙ ap (Line n) met in
+    let yes : is_write_fault {T = Unit {0}} (Err fault) ≡ true = ap (λ (f : Fault). is_write_fault {T = Unit {0}} (Err f)) also in
+    absurd (cc)

@@ -1,5 +1,6 @@
 // Answers as text.
-ghost use Rattle.std.specs.Prelude.{◌<◌};
+ghost use Rattle.std.specs.Prelude.{◌≡◌, ◌<◌, OnOk};
+ghost use Rattle.ar_picture.specs.Writing.{Grows};
 
 use crate::runs::run_len;
 use ar_core::{
@@ -20,7 +21,9 @@ pub fn write_outcome<W: Write, N>(
     out: &mut W,
     outcome: &OutcomeOf<N>,
     notation: Notation,
-) -> io::Result<()> {
+) -> io::Result<()>
+    ensures grows { OnOk result (Grows (W.contents out.old) (W.contents out.new)) }
+{
     match outcome {
         OutcomeOf::Make(done)
         | OutcomeOf::Grow(done)
@@ -36,21 +39,27 @@ pub fn write_outcome<W: Write, N>(
 }
 
 // Writes whether a disk was taken in.
-fn write_taken<W: Write, N>(out: &mut W, done: &Result<(), (Refusal, N)>) -> io::Result<()> {
+fn write_taken<W: Write, N>(out: &mut W, done: &Result<(), (Refusal, N)>) -> io::Result<()>
+    ensures grows { OnOk result (Grows (W.contents out.old) (W.contents out.new)) }
+{
     match done {
         Ok(()) => write_done(out, Ok(())),
         Err((refusal, _)) => write_done(out, Err(*refusal)),
     }
 }
 
-fn write_done<W: Write>(out: &mut W, done: Result<(), Refusal>) -> io::Result<()> {
+fn write_done<W: Write>(out: &mut W, done: Result<(), Refusal>) -> io::Result<()>
+    ensures grows { OnOk result (Grows (W.contents out.old) (W.contents out.new)) }
+{
     match done {
         Ok(()) => writeln!(out, "ok"),
         Err(refusal) => writeln!(out, "refused {refusal}"),
     }
 }
 
-fn write_reply<W: Write>(out: &mut W, reply: &Reply, notation: Notation) -> io::Result<()> {
+fn write_reply<W: Write>(out: &mut W, reply: &Reply, notation: Notation) -> io::Result<()>
+    ensures grows { OnOk result (Grows (W.contents out.old) (W.contents out.new)) }
+{
     match (reply.status, reply.sense) {
         (Status::CheckCondition, Some(sense)) => {
             let (key, asc, ascq) = (sense[2] & 0x0F, sense[12], sense[13]);
@@ -62,19 +71,30 @@ fn write_reply<W: Write>(out: &mut W, reply: &Reply, notation: Notation) -> io::
 }
 
 // Writes `good` and the bytes that came with it.
-fn write_good<W: Write>(out: &mut W, bytes: &[u8], notation: Notation) -> io::Result<()> {
+fn write_good<W: Write>(out: &mut W, bytes: &[u8], notation: Notation) -> io::Result<()>
+    ensures grows { OnOk result (Grows (W.contents out.old) (W.contents out.new)) }
+{
     if bytes.is_empty() {
         return out.write_all(b"good\n");
     }
     out.write_all(b"good ")?;
-    match notation {
-        Notation::Bytes => write_bytes(out, bytes)?,
-        Notation::Runs => write_runs(out, bytes)?,
-    }
+    write_data(out, bytes, notation)?;
     out.write_all(b"\n")
 }
 
-fn write_flush<W: Write>(out: &mut W, flush: Flush) -> io::Result<()> {
+// Writes a reply's bytes, as its command has them written.
+fn write_data<W: Write>(out: &mut W, bytes: &[u8], notation: Notation) -> io::Result<()>
+    ensures grows { OnOk result (Grows (W.contents out.old) (W.contents out.new)) }
+{
+    match notation {
+        Notation::Bytes => write_bytes(out, bytes),
+        Notation::Runs => write_runs(out, bytes),
+    }
+}
+
+fn write_flush<W: Write>(out: &mut W, flush: Flush) -> io::Result<()>
+    ensures grows { OnOk result (Grows (W.contents out.old) (W.contents out.new)) }
+{
     match flush {
         Flush::Flushed(key) => {
             let (host, lun, rb) = (key.addr.host.number(), key.addr.lun, key.rb);
@@ -85,7 +105,9 @@ fn write_flush<W: Write>(out: &mut W, flush: Flush) -> io::Result<()> {
     }
 }
 
-fn write_move<W: Write>(out: &mut W, answer: Move) -> io::Result<()> {
+fn write_move<W: Write>(out: &mut W, answer: Move) -> io::Result<()>
+    ensures grows { OnOk result (Grows (W.contents out.old) (W.contents out.new)) }
+{
     match answer {
         Move::Moved { key, to } => {
             let (host, lun, rb) = (key.addr.host.number(), key.addr.lun, key.rb);
@@ -97,7 +119,9 @@ fn write_move<W: Write>(out: &mut W, answer: Move) -> io::Result<()> {
     }
 }
 
-fn write_balance<W: Write>(out: &mut W, answer: Balance) -> io::Result<()> {
+fn write_balance<W: Write>(out: &mut W, answer: Balance) -> io::Result<()>
+    ensures grows { OnOk result (Grows (W.contents out.old) (W.contents out.new)) }
+{
     match answer {
         Balance::Formed(group) => writeln!(out, "formed {group}"),
         Balance::Shifted { group, from, to } => writeln!(
@@ -111,7 +135,9 @@ fn write_balance<W: Write>(out: &mut W, answer: Balance) -> io::Result<()> {
     }
 }
 
-fn write_rebuild<W: Write>(out: &mut W, answer: Rebuild) -> io::Result<()> {
+fn write_rebuild<W: Write>(out: &mut W, answer: Rebuild) -> io::Result<()>
+    ensures grows { OnOk result (Grows (W.contents out.old) (W.contents out.new)) }
+{
     match answer {
         Rebuild::Rebuilt(extent, left) => writeln!(out, "rebuilt {extent} left {left}"),
         Rebuild::Finished => writeln!(out, "finished"),
@@ -122,11 +148,9 @@ fn write_rebuild<W: Write>(out: &mut W, answer: Rebuild) -> io::Result<()> {
 }
 
 /// Writes the level of each block of a unit, as one line with a character for each.
-pub fn write_levels<W: Write, D: Disk>(
-    out: &mut W,
-    array: &Array<D>,
-    addr: Addr,
-) -> io::Result<()> {
+pub fn write_levels<W: Write, D: Disk>(out: &mut W, array: &Array<D>, addr: Addr) -> io::Result<()>
+    ensures grows { OnOk result (Grows (W.contents out.old) (W.contents out.new)) }
+{
     if let LevelOf::Absent = array.level(addr, 0) {
         return write_done(out, Err(NO_UNIT));
     }
@@ -150,7 +174,9 @@ fn level_mark(level: LevelOf) -> Option<char> {
 }
 
 /// Writes where a block of a unit stands, as a line.
-pub fn write_home<W: Write>(out: &mut W, home: HomeOf) -> io::Result<()> {
+pub fn write_home<W: Write>(out: &mut W, home: HomeOf) -> io::Result<()>
+    ensures grows { OnOk result (Grows (W.contents out.old) (W.contents out.new)) }
+{
     match home {
         HomeOf::Absent => write_done(out, Err(NO_UNIT)),
         HomeOf::Outside => writeln!(out, "outside"),
@@ -163,7 +189,9 @@ pub fn write_home<W: Write>(out: &mut W, home: HomeOf) -> io::Result<()> {
 }
 
 /// Writes what groups are used for, as a line for each.
-pub fn write_groups<W: Write>(out: &mut W, groups: &[GroupUse]) -> io::Result<()> {
+pub fn write_groups<W: Write>(out: &mut W, groups: &[GroupUse]) -> io::Result<()>
+    ensures grows { OnOk result (Grows (W.contents out.old) (W.contents out.new)) }
+{
     for (number, group) in groups.iter().enumerate() {
         let class = class_name(group.class);
         let blocks = group.blocks;
@@ -181,7 +209,9 @@ fn class_name(class: Class) -> &'static str {
 }
 
 /// Writes which disk is down, if any, as a line.
-pub fn write_health<W: Write>(out: &mut W, health: Health) -> io::Result<()> {
+pub fn write_health<W: Write>(out: &mut W, health: Health) -> io::Result<()>
+    ensures grows { OnOk result (Grows (W.contents out.old) (W.contents out.new)) }
+{
     match health {
         Health::Whole => writeln!(out, "whole"),
         Health::Out(disk) => writeln!(out, "out {disk}"),
@@ -191,7 +221,9 @@ pub fn write_health<W: Write>(out: &mut W, health: Health) -> io::Result<()> {
 }
 
 /// Writes the bytes of a row, where they were shown, as a line.
-pub fn write_row<W: Write>(out: &mut W, shown: Shown, bytes: &[u8]) -> io::Result<()> {
+pub fn write_row<W: Write>(out: &mut W, shown: Shown, bytes: &[u8]) -> io::Result<()>
+    ensures grows { OnOk result (Grows (W.contents out.old) (W.contents out.new)) }
+{
     match shown {
         Shown::Outside => writeln!(out, "outside"),
         Shown::Broken => writeln!(out, "broken"),
@@ -204,7 +236,9 @@ pub fn write_row<W: Write>(out: &mut W, shown: Shown, bytes: &[u8]) -> io::Resul
 }
 
 // Writes each byte, with a space between two.
-fn write_bytes<W: Write>(out: &mut W, bytes: &[u8]) -> io::Result<()> {
+fn write_bytes<W: Write>(out: &mut W, bytes: &[u8]) -> io::Result<()>
+    ensures grows { OnOk result (Grows (W.contents out.old) (W.contents out.new)) }
+{
     for (place, byte) in bytes.iter().enumerate() {
         write_gap(out, place)?;
         write!(out, "{byte:02X}")?;
@@ -213,7 +247,9 @@ fn write_bytes<W: Write>(out: &mut W, bytes: &[u8]) -> io::Result<()> {
 }
 
 // Writes the longest runs of equal bytes, with a space between two.
-fn write_runs<W: Write>(out: &mut W, bytes: &[u8]) -> io::Result<()> {
+fn write_runs<W: Write>(out: &mut W, bytes: &[u8]) -> io::Result<()>
+    ensures grows { OnOk result (Grows (W.contents out.old) (W.contents out.new)) }
+{
     let mut rest = bytes;
     for place in 0..bytes.len() {
         let Some(byte) = rest.first() else {
@@ -228,7 +264,9 @@ fn write_runs<W: Write>(out: &mut W, bytes: &[u8]) -> io::Result<()> {
 }
 
 // Writes a run. (Without `write!`, which took a sixth of the time of a line that reads a small block.)
-fn write_run<W: Write>(out: &mut W, count: usize, byte: u8) -> io::Result<()> {
+fn write_run<W: Write>(out: &mut W, count: usize, byte: u8) -> io::Result<()>
+    ensures grows { OnOk result (Grows (W.contents out.old) (W.contents out.new)) }
+{
     let mut digits = itoa::Buffer::new();
     out.write_all(digits.format(count).as_bytes())?;
     out.write_all(&[b'x', hex_digit(byte >> 4), hex_digit(byte & 15)])
@@ -242,7 +280,9 @@ fn hex_digit(number: u8) -> u8
 }
 
 // Writes the space that parts a word from the one before it.
-fn write_gap<W: Write>(out: &mut W, place: usize) -> io::Result<()> {
+fn write_gap<W: Write>(out: &mut W, place: usize) -> io::Result<()>
+    ensures grows { OnOk result (Grows (W.contents out.old) (W.contents out.new)) }
+{
     if place > 0 {
         out.write_all(b" ")?;
     }

@@ -3,8 +3,9 @@ use Rattle.ar_orders.specs.declared.fault.Fault.TheVariants.{Line}
 use Rattle.ar_orders.specs.Left.{lines_left, lines_begun, IsStopped}
 use Rattle.ar_orders.proofs.Going.{begun_there}
 use Rattle.ar_orders.specs.Lines.{AreThere, StopsAt, IsOfNext, IsNumbered, is_given, is_lacking}
+use Rattle.ar_picture.proofs.Growing.{grows_same, kept_grows, grows_then}
 use Rattle.ar_script.specs.Plays.{PlaysAll, PlaysTo}
-use Rattle.ar_script.proofs.Ending.{plays_none, plays_line, plays_fault, plays_ended, plays_unread, begun_as, begun_within, there_begun, there_given, told_next, told_last}
+use Rattle.ar_script.proofs.Ending.{plays_none, plays_line, plays_fault, plays_ended, plays_unread, begun_as, begun_within, there_begun, there_given, told_next, told_last, not_write}
 use Rattle.ar_script.proofs.run.run_lines.Goals as goal
 
 pub loop-init : goal.loop-init
@@ -13,6 +14,7 @@ loop-init g c =
       omega arith,
       subst (λ n. PlaysAll script script c.args.runner.now c.args.runner.now n) (sym c.requires.fresh.none) (plays_none script c.args.runner.now),
       record { some = λ begun. let no = c.requires.fresh.unbegun in absurd (cc) },
+      grows_same _,
     )
 
 pub returns-in_err-next_line-clause-plays : goal.returns-in_err-next_line-clause-plays
@@ -70,6 +72,7 @@ loop-preserved g c =
           (plays_line script (lines_left c.loop.lines) (lines_left new) c.args.runner.now c.loop.runner c.answer_line.new.runner c.loop.lines.given line c.answer_line.result
           c.loop.invariant.1 (goes.taken one) good c.answer_line.ensures.meets),
       c.next_line.ensures.begun c.loop.invariant.2,
+      grows_then c.loop.invariant.3 (grows_then (kept_grows _ _ c.next_line.ensures.answers) (c.answer_line.ensures.grows (λ write. absurd (cc)))),
     )
 
 pub returns-in_err-next_line-clause-there : goal.returns-in_err-next_line-clause-there
@@ -115,3 +118,14 @@ returns-in-Err-clause-told g c =
     let count : new.given ≡ c.loop.lines.given + 1 = search rules in
     let is = c.fault_at.ensures.same ∙ ap (λ m. Line (max m 1) c.in-Err.kind) c.number.ensures.number in
     told_last new c.in-Err.kind c.fault_at.result (goes.closed one) (omega arith) is c.in-Err.ensures.told
+
+pub returns-in_err-next_line-clause-grows : goal.returns-in_err-next_line-clause-grows
+returns-in_err-next_line-clause-grows g c = λ told. grows_then c.loop.invariant.3 (kept_grows _ _ c.next_line.ensures.answers)
+
+pub returns-then-not-branch-clause-grows : goal.returns-then-not-branch-clause-grows
+returns-then-not-branch-clause-grows g c = λ told. grows_then c.loop.invariant.3 (kept_grows _ _ c.next_line.ensures.answers)
+
+pub returns-in-Err-clause-grows : goal.returns-in-Err-clause-grows
+returns-in-Err-clause-grows g c = λ told.
+    let added = c.answer_line.ensures.grows (not_write c.in-Err.kind _ c.fault_at.result c.answer_line.result (search rules) c.fault_at.ensures.same told) in
+    grows_then c.loop.invariant.3 (grows_then (kept_grows _ _ c.next_line.ensures.answers) added)
