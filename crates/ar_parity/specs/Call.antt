@@ -45,8 +45,8 @@ pub record WritesInTurn (own parity : Place) (old new : SetState) : Type 0 where
   pub writes : WorksInTurn own parity read new
 
 -- At first no extent but a slot's own was asked, and nothing was written. Where it could be used after that, no other was asked but
--- the one with the row's parity, whatever faulted then, and that one was read before the own was written, and written after it; and
--- where it couldn't, the others were read before anything was written.
+-- the one with the row's parity, whatever faulted then, and that one was written after the own; and where it couldn't, the others were
+-- read before anything was written.
 pub record AsksOwnFirst (own parity : Place) (old new : SetState) : Type 0 where
   pub between : SetState
   pub reads : WorksOn (IsPlace own) old between

@@ -8,8 +8,8 @@ use Rattle.ar_disks.specs.Members.{member}
 use Rattle.ar_extents.specs.declared.health.Health.TheVariants.{Broken}
 use Rattle.ar_extents.specs.Health.{is_lost}
 use Rattle.ar_extents.specs.Set.{SetState, content, IsSound}
-use Rattle.ar_extents.specs.Follows.{Keeps}
-use Rattle.ar_extents.specs.Groups.{IsOutside}
+use Rattle.ar_extents.specs.Follows.{Keeps, WorksOn}
+use Rattle.ar_extents.specs.Groups.{IsMember, IsOutside}
 use Rattle.ar_parity.specs.Row.{Blocks, block, AddUp, zero_blocks, row_of, data_position}
 
 -- a member that can be used has these bytes in a row
@@ -33,11 +33,13 @@ pub record KeepsButRow (m : Members) (row : ℕ) (old new : SetState) : Type 0 w
   pub other_places : Keeps (IsOutside m) old new
 
 -- The opening of a group stopped at a row: those before it agree on zeros, in a state in which the set could still be used, and of
--- those past it nothing was written.
+-- those past it nothing was written. On the way there and from there on no extent but the group's was asked.
 pub record StopsOpening (m : Members) (old new : SetState) : Type 0 where
   pub row : ℕ
   pub there : row < rows_of old.geometry
   pub opened : SetState
+  pub reached : WorksOn (IsMember m) old opened
+  pub goes_on : WorksOn (IsMember m) opened new
   pub zeros : (r : ℕ) → r < row → RowAgrees opened m r (zero_blocks (block_len_of old.geometry))
   pub usable : 0 < row → opened.health ≢ Broken
   pub past : (place : Place) (r : ℕ) → row ≤ r → content opened place r ≡ content old place r
