@@ -219,9 +219,9 @@ summed_whole a b m position group below is next all = record {
         ∙ (all.summed (parity_row_of i) (omega arith)).agrees has.blocks has.agrees
         ∙ ap (λ n. block has.blocks n) position_is
 
--- a disk that wasn't asked is the one that is rebuilt, by its name in either state
-pub rebuilt_spared : (a b c : SetState) → b.health ≡ a.health → Spares (λ d. d ≡ rebuilt_disk b.health) b c → Spares (λ d. d ≡ rebuilt_disk a.health) b c
-rebuilt_spared a b c health spares = record { disks = λ d is. spares.disks d (is ∙ sym (ap rebuilt_disk health)) }
+-- where no row was written, a disk that wasn't asked since wasn't asked at all
+pub unasked_first : (a b c : SetState) → b ≡ a → Spares (λ d. d ≡ rebuilt_disk b.health) b c → Spares (λ d. d ≡ rebuilt_disk a.health) a c
+unasked_first a b c none spares = subst (λ (s : SetState). Spares (λ d. d ≡ rebuilt_disk s.health) s c) none spares
 
 -- the writing of a mirrored member's rows stopped at this one
 pub copied_stops : (a b c : SetState) (m : Members) (position row : ℕ) → row < rows_of a.geometry → AreCopied a b m position row
@@ -235,10 +235,7 @@ copied_stops a b c m position row there before first keeps unwritten unasked =
       below = λ r lt. ap (λ (p : Place). content c p r) (sym next) ∙ keeps.other_rows r (λ same. absurd (omega arith)) ∙ ap (λ (p : Place). content b p r) next ∙ (before.copied r lt).same;
       past = λ r lt. ap (λ (p : Place). content c p r) (sym next) ∙ keeps.other_rows r (λ same. absurd (omega arith)) ∙ ap (λ (p : Place). content b p r) next ∙ before.rest r (omega arith);
       unread = λ broken. (unwritten broken).rows (next_place a) tt row ∙ before.rest row (omega arith);
-      before = b;
-      written = λ r lt. (before.copied r lt).same;
-      first = first;
-      unasked = λ broken. rebuilt_spared a b c before.health (unasked broken);
+      unasked = λ none broken. unasked_first a b c (first none) (unasked broken);
     }
 
 -- the same of a member of a group with parity
@@ -253,8 +250,5 @@ summed_stops a b c m position row there next before first keeps unwritten unaske
   past = λ r lt.
       ap (λ (p : Place). content c p r) (sym next) ∙ keeps.other_rows r (λ same. absurd (omega arith)) ∙ ap (λ (p : Place). content b p r) next ∙ before.rest r (omega arith);
   unread = λ broken. (unwritten broken).rows (next_place a) tt row ∙ before.rest row (omega arith);
-  before = b;
-  written = λ r lt blocks has. ap (λ (p : Place). content b p r) (sym next) ∙ (before.summed r lt).agrees blocks has;
-  first = first;
-  unasked = λ broken. rebuilt_spared a b c before.health (unasked broken);
+  unasked = λ none broken. unasked_first a b c (first none) (unasked broken);
 }

@@ -84,19 +84,14 @@ IsRowWritten Mirrored old new m i row = content new (next_place old) row ≡ con
 IsRowWritten Parity old new m i row = (blocks : Blocks) → RowAgrees old m row blocks → content new (next_place old) row ≡ block blocks i
 
 -- The writing stopped at a row: those below it are written, those past it are as they were, and so is the row itself where another
--- disk broke the set, since nothing is written but what was read. The new disk wasn't asked then, once the rows below were written:
--- not at all where that is the first row.
+-- disk broke the set, since nothing is written but what was read. Where that is the first row the new disk wasn't asked then.
 pub record StopsAt (class : Class) (old new : SetState) (m : Members) (i : ℕ) : Type 0 where
   pub row : ℕ
   pub there : row < rows_of old.geometry
   pub below : (r : ℕ) → r < row → IsRowWritten class old new m i r
   pub past : (r : ℕ) → row < r → content new (next_place old) r ≡ content old (next_place old) r
   pub unread : new.health ≡ AllBroken → content new (next_place old) row ≡ content old (next_place old) row
-  -- the disks once the rows below it were written
-  pub before : SetState
-  pub written : (r : ℕ) → r < row → IsRowWritten class old before m i r
-  pub first : row ≡ 0 → before ≡ old
-  pub unasked : new.health ≡ AllBroken → Spares (λ d. d ≡ rebuilt_disk old.health) before new
+  pub unasked : row ≡ 0 → new.health ≡ AllBroken → Spares (λ d. d ≡ rebuilt_disk old.health) old new
 
 -- Of the extent that is rebuilt next, if a group has it: the writing of this member stopped at a row.
 pub record StopsWriting (old : StoreState) (new : SetState) : Type 0 where
