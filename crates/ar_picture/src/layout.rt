@@ -52,6 +52,10 @@ impl Scale {
         ensures words { 24 < result.height → 14 ≤ result.bar.0 }
         ensures few { extents ≤ 16 → 24 < result.height }
         ensures many { extents ≤ 1024 → result.pitch * extents ≤ 3072 }
+        // None is too flat to be seen, and fewer aren't flatter than more.
+        ensures least { 3 ≤ result.height }
+        ensures middle { extents ≤ 256 → 5 ≤ result.height }
+        ensures tall { extents ≤ 64 → 12 ≤ result.height }
         // Numbers, 11 tall, don't overlap, and there is one in each 384. Where there are words, each extent has its number.
         ensures numbers { 11 ≤ result.pitch * result.numbered }
         ensures often { result.pitch * result.numbered ≤ 384 }
@@ -113,8 +117,9 @@ impl Scale {
 /// Where a disk's column begins, from the left.
 pub fn left_of(disk: u8) -> u32
     ensures left { result ≡ 64 + 92 * disk }
-    // The next column begins behind its extents.
+    // The next column begins behind its extents, and no more than 12 are left free between two.
     ensures apart { result + WIDTH < 64 + 92 * (disk + 1) }
+    ensures near { 64 + 92 * (disk + 1) ≤ result + WIDTH + 12 }
     ensures small { result < 2 ^ 16 }
 {
     LEFT + COLUMN * u32::from(disk)

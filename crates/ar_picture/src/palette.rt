@@ -21,11 +21,21 @@ pub static COLOURS: [&str; UNITS_MAX] = [
 /// The colour of what is no unit.
 const NO_UNIT: &str = "#000000";
 
-/// Each unit has a colour of its own, and what is no unit another.
+/// What an extent of a mirrored group is filled with.
+pub const MIRRORED: &str = "#D3EAF9";
+
+/// What one of a group with parity is filled with.
+pub const PARITY: &str = "#FBF1C0";
+
+/// What one of a free group is filled with, and the ground.
+pub const GROUND: &str = "#FFFFFF";
+
+/// Each unit has a colour of its own, what is no unit another, and what they are seen on, extents and the ground, others.
 pub fn colours_differ()
     // Each is written in the one way. So where the texts differ, the colours do.
-    ensures written { list_all is_colour (NO_UNIT.now ∷ map (λ colour. colour.now) COLOURS) ≡ true }
-    ensures apart { are_apart (NO_UNIT.now ∷ map (λ colour. colour.now) COLOURS) ≡ true }
+    ensures written { list_all is_colour
+        (MIRRORED.now ∷ PARITY.now ∷ GROUND.now ∷ NO_UNIT.now ∷ map (λ colour. colour.now) COLOURS) ≡ true }
+    ensures apart { are_apart (MIRRORED.now ∷ PARITY.now ∷ GROUND.now ∷ NO_UNIT.now ∷ map (λ colour. colour.now) COLOURS) ≡ true }
 {}
 
 /// A unit's colour: the one at its place, or black where there is none.

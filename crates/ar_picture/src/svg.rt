@@ -1,28 +1,29 @@
 // The SVG.
 use crate::layout::{Scale, TOP, WIDTH, left_of, size_of};
 use crate::legend::write_legend;
-use crate::palette::COLOURS;
+use crate::palette::{COLOURS, GROUND, MIRRORED, PARITY};
 use crate::{Cell, Class, Content, Group, Health, Picture};
 use ar_disks::Place;
 use std::io;
 use std::io::Write;
 
-/// How extents look, by what they are used for.
-const STYLE: &str = "\
-<style>
+/// How texts look.
+const TEXTS: &str = "\
 text { font-family: 'DejaVu Sans', Verdana, sans-serif; font-size: 12px; fill: #222222; stroke: none }
 .title { font-size: 17px; font-weight: bold }
 .disk { font-weight: bold; text-anchor: middle }
 .down { fill: #B03A00; font-weight: bold; text-anchor: middle }
 .number { fill: #666666; font-size: 11px; text-anchor: end }
 .head { font-weight: bold }
-.small { font-size: 10px; paint-order: stroke; stroke: #FFFFFF; stroke-width: 2 }
-.mirrored { fill: #D3EAF9; stroke: #3D8FC4 }
-.parity { fill: #FBF1C0; stroke: #BFA11C }
-.free { fill: #FFFFFF; stroke: #9A9A9A }
+.small { font-size: 10px; paint-order: stroke; stroke: #FFFFFF; stroke-width: 2 }";
+
+/// How extents look that are in no group, or can't be used.
+const UNUSED: &str = "\
 .loose { fill: #EFEFEF; stroke: #9A9A9A; stroke-dasharray: 3 3 }
-.missing { fill: url(#missing); stroke: #B03A00 }
-</style>
+.missing { fill: url(#missing); stroke: #B03A00 }";
+
+/// The hatch of extents that can't be used.
+const HATCH: &str = "\
 <defs><pattern id='missing' width='9' height='9' patternUnits='userSpaceOnUse' patternTransform='rotate(45)'>\
 <rect width='2' height='9' fill='#B03A00'/></pattern></defs>";
 
@@ -56,10 +57,10 @@ fn write_frame<W: Write>(out: &mut W, picture: &Picture, scale: Scale) -> io::Re
         out,
         "<title>A disk array of {disks} disks of {extents} extents</title>"
     )?;
-    writeln!(out, "{STYLE}")?;
+    write_style(out)?;
     writeln!(
         out,
-        "<rect width='{width}' height='{height}' fill='#FFFFFF'/>"
+        "<rect width='{width}' height='{height}' fill='{GROUND}'/>"
     )?;
     writeln!(
         out,
@@ -79,6 +80,15 @@ fn write_frame<W: Write>(out: &mut W, picture: &Picture, scale: Scale) -> io::Re
         )?,
     }
     writeln!(out, "</text>")
+}
+
+// Writes how texts look, and extents by what they are used for.
+fn write_style<W: Write>(out: &mut W) -> io::Result<()> {
+    writeln!(out, "<style>\n{TEXTS}")?;
+    writeln!(out, ".mirrored {{ fill: {MIRRORED}; stroke: #3D8FC4 }}")?;
+    writeln!(out, ".parity {{ fill: {PARITY}; stroke: #BFA11C }}")?;
+    writeln!(out, ".free {{ fill: {GROUND}; stroke: #9A9A9A }}")?;
+    writeln!(out, "{UNUSED}\n</style>\n{HATCH}")
 }
 
 // Writes the numbers of extents beside their lines.
