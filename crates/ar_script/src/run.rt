@@ -81,9 +81,9 @@ fn write_answers<R: Read + Drop, W: Write + Drop>(
     ensures numbered { IfErr result IsNumbered }
     ensures there { IfErr result (IsThere (lines_left lines.old)) }
     ensures ended { OnOk result (lines.new.is_at_end ≡ true) }
-    // Behind a fault no more is read. That memory was refused for the buffer is told of the first line, which isn't read then.
-    ensures reached { IfErr result (λ fault. fault ≢ Fault.Line 1 FaultKind.NoMemory → IsReached (lines_begun lines.new) fault) }
-    ensures told { IfErr result (λ fault. fault ≢ Fault.Line 1 FaultKind.NoMemory → IsToldOf lines.new fault) }
+    // Behind a fault no more is read. Where memory was refused for the buffer that is told of the first line, and nothing is read.
+    ensures told { IfErr result (λ fault. ((fault ≡ Fault.Line 1 FaultKind.NoMemory) × (lines.new ≡ lines.old))
+        ⊎ (IsReached (lines_begun lines.new) fault × IsToldOf lines.new fault)) }
 {
     let Ok(mut out) = BufWriter::new(alloc, writer) else {
         return Err(fault_at(1, FaultKind::NoMemory));
