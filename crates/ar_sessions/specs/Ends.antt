@@ -25,6 +25,12 @@ pub record GivesBack (source : SourceState) (sink : SinkState) (end : SessionEnd
   pub served : IsServed source sink end
   pub receipt_is : receipt ≡ receipt_for served.port
 
+-- The same, and these are the states in which the session left the streams: nobody has touched them since.
+pub record LeavesOff (source source' : SourceState) (sink sink' : SinkState) (end : SessionEnd) (receipt : Option ReceiptState) : Type 0 where
+  pub port : Option SeatState
+  pub session : Session TakesSeat AsksKept source source' sink sink' None port end
+  pub receipt_is : receipt ≡ receipt_for port
+
 -- A session over a connection's two streams, as they were when it was opened, ended so.
 abbrev pub IsServedOver : {S W : Type 0} → (S → SourceState) → (W → SinkState) → S × W → SessionEnd → Type 0
 IsServedOver source sink pair end = IsServed (source pair.0) (sink pair.1) end

@@ -3,7 +3,7 @@ ghost use Rattle.std.specs.Prelude.{◌≡◌, ◌≢◌, ◌+◌, ◌<◌, ◌�
 ghost use Rattle.std.specs.List.{AllZip};
 ghost use Rattle.std.specs.VecDeque.{deque_len, deque_capacity};
 ghost use Rattle.ar_cache.specs.Backing.{InTurn};
-ghost use Rattle.ar_sessions.specs.Ends.{IsServedOver, IsPromised, GivesBack, IsBegun, Becomes, ConnectionEnds, EndOf};
+ghost use Rattle.ar_sessions.specs.Ends.{IsServedOver, IsPromised, GivesBack, LeavesOff, IsBegun, Becomes, ConnectionEnds, EndOf};
 
 use crate::{Desk, Door, LockPort, Receipt, run_background};
 use ar_disks::Disk;
@@ -278,7 +278,10 @@ fn begin<
     };
     let session = move || -> (SessionEnd, Option<Receipt>)
         ensures { GivesBack (S.state connection.entry.reader) (W.state connection.entry.writer) result.0 result.1 }
-    { connection.serve() };
+    {
+        let (end, receipt, _reader, _writer) = connection.serve();
+        (end, receipt)
+    };
     match scope.spawn_with(promise, session) {
         Ok(handle) => Pending::Served(handle),
         Err(_) => Pending::NoThread,
@@ -347,10 +350,10 @@ impl<R: Wait, D: Disk + Drop, L: Ledger, G: Gate, S: Source + Drop, W: Sink + Dr
     S,
     W,
 > {
-    // Serves the connection's session, and gives its seat back, for a receipt. The seat lies on the desk again before the streams are
-    // let go.
-    fn serve(self) -> (SessionEnd, Option<Receipt>)
-        ensures { GivesBack (S.state self.entry.reader) (W.state self.entry.writer) result.0 result.1 }
+    // Serves the connection's session, and gives its seat back, for a receipt. The streams are handed back as the session left them,
+    // so that they are let go only when the seat lies on the desk again.
+    fn serve(self) -> (SessionEnd, Option<Receipt>, S, W)
+        ensures { LeavesOff (S.state self.entry.reader) (S.state result.2) (W.state self.entry.writer) (W.state result.3) result.0 result.1 }
     {
         let Connection {
             hall,
@@ -359,6 +362,6 @@ impl<R: Wait, D: Disk + Drop, L: Ledger, G: Gate, S: Source + Drop, W: Sink + Dr
         } = self;
         let mut port = LockPort::new(hall.rt, hall.kept, hall.desk);
         let end = serve_gated(hall.alloc, &mut reader, &mut writer, &mut port, hall.gate);
-        (end, port.finish())
+        (end, port.finish(), reader, writer)
     }
 }

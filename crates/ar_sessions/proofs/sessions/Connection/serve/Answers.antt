@@ -6,16 +6,12 @@ use Rattle.ar_sessions.proofs.sessions.Connection.serve.Goals as goal
 
 pub returns : goal.returns
 returns g c = record {
-  served = record {
-    source' = g.S.Source.state c.serve_gated-end.new.reader;
-    sink' = g.W.Sink.state c.serve_gated-end.new.writer;
-    port = c.serve_gated-end.new.port;
-    session =
-        subst
-        (λ (port : Option SeatState).
-        Session TakesSeat AsksKept (g.S.Source.state c.args.self.reader) (g.S.Source.state c.serve_gated-end.new.reader)
-        (g.W.Sink.state c.args.self.writer) (g.W.Sink.state c.serve_gated-end.new.writer) port c.serve_gated-end.new.port c.serve_gated-end.result)
-        c.new-port.ensures c.serve_gated-end.ensures;
-  };
+  port = c.serve_gated-end.new.port;
+  session =
+      subst
+      (λ (port : Option SeatState).
+      Session TakesSeat AsksKept (g.S.Source.state c.args.self.reader) (g.S.Source.state c.serve_gated-end.new.reader)
+      (g.W.Sink.state c.args.self.writer) (g.W.Sink.state c.serve_gated-end.new.writer) port c.serve_gated-end.new.port c.serve_gated-end.result)
+      c.new-port.ensures c.serve_gated-end.ensures;
   receipt_is = search rules;
 }
