@@ -1,8 +1,9 @@
 -- How the frames of a session join: one more at the end of those served so far.
 use Rattle.std.proofs.Common.{◌≡◌, ℕ, ◌+◌, ◌<◌, ◌≤◌, true, false, List, [], ◌∷◌, ◌++◌, refl, sym, ap, subst, ◌∙◌, append_assoc, append-nil, length, length-append, take, arith, le_refl}
+use Rattle.std.proofs.Math.Numerals.{suc-eq-add-one}
 use Rattle.ar_scsi.specs.declared.reply.Reply.{Reply}
 use Rattle.ar_frames.specs.declared.frame.Request.{Request}
-use Rattle.ar_frames.specs.declared.turn.Turn.TheVariants.{Answered, Unsent}
+use Rattle.ar_frames.specs.declared.turn.Turn.TheVariants.{Answered, Unsent, Ended as TurnEnded}
 use Rattle.ar_frames.specs.declared.end.Why.{Why}
 use Rattle.ar_frames.specs.declared.end.Why.TheVariants as why
 use Rattle.ar_frames.specs.declared.end.SessionEnd.{SessionEnd}
@@ -11,7 +12,7 @@ use Rattle.ar_frames.specs.Frame.{IsFrame, IsReplyFrame, status_byte, sense_byte
 use Rattle.ar_frames.specs.Talk.{Commands, Answers, Talk, AreFrames, AreReplyFrames, Conversation, reply_len, last_len}
 use Rattle.ar_frames.specs.Port.{Logins}
 use Rattle.ar_frames.specs.Session.{admitted, most_frames, is_read, WritesAnswers, WritesPart, WritesAllButLast, Session}
-use Rattle.ar_frames.specs.Turn.{ServesFrame, EndsTurn, Served, ServesAll, WorkState}
+use Rattle.ar_frames.specs.Turn.{ServesFrame, EndsTurn, Served, ServesAll, WorkState, Moment, TurnsTo, HasTurned, TakesTurns, full, unsent, stopped}
 use Rattle.ar_disks.specs.declared.address.Host.{Host}
 use Rattle.ar_frames.specs.Entry.{IsAdmitted}
 use Rattle.ar_frames.proofs.Streams.{Reading-trans, Reading-same, Reading-none, Writing-trans, Writing-same, Writing-none, take-append_more}
@@ -200,6 +201,33 @@ serves_bound commands s0 s1 w0 w1 p0 p1 count served all = record {
   ended = tt;
   written = served.written;
 }
+
+-- one more frame was answered
+pub turned_more : {P : Type 0} (commands : Commands P) (count : ℕ) (first between last : Moment P)
+    → HasTurned commands count first between → TurnsTo commands between last Answered → HasTurned commands (count + 1) first last
+turned_more commands count first between last turned turn =
+    subst (λ n. HasTurned commands n first last) (suc-eq-add-one count) (between, turned, turn)
+
+-- as many frames as may come were answered in turn
+pub turns_full : {P : Type 0} (commands : Commands P) (count : ℕ) (first last : Moment P)
+    → HasTurned commands count first last → count ≡ most_frames
+    → TakesTurns commands first last (record { frames = most_frames; why = why.Bound })
+turns_full commands count first last turned all =
+    subst (λ (n : ℕ). TakesTurns commands first last (record { frames = n; why = why.Bound })) all
+    (record { count = count; between = last; answered = turned; finish = full all refl })
+
+-- the reply to the last frame wasn't written whole
+pub turns_unsent : {P : Type 0} (commands : Commands P) (count : ℕ) (first between last : Moment P)
+    → HasTurned commands count first between → TurnsTo commands between last Unsent
+    → TakesTurns commands first last (record { frames = count + 1; why = why.Write })
+turns_unsent commands count first between last turned turn = record { count = count; between = between; answered = turned; finish = unsent turn }
+
+-- no whole frame came after those answered
+pub turns_stopped : {P : Type 0} (commands : Commands P) (count : ℕ) (end : Why) (first between last : Moment P)
+    → HasTurned commands count first between → TurnsTo commands between last (TurnEnded end)
+    → TakesTurns commands first last (record { frames = count; why = end })
+turns_stopped commands count end first between last turned turn =
+    record { count = count; between = between; answered = turned; finish = stopped end turn }
 
 -- a login, and then frames
 pub session_of : {P : Type 0} (logins : Logins P) (commands : Commands P) (s0 s1 s2 : SourceState) (w0 w1 w2 : SinkState) (p0 p1 p2 : P) (end : SessionEnd) (host : Host)

@@ -1,5 +1,5 @@
 -- One frame of a session: how it is read, asked of the port, and answered.
-use Rattle.std.specs.Prelude.{◌≡◌, ◌⊎◌, ◌<◌, ◌≤◌, ◌+◌, max, ℕ, false, List, [], ◌++◌, length, take}
+use Rattle.std.specs.Prelude.{◌≡◌, ◌⊎◌, ◌<◌, ◌≤◌, ◌+◌, max, ℕ, zero, suc, false, List, [], ◌++◌, length, take}
 use Rattle.ar_scsi.specs.declared.reply.Reply.{Reply}
 use Rattle.ar_scsi.specs.Reply.{busy}
 use Rattle.ar_frames.specs.declared.frame.Request.{Request}
@@ -10,6 +10,7 @@ use Rattle.ar_frames.specs.declared.receive.Incoming.TheVariants.{Whole, Lost, E
 use Rattle.ar_frames.specs.declared.turn.Turn.{Turn}
 use Rattle.ar_frames.specs.declared.turn.Turn.TheVariants.{Answered, Unsent, Ended as TurnEnded}
 use Rattle.ar_frames.specs.declared.end.Why.{Why}
+use Rattle.ar_frames.specs.declared.end.Why.TheVariants as why
 use Rattle.ar_frames.specs.declared.end.SessionEnd.{SessionEnd}
 use Rattle.ar_frames.specs.Stream.{SourceState, SinkState, Reading, Writing, Sending}
 use Rattle.ar_frames.specs.Frame.{IsFrame, IsReplyFrame}
@@ -145,3 +146,36 @@ pub record ServesAll {P : Type 0} (commands : Commands P) (source source' : Sour
   pub read : Reading source source' (frames ++ rest) (is_read end.why)
   pub ended : EndsInput end.why source'.left
   pub written : WritesAnswers end.why sink sink' answers (last_len 0 conversation.replies)
+
+-- what a session has at one moment between two frames: its streams, its port, and what it keeps
+pub record Moment (P : Type 0) : Type 0 where
+  pub source : SourceState
+  pub sink : SinkState
+  pub port : P
+  pub work : WorkState
+
+-- one frame of a session, from one moment to the next
+abbrev pub TurnsTo : {P : Type 0} → Commands P → Moment P → Moment P → Turn → Type 0
+TurnsTo commands old new turn = Turns commands old.source new.source old.sink new.sink old.port new.port old.work new.work turn
+
+-- so many frames were answered, each from the moment that the one before left
+abbrev pub HasTurned : {P : Type 0} → Commands P → ℕ → Moment P → Moment P → Type 0
+HasTurned commands zero first last = last ≡ first
+HasTurned {P = P} commands (suc n) first last =
+    (between : Moment P) × HasTurned commands n first between × TurnsTo commands between last Answered
+
+-- the end of a session after so many answered frames, and its last moment from the one that they left
+pub data Finishes {P : Type 0} (commands : Commands P) (count : ℕ) (between last : Moment P) : SessionEnd → Type 0 where
+  -- as many frames as may come were answered: nothing more was done
+  full : count ≡ most_frames → last ≡ between → Finishes commands count between last (record { frames = count; why = why.Bound })
+  -- one more frame came, whose reply wasn't written whole
+  unsent : TurnsTo commands between last Unsent → Finishes commands count between last (record { frames = count + 1; why = why.Write })
+  -- no whole frame came, for this reason
+  stopped : (end : Why) → TurnsTo commands between last (TurnEnded end) → Finishes commands count between last (record { frames = count; why = end })
+
+-- a session turn by turn: nothing but frames lies between its first moment and its last
+pub record TakesTurns {P : Type 0} (commands : Commands P) (first last : Moment P) (end : SessionEnd) : Type 0 where
+  pub count : ℕ
+  pub between : Moment P
+  pub answered : HasTurned commands count first between
+  pub finish : Finishes commands count between last end

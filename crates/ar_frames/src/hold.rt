@@ -86,7 +86,7 @@ fn zeros(alloc: Global, len: usize) -> Result<Vec<u8>, AllocError>
     Ok(bytes)
 }
 
-// The bytes of a vector, to be shared, with no more memory than they take.
+// The bytes of a vector that has no more memory than they take, to be shared.
 fn shared(bytes: Vec<u8>) -> Held
     requires exact { vec_capacity bytes ≡ vec_len bytes }
     ensures { Shares bytes.items result }

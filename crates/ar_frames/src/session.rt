@@ -1,7 +1,7 @@
 // A whole session.
-ghost use Rattle.std.specs.Prelude.{◌≡◌, true, false};
+ghost use Rattle.std.specs.Prelude.{◌≡◌, true, false, vec_capacity};
 ghost use Rattle.ar_frames.specs.Session.{Session};
-ghost use Rattle.ar_frames.specs.Turn.{ServesAll};
+ghost use Rattle.ar_frames.specs.Turn.{ServesAll, TakesTurns};
 
 use crate::end::{SessionEnd, Why};
 use crate::login::{Entry, enter};
@@ -65,8 +65,41 @@ fn serve_frames<R: Source, W: Sink, P: Port, G: Gate>(
         buffer: Vec::new(alloc),
         given: 0,
     };
+    converse(alloc, reader, writer, port, gate, host, &mut work)
+}
+
+// The same over a work that has counted no command, and whose buffer may have memory already. Each frame begins with what
+// the one before left: so the buffer is kept from frame to frame, and the gate is told a command's number in the session.
+fn converse<R: Source, W: Sink, P: Port, G: Gate>(
+    alloc: Global,
+    reader: &mut R,
+    writer: &mut W,
+    port: &mut P,
+    gate: &G,
+    host: Host,
+    work: &mut Work,
+) -> SessionEnd
+    requires logged { P.has_login port.old ≡ true }
+    requires fresh { work.old.given ≡ 0 }
+    ensures all { ServesAll P.commands (R.state reader.old) (R.state reader.new)
+        (W.state writer.old) (W.state writer.new) port.old port.new result }
+    ensures in_turn { TakesTurns P.commands
+        (record {
+          source = R.state reader.old;
+          sink = W.state writer.old;
+          port = port.old;
+          work = record { room = vec_capacity work.old.buffer; bytes = work.old.buffer.items; given = work.old.given };
+        })
+        (record {
+          source = R.state reader.new;
+          sink = W.state writer.new;
+          port = port.new;
+          work = record { room = vec_capacity work.new.buffer; bytes = work.new.buffer.items; given = work.new.given };
+        })
+        result }
+{
     for frames in 0..MOST_FRAMES {
-        match serve_frame(alloc, reader, writer, port, gate, host, &mut work) {
+        match serve_frame(alloc, reader, writer, port, gate, host, work) {
             Turn::Answered => {}
             Turn::Unsent => {
                 return SessionEnd {
