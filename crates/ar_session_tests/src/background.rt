@@ -2,13 +2,14 @@
 ghost use Rattle.std.specs.Prelude.{◌≡◌, []};
 ghost use Rattle.ar_extents.specs.Set.{CanCount};
 
+use crate::gates::{Held, door, is_answered_meanwhile};
 use crate::rig::{Rig, array, closes, is_done};
 use ar_core::{Array, NewDisk};
 use ar_disks::{Geometry, MemDisk};
 use ar_frames::{Login, Port};
 use ar_history::{Kept, OperationOf};
 use ar_scsi::{Reply, Status};
-use ar_sessions::{LockPort, run_background};
+use ar_sessions::{LockPort, run_background, run_beside_background};
 use bytes::Bytes;
 use std::alloc::Global;
 use std::marker::Brand;
@@ -17,7 +18,7 @@ use std::sync::atomic::{AtomicBool, Ordering};
 use std::sync::ledger::{Blank, Ledger};
 use std::sync::{Mutex, Wait};
 use std::thread;
-use std::thread::Threads;
+use std::thread::{Scope, Threads};
 use std::time::Clock;
 
 /// How often the array is looked at before the work counts as never done.
@@ -107,4 +108,68 @@ fn disk(rt: &impl Abort, alloc: Global) -> MemDisk
     ensures { CanCount result }
 {
     MemDisk::filled(alloc, Geometry::SMALL, 4, 0xEE).expect(rt, "memory")
+}
+
+#[test]
+fn a_new_disk_is_used_while_a_session_lasts(rt: HostRuntime) {
+    let alloc = rt.alloc();
+    let array = array(&rt, alloc, 4, 0);
+    lasts_on::<Brand, _>(&rt, alloc, Blank::new(4), array);
+}
+
+fn lasts_on<L: Ledger + Send + Sync, R: Threads + Wait + Clock + Abort + Sync>(
+    rt: &R,
+    alloc: Global,
+    blank: Blank,
+    array: Array<MemDisk>,
+)
+    requires name { blank.name ≡ L.name }
+    requires parts { blank.parts ≡ L.parts }
+    requires four { blank.parts ≡ 4 }
+    requires no_unit { array.store.book.units ≡ [] }
+{
+    let rig: Rig<L> = Rig::start(alloc, blank, array);
+    rig.make(rt, 0);
+    add(rt, alloc, &rig.kept);
+    lasts(rt, alloc, &rig);
+    closes(rt, rig, &[1, 0, 0, 0]);
+}
+
+// The session's one command is held until the fifth group is free, which the work beside it forms of the new disk.
+fn lasts<L: Ledger + Send + Sync, R: Threads + Wait + Clock + Abort + Sync>(
+    rt: &R,
+    alloc: Global,
+    rig: &Rig<L>,
+) {
+    let gate = Held::new();
+    let held = &gate;
+    let door = door(rt, alloc, &[(0, 1)]);
+    let (door, ends) = thread::scope(thread::scope_env(), rt, move |scope| {
+        look_out(scope, rt, &rig.kept, &held.answered);
+        run_beside_background(rt, alloc, door, &rig.kept, &rig.desk, held)
+    });
+    drop(ends);
+    drop(door);
+    is_answered_meanwhile(rt, &gate);
+}
+
+// Starts a thread that looks for five free groups.
+fn look_out<'s, E, L: Ledger + Send + Sync, R: Wait + Abort + Sync>(
+    scope: &'s Scope<'s, E>,
+    rt: &'s R,
+    kept: &'s Mutex<Kept<MemDisk, L>>,
+    seen: &'s AtomicBool,
+) {
+    let started = scope.spawn(move || look(rt, kept, seen));
+    assert!(rt; started.is_ok(), "a thread that looks");
+}
+
+fn look<L: Ledger, R: Wait>(rt: &R, kept: &Mutex<Kept<MemDisk, L>>, seen: &AtomicBool) {
+    for _ in 0..LOOKS {
+        if kept.lock(rt).free_groups() == 5 {
+            seen.store(true, Ordering::SeqCst);
+            return;
+        }
+        thread::yield_now();
+    }
 }

@@ -20,11 +20,21 @@ use std::thread::Threads;
 /// How often a flag is looked at before it counts as never set.
 const LOOKS: u32 = 10_000_000;
 
-// Holds host 0's first command until host 1's first was answered.
+/// Holds host 0's first command until host 1's first was answered, or whoever else has said so.
 #[derive(Drop)]
-struct Held {
-    answered: AtomicBool,
+pub struct Held {
+    pub answered: AtomicBool,
     late: AtomicBool,
+}
+
+impl Held {
+    /// Nothing was answered yet.
+    pub fn new() -> Held {
+        Held {
+            answered: AtomicBool::new(false),
+            late: AtomicBool::new(false),
+        }
+    }
 }
 
 impl Gate for Held {
@@ -58,8 +68,8 @@ fn input(rt: &impl Abort, alloc: Global, host: u8, count: u8) -> Vec<u8> {
     bytes
 }
 
-// A door to sessions, each of a host with so many commands.
-fn door(rt: &impl Abort, alloc: Global, sessions: &[(u8, u8)]) -> MemDoor<MemSource, MemSink> {
+/// A door to sessions, each of a host with so many commands.
+pub fn door(rt: &impl Abort, alloc: Global, sessions: &[(u8, u8)]) -> MemDoor<MemSource, MemSink> {
     let mut pairs = VecDeque::new(alloc);
     for (host, count) in sessions {
         push(rt, alloc, &mut pairs, *host, *count);
@@ -153,20 +163,18 @@ const fn served(frames: u64, why: Why) -> ConnectionEnd {
 
 #[test]
 fn two_sessions_at_once(rt: HostRuntime) {
-    let gate = Held {
-        answered: AtomicBool::new(false),
-        late: AtomicBool::new(false),
-    };
+    let gate = Held::new();
     let sessions = [(0, 1), (1, 1)];
     let wanted = [served(1, Why::End), served(1, Why::End)];
     meet(&rt, rt.alloc(), &sessions, &gate, &wanted, [1, 1, 0, 0]);
     is_answered_meanwhile(&rt, &gate);
 }
 
-fn is_answered_meanwhile(rt: &impl Abort, gate: &Held) {
+/// What host 0 was held for came.
+pub fn is_answered_meanwhile(rt: &impl Abort, gate: &Held) {
     assert!(rt;
         !gate.late.load(Ordering::SeqCst),
-        "host 1 is answered while host 0 is held"
+        "what host 0 is held for comes meanwhile"
     );
 }
 
