@@ -61,15 +61,12 @@ fn serve_frames<R: Source, W: Sink, P: Port, G: Gate>(
     ensures { ServesAll P.commands (R.state reader.old) (R.state reader.new)
         (W.state writer.old) (W.state writer.new) port.old port.new result }
 {
-    let mut work = Work {
-        buffer: Vec::new(alloc),
-        given: 0,
-    };
+    let mut work = Work::new(alloc);
     converse(alloc, reader, writer, port, gate, host, &mut work)
 }
 
-// The same over a work that has counted no command, and whose buffer may have memory already. Each frame begins with what
-// the one before left: so the buffer is kept from frame to frame, and the gate is told a command's number in the session.
+// The same over a work that has counted no command, and whose buffer may have memory already: a chain of turns leads from its first
+// state to its last. As nothing but a turn changes a work, each begins with what the one before left.
 fn converse<R: Source, W: Sink, P: Port, G: Gate>(
     alloc: Global,
     reader: &mut R,

@@ -24,14 +24,26 @@ pub enum Turn {
     Ended(Why),
 }
 
-// What a session keeps from frame to frame.
+// What a session keeps from frame to frame. Nothing but a frame changes it.
 #[derive(Drop)]
 pub struct Work {
     // Replies are put together in it. It takes no more memory than the longest frame has bytes.
-    pub buffer: Vec<u8>,
+    buffer: Vec<u8>,
     // How many commands were given to the port.
-    pub given: u64,
-    pub ghost small: { vec_capacity buffer ≤ most_bytes },
+    given: u64,
+    ghost small: { vec_capacity buffer ≤ most_bytes },
+}
+
+impl Work {
+    // Of a session that begins: no memory is taken yet, and no command was given.
+    pub fn new(alloc: Global) -> Work
+        ensures { result.given ≡ 0 }
+    {
+        Work {
+            buffer: Vec::new(alloc),
+            given: 0,
+        }
+    }
 }
 
 // Reads a frame, asks the port and writes the reply.
