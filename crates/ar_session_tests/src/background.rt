@@ -130,12 +130,11 @@ fn lasts_on<L: Ledger + Send + Sync, R: Threads + Wait + Clock + Abort + Sync>(
 {
     let rig: Rig<L> = Rig::start(alloc, blank, array);
     rig.make(rt, 0);
-    add(rt, alloc, &rig.kept);
     lasts(rt, alloc, &rig);
     closes(rt, rig, &[1, 0, 0, 0]);
 }
 
-// The session's one command is held until the fifth group is free, which the work beside it forms of the new disk.
+// The session's one command is held. Meanwhile a disk is added, of which the work beside the session forms a group.
 fn lasts<L: Ledger + Send + Sync, R: Threads + Wait + Clock + Abort + Sync>(
     rt: &R,
     alloc: Global,
@@ -145,7 +144,7 @@ fn lasts<L: Ledger + Send + Sync, R: Threads + Wait + Clock + Abort + Sync>(
     let held = &gate;
     let door = door(rt, alloc, &[(0, 1)]);
     let (door, ends) = thread::scope(thread::scope_env(), rt, move |scope| {
-        look_out(scope, rt, &rig.kept, &held.answered);
+        look_out(scope, rt, alloc, &rig.kept, held);
         run_beside_background(rt, alloc, door, &rig.kept, &rig.desk, held)
     });
     drop(ends);
@@ -153,23 +152,37 @@ fn lasts<L: Ledger + Send + Sync, R: Threads + Wait + Clock + Abort + Sync>(
     is_answered_meanwhile(rt, &gate);
 }
 
-// Starts a thread that looks for five free groups.
+// Starts a thread that adds the disk and looks for the group.
 fn look_out<'s, E, L: Ledger + Send + Sync, R: Wait + Abort + Sync>(
     scope: &'s Scope<'s, E>,
     rt: &'s R,
+    alloc: Global,
     kept: &'s Mutex<Kept<MemDisk, L>>,
-    seen: &'s AtomicBool,
+    held: &'s Held,
 ) {
-    let started = scope.spawn(move || look(rt, kept, seen));
+    let started = scope.spawn(move || look(rt, alloc, kept, held));
     assert!(rt; started.is_ok(), "a thread that looks");
 }
 
-fn look<L: Ledger, R: Wait>(rt: &R, kept: &Mutex<Kept<MemDisk, L>>, seen: &AtomicBool) {
+fn look<L: Ledger, R: Wait + Abort>(
+    rt: &R,
+    alloc: Global,
+    kept: &Mutex<Kept<MemDisk, L>>,
+    held: &Held,
+) {
+    is_begun(rt, &held.begun);
+    add(rt, alloc, kept);
+    comes_to(rt, kept, 5);
+    held.answered.store(true, Ordering::SeqCst);
+}
+
+// The command comes.
+fn is_begun(rt: &impl Abort, begun: &AtomicBool) {
     for _ in 0..LOOKS {
-        if kept.lock(rt).free_groups() == 5 {
-            seen.store(true, Ordering::SeqCst);
+        if begun.load(Ordering::SeqCst) {
             return;
         }
         thread::yield_now();
     }
+    assert!(rt; false, "the command comes");
 }

@@ -20,17 +20,19 @@ use std::thread::Threads;
 /// How often a flag is looked at before it counts as never set.
 const LOOKS: u32 = 10_000_000;
 
-/// Holds host 0's first command until host 1's first was answered, or whoever else has said so.
+/// Holds host 0's first command until host 1's first was answered, or until someone else says so.
 #[derive(Drop)]
 pub struct Held {
+    pub begun: AtomicBool,
     pub answered: AtomicBool,
     late: AtomicBool,
 }
 
 impl Held {
-    /// Nothing was answered yet.
+    /// Nothing was asked or answered yet.
     pub fn new() -> Held {
         Held {
+            begun: AtomicBool::new(false),
             answered: AtomicBool::new(false),
             late: AtomicBool::new(false),
         }
@@ -42,6 +44,7 @@ impl Gate for Held {
         if host.number() != 0 || n != 1 {
             return;
         }
+        self.begun.store(true, Ordering::SeqCst);
         for _ in 0..LOOKS {
             if self.answered.load(Ordering::SeqCst) {
                 return;
