@@ -52,10 +52,13 @@ impl Scale {
         ensures words { 24 < result.height → 14 ≤ result.bar.0 }
         ensures few { extents ≤ 16 → 24 < result.height }
         ensures many { extents ≤ 1024 → result.pitch * extents ≤ 3072 }
-        // None is too flat to be seen, and fewer aren't flatter than more.
+        // None is too flat to be seen, and none flatter than one of a disk with more.
         ensures least { 3 ≤ result.height }
+        ensures most { 256 < extents → result.height ≤ 5 }
         ensures middle { extents ≤ 256 → 5 ≤ result.height }
+        ensures fewer { 64 < extents → result.height ≤ 12 }
         ensures tall { extents ≤ 64 → 12 ≤ result.height }
+        ensures flat { 16 < extents → result.height ≤ 24 }
         // Numbers, 11 tall, don't overlap, and there is one in each 384. Where there are words, each extent has its number.
         ensures numbers { 11 ≤ result.pitch * result.numbered }
         ensures often { result.pitch * result.numbered ≤ 384 }

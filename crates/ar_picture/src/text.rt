@@ -2,7 +2,7 @@
 ghost use Rattle.std.specs.Prelude.{◌≡◌, All, OnOk};
 ghost use Rattle.std.specs.List.{flat_map, range_with_len};
 ghost use Rattle.ar_picture.specs.Folds.{IsFold, extents_of};
-ghost use Rattle.ar_picture.specs.Writing.{Grows};
+ghost use Rattle.ar_picture.specs.Writing.{AddsBytes, AddsSome};
 
 use crate::{Cell, Content, Fold, Health, Picture, Unit};
 use ar_disks::Place;
@@ -16,7 +16,7 @@ pub fn write_map<W: Write>(out: &mut W, picture: &Picture, folds: &[Fold]) -> io
     // They are the picture's own, as it tells them.
     requires once { flat_map extents_of folds.now ≡ range_with_len 0 picture.now.extents }
     requires folded { All (IsFold picture.now) folds.now }
-    ensures grows { OnOk result (Grows (W.contents out.old) (W.contents out.new)) }
+    ensures adds { OnOk result (AddsSome (W.contents out.old) (W.contents out.new)) }
 {
     write_heads(out, picture)?;
     for fold in folds {
@@ -36,7 +36,7 @@ pub fn write_map<W: Write>(out: &mut W, picture: &Picture, folds: &[Fold]) -> io
 
 // Writes what the lines above the extents say.
 fn write_heads<W: Write>(out: &mut W, picture: &Picture) -> io::Result<()>
-    ensures grows { OnOk result (Grows (W.contents out.old) (W.contents out.new)) }
+    ensures adds { OnOk result (AddsSome (W.contents out.old) (W.contents out.new)) }
 {
     let (disks, extents) = (picture.disks, picture.extents);
     writeln!(out, "{disks} disks (columns) of {extents} extents (lines)")?;
@@ -50,7 +50,7 @@ fn write_heads<W: Write>(out: &mut W, picture: &Picture) -> io::Result<()>
 
 // Writes, below the number of a disk that is down, whether it is out or new.
 fn write_down<W: Write>(out: &mut W, health: Health) -> io::Result<()>
-    ensures grows { OnOk result (Grows (W.contents out.old) (W.contents out.new)) }
+    ensures grows { OnOk result (AddsBytes (W.contents out.old) (W.contents out.new)) }
 {
     match health {
         Health::Whole | Health::Broken => Ok(()),
@@ -61,7 +61,7 @@ fn write_down<W: Write>(out: &mut W, health: Health) -> io::Result<()>
 
 // Writes a word below the number of a disk.
 fn write_below<W: Write>(out: &mut W, disk: u8, word: &str) -> io::Result<()>
-    ensures grows { OnOk result (Grows (W.contents out.old) (W.contents out.new)) }
+    ensures grows { OnOk result (AddsBytes (W.contents out.old) (W.contents out.new)) }
 {
     write!(out, "{:10}", "")?;
     for _ in 0..disk {
@@ -73,7 +73,7 @@ fn write_below<W: Write>(out: &mut W, disk: u8, word: &str) -> io::Result<()>
 // Writes the line of extents that look alike: their numbers, and what each disk's is used for.
 fn write_fold<W: Write>(out: &mut W, picture: &Picture, fold: Fold) -> io::Result<()>
     requires { IsFold picture.now fold }
-    ensures grows { OnOk result (Grows (W.contents out.old) (W.contents out.new)) }
+    ensures grows { OnOk result (AddsBytes (W.contents out.old) (W.contents out.new)) }
 {
     write_extents(out, fold.first, fold.end - 1)?;
     for disk in 0..picture.disks {
@@ -88,7 +88,7 @@ fn write_fold<W: Write>(out: &mut W, picture: &Picture, fold: Fold) -> io::Resul
 
 // Writes the numbers of the first and the last extent of a line, or the one that it has.
 fn write_extents<W: Write>(out: &mut W, first: u16, last: u16) -> io::Result<()>
-    ensures grows { OnOk result (Grows (W.contents out.old) (W.contents out.new)) }
+    ensures grows { OnOk result (AddsBytes (W.contents out.old) (W.contents out.new)) }
 {
     if first < last {
         write!(out, "{first:>4}..{last:<4}")
@@ -98,7 +98,7 @@ fn write_extents<W: Write>(out: &mut W, first: u16, last: u16) -> io::Result<()>
 }
 
 fn write_cell<W: Write>(out: &mut W, cell: Cell) -> io::Result<()>
-    ensures grows { OnOk result (Grows (W.contents out.old) (W.contents out.new)) }
+    ensures grows { OnOk result (AddsBytes (W.contents out.old) (W.contents out.new)) }
 {
     let mark = if cell.is_missing { '!' } else { ' ' };
     match cell.content {
@@ -110,7 +110,7 @@ fn write_cell<W: Write>(out: &mut W, cell: Cell) -> io::Result<()>
 }
 
 fn write_health<W: Write>(out: &mut W, picture: &Picture) -> io::Result<()>
-    ensures grows { OnOk result (Grows (W.contents out.old) (W.contents out.new)) }
+    ensures grows { OnOk result (AddsBytes (W.contents out.old) (W.contents out.new)) }
 {
     let extents = picture.extents;
     match picture.health {
@@ -125,7 +125,7 @@ fn write_health<W: Write>(out: &mut W, picture: &Picture) -> io::Result<()>
 }
 
 fn write_unit<W: Write>(out: &mut W, unit: Unit) -> io::Result<()>
-    ensures grows { OnOk result (Grows (W.contents out.old) (W.contents out.new)) }
+    ensures grows { OnOk result (AddsBytes (W.contents out.old) (W.contents out.new)) }
 {
     let Unit {
         host,

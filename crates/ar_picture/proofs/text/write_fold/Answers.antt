@@ -1,6 +1,6 @@
 use Rattle.std.proofs.Common.{rules, OnOk}
 use Rattle.std.proofs.lemmas.Result.{on_ok_weaker}
-use Rattle.ar_picture.specs.Writing.{Grows}
+use Rattle.ar_picture.specs.Writing.{AddsBytes}
 use Rattle.ar_picture.proofs.Growing.{grows_then}
 use Rattle.ar_picture.proofs.text.write_fold.Goals as goal
 
@@ -9,5 +9,5 @@ loop-disk-preserved g c = grows_then c.loop-disk.invariant c.in_ok-write_cell.en
 
 pub returns : goal.returns
 returns g c =
-    let written : OnOk c.writeln.result (Grows (g.W.Write.contents c.loop-disk.out) (g.W.Write.contents c.writeln.new.self)) = search rules in
+    let written : OnOk c.writeln.result (AddsBytes (g.W.Write.contents c.loop-disk.out) (g.W.Write.contents c.writeln.new.self)) = search rules in
     record { grows = on_ok_weaker c.writeln.result (grows_then c.loop-disk.invariant) written }
