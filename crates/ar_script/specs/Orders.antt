@@ -76,6 +76,11 @@ TakesMemory (Ask Groups) = Unit {0}
 TakesMemory (Ask Picture) = Unit {0}
 TakesMemory order = ⊥
 
+-- an order has an answer, whatever the array is: all but a question for groups, which has a line for each
+abbrev pub HasAnswer : Order → Type 0
+HasAnswer (Ask Groups) = ⊥
+HasAnswer order = Unit {0}
+
 -- an order fails because its answer can't be written, or for want of memory, if it asks for any
 abbrev pub IsLost : Order → FaultKind → Type 0
 IsLost order kind = (kind ≡ WriteFault) ⊎ ((kind ≡ NoMemory) × TakesMemory order)

@@ -5,7 +5,7 @@ ghost use Rattle.ar_book.specs.Book.{TablesAgree};
 ghost use Rattle.ar_book.specs.Tables.{unit_in};
 ghost use Rattle.ar_orders.specs.declared.order.Order.TheVariants.{Ask};
 ghost use Rattle.ar_orders.specs.declared.order.Question.TheVariants.{Picture as PictureAsked};
-ghost use Rattle.ar_picture.specs.Writing.{Grows};
+ghost use Rattle.ar_picture.specs.Writing.{AddsBytes, AddsSome};
 ghost use Rattle.ar_script.specs.Orders.{IsLost};
 ghost use Rattle.ar_script.specs.Pictures.{IsPicture, health_shown, class_shown, group_in, groups_in, unit_at, units_in, addr_at, held_at, AddsOne, AddsHomes, HoldsBlocks};
 
@@ -30,7 +30,8 @@ pub fn write_picture<W: Write, D: Disk>(
     ensures few { IfErr result (λ kind. kind ≢ FaultKind.TooManyLines) }
     ensures lost { IfErr result (IsLost (Ask PictureAsked)) }
     ensures memory { result ≡ Err FaultKind.NoMemory → out.new ≡ out.old }
-    ensures grows { result ≢ Err FaultKind.WriteFault → Grows (W.contents out.old) (W.contents out.new) }
+    ensures grows { result ≢ Err FaultKind.WriteFault → AddsBytes (W.contents out.old) (W.contents out.new) }
+    ensures adds { OnOk result (AddsSome (W.contents out.old) (W.contents out.new)) }
 {
     let picture = picture_of(alloc, array).map_err(|_| FaultKind::NoMemory)?;
     let folds = picture.folds(alloc).map_err(|_| FaultKind::NoMemory)?;

@@ -6,7 +6,7 @@ ghost use Rattle.ar_extents.specs.Changes.{start_fault};
 ghost use Rattle.ar_orders.specs.Forms.{is_silent};
 ghost use Rattle.ar_orders.specs.Left.{lines_left, lines_begun, IsFresh};
 ghost use Rattle.ar_orders.specs.Lines.{lines_of, is_write_fault as tells_write_fault, AreThere, IsNumbered, IsReached};
-ghost use Rattle.ar_picture.specs.Writing.{Grows};
+ghost use Rattle.ar_picture.specs.Writing.{AddsBytes};
 ghost use Rattle.ar_script.specs.Ends.{Ends};
 ghost use Rattle.ar_script.specs.Orders.{MeetsLine};
 ghost use Rattle.ar_script.specs.Plays.{SaysWrong, IsUnanswered, IsThere, IsToldAt, IsToldOf, PlaysScript, PlaysTo, HasPlayed};
@@ -81,7 +81,7 @@ fn write_answers<R: Read + Drop, W: Write + Drop>(
     ensures numbered { IfErr result IsNumbered }
     ensures there { IfErr result (IsThere (lines_left lines.old)) }
     ensures ended { OnOk result (lines.new.is_at_end ≡ true) }
-    // Behind a fault no more is read. Where memory was refused for the buffer that is told of the first line, and nothing is read.
+    // Behind a fault no more is read. Want of memory is told of the first line with nothing read, or of a line that takes memory.
     ensures told { IfErr result (λ fault. ((fault ≡ Fault.Line 1 FaultKind.NoMemory) × (lines.new ≡ lines.old))
         ⊎ (IsReached (lines_begun lines.new) fault × IsToldOf lines.new fault)) }
 {
@@ -109,7 +109,7 @@ fn answer_all<R: Read + Drop, W: Write + Drop>(
     ensures told { IfErr result (IsToldOf lines.new) }
     // Unless a write fault is told, all answers are with the writer, behind what it had, each behind those before it.
     ensures written { tells_write_fault result ≡ false → writer_buffer out.new ≡ [] }
-    ensures grows { tells_write_fault result ≡ false → Grows (writer_contents W.contents out.old) (writer_contents W.contents out.new) }
+    ensures grows { tells_write_fault result ≡ false → AddsBytes (writer_contents W.contents out.old) (writer_contents W.contents out.new) }
 {
     let done = run_lines(alloc, runner, lines, out);
     finish(out, lines.number(), done)
@@ -142,7 +142,7 @@ fn run_lines<R: Read + Drop, W: Write + Drop>(
     ensures told { IfErr result (IsToldAt lines.new) }
     ensures numbered { IfErr result IsNumbered }
     // Each answer is added behind those before it.
-    ensures grows { tells_write_fault result ≡ false → Grows (writer_contents W.contents out.old) (writer_contents W.contents out.new) }
+    ensures grows { tells_write_fault result ≡ false → AddsBytes (writer_contents W.contents out.old) (writer_contents W.contents out.new) }
 {
     for _ in 0..u32::MAX {
         if !next_line(lines, out)? {
@@ -165,7 +165,7 @@ fn answer_line<R: Read + Drop, W: Write + Drop>(
     ensures meets { MeetsLine lines.now.line.items runner.old result runner.new }
     ensures told { IfErr result (λ kind. IsUnanswered lines.now.line.items kind ⊎ SaysWrong lines.now.line.items kind) }
     ensures few { IfErr result (λ kind. kind ≢ FaultKind.TooManyLines) }
-    ensures grows { result ≢ Err FaultKind.WriteFault → Grows (writer_contents W.contents out.old) (writer_contents W.contents out.new) }
+    ensures grows { result ≢ Err FaultKind.WriteFault → AddsBytes (writer_contents W.contents out.old) (writer_contents W.contents out.new) }
     ensures memory { result ≡ Err FaultKind.NoMemory → out.new ≡ out.old }
     // A line that asks for nothing is answered with nothing, and so is one that says what can't be asked for.
     ensures silent { is_silent lines.now.line.items ≡ true → out.new ≡ out.old }

@@ -3,8 +3,8 @@ ghost use Rattle.std.specs.Prelude.{◌≡◌, ◌≢◌, ◌≤◌, IfOk, IfErr
 ghost use Rattle.ar_extents.specs.Changes.{start_fault};
 ghost use Rattle.ar_image.specs.Start.{IsStarted};
 ghost use Rattle.ar_core.specs.Step.{Steps};
-ghost use Rattle.ar_picture.specs.Writing.{Grows};
-ghost use Rattle.ar_script.specs.Orders.{event_in, Looks, TakesMemory, IsLost, Leaves};
+ghost use Rattle.ar_picture.specs.Writing.{AddsBytes, AddsSome};
+ghost use Rattle.ar_script.specs.Orders.{event_in, Looks, TakesMemory, HasAnswer, IsLost, Leaves};
 ghost use Rattle.ar_script.specs.Pictures.{IsPicture};
 ghost use Rattle.ar_script.specs.Setups.{disks_of, new_disk, new_disk_for};
 
@@ -69,7 +69,8 @@ impl Runner {
         ensures few { IfErr result (λ kind. kind ≢ FaultKind.TooManyLines) }
         ensures lost { IfErr result (IsLost order) }
         ensures memory { result ≡ Err FaultKind.NoMemory → out.new ≡ out.old }
-        ensures grows { result ≢ Err FaultKind.WriteFault → Grows (W.contents out.old) (W.contents out.new) }
+        ensures grows { result ≢ Err FaultKind.WriteFault → AddsBytes (W.contents out.old) (W.contents out.new) }
+        ensures adds { OnOk result (HasAnswer order → AddsSome (W.contents out.old) (W.contents out.new)) }
         ensures leaves { Leaves order self.old result self.new }
     {
         match order {
@@ -148,7 +149,8 @@ impl Runner {
         ensures few { IfErr result (λ kind. kind ≢ FaultKind.TooManyLines) }
         ensures lost { IfErr result (IsLost (Order.Ask question)) }
         ensures memory { result ≡ Err FaultKind.NoMemory → out.new ≡ out.old }
-        ensures grows { result ≢ Err FaultKind.WriteFault → Grows (W.contents out.old) (W.contents out.new) }
+        ensures grows { result ≢ Err FaultKind.WriteFault → AddsBytes (W.contents out.old) (W.contents out.new) }
+        ensures adds { OnOk result (HasAnswer (Order.Ask question) → AddsSome (W.contents out.old) (W.contents out.new)) }
         ensures looks { Looks question self.old self.new }
     {
         let written = match question {

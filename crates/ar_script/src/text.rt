@@ -1,6 +1,6 @@
 // Answers as text.
 ghost use Rattle.std.specs.Prelude.{◌≡◌, ◌<◌, OnOk};
-ghost use Rattle.ar_picture.specs.Writing.{Grows};
+ghost use Rattle.ar_picture.specs.Writing.{AddsBytes, AddsSome};
 
 use crate::runs::run_len;
 use ar_core::{
@@ -22,7 +22,7 @@ pub fn write_outcome<W: Write, N>(
     outcome: &OutcomeOf<N>,
     notation: Notation,
 ) -> io::Result<()>
-    ensures grows { OnOk result (Grows (W.contents out.old) (W.contents out.new)) }
+    ensures adds { OnOk result (AddsSome (W.contents out.old) (W.contents out.new)) }
 {
     match outcome {
         OutcomeOf::Make(done)
@@ -40,7 +40,7 @@ pub fn write_outcome<W: Write, N>(
 
 // Writes whether a disk was taken in.
 fn write_taken<W: Write, N>(out: &mut W, done: &Result<(), (Refusal, N)>) -> io::Result<()>
-    ensures grows { OnOk result (Grows (W.contents out.old) (W.contents out.new)) }
+    ensures adds { OnOk result (AddsSome (W.contents out.old) (W.contents out.new)) }
 {
     match done {
         Ok(()) => write_done(out, Ok(())),
@@ -49,7 +49,7 @@ fn write_taken<W: Write, N>(out: &mut W, done: &Result<(), (Refusal, N)>) -> io:
 }
 
 fn write_done<W: Write>(out: &mut W, done: Result<(), Refusal>) -> io::Result<()>
-    ensures grows { OnOk result (Grows (W.contents out.old) (W.contents out.new)) }
+    ensures adds { OnOk result (AddsSome (W.contents out.old) (W.contents out.new)) }
 {
     match done {
         Ok(()) => writeln!(out, "ok"),
@@ -58,7 +58,7 @@ fn write_done<W: Write>(out: &mut W, done: Result<(), Refusal>) -> io::Result<()
 }
 
 fn write_reply<W: Write>(out: &mut W, reply: &Reply, notation: Notation) -> io::Result<()>
-    ensures grows { OnOk result (Grows (W.contents out.old) (W.contents out.new)) }
+    ensures adds { OnOk result (AddsSome (W.contents out.old) (W.contents out.new)) }
 {
     match (reply.status, reply.sense) {
         (Status::CheckCondition, Some(sense)) => {
@@ -72,7 +72,7 @@ fn write_reply<W: Write>(out: &mut W, reply: &Reply, notation: Notation) -> io::
 
 // Writes `good` and the bytes that came with it.
 fn write_good<W: Write>(out: &mut W, bytes: &[u8], notation: Notation) -> io::Result<()>
-    ensures grows { OnOk result (Grows (W.contents out.old) (W.contents out.new)) }
+    ensures adds { OnOk result (AddsSome (W.contents out.old) (W.contents out.new)) }
 {
     if bytes.is_empty() {
         return out.write_all(b"good\n");
@@ -84,7 +84,7 @@ fn write_good<W: Write>(out: &mut W, bytes: &[u8], notation: Notation) -> io::Re
 
 // Writes a reply's bytes, as its command has them written.
 fn write_data<W: Write>(out: &mut W, bytes: &[u8], notation: Notation) -> io::Result<()>
-    ensures grows { OnOk result (Grows (W.contents out.old) (W.contents out.new)) }
+    ensures grows { OnOk result (AddsBytes (W.contents out.old) (W.contents out.new)) }
 {
     match notation {
         Notation::Bytes => write_bytes(out, bytes),
@@ -93,7 +93,7 @@ fn write_data<W: Write>(out: &mut W, bytes: &[u8], notation: Notation) -> io::Re
 }
 
 fn write_flush<W: Write>(out: &mut W, flush: Flush) -> io::Result<()>
-    ensures grows { OnOk result (Grows (W.contents out.old) (W.contents out.new)) }
+    ensures adds { OnOk result (AddsSome (W.contents out.old) (W.contents out.new)) }
 {
     match flush {
         Flush::Flushed(key) => {
@@ -106,7 +106,7 @@ fn write_flush<W: Write>(out: &mut W, flush: Flush) -> io::Result<()>
 }
 
 fn write_move<W: Write>(out: &mut W, answer: Move) -> io::Result<()>
-    ensures grows { OnOk result (Grows (W.contents out.old) (W.contents out.new)) }
+    ensures adds { OnOk result (AddsSome (W.contents out.old) (W.contents out.new)) }
 {
     match answer {
         Move::Moved { key, to } => {
@@ -120,7 +120,7 @@ fn write_move<W: Write>(out: &mut W, answer: Move) -> io::Result<()>
 }
 
 fn write_balance<W: Write>(out: &mut W, answer: Balance) -> io::Result<()>
-    ensures grows { OnOk result (Grows (W.contents out.old) (W.contents out.new)) }
+    ensures adds { OnOk result (AddsSome (W.contents out.old) (W.contents out.new)) }
 {
     match answer {
         Balance::Formed(group) => writeln!(out, "formed {group}"),
@@ -136,7 +136,7 @@ fn write_balance<W: Write>(out: &mut W, answer: Balance) -> io::Result<()>
 }
 
 fn write_rebuild<W: Write>(out: &mut W, answer: Rebuild) -> io::Result<()>
-    ensures grows { OnOk result (Grows (W.contents out.old) (W.contents out.new)) }
+    ensures adds { OnOk result (AddsSome (W.contents out.old) (W.contents out.new)) }
 {
     match answer {
         Rebuild::Rebuilt(extent, left) => writeln!(out, "rebuilt {extent} left {left}"),
@@ -149,7 +149,7 @@ fn write_rebuild<W: Write>(out: &mut W, answer: Rebuild) -> io::Result<()>
 
 /// Writes the level of each block of a unit, as one line with a character for each.
 pub fn write_levels<W: Write, D: Disk>(out: &mut W, array: &Array<D>, addr: Addr) -> io::Result<()>
-    ensures grows { OnOk result (Grows (W.contents out.old) (W.contents out.new)) }
+    ensures adds { OnOk result (AddsSome (W.contents out.old) (W.contents out.new)) }
 {
     if let LevelOf::Absent = array.level(addr, 0) {
         return write_done(out, Err(NO_UNIT));
@@ -175,7 +175,7 @@ fn level_mark(level: LevelOf) -> Option<char> {
 
 /// Writes where a block of a unit stands, as a line.
 pub fn write_home<W: Write>(out: &mut W, home: HomeOf) -> io::Result<()>
-    ensures grows { OnOk result (Grows (W.contents out.old) (W.contents out.new)) }
+    ensures adds { OnOk result (AddsSome (W.contents out.old) (W.contents out.new)) }
 {
     match home {
         HomeOf::Absent => write_done(out, Err(NO_UNIT)),
@@ -190,7 +190,7 @@ pub fn write_home<W: Write>(out: &mut W, home: HomeOf) -> io::Result<()>
 
 /// Writes what groups are used for, as a line for each.
 pub fn write_groups<W: Write>(out: &mut W, groups: &[GroupUse]) -> io::Result<()>
-    ensures grows { OnOk result (Grows (W.contents out.old) (W.contents out.new)) }
+    ensures grows { OnOk result (AddsBytes (W.contents out.old) (W.contents out.new)) }
 {
     for (number, group) in groups.iter().enumerate() {
         let class = class_name(group.class);
@@ -210,7 +210,7 @@ fn class_name(class: Class) -> &'static str {
 
 /// Writes which disk is down, if any, as a line.
 pub fn write_health<W: Write>(out: &mut W, health: Health) -> io::Result<()>
-    ensures grows { OnOk result (Grows (W.contents out.old) (W.contents out.new)) }
+    ensures adds { OnOk result (AddsSome (W.contents out.old) (W.contents out.new)) }
 {
     match health {
         Health::Whole => writeln!(out, "whole"),
@@ -222,7 +222,7 @@ pub fn write_health<W: Write>(out: &mut W, health: Health) -> io::Result<()>
 
 /// Writes the bytes of a row, where they were shown, as a line.
 pub fn write_row<W: Write>(out: &mut W, shown: Shown, bytes: &[u8]) -> io::Result<()>
-    ensures grows { OnOk result (Grows (W.contents out.old) (W.contents out.new)) }
+    ensures adds { OnOk result (AddsSome (W.contents out.old) (W.contents out.new)) }
 {
     match shown {
         Shown::Outside => writeln!(out, "outside"),
@@ -237,7 +237,7 @@ pub fn write_row<W: Write>(out: &mut W, shown: Shown, bytes: &[u8]) -> io::Resul
 
 // Writes each byte, with a space between two.
 fn write_bytes<W: Write>(out: &mut W, bytes: &[u8]) -> io::Result<()>
-    ensures grows { OnOk result (Grows (W.contents out.old) (W.contents out.new)) }
+    ensures grows { OnOk result (AddsBytes (W.contents out.old) (W.contents out.new)) }
 {
     for (place, byte) in bytes.iter().enumerate() {
         write_gap(out, place)?;
@@ -248,7 +248,7 @@ fn write_bytes<W: Write>(out: &mut W, bytes: &[u8]) -> io::Result<()>
 
 // Writes the longest runs of equal bytes, with a space between two.
 fn write_runs<W: Write>(out: &mut W, bytes: &[u8]) -> io::Result<()>
-    ensures grows { OnOk result (Grows (W.contents out.old) (W.contents out.new)) }
+    ensures grows { OnOk result (AddsBytes (W.contents out.old) (W.contents out.new)) }
 {
     let mut rest = bytes;
     for place in 0..bytes.len() {
@@ -265,7 +265,7 @@ fn write_runs<W: Write>(out: &mut W, bytes: &[u8]) -> io::Result<()>
 
 // Writes a run. (Without `write!`, which took a sixth of the time of a line that reads a small block.)
 fn write_run<W: Write>(out: &mut W, count: usize, byte: u8) -> io::Result<()>
-    ensures grows { OnOk result (Grows (W.contents out.old) (W.contents out.new)) }
+    ensures grows { OnOk result (AddsBytes (W.contents out.old) (W.contents out.new)) }
 {
     let mut digits = itoa::Buffer::new();
     out.write_all(digits.format(count).as_bytes())?;
@@ -281,7 +281,7 @@ fn hex_digit(number: u8) -> u8
 
 // Writes the space that parts a word from the one before it.
 fn write_gap<W: Write>(out: &mut W, place: usize) -> io::Result<()>
-    ensures grows { OnOk result (Grows (W.contents out.old) (W.contents out.new)) }
+    ensures grows { OnOk result (AddsBytes (W.contents out.old) (W.contents out.new)) }
 {
     if place > 0 {
         out.write_all(b" ")?;

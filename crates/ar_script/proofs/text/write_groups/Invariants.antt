@@ -1,5 +1,5 @@
-use Rattle.ar_picture.specs.Writing.{Grows}
+use Rattle.ar_picture.specs.Writing.{AddsBytes}
 use Rattle.ar_script.proofs.text.write_groups.Given as goal
 
 abbrev pub invariant-loop-number : goal.invariant-loop-number
-invariant-loop-number g l = Grows (g.W.Write.contents l.fn.out) (g.W.Write.contents l.out)
+invariant-loop-number g l = AddsBytes (g.W.Write.contents l.fn.out) (g.W.Write.contents l.out)
