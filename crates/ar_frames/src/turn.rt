@@ -1,5 +1,5 @@
 // One frame of a session.
-ghost use Rattle.std.specs.Prelude.{◌≡◌, ◌<◌, ◌≤◌, ◌+◌, ◌^◌, true, vec_capacity};
+ghost use Rattle.std.specs.Prelude.{◌≡◌, ◌<◌, ◌≤◌, ◌+◌, ◌^◌, true, [], vec_capacity};
 ghost use Rattle.ar_frames.specs.Frame.{most_bytes};
 ghost use Rattle.ar_frames.specs.Turn.{AnswersRequest, RefusesRequest, Turns, turn_after};
 
@@ -37,7 +37,8 @@ pub struct Work {
 impl Work {
     // Of a session that begins: no memory is taken yet, and no command was given.
     pub fn new(alloc: Global) -> Work
-        ensures { result.given ≡ 0 }
+        ensures none { result.given ≡ 0 }
+        ensures empty { (vec_capacity result.buffer ≡ 0) × (result.buffer.items ≡ []) }
     {
         Work {
             buffer: Vec::new(alloc),

@@ -20,3 +20,7 @@ is_colour (mark ∷ digits) = (mark == 35) && ((length digits == 6) && list_all 
 abbrev pub outline_of : ℕ → List ℕ
 outline_of height =
     if nat_lt height 4 then 48 ∷ 46 ∷ 50 ∷ [] else if nat_lt height 10 then 48 ∷ 46 ∷ 53 ∷ [] else 49 ∷ []
+
+-- how tall an extent is drawn where a disk has so many: the more there are, the less, but 3 at least
+abbrev pub height_of : ℕ → ℕ
+height_of extents = if nat_le extents 16 then 32 else if nat_le extents 64 then 12 else if nat_le extents 256 then 5 else 3

@@ -1,6 +1,6 @@
 // Where things stand in the SVG, in its units, which are pixels where it is shown at its own size.
 ghost use Rattle.std.specs.Prelude.{◌≡◌, ◌==◌, ◌+◌, ◌*◌, ◌%◌, ◌/◌, ◌<◌, ◌≤◌, ◌^◌, nat_lt, min, max, length};
-ghost use Rattle.ar_picture.specs.Looks.{outline_of};
+ghost use Rattle.ar_picture.specs.Looks.{outline_of, height_of};
 
 use crate::{Picture, UNITS_MAX};
 
@@ -53,12 +53,7 @@ impl Scale {
         ensures few { extents ≤ 16 → 24 < result.height }
         ensures many { extents ≤ 1024 → result.pitch * extents ≤ 3072 }
         // None is too flat to be seen, and none flatter than one of a disk with more.
-        ensures least { 3 ≤ result.height }
-        ensures most { 256 < extents → result.height ≤ 5 }
-        ensures middle { extents ≤ 256 → 5 ≤ result.height }
-        ensures fewer { 64 < extents → result.height ≤ 12 }
-        ensures tall { extents ≤ 64 → 12 ≤ result.height }
-        ensures flat { 16 < extents → result.height ≤ 24 }
+        ensures tall { result.height ≡ height_of extents }
         // Numbers, 11 tall, don't overlap, and there is one in each 384. Where there are words, each extent has its number.
         ensures numbers { 11 ≤ result.pitch * result.numbered }
         ensures often { result.pitch * result.numbered ≤ 384 }

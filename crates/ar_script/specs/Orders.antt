@@ -19,6 +19,7 @@ use Rattle.ar_orders.specs.declared.order.Order.{Order}
 use Rattle.ar_orders.specs.declared.order.Order.TheVariants.{Act, Ask}
 use Rattle.ar_orders.specs.declared.order.Question.{Question}
 use Rattle.ar_orders.specs.declared.order.Question.TheVariants.{Levels, Home, Groups, Room, Health, Picture, Block}
+use Rattle.ar_picture.specs.Writing.{AddsSome}
 use Rattle.ar_script.specs.Setups.{new_disk_for}
 
 -- the event that an action is to an array: data are copies of one byte, and a disk that is taken in is new, and of the array's
@@ -90,6 +91,12 @@ abbrev pub Meets : Result (Option Order) FaultKind → ArrayState → Result (Un
 Meets (Ok None) old result new = (result ≡ Ok tt) × (new ≡ old)
 Meets (Ok (Some order)) old result new = Leaves order old result new × IfErr result (IsLost order)
 Meets (Err kind) old result new = (result ≡ Err kind) × (new ≡ old)
+
+-- some bytes were added for a line that asks for what has an answer
+pub record AnswersLine (line : List ℕ) (old new : Option (List ℕ)) : Type 0 where
+  pub read : Result (Option Order) FaultKind
+  pub reads : ReadsLine line read
+  pub some : (order : Order) → read ≡ Ok (Some order) → HasAnswer order → AddsSome old new
 
 -- what a line without a fault leaves of an array
 pub record MeetsLine (line : List ℕ) (old : ArrayState) (result : Result (Unit {0}) FaultKind) (new : ArrayState) : Type 0 where

@@ -8,7 +8,7 @@ ghost use Rattle.ar_orders.specs.Left.{lines_left, lines_begun, IsFresh};
 ghost use Rattle.ar_orders.specs.Lines.{lines_of, is_write_fault as tells_write_fault, AreThere, IsNumbered, IsReached};
 ghost use Rattle.ar_picture.specs.Writing.{AddsBytes};
 ghost use Rattle.ar_script.specs.Ends.{Ends};
-ghost use Rattle.ar_script.specs.Orders.{MeetsLine};
+ghost use Rattle.ar_script.specs.Orders.{MeetsLine, AnswersLine};
 ghost use Rattle.ar_script.specs.Plays.{SaysWrong, IsUnanswered, IsThere, IsToldAt, IsToldOf, PlaysScript, PlaysTo, HasPlayed};
 ghost use Rattle.ar_script.specs.Setups.{disks_of};
 
@@ -166,6 +166,8 @@ fn answer_line<R: Read + Drop, W: Write + Drop>(
     ensures told { IfErr result (λ kind. IsUnanswered lines.now.line.items kind ⊎ SaysWrong lines.now.line.items kind) }
     ensures few { IfErr result (λ kind. kind ≢ FaultKind.TooManyLines) }
     ensures grows { result ≢ Err FaultKind.WriteFault → AddsBytes (writer_contents W.contents out.old) (writer_contents W.contents out.new) }
+    ensures adds { OnOk result
+        (AnswersLine lines.now.line.items (writer_contents W.contents out.old) (writer_contents W.contents out.new)) }
     ensures memory { result ≡ Err FaultKind.NoMemory → out.new ≡ out.old }
     // A line that asks for nothing is answered with nothing, and so is one that says what can't be asked for.
     ensures silent { is_silent lines.now.line.items ≡ true → out.new ≡ out.old }
