@@ -3,7 +3,7 @@ use crate::fault::Failure;
 use ar_core::OutcomeOf;
 use ar_disks::Host;
 use ar_frames::{AskFault, Sink, Source, ask, hello};
-use ar_orders::{Action, Data, FaultKind, Lines, Notation, Order, next_line, order_in};
+use ar_language::{Action, Data, FaultKind, Lines, Notation, Order, next_line, order_in};
 use ar_script::write_outcome;
 use ar_scsi::Reply;
 use std::alloc::Global;

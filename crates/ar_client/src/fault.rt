@@ -1,7 +1,7 @@
 // Why the client ends before its input does.
 use crate::command_line::CommandLineFault;
 use ar_frames::AskFault;
-use ar_orders::{Fault, FaultKind};
+use ar_language::{Fault, FaultKind};
 use thiserror::Error;
 
 /// Why the program ends with a status other than 0.

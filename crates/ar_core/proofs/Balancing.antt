@@ -13,9 +13,9 @@ use Rattle.ar_store.specs.Store.{StoreState}
 use Rattle.ar_balance.specs.declared.step.Balance.{Balance}
 use Rattle.ar_balance.specs.declared.step.Balance.TheVariants.{Formed, Shifted, GivenUp, NoMemory, Idle, Broken}
 use Rattle.ar_balance.specs.Balance.{Balances, KeepsUnits}
-use Rattle.ar_image.specs.Balance.{BalancesOne}
-use Rattle.ar_image.specs.Image.{ArrayState, is_broken, length_at, attention_at}
-use Rattle.ar_image.specs.Seen.{SameSeen, SameUnit}
+use Rattle.ar_volume.specs.Balance.{BalancesOne}
+use Rattle.ar_volume.specs.Image.{ArrayState, is_broken, length_at, attention_at}
+use Rattle.ar_volume.specs.Seen.{SameSeen, SameUnit}
 use Rattle.ar_core.specs.declared.event.EventOf.TheVariants.{Balance as BalanceEvent}
 use Rattle.ar_core.specs.declared.event.OutcomeOf.TheVariants.{Balance as BalanceOutcome}
 use Rattle.ar_core.specs.Quiet.{IsQuiet}

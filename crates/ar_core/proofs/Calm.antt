@@ -2,7 +2,7 @@
 use Rattle.std.proofs.Common.{◌≡◌, ℕ, zero, suc, Some, List, [], ◌∷◌, take, ap, sym, ◌∙◌}
 use Rattle.std.specs.Prelude.{slice_get}
 use Rattle.ar_extents.specs.declared.health.Health.TheVariants.{Whole}
-use Rattle.ar_image.specs.Image.{ArrayState}
+use Rattle.ar_volume.specs.Image.{ArrayState}
 use Rattle.ar_core.specs.Causes.{IsTakenOut}
 use Rattle.ar_core.specs.declared.event.EventOf.TheVariants.{Flush as FlushEvent}
 use Rattle.ar_core.specs.Run.{Turn, Did, Looked, Meets, Run, IsCalm, AreCalm}

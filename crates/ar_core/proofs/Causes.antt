@@ -13,8 +13,8 @@ use Rattle.ar_extents.specs.Set.{SetState, faults_of, no_disk}
 use Rattle.ar_extents.specs.Follows.{Follows, Faulted, IsHit, TwoHit}
 use Rattle.ar_extents.proofs.Losses.{stays_broken}
 use Rattle.ar_rebuild.specs.Rebuild.{Advances}
-use Rattle.ar_image.specs.Image.{ArrayState, is_broken}
-use Rattle.ar_image.proofs.Breaking.{not_broken, sound_is}
+use Rattle.ar_volume.specs.Image.{ArrayState, is_broken}
+use Rattle.ar_volume.proofs.Breaking.{not_broken, sound_is}
 use Rattle.ar_core.specs.Events.{Event}
 use Rattle.ar_core.specs.declared.event.EventOf.TheVariants.{AddDisk, DiskOut, Replace}
 use Rattle.ar_core.specs.Causes.{HasCause, HurtsNone, IsTakenOut, IsNotReplaced, FaultsIn, IsHitBy, AreTwoHitBy}

@@ -33,18 +33,18 @@ use Rattle.ar_store.proofs.Changes.{units_refl}
 use Rattle.ar_store.proofs.Fills.{accessed_refl}
 use Rattle.ar_core.specs.declared.event.EventOf.TheVariants.{Cmd as CmdEvent}
 use Rattle.ar_core.specs.declared.event.OutcomeOf.TheVariants.{Cmd as CmdOutcome}
-use Rattle.ar_image.specs.Sectors.{address_of, sectors_in, unit_block}
-use Rattle.ar_image.specs.Image.{ArrayState, is_broken, geometry_of, with_book, seen_at, length_at, attention_at, unit_sectors, image_at}
-use Rattle.ar_image.specs.Laws.{reads_refl}
-use Rattle.ar_image.specs.Seen.{IsUnit, SamePlaces, SameSeen, present_at}
+use Rattle.ar_volume.specs.Sectors.{address_of, sectors_in, unit_block}
+use Rattle.ar_volume.specs.Image.{ArrayState, is_broken, geometry_of, with_book, seen_at, length_at, attention_at, unit_sectors, image_at}
+use Rattle.ar_volume.specs.Laws.{reads_refl}
+use Rattle.ar_volume.specs.Seen.{IsUnit, SamePlaces, SameSeen, present_at}
 use Rattle.ar_core.specs.Served.{Serves, Settles, Commands}
 use Rattle.ar_core.specs.Step.{Steps, MovesNothing, addr_in, told, once_told, is_busy, entry_at}
-use Rattle.ar_image.specs.Storing.{ReadsBlock, ReadsFirst}
+use Rattle.ar_volume.specs.Storing.{ReadsBlock, ReadsFirst}
 use Rattle.ar_core.proofs.Serving.{first_none}
 use Rattle.ar_core.proofs.Causes.{cause_follows}
 use Rattle.ar_core.proofs.Events.{unit_follows}
-use Rattle.ar_image.specs.Seen.{SameUnit}
-use Rattle.ar_image.proofs.Images.{same_address_of, other_address_of, image_present, image_absent, image_same, shape_same, shape_here, sectors_same}
+use Rattle.ar_volume.specs.Seen.{SameUnit}
+use Rattle.ar_volume.proofs.Images.{same_address_of, other_address_of, image_present, image_absent, image_same, shape_same, shape_here, sectors_same}
 use Rattle.ar_core.proofs.Everywhere.{everywhere}
 
 -- the command is told of the growth first

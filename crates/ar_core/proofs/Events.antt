@@ -27,20 +27,20 @@ use Rattle.ar_core.specs.Events.{Event}
 use Rattle.ar_core.specs.declared.event.EventOf.TheVariants.{Make as MakeEvent, Grow as GrowEvent, Remove as RemoveEvent}
 use Rattle.ar_core.specs.Events.{Outcome}
 use Rattle.ar_core.specs.declared.event.OutcomeOf.TheVariants.{Make as MakeOutcome, Grow as GrowOutcome, Remove as RemoveOutcome}
-use Rattle.ar_image.specs.declared.refusal.Refusal.{Refusal}
-use Rattle.ar_image.specs.declared.refusal.Refusal.TheVariants.{Unit as UnitRefused, Broken}
-use Rattle.ar_image.specs.Sectors.{Address, address_of, same_address, sector_in, sectors_in, unit_block, key_of}
-use Rattle.ar_image.specs.Image.{ArrayState, is_broken, geometry_of, with_book, seen_at, length_at, unit_sectors, image_at, IsPadded}
+use Rattle.ar_volume.specs.declared.refusal.Refusal.{Refusal}
+use Rattle.ar_volume.specs.declared.refusal.Refusal.TheVariants.{Unit as UnitRefused, Broken}
+use Rattle.ar_volume.specs.Sectors.{Address, address_of, same_address, sector_in, sectors_in, unit_block, key_of}
+use Rattle.ar_volume.specs.Image.{ArrayState, is_broken, geometry_of, with_book, seen_at, length_at, unit_sectors, image_at, IsPadded}
 use Rattle.ar_core.specs.Causes.{HasCause}
 use Rattle.ar_core.specs.Quiet.{IsQuiet}
-use Rattle.ar_image.specs.Following.{Follows}
-use Rattle.ar_image.specs.Seen.{SameSeen}
+use Rattle.ar_volume.specs.Following.{Follows}
+use Rattle.ar_volume.specs.Seen.{SameSeen}
 use Rattle.ar_core.specs.Step.{Steps, Answers, entry_at, is_quiet}
-use Rattle.ar_image.specs.Changes.{Makes, Grows, Removes, removed}
+use Rattle.ar_volume.specs.Changes.{Makes, Grows, Removes, removed}
 use Rattle.ar_core.proofs.Causes.{was_sound, cause_same}
-use Rattle.ar_image.proofs.Breaking.{accessed_sound}
-use Rattle.ar_image.specs.Seen.{SameUnit}
-use Rattle.ar_image.proofs.Images.{same_address_of, other_address_of, image_present, image_absent, image_same, shape_same, length-unit_sectors, map-constant, padded_sectors, padded_same, sectors_same, sector_same, sector_in-zeros}
+use Rattle.ar_volume.proofs.Breaking.{accessed_sound}
+use Rattle.ar_volume.specs.Seen.{SameUnit}
+use Rattle.ar_volume.proofs.Images.{same_address_of, other_address_of, image_present, image_absent, image_same, shape_same, length-unit_sectors, map-constant, padded_sectors, padded_same, sectors_same, sector_same, sector_in-zeros}
 use Rattle.ar_core.proofs.Everywhere.{everywhere}
 
 -- the tables say the same where they are

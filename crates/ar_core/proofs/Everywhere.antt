@@ -4,8 +4,8 @@ use Rattle.std.proofs.lemmas.Bool.{cases_lt}
 use Rattle.std.proofs.lemmas.Bool.Decides.{nat_tests}
 use Rattle.ar_disks.specs.declared.address.Addr.{Addr}
 use Rattle.ar_unit.specs.Unit.{UnitState, Absent, unit_run}
-use Rattle.ar_image.specs.Sectors.{Address, address_of}
-use Rattle.ar_image.specs.Image.{at_numbers, at_address}
+use Rattle.ar_volume.specs.Sectors.{Address, address_of}
+use Rattle.ar_volume.specs.Image.{at_numbers, at_address}
 use Rattle.ar_core.specs.Events.{Event}
 use Rattle.ar_core.specs.declared.event.EventOf.TheVariants.{Make, Grow, Remove, Cmd, Flush, Demote, Clean, Balance, AddDisk, DiskOut, Replace, Rebuild}
 use Rattle.ar_core.specs.Events.{Outcome}

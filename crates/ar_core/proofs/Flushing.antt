@@ -1,10 +1,10 @@
 -- A flush is a step.
 use Rattle.std.proofs.Common.{◌≡◌, false, refl}
 use Rattle.ar_cache.specs.declared.answers.Flush.{Flush}
-use Rattle.ar_image.specs.Image.{ArrayState, is_broken}
-use Rattle.ar_image.specs.Seen.{SameSeen}
-use Rattle.ar_image.specs.Flush.{FlushesOne}
-use Rattle.ar_image.specs.Following.{Follows}
+use Rattle.ar_volume.specs.Image.{ArrayState, is_broken}
+use Rattle.ar_volume.specs.Seen.{SameSeen}
+use Rattle.ar_volume.specs.Flush.{FlushesOne}
+use Rattle.ar_volume.specs.Following.{Follows}
 use Rattle.ar_core.specs.declared.event.EventOf.TheVariants.{Flush as FlushEvent}
 use Rattle.ar_core.specs.declared.event.OutcomeOf.TheVariants.{Flush as FlushOutcome}
 use Rattle.ar_core.specs.Step.{Steps}

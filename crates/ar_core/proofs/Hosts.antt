@@ -12,8 +12,8 @@ use Rattle.ar_scsi.specs.Reading.{reading}
 use Rattle.ar_scsi.specs.Reply.{good}
 use Rattle.ar_unit.specs.Sectors.{Sector, written}
 use Rattle.ar_unit.specs.Unit.{UnitState, Present, Entry, Answered, answer, obeyed, unit_run, is_past_end, leaving, IsServed}
-use Rattle.ar_image.specs.Image.{ArrayState, is_broken, image, image_at}
-use Rattle.ar_image.proofs.Images.{image_here}
+use Rattle.ar_volume.specs.Image.{ArrayState, is_broken, image, image_at}
+use Rattle.ar_volume.proofs.Images.{image_here}
 use Rattle.ar_core.specs.declared.event.EventOf.TheVariants.{Cmd as CmdEvent}
 use Rattle.ar_core.specs.declared.event.OutcomeOf.TheVariants.{Cmd as CmdOutcome}
 use Rattle.ar_core.specs.Run.{IsIsolated, own, unit_before}
@@ -21,7 +21,7 @@ use Rattle.ar_core.specs.Step.{Steps, addr_in}
 use Rattle.ar_core.specs.Laws.{RunOf, IsAlikeAt, IsShapedAlikeAt, IsAnsweredSoundly, IsAnsweredBroken, IsWriteWithin}
 use Rattle.ar_unit.specs.Broken.{Shape, shape_of, broken_answer}
 use Rattle.ar_unit.proofs.Laws.{broken_answer-is}
-use Rattle.ar_image.specs.Sectors.{Address}
+use Rattle.ar_volume.specs.Sectors.{Address}
 use Rattle.ar_core.proofs.Isolation.{unit_run-shape}
 
 -- what a unit is that began so and met these

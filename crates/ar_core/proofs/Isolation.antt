@@ -11,12 +11,12 @@ use Rattle.ar_core.specs.declared.event.EventOf.TheVariants.{Cmd as CmdEvent}
 use Rattle.ar_core.specs.Events.{Outcome}
 use Rattle.ar_core.specs.declared.event.OutcomeOf.TheVariants.{Cmd as CmdOutcome}
 use Rattle.ar_extents.specs.Changes.{is_broken as is_broken_set}
-use Rattle.ar_image.specs.Image.{ArrayState, is_broken, image, image_at}
+use Rattle.ar_volume.specs.Image.{ArrayState, is_broken, image, image_at}
 use Rattle.ar_core.proofs.Causes.{was_sound}
 use Rattle.ar_core.proofs.Looking.{looked_image, looked_shape}
-use Rattle.ar_image.proofs.Breaking.{broken_is, accessed_sound}
-use Rattle.ar_image.proofs.Images.{image_here}
-use Rattle.ar_image.specs.Sectors.{Address}
+use Rattle.ar_volume.proofs.Breaking.{broken_is, accessed_sound}
+use Rattle.ar_volume.proofs.Images.{image_here}
+use Rattle.ar_volume.specs.Sectors.{Address}
 use Rattle.ar_core.specs.Step.{Steps, Obeys, addr_in}
 use Rattle.ar_core.specs.Run.{Turn, Did, Looked, Meets, Run, IsRun, TwoMissing, last_of, own, entry_in, turns_of, IsAnswered, IsIsolated, unit_before, AreTwoHitIn}
 

@@ -4,10 +4,10 @@ use Rattle.std.proofs.lemmas.Bool.{cases_lt}
 use Rattle.ar_disks.specs.declared.address.Addr.{Addr}
 use Rattle.ar_unit.specs.Unit.{UnitState}
 use Rattle.ar_unit.specs.Broken.{shape_of}
-use Rattle.ar_image.specs.Image.{ArrayState, is_broken, image, image_at, at_numbers, at_address}
-use Rattle.ar_image.specs.Sectors.{Address}
-use Rattle.ar_image.specs.Seen.{SameUnit}
-use Rattle.ar_image.proofs.Images.{image_same, shape_same}
+use Rattle.ar_volume.specs.Image.{ArrayState, is_broken, image, image_at, at_numbers, at_address}
+use Rattle.ar_volume.specs.Sectors.{Address}
+use Rattle.ar_volume.specs.Seen.{SameUnit}
+use Rattle.ar_volume.proofs.Images.{image_same, shape_same}
 use Rattle.ar_core.specs.Quiet.{LooksAt}
 use Rattle.ar_core.proofs.Events.{unit_refl}
 

@@ -1,10 +1,10 @@
 -- A demotion and a clean are steps.
 use Rattle.std.proofs.Common.{◌≡◌, false, refl}
 use Rattle.ar_moves.specs.declared.step.Move.{Move}
-use Rattle.ar_image.specs.Following.{Follows}
-use Rattle.ar_image.specs.Image.{ArrayState, is_broken}
-use Rattle.ar_image.specs.Moves.{DemotesOne, CleansOne}
-use Rattle.ar_image.specs.Seen.{SameSeen}
+use Rattle.ar_volume.specs.Following.{Follows}
+use Rattle.ar_volume.specs.Image.{ArrayState, is_broken}
+use Rattle.ar_volume.specs.Moves.{DemotesOne, CleansOne}
+use Rattle.ar_volume.specs.Seen.{SameSeen}
 use Rattle.ar_core.specs.declared.event.EventOf.TheVariants.{Demote as DemoteEvent, Clean as CleanEvent}
 use Rattle.ar_core.specs.declared.event.OutcomeOf.TheVariants.{Demote as DemoteOutcome, Clean as CleanOutcome}
 use Rattle.ar_core.specs.Step.{Steps}

@@ -2,9 +2,9 @@
 use Rattle.std.proofs.Common.{◌≡◌, false, refl, ap}
 use Rattle.ar_cache.specs.Cache.{CacheState}
 use Rattle.ar_rebuild.specs.declared.step.Rebuild.{Rebuild}
-use Rattle.ar_image.specs.Image.{ArrayState, is_broken}
-use Rattle.ar_image.specs.Rebuild.{RebuildsOne}
-use Rattle.ar_image.specs.Seen.{SameSeen}
+use Rattle.ar_volume.specs.Image.{ArrayState, is_broken}
+use Rattle.ar_volume.specs.Rebuild.{RebuildsOne}
+use Rattle.ar_volume.specs.Seen.{SameSeen}
 use Rattle.ar_core.specs.declared.event.EventOf.TheVariants.{Rebuild as RebuildEvent}
 use Rattle.ar_core.specs.declared.event.OutcomeOf.TheVariants.{Rebuild as RebuildOutcome}
 use Rattle.ar_core.specs.Step.{Steps}

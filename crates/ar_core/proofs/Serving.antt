@@ -23,21 +23,21 @@ use Rattle.ar_unit.specs.Sectors.{cut, written, joined}
 use Rattle.ar_unit.specs.Unit.{Present, Answered, leaving, read_reply, write_answer, IsGiven}
 use Rattle.ar_book.specs.Tables.{unit_in, blocks_of as blocks_for}
 use Rattle.ar_cache.specs.Backing.{InTurn, stored}
-use Rattle.ar_image.specs.Sectors.{sector_in, sectors_in, unit_block, key_of, keys_in}
-use Rattle.ar_image.specs.Image.{ArrayState, is_broken, geometry_of, seen_at, knows_in, length_at, attention_at, unit_sectors, IsPadded}
-use Rattle.ar_image.specs.Following.{Follows}
-use Rattle.ar_image.specs.Laws.{follows_refl, places_refl, places_in_turn}
-use Rattle.ar_image.specs.Seen.{IsUnit, SamePlaces, SameSeen, Writes, present_at, sectors_read}
+use Rattle.ar_volume.specs.Sectors.{sector_in, sectors_in, unit_block, key_of, keys_in}
+use Rattle.ar_volume.specs.Image.{ArrayState, is_broken, geometry_of, seen_at, knows_in, length_at, attention_at, unit_sectors, IsPadded}
+use Rattle.ar_volume.specs.Following.{Follows}
+use Rattle.ar_volume.specs.Laws.{follows_refl, places_refl, places_in_turn}
+use Rattle.ar_volume.specs.Seen.{IsUnit, SamePlaces, SameSeen, Writes, present_at, sectors_read}
 use Rattle.ar_core.specs.Served.{Serves, Settles}
-use Rattle.ar_image.specs.Seen.{IsForced}
-use Rattle.ar_image.specs.Storing.{ReadsBlock, ReadsFirst, StopsStoring, StoresBlocks}
-use Rattle.ar_image.specs.declared.transfer.Transfer.{Transfer}
-use Rattle.ar_image.specs.declared.transfer.Transfer.TheVariants.{Done, Broken, NoMemory}
+use Rattle.ar_volume.specs.Seen.{IsForced}
+use Rattle.ar_volume.specs.Storing.{ReadsBlock, ReadsFirst, StopsStoring, StoresBlocks}
+use Rattle.ar_volume.specs.declared.transfer.Transfer.{Transfer}
+use Rattle.ar_volume.specs.declared.transfer.Transfer.TheVariants.{Done, Broken, NoMemory}
 use Rattle.ar_disks.specs.declared.completion.Completion.{Completion}
 use Rattle.ar_disks.specs.declared.completion.Completion.TheVariants.{Done as Kept, Broken as Lost}
 use Rattle.ar_disks.proofs.Addresses.{addr_tells}
-use Rattle.ar_image.proofs.Images.{length-sector_in, length-unit_sectors, map-range-same, map-range-add, present_same, sector_same}
-use Rattle.ar_image.proofs.Sparing.{kept_sound}
+use Rattle.ar_volume.proofs.Images.{length-sector_in, length-unit_sectors, map-range-same, map-range-add, present_same, sector_same}
+use Rattle.ar_volume.proofs.Sparing.{kept_sound}
 
 -- what is left of a range
 pub drop-map-range : {X : Type 0} (f : ℕ → X) (a k m : ℕ) → drop k (map f (range_with_len a (k + m))) ≡ map f (range_with_len (a + k) m)

@@ -11,11 +11,11 @@ use Rattle.ar_extents.specs.Health.{IsDown}
 use Rattle.ar_extents.specs.declared.health.Health.TheVariants.{Whole, Out, Rebuilding, Broken}
 use Rattle.ar_extents.specs.declared.refusal.DiskRefusal.{DiskRefusal}
 use Rattle.ar_extents.specs.declared.refusal.DiskRefusal.TheVariants.{NoSuchDisk, NotOut}
-use Rattle.ar_image.specs.declared.refusal.Refusal.{Refusal}
-use Rattle.ar_image.specs.declared.refusal.Refusal.TheVariants.{Disk as DiskRefused}
-use Rattle.ar_image.specs.Image.{ArrayState, is_broken}
-use Rattle.ar_image.specs.Seen.{SameSeen}
-use Rattle.ar_image.specs.DiskIn.{AddsDisk, ReplacesDisk}
+use Rattle.ar_volume.specs.declared.refusal.Refusal.{Refusal}
+use Rattle.ar_volume.specs.declared.refusal.Refusal.TheVariants.{Disk as DiskRefused}
+use Rattle.ar_volume.specs.Image.{ArrayState, is_broken}
+use Rattle.ar_volume.specs.Seen.{SameSeen}
+use Rattle.ar_volume.specs.DiskIn.{AddsDisk, ReplacesDisk}
 use Rattle.ar_core.specs.declared.event.EventOf.TheVariants.{AddDisk as AddDiskEvent, Replace as ReplaceEvent}
 use Rattle.ar_core.specs.declared.event.OutcomeOf.TheVariants.{AddDisk as AddDiskOutcome, Replace as ReplaceOutcome}
 use Rattle.ar_core.specs.Causes.{HasCause}

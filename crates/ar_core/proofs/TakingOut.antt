@@ -3,11 +3,11 @@ use Rattle.std.proofs.Common.{◌≡◌, ℕ, ◌<◌, Bool, true, false, cond, 
 use Rattle.std.specs.Prelude.{nat_le, option_map, length}
 use Rattle.std.proofs.lemmas.Bool.Decides.{nat_tests}
 use Rattle.ar_extents.specs.declared.refusal.DiskRefusal.TheVariants.{NoSuchDisk}
-use Rattle.ar_image.specs.declared.refusal.Refusal.{Refusal}
-use Rattle.ar_image.specs.declared.refusal.Refusal.TheVariants.{Disk as DiskRefused}
-use Rattle.ar_image.specs.Image.{ArrayState, is_broken}
-use Rattle.ar_image.specs.Seen.{SameSeen}
-use Rattle.ar_image.specs.DiskOut.{TakesDiskOut, disk_refusal}
+use Rattle.ar_volume.specs.declared.refusal.Refusal.{Refusal}
+use Rattle.ar_volume.specs.declared.refusal.Refusal.TheVariants.{Disk as DiskRefused}
+use Rattle.ar_volume.specs.Image.{ArrayState, is_broken}
+use Rattle.ar_volume.specs.Seen.{SameSeen}
+use Rattle.ar_volume.specs.DiskOut.{TakesDiskOut, disk_refusal}
 use Rattle.ar_core.specs.declared.event.EventOf.TheVariants.{DiskOut as DiskOutEvent}
 use Rattle.ar_core.specs.declared.event.OutcomeOf.TheVariants.{DiskOut as DiskOutOutcome}
 use Rattle.ar_core.specs.Causes.{HasCause}

@@ -7,8 +7,8 @@ use Rattle.ar_scsi.specs.Reading.{reading}
 use Rattle.ar_unit.specs.Sectors.{Sector}
 use Rattle.ar_unit.specs.Unit.{Present}
 use Rattle.ar_unit.specs.Broken.{shape_of}
-use Rattle.ar_image.specs.Image.{ArrayState, is_broken, image}
-use Rattle.ar_image.specs.Sectors.{Address}
+use Rattle.ar_volume.specs.Image.{ArrayState, is_broken, image}
+use Rattle.ar_volume.specs.Sectors.{Address}
 use Rattle.ar_core.specs.Run.{Turn, own, IsAnswered}
 
 -- a run: where it began, its turns, and the state after each

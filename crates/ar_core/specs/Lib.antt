@@ -8,12 +8,12 @@ pub mod Served
 pub mod Step
 pub mod Views
 -- the words of lower crates that clauses of this crate cite
-pub use Rattle.ar_image.specs.Changes as ImageChanges
-pub use Rattle.ar_image.specs.Following
-pub use Rattle.ar_image.specs.Image
-pub use Rattle.ar_image.specs.Moves
-pub use Rattle.ar_image.specs.Seen
-pub use Rattle.ar_image.specs.Start
+pub use Rattle.ar_volume.specs.Changes as ImageChanges
+pub use Rattle.ar_volume.specs.Following
+pub use Rattle.ar_volume.specs.Image
+pub use Rattle.ar_volume.specs.Moves
+pub use Rattle.ar_volume.specs.Seen
+pub use Rattle.ar_volume.specs.Start
 pub use Rattle.ar_store.specs.Store
 pub use Rattle.ar_store.specs.Slots
 pub use Rattle.ar_store.specs.Placing

@@ -2,8 +2,8 @@
 use Rattle.std.specs.Prelude.{◌≡◌, ◌≤◌, false, length}
 use Rattle.ar_disks.specs.declared.address.Addr.{Addr}
 use Rattle.ar_book.specs.Tables.{reserved}
-use Rattle.ar_image.specs.Image.{ArrayState, is_broken}
-use Rattle.ar_image.specs.Seen.{SameSeen, SamePlaces, SameUnit}
+use Rattle.ar_volume.specs.Image.{ArrayState, is_broken}
+use Rattle.ar_volume.specs.Seen.{SameSeen, SamePlaces, SameUnit}
 use Rattle.ar_store.specs.Calls.{IsAccessed}
 
 -- Each unit is there as it was, as long and with its mark; until the data are lost every block is seen as it was; and there is no

@@ -6,8 +6,8 @@ use Rattle.ar_scsi.specs.declared.reply.Status.TheVariants.{Busy}
 use Rattle.ar_extents.specs.Follows.{TwoHit}
 use Rattle.ar_unit.specs.Unit.{UnitState, Entry, answer, unit_run}
 use Rattle.ar_unit.specs.Broken.{shape_of, where_broken}
-use Rattle.ar_image.specs.Image.{ArrayState, is_broken, image}
-use Rattle.ar_image.specs.Sectors.{Address}
+use Rattle.ar_volume.specs.Image.{ArrayState, is_broken, image}
+use Rattle.ar_volume.specs.Sectors.{Address}
 use Rattle.ar_core.specs.Events.{Event}
 use Rattle.ar_core.specs.declared.event.EventOf.TheVariants.{Cmd as CmdEvent}
 use Rattle.ar_core.specs.Events.{Outcome}

@@ -11,14 +11,14 @@ use Rattle.ar_scsi.specs.Reply.{check}
 use Rattle.ar_scsi.specs.Sense.{internal_target_failure}
 use Rattle.ar_unit.specs.Unit.{Answered, Cmd, unit_run, IsGiven, IsServed}
 use Rattle.ar_unit.specs.Broken.{shape_of}
-use Rattle.ar_image.specs.Image.{ArrayState, geometry_of, is_broken, seen_at, image_at}
-use Rattle.ar_image.specs.Following.{Follows}
+use Rattle.ar_volume.specs.Image.{ArrayState, geometry_of, is_broken, seen_at, image_at}
+use Rattle.ar_volume.specs.Following.{Follows}
 use Rattle.ar_store.specs.Calls.{IsAccessed}
 use Rattle.ar_core.specs.Step.{Obeys, is_write, is_busy, moves_sectors}
-use Rattle.ar_image.specs.Sectors.{keys_in}
+use Rattle.ar_volume.specs.Sectors.{keys_in}
 use Rattle.ar_cache.specs.Backing.{InTurn}
-use Rattle.ar_image.specs.Storing.{ReadsBlock, ReadsFirst, StopsStoring, StoresBlocks}
-use Rattle.ar_image.specs.Seen.{IsForced, SamePlaces, present_at}
+use Rattle.ar_volume.specs.Storing.{ReadsBlock, ReadsFirst, StopsStoring, StoresBlocks}
+use Rattle.ar_volume.specs.Seen.{IsForced, SamePlaces, present_at}
 
 -- The unit was served as the table says, by its sectors before the command, and is left with the table's, and no other unit's
 -- block is seen to change; or the array is broken after it and the reply is the other.

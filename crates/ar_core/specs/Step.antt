@@ -22,21 +22,21 @@ use Rattle.ar_core.specs.Events.{Event}
 use Rattle.ar_core.specs.declared.event.EventOf.TheVariants.{Make as MakeEvent, Grow as GrowEvent, Remove as RemoveEvent, Cmd as CmdEvent, Flush as FlushEvent, Demote as DemoteEvent, Clean as CleanEvent, Balance as BalanceEvent, AddDisk as AddDiskEvent, DiskOut as DiskOutEvent, Replace as ReplaceEvent, Rebuild as RebuildEvent}
 use Rattle.ar_core.specs.Events.{Outcome}
 use Rattle.ar_core.specs.declared.event.OutcomeOf.TheVariants.{Make as MakeOutcome, Grow as GrowOutcome, Remove as RemoveOutcome, Cmd as CmdOutcome, Flush as FlushOutcome, Demote as DemoteOutcome, Clean as CleanOutcome, Balance as BalanceOutcome, AddDisk as AddDiskOutcome, DiskOut as DiskOutOutcome, Replace as ReplaceOutcome, Rebuild as RebuildOutcome}
-use Rattle.ar_image.specs.Sectors.{Address, address_of, keys_in, same_address}
-use Rattle.ar_image.specs.Image.{ArrayState, geometry_of, is_broken, attention_at, image_at, image, with_book}
+use Rattle.ar_volume.specs.Sectors.{Address, address_of, keys_in, same_address}
+use Rattle.ar_volume.specs.Image.{ArrayState, geometry_of, is_broken, attention_at, image_at, image, with_book}
 use Rattle.ar_core.specs.Causes.{HasCause}
 use Rattle.ar_core.specs.Quiet.{IsQuiet}
 use Rattle.ar_store.specs.Calls.{IsAccessed}
-use Rattle.ar_image.specs.Seen.{IsForced}
+use Rattle.ar_volume.specs.Seen.{IsForced}
 use Rattle.ar_cache.specs.Backing.{InTurn}
-use Rattle.ar_image.specs.Storing.{ReadsBlock, ReadsFirst, StopsStoring, StoresBlocks}
-use Rattle.ar_image.specs.Changes.{Makes, Grows, Removes}
-use Rattle.ar_image.specs.Flush.{FlushesOne}
-use Rattle.ar_image.specs.Moves.{DemotesOne, CleansOne}
-use Rattle.ar_image.specs.Rebuild.{RebuildsOne}
-use Rattle.ar_image.specs.Balance.{BalancesOne}
-use Rattle.ar_image.specs.DiskIn.{AddsDisk, ReplacesDisk}
-use Rattle.ar_image.specs.DiskOut.{TakesDiskOut}
+use Rattle.ar_volume.specs.Storing.{ReadsBlock, ReadsFirst, StopsStoring, StoresBlocks}
+use Rattle.ar_volume.specs.Changes.{Makes, Grows, Removes}
+use Rattle.ar_volume.specs.Flush.{FlushesOne}
+use Rattle.ar_volume.specs.Moves.{DemotesOne, CleansOne}
+use Rattle.ar_volume.specs.Rebuild.{RebuildsOne}
+use Rattle.ar_volume.specs.Balance.{BalancesOne}
+use Rattle.ar_volume.specs.DiskIn.{AddsDisk, ReplacesDisk}
+use Rattle.ar_volume.specs.DiskOut.{TakesDiskOut}
 
 -- the address that a command is given to
 abbrev pub addr_in : Host → ℕ → Addr

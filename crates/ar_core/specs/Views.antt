@@ -19,7 +19,7 @@ use Rattle.ar_core.specs.declared.views.HomeOf.TheVariants as homes
 use Rattle.ar_core.specs.declared.views.GroupUse.{GroupUse}
 use Rattle.ar_core.specs.declared.views.Shown.{Shown}
 use Rattle.ar_core.specs.declared.views.Shown.TheVariants.{Outside, Broken, Missing, Bytes}
-use Rattle.ar_image.specs.Sectors.{key_of}
+use Rattle.ar_volume.specs.Sectors.{key_of}
 
 -- a level, as it is shown
 abbrev pub level_shown : Level → LevelOf

@@ -2,12 +2,12 @@
 ghost use Rattle.std.specs.Prelude.{◌≡◌, ◌≤◌, All, map, IfOk, IfErr, OnOk, OnErr, unwrap_or, length};
 ghost use Rattle.ar_disks.specs.declared.address.Addr.{Addr};
 ghost use Rattle.ar_disks.specs.Geometry.{block_len_of};
-ghost use Rattle.ar_image.specs.Image.{geometry_of};
+ghost use Rattle.ar_volume.specs.Image.{geometry_of};
 
 use crate::{Event, EventOf, Outcome, OutcomeOf, Refusal};
 use ar_disks::{Addr, Block, Disk};
 use ar_extents::{StartFault, fault_of};
-use ar_image::Blocks;
+use ar_volume::Blocks;
 use std::alloc::Global;
 use std::marker::Model;
 
@@ -22,7 +22,7 @@ pub struct Array<D: Disk> {
 impl<D: Disk> Model for Array<D> {
     ghost use Rattle.std.specs.Prelude.{◌≡◌, length};
     ghost use Rattle.ar_disks.specs.Geometry.{block_len_of};
-    ghost use Rattle.ar_image.specs.Image.{ArrayState, geometry_of, IsPadded};
+    ghost use Rattle.ar_volume.specs.Image.{ArrayState, geometry_of, IsPadded};
 
     ghost Value = { ArrayState };
 
@@ -35,7 +35,7 @@ impl<D: Disk> Array<D> {
     ghost use Rattle.ar_extents.specs.declared.refusal.StartFault.TheVariants.{NoMemory};
     ghost use Rattle.ar_extents.specs.Set.{CanCount};
     ghost use Rattle.ar_extents.specs.Changes.{start_fault};
-    ghost use Rattle.ar_image.specs.Start.{IsStarted};
+    ghost use Rattle.ar_volume.specs.Start.{IsStarted};
 
     /// An array of these disks, whole, without a unit, its extents in groups of four disks. `cache` is how many blocks may wait
     /// to be written: at most 65,536, and 0 writes through. Disks that are refused, for their number, their shapes or want of

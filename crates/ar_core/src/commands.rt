@@ -10,21 +10,21 @@ ghost use Rattle.ar_unit.specs.Unit.{obeyed, IsGiven, leaving, read_reply, write
 ghost use Rattle.ar_unit.specs.Broken.{broken_obeyed};
 ghost use Rattle.ar_cache.specs.Backing.{InTurn, Keeps, SameBlocks, StopsInTurn, stored};
 ghost use Rattle.ar_cache.specs.Cache.{cached};
-ghost use Rattle.ar_image.specs.Image.{is_broken, geometry_of, seen_at, unit_sectors, attention_at, with_book};
-ghost use Rattle.ar_image.specs.Seen.{IsUnit, SameSeen, IsSpared, Writes, present_at, sectors_read};
+ghost use Rattle.ar_volume.specs.Image.{is_broken, geometry_of, seen_at, unit_sectors, attention_at, with_book};
+ghost use Rattle.ar_volume.specs.Seen.{IsUnit, SameSeen, IsSpared, Writes, present_at, sectors_read};
 ghost use Rattle.ar_core.specs.Served.{Serves, Settles, Commands};
-ghost use Rattle.ar_image.specs.Following.{Follows};
-ghost use Rattle.ar_image.specs.Sectors.{key_of, keys_in, sectors_in, unit_block};
+ghost use Rattle.ar_volume.specs.Following.{Follows};
+ghost use Rattle.ar_volume.specs.Sectors.{key_of, keys_in, sectors_in, unit_block};
 ghost use Rattle.std.specs.List.{concat};
-ghost use Rattle.ar_image.specs.Seen.{IsForced};
-ghost use Rattle.ar_image.specs.Storing.{BreaksForced, FailsReading, ForcesBlock, PutsBlocks, ReadsBlock, ReadsFirst, StopsPutting, StopsStoring, StoresBlocks};
+ghost use Rattle.ar_volume.specs.Seen.{IsForced};
+ghost use Rattle.ar_volume.specs.Storing.{BreaksForced, FailsReading, ForcesBlock, PutsBlocks, ReadsBlock, ReadsFirst, StopsPutting, StopsStoring, StoresBlocks};
 ghost use Rattle.ar_book.specs.Changes.{unmarked};
 
 use crate::{Array, Completion};
 use ar_disks::{Addr, Block, Disk, Geometry};
-use ar_image::{Backing, Transfer, read_sectors, write_sectors};
 use ar_scsi::{Command, Reply, Sense, decode, is_inquiry};
 use ar_unit::{absent, capacity, inquiry, is_past_end};
+use ar_volume::{Backing, Transfer, read_sectors, write_sectors};
 use bytes::Bytes;
 use std::alloc::Global;
 

@@ -1,10 +1,10 @@
 // What happens to an array, and how it answers.
 use ar_balance::Balance;
 use ar_disks::{Addr, Host};
-use ar_image::{Flush, NewDisk, Refusal};
 use ar_moves::Move;
 use ar_rebuild::Rebuild;
 use ar_scsi::Reply;
+use ar_volume::{Flush, NewDisk, Refusal};
 use bytes::Bytes;
 
 /// One event of an array of disks of this type.

@@ -4,9 +4,9 @@ ghost use Rattle.ar_disks.specs.declared.address.Addr.{Addr};
 ghost use Rattle.std.specs.Map.{keys_of};
 ghost use Rattle.ar_cache.specs.Backing.{InTurn, stored};
 ghost use Rattle.ar_cache.specs.Cache.{with_entries};
-ghost use Rattle.ar_image.specs.Following.{Follows, PutsStored};
-ghost use Rattle.ar_image.specs.Image.{is_broken, image_at, image_on_disks};
-ghost use Rattle.ar_image.specs.Storing.{LeavesSome};
+ghost use Rattle.ar_volume.specs.Following.{Follows, PutsStored};
+ghost use Rattle.ar_volume.specs.Image.{is_broken, image_at, image_on_disks};
+ghost use Rattle.ar_volume.specs.Storing.{LeavesSome};
 
 use crate::{Array, Completion, EventOf, Flush, OutcomeOf};
 use ar_disks::Disk;

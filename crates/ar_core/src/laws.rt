@@ -7,7 +7,7 @@ ghost use Rattle.ar_unit.specs.Sectors.{Sector, written};
 ghost use Rattle.ar_unit.specs.Unit.{Present};
 ghost use Rattle.ar_store.specs.Kept.{IsKept};
 ghost use Rattle.ar_store.specs.Slots.{SurvivesLossOf};
-ghost use Rattle.ar_image.specs.Image.{ArrayState, is_broken, image};
+ghost use Rattle.ar_volume.specs.Image.{ArrayState, is_broken, image};
 ghost use Rattle.ar_core.specs.Run.{AreCalm, IsIsolated, Run, Turn};
 ghost use Rattle.ar_core.specs.Step.{Steps};
 ghost use Rattle.ar_core.specs.Laws.{RunOf, IsAlikeAt, IsShapedAlikeAt, IsAnsweredSoundly, IsAnsweredBroken, IsWriteWithin};

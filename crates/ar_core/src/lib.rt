@@ -20,9 +20,9 @@ pub use ar_book::{Class, Refusal as UnitRefusal, Slot};
 pub use ar_cache::{CAPACITY_LIMIT, Flush};
 pub use ar_disks::Completion;
 pub use ar_extents::{DiskRefusal, Health, StartFault};
-pub use ar_image::{NewDisk, Refusal};
 pub use ar_moves::Move;
 pub use ar_rebuild::Rebuild;
+pub use ar_volume::{NewDisk, Refusal};
 pub use array::Array;
 pub use event::{Event, EventOf, Outcome, OutcomeOf};
 pub use laws::{

@@ -9,12 +9,12 @@ use Rattle.ar_unit.specs.Broken.{Shape, shape_of}
 use Rattle.ar_book.specs.declared.refusal.Refusal.TheVariants.{BadLun, Exists, Size, NoRoom, Absent}
 use Rattle.ar_book.specs.Tables.{has_unit, unit_in, blocks_of, room}
 use Rattle.ar_book.specs.Refusals as book
-use Rattle.ar_image.specs.declared.refusal.Refusal.{Refusal}
-use Rattle.ar_image.specs.declared.refusal.Refusal.TheVariants.{Unit as UnitRefused, Broken}
-use Rattle.ar_image.specs.Sectors.{Address, address_of, same_address}
-use Rattle.ar_image.specs.Image.{ArrayState, is_broken, length_at, attention_at, image, image_at}
-use Rattle.ar_image.specs.Changes.{Makes, Grows, Removes}
-use Rattle.ar_image.proofs.Images.{image_here, shape_by, shape_here}
+use Rattle.ar_volume.specs.declared.refusal.Refusal.{Refusal}
+use Rattle.ar_volume.specs.declared.refusal.Refusal.TheVariants.{Unit as UnitRefused, Broken}
+use Rattle.ar_volume.specs.Sectors.{Address, address_of, same_address}
+use Rattle.ar_volume.specs.Image.{ArrayState, is_broken, length_at, attention_at, image, image_at}
+use Rattle.ar_volume.specs.Changes.{Makes, Grows, Removes}
+use Rattle.ar_volume.proofs.Images.{image_here, shape_by, shape_here}
 use Rattle.ar_core.specs.Events.{Event, Outcome}
 use Rattle.ar_core.specs.Step.{Steps, Answers, is_quiet, entry_at}
 use Rattle.ar_core.specs.declared.event.EventOf.TheVariants as events

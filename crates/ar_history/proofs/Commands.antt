@@ -11,11 +11,11 @@ use Rattle.ar_scsi.specs.Reply.{busy}
 use Rattle.ar_unit.specs.Unit.{UnitState, Absent, Present, Entry as UnitEntry, Cmd as UnitCmd, answer, after, unit_run, IsGiven}
 use Rattle.ar_unit.specs.Broken.{Shape, shape_of, shape_after, where_broken, broken_answer}
 use Rattle.ar_unit.proofs.Laws.{after-shape, answer-with_bytes, broken_answer-is}
-use Rattle.ar_image.specs.Sectors.{Address, same_address}
-use Rattle.ar_image.specs.Image.{ArrayState, is_broken, image, image_at}
+use Rattle.ar_volume.specs.Sectors.{Address, same_address}
+use Rattle.ar_volume.specs.Image.{ArrayState, is_broken, image, image_at}
 use Rattle.ar_extents.specs.Changes.{is_broken as is_broken_set}
-use Rattle.ar_image.proofs.Breaking.{broken_is}
-use Rattle.ar_image.proofs.Images.{image_here}
+use Rattle.ar_volume.proofs.Breaking.{broken_is}
+use Rattle.ar_volume.proofs.Images.{image_here}
 use Rattle.ar_core.specs.Events.{Event, Outcome}
 use Rattle.ar_core.specs.Step.{Steps, is_busy, addr_in, entry_at}
 use Rattle.ar_core.specs.declared.event.EventOf.TheVariants.{Cmd as CmdEvent}

@@ -5,11 +5,11 @@ use Rattle.std.proofs.lemmas.Bool.{cases_lt}
 use Rattle.ar_unit.specs.Unit.{UnitState, Absent, Present, Entry as UnitEntry, Make as UnitMake, Grow as UnitGrow, Remove as UnitRemove, Cmd as UnitCmd, after, unit_run}
 use Rattle.ar_unit.specs.Broken.{Shape, shape_of}
 use Rattle.ar_unit.proofs.Laws.{unit_run-append, after-shape}
-use Rattle.ar_image.specs.Sectors.{Address, same_address}
+use Rattle.ar_volume.specs.Sectors.{Address, same_address}
 use Rattle.ar_disks.specs.declared.address.Addr.{Addr}
 use Rattle.ar_book.specs.Tables.{UnitState as UnitTable, has_unit_in}
-use Rattle.ar_image.specs.Image.{ArrayState, image, image_at, at_numbers, at_address}
-use Rattle.ar_image.proofs.Images.{image_absent}
+use Rattle.ar_volume.specs.Image.{ArrayState, image, image_at, at_numbers, at_address}
+use Rattle.ar_volume.proofs.Images.{image_absent}
 use Rattle.ar_core.specs.Events.{Event, Outcome}
 use Rattle.ar_core.specs.Step.{Steps, entry_at}
 use Rattle.ar_core.proofs.Causes.{was_sound}

@@ -22,8 +22,8 @@ use Rattle.ar_book.specs.Changes.{unmarked}
 use Rattle.ar_unit.specs.Unit.{UnitState, Absent, Present, Answered, leaving, obeyed, answer}
 use Rattle.ar_unit.specs.Broken.{Shape, shape_of, is_good, needs_blocks, where_broken, broken_answer}
 use Rattle.ar_unit.proofs.Laws.{broken_answer-is, answer-takes_no_memory}
-use Rattle.ar_image.specs.Image.{ArrayState, is_broken, length_at, attention_at, image_at}
-use Rattle.ar_image.proofs.Images.{shape_by, shape_here}
+use Rattle.ar_volume.specs.Image.{ArrayState, is_broken, length_at, attention_at, image_at}
+use Rattle.ar_volume.proofs.Images.{shape_by, shape_here}
 use Rattle.ar_core.specs.Step.{Steps, Obeys, MovesNothing, is_busy, is_write, addr_in, told}
 use Rattle.ar_core.specs.declared.event.EventOf.TheVariants.{Cmd as CmdEvent}
 use Rattle.ar_core.specs.declared.event.OutcomeOf.TheVariants.{Cmd as CmdOutcome}

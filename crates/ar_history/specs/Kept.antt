@@ -3,8 +3,8 @@ use Rattle.std.specs.Prelude.{◌≡◌, ◌⊎◌, ◌+◌, max, ℕ, Bool, fal
 use Rattle.ar_scsi.specs.declared.reply.Reply.{Reply}
 use Rattle.ar_unit.specs.Unit.{UnitState, Absent, Present}
 use Rattle.ar_unit.specs.Broken.{shape_of}
-use Rattle.ar_image.specs.Image.{ArrayState, is_broken, image}
-use Rattle.ar_image.specs.Sectors.{Address}
+use Rattle.ar_volume.specs.Image.{ArrayState, is_broken, image}
+use Rattle.ar_volume.specs.Sectors.{Address}
 use Rattle.ar_core.specs.Events.{Event, Outcome}
 use Rattle.ar_core.specs.Step.{is_busy}
 use Rattle.ar_core.specs.declared.event.EventOf.TheVariants.{Make as MakeEvent, Grow as GrowEvent, Remove as RemoveEvent, Cmd as CmdEvent}

@@ -7,8 +7,8 @@ pub mod Serving
 -- the words of lower crates that clauses of this crate cite
 pub use Rattle.ar_core.specs.Events
 pub use Rattle.ar_core.specs.Step
-pub use Rattle.ar_image.specs.Image
-pub use Rattle.ar_image.specs.Sectors
+pub use Rattle.ar_volume.specs.Image
+pub use Rattle.ar_volume.specs.Sectors
 pub use Rattle.ar_book.specs.Tables
 pub use Rattle.ar_unit.specs.Unit
 pub use Rattle.ar_unit.specs.Broken

@@ -3,8 +3,8 @@ use Rattle.std.specs.Prelude.{◌≡◌, ◌⊎◌, Bool, true, false, Option, S
 use Rattle.ar_disks.specs.Disk.{DiskState}
 use Rattle.ar_scsi.specs.Reply.{busy}
 use Rattle.ar_book.specs.declared.refusal.Refusal.TheVariants.{NoMemory}
-use Rattle.ar_image.specs.declared.refusal.Refusal.TheVariants.{Unit as UnitRefused}
-use Rattle.ar_image.specs.Image.{ArrayState, is_broken}
+use Rattle.ar_volume.specs.declared.refusal.Refusal.TheVariants.{Unit as UnitRefused}
+use Rattle.ar_volume.specs.Image.{ArrayState, is_broken}
 use Rattle.ar_core.specs.Events.{Event, Outcome}
 use Rattle.ar_core.specs.Step.{Steps}
 use Rattle.ar_core.specs.declared.event.EventOf.TheVariants as events

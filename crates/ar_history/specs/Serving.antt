@@ -6,8 +6,8 @@ use Rattle.ar_scsi.specs.Reply.{busy}
 use Rattle.ar_extents.specs.Follows.{Keeps, Anywhere}
 use Rattle.ar_unit.specs.Unit.{answer, unit_run, IsGiven}
 use Rattle.ar_unit.specs.Broken.{shape_of, where_broken}
-use Rattle.ar_image.specs.Sectors.{Address}
-use Rattle.ar_image.specs.Image.{ArrayState, is_broken, image}
+use Rattle.ar_volume.specs.Sectors.{Address}
+use Rattle.ar_volume.specs.Image.{ArrayState, is_broken, image}
 use Rattle.ar_core.specs.Step.{Steps, is_busy, entry_at}
 use Rattle.ar_core.specs.declared.event.EventOf.TheVariants.{Cmd as CmdEvent}
 use Rattle.ar_core.specs.declared.event.OutcomeOf.TheVariants.{Cmd as CmdOutcome}

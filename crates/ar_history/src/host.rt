@@ -1,6 +1,6 @@
 // Commands of hosts.
 ghost use Rattle.std.specs.Prelude.{◌≡◌, ◌≢◌, ◌⊎◌, ◌+◌, ◌<◌, ◌++◌, ◌∷◌, ◌↔◌, [], None, true, false, IsOk, IfOk, OnOk, length, vec_len, vec_capacity};
-ghost use Rattle.ar_image.specs.Image.{is_broken};
+ghost use Rattle.ar_volume.specs.Image.{is_broken};
 ghost use Rattle.ar_scsi.specs.Reply.{busy};
 ghost use Rattle.ar_core.specs.Step.{Steps, is_busy};
 ghost use Rattle.ar_history.specs.Kept.{MayDouble, exchange_of};

@@ -1,7 +1,7 @@
 // Operations and work in the background.
 ghost use Rattle.std.specs.Prelude.{◌≡◌, ◌≢◌, ◌⊎◌, ◌<◌, ◌++◌, true, false, Some, None, IsTrue, IsOk, OnOk, length, vec_len, vec_capacity};
-ghost use Rattle.ar_image.specs.Image.{is_broken, image};
-ghost use Rattle.ar_image.specs.Sectors.{Address};
+ghost use Rattle.ar_volume.specs.Image.{is_broken, image};
+ghost use Rattle.ar_volume.specs.Sectors.{Address};
 ghost use Rattle.ar_core.specs.Step.{Steps, is_quiet};
 ghost use Rattle.ar_history.specs.Kept.{MayDouble, entry_of};
 ghost use Rattle.ar_history.specs.Operations.{Does, IsRefused, event_of, event_in, entry_asked, is_done};

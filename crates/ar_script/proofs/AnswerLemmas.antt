@@ -1,11 +1,11 @@
 -- What an order and a line leave, once what was answered is told.
 use Rattle.std.proofs.Common.{◌≡◌, sym, subst, refl, Option, Result, Ok, Err, IfErr}
-use Rattle.ar_image.specs.Image.{ArrayState}
-use Rattle.ar_orders.specs.declared.fault.FaultKind.{FaultKind}
-use Rattle.ar_orders.specs.declared.fault.FaultKind.TheVariants.{WriteFault}
-use Rattle.ar_orders.specs.declared.order.Action.{Action}
-use Rattle.ar_orders.specs.declared.order.Order.{Order}
-use Rattle.ar_orders.specs.declared.order.Order.TheVariants.{Act}
+use Rattle.ar_volume.specs.Image.{ArrayState}
+use Rattle.ar_language.specs.declared.fault.FaultKind.{FaultKind}
+use Rattle.ar_language.specs.declared.fault.FaultKind.TheVariants.{WriteFault}
+use Rattle.ar_language.specs.declared.order.Action.{Action}
+use Rattle.ar_language.specs.declared.order.Order.{Order}
+use Rattle.ar_language.specs.declared.order.Order.TheVariants.{Act}
 use Rattle.ar_script.specs.Orders.{Acts, Leaves, Meets}
 
 -- an action that was done stays done where its answer could not be written

@@ -23,7 +23,7 @@ use Rattle.ar_book.proofs.PlaceLemmas.{unit_whole}
 use Rattle.ar_core.specs.declared.views.HomeOf.{HomeOf}
 use Rattle.ar_core.specs.declared.views.HomeOf.TheVariants.{Absent, Outside, Unplaced, At}
 use Rattle.ar_core.specs.Views.{home_of, home_shown}
-use Rattle.ar_image.specs.Sectors.{key_of}
+use Rattle.ar_volume.specs.Sectors.{key_of}
 use Rattle.ar_picture.specs.declared.picture.Held.{Held}
 use Rattle.ar_picture.specs.declared.picture.Unit.{Unit as PictureUnit}
 use Rattle.ar_script.specs.Pictures.{unit_at, units_below, addr_at, is_in, blocks_in, place_of, held_at, AddsOne, AddsHomes, HoldsBlocks}

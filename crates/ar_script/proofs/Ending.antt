@@ -2,18 +2,18 @@
 use Rattle.std.proofs.Common.{◌≡◌, ◌≢◌, ◌⊎◌, inl, inr, ℕ, zero, suc, ◌+◌, ◌-◌, ◌<◌, ◌≤◌, max, Bool, true, false, cond, List, [], ◌∷◌, ◌++◌, length, take, get_or, Option, Some, None, Result, Ok, Err, IfErr, refl, sym, ap, subst, ◌∙◌, append_assoc, append-nil, add-zero, length-append, le_refl, IsErr, arith}
 use Rattle.std.proofs.Math.Seq.{take-append_seam}
 use Rattle.std.proofs.lemmas.List.{get_or-append_right}
-use Rattle.ar_image.specs.Image.{ArrayState}
-use Rattle.ar_orders.specs.declared.fault.Fault.{Fault}
-use Rattle.ar_orders.specs.declared.fault.Fault.TheVariants.{Start, Line}
-use Rattle.ar_orders.specs.declared.fault.FaultKind.{FaultKind}
-use Rattle.ar_orders.specs.declared.fault.FaultKind.TheVariants.{TooManyLines, NoMemory, ReadFault, WriteFault}
-use Rattle.ar_orders.specs.Lines.{Took, AreThere, IsOfStream, IsReached, IsAllTaken, first_of, line_at, line_fault, IsToldOfNext, StopsAt, IsNumbered, IsOfNext, is_write_fault}
+use Rattle.ar_volume.specs.Image.{ArrayState}
+use Rattle.ar_language.specs.declared.fault.Fault.{Fault}
+use Rattle.ar_language.specs.declared.fault.Fault.TheVariants.{Start, Line}
+use Rattle.ar_language.specs.declared.fault.FaultKind.{FaultKind}
+use Rattle.ar_language.specs.declared.fault.FaultKind.TheVariants.{TooManyLines, NoMemory, ReadFault, WriteFault}
+use Rattle.ar_language.specs.Lines.{Took, AreThere, IsOfStream, IsReached, IsAllTaken, first_of, line_at, line_fault, IsToldOfNext, StopsAt, IsNumbered, IsOfNext, is_write_fault}
 use Rattle.ar_script.specs.Orders.{Meets, MeetsLine}
-use Rattle.ar_orders.proofs.Going.{none_there, there_behind}
+use Rattle.ar_language.proofs.Going.{none_there, there_behind}
 use Rattle.ar_script.specs.Ends.{Ends}
 use Rattle.std.specs.declared.io.traits.Read.{Ghosts}
-use Rattle.ar_orders.specs.declared.lines.Lines.{Lines}
-use Rattle.ar_orders.specs.Left.{lines_begun, IsStopped}
+use Rattle.ar_language.specs.declared.lines.Lines.{Lines}
+use Rattle.ar_language.specs.Left.{lines_begun, IsStopped}
 use Rattle.ar_script.specs.Plays.{IsToldAt, IsToldOf, IsThere, IsLostAt, IsUnanswered, NeedsMemory, AreFirst, AreAll, SaysWrong, IsSo, PlaysScript, PlaysAll, PlaysTo}
 use Rattle.ar_script.proofs.Playing.{none_played, met_all, met_or_not}
 

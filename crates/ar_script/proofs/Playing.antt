@@ -1,19 +1,19 @@
 -- One line after another.
 use Rattle.std.proofs.Common.{◌≡◌, ◌⊎◌, inl, inr, ℕ, List, [], ◌∷◌, ◌++◌, Option, Some, None, Result, Ok, Err, refl, sym, subst, ◌∙◌}
 use Rattle.ar_store.proofs.Fills.{accessed_refl}
-use Rattle.ar_image.specs.Image.{ArrayState, geometry_of}
-use Rattle.ar_image.specs.Laws.{places_refl}
+use Rattle.ar_volume.specs.Image.{ArrayState, geometry_of}
+use Rattle.ar_volume.specs.Laws.{places_refl}
 use Rattle.ar_core.specs.Quiet.{LooksAt}
 use Rattle.ar_core.specs.Run.{Turn, Did, Looked, last_of, Meets as MeetsTurn}
 use Rattle.ar_core.proofs.Isolation.{run-isolated, run-more, last_of-more}
-use Rattle.ar_orders.specs.declared.fault.FaultKind.{FaultKind}
-use Rattle.ar_orders.specs.declared.order.Action.{Action}
-use Rattle.ar_orders.specs.declared.order.Order.{Order}
-use Rattle.ar_orders.specs.declared.order.Order.TheVariants.{Act, Ask}
-use Rattle.ar_orders.specs.declared.order.Question.{Question}
-use Rattle.ar_orders.specs.declared.order.Question.TheVariants.{Levels, Home, Groups, Room, Health, Picture, Block}
-use Rattle.ar_orders.specs.Forms.{ReadsLine}
-use Rattle.ar_orders.specs.Lines.{IsLine}
+use Rattle.ar_language.specs.declared.fault.FaultKind.{FaultKind}
+use Rattle.ar_language.specs.declared.order.Action.{Action}
+use Rattle.ar_language.specs.declared.order.Order.{Order}
+use Rattle.ar_language.specs.declared.order.Order.TheVariants.{Act, Ask}
+use Rattle.ar_language.specs.declared.order.Question.{Question}
+use Rattle.ar_language.specs.declared.order.Question.TheVariants.{Levels, Home, Groups, Room, Health, Picture, Block}
+use Rattle.ar_language.specs.Forms.{ReadsLine}
+use Rattle.ar_language.specs.Lines.{IsLine}
 use Rattle.ar_script.specs.Orders.{event_in, Acts, IsLost, Leaves, Looks, Meets}
 use Rattle.ar_script.specs.Plays.{AsksFor, AsksNothing, AreMet, IsLostAt, Plays}
 

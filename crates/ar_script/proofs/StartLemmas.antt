@@ -5,8 +5,8 @@ use Rattle.ar_disks.specs.Disk.{DiskState}
 use Rattle.ar_extents.specs.Changes.{start_fault}
 use Rattle.ar_store.specs.Store.{StoreState}
 use Rattle.ar_store.specs.Forming.{IsFormed, with_group, members_list}
-use Rattle.ar_image.specs.Image.{ArrayState, geometry_of}
-use Rattle.ar_image.specs.Start.{IsStarted}
+use Rattle.ar_volume.specs.Image.{ArrayState, geometry_of}
+use Rattle.ar_volume.specs.Start.{IsStarted}
 
 -- forming groups changes which extents are loose, and no geometry
 formed_geometry : (ms : List Members) (s new : StoreState) → IsFormed s ms new → new.disks.geometry ≡ s.disks.geometry

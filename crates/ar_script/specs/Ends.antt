@@ -1,9 +1,9 @@
 -- How a script ends.
 use Rattle.std.specs.Prelude.{◌≡◌, ◌⊎◌, ℕ, max, false, Result, Err}
-use Rattle.ar_orders.specs.declared.fault.FaultKind.TheVariants.{WriteFault}
-use Rattle.ar_orders.specs.declared.fault.Fault.{Fault}
-use Rattle.ar_orders.specs.declared.fault.Fault.TheVariants.{Line}
-use Rattle.ar_orders.specs.Lines.{is_write_fault}
+use Rattle.ar_language.specs.declared.fault.FaultKind.TheVariants.{WriteFault}
+use Rattle.ar_language.specs.declared.fault.Fault.{Fault}
+use Rattle.ar_language.specs.declared.fault.Fault.TheVariants.{Line}
+use Rattle.ar_language.specs.Lines.{is_write_fault}
 
 -- How a script ends whose lines ended so: as they did, or because what was answered could not be written, which is told of the
 -- last line that was begun, or of the first. A write fault is told so in any case.

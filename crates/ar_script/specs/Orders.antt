@@ -6,19 +6,19 @@ use Rattle.ar_core.specs.Events.{Event, Outcome}
 use Rattle.ar_core.specs.declared.event.EventOf.TheVariants.{Make, Grow, Remove, Cmd, Flush, Demote, Clean, Balance, AddDisk, DiskOut, Replace, Rebuild}
 use Rattle.ar_core.specs.declared.views.Shown.{Shown}
 use Rattle.ar_core.specs.Views.{Shows}
-use Rattle.ar_image.specs.Image.{ArrayState, is_broken, image_at}
+use Rattle.ar_volume.specs.Image.{ArrayState, is_broken, image_at}
 use Rattle.ar_core.specs.Quiet.{LooksAt}
 use Rattle.ar_core.specs.Step.{Steps}
-use Rattle.ar_orders.specs.declared.fault.FaultKind.{FaultKind}
-use Rattle.ar_orders.specs.declared.fault.FaultKind.TheVariants.{NoMemory, WriteFault}
-use Rattle.ar_orders.specs.Forms.{ReadsLine}
-use Rattle.ar_orders.specs.Lines.{IsLine}
-use Rattle.ar_orders.specs.declared.order.Action.{Action}
-use Rattle.ar_orders.specs.declared.order.Action.TheVariants as actions
-use Rattle.ar_orders.specs.declared.order.Order.{Order}
-use Rattle.ar_orders.specs.declared.order.Order.TheVariants.{Act, Ask}
-use Rattle.ar_orders.specs.declared.order.Question.{Question}
-use Rattle.ar_orders.specs.declared.order.Question.TheVariants.{Levels, Home, Groups, Room, Health, Picture, Block}
+use Rattle.ar_language.specs.declared.fault.FaultKind.{FaultKind}
+use Rattle.ar_language.specs.declared.fault.FaultKind.TheVariants.{NoMemory, WriteFault}
+use Rattle.ar_language.specs.Forms.{ReadsLine}
+use Rattle.ar_language.specs.Lines.{IsLine}
+use Rattle.ar_language.specs.declared.order.Action.{Action}
+use Rattle.ar_language.specs.declared.order.Action.TheVariants as actions
+use Rattle.ar_language.specs.declared.order.Order.{Order}
+use Rattle.ar_language.specs.declared.order.Order.TheVariants.{Act, Ask}
+use Rattle.ar_language.specs.declared.order.Question.{Question}
+use Rattle.ar_language.specs.declared.order.Question.TheVariants.{Levels, Home, Groups, Room, Health, Picture, Block}
 use Rattle.ar_picture.specs.Writing.{AddsSome}
 use Rattle.ar_script.specs.Setups.{new_disk_for}
 

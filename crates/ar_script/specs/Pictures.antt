@@ -9,7 +9,7 @@ use Rattle.ar_book.specs.declared.class.Class.{Class}
 use Rattle.ar_book.specs.declared.class.Class.TheVariants.{Free, Mirrored, Parity}
 use Rattle.ar_book.specs.declared.class.Slot.{Slot}
 use Rattle.ar_book.specs.Tables.{Tables, has_unit, unit_in, placed}
-use Rattle.ar_image.specs.Image.{ArrayState}
+use Rattle.ar_volume.specs.Image.{ArrayState}
 use Rattle.ar_core.specs.declared.map.GroupView.{GroupView}
 use Rattle.ar_core.specs.Map.{view_of}
 use Rattle.ar_picture.specs.declared.picture.Class.{Class as PictureClass}

@@ -1,21 +1,21 @@
 -- What a script has an array meet, line by line.
 use Rattle.std.specs.Prelude.{◌≡◌, ◌⊎◌, ⊤, ℕ, ◌+◌, ◌<◌, ◌≤◌, max, List, [], ◌∷◌, length, take, Option, Some, None, Result, Ok, Err, OnOk, IfErr}
 use Rattle.ar_disks.specs.Disk.{DiskState}
-use Rattle.ar_image.specs.Image.{ArrayState, geometry_of}
-use Rattle.ar_image.specs.Start.{IsStarted}
+use Rattle.ar_volume.specs.Image.{ArrayState, geometry_of}
+use Rattle.ar_volume.specs.Start.{IsStarted}
 use Rattle.ar_core.specs.Run.{Turn, Did, Looked, IsRun}
-use Rattle.ar_orders.specs.declared.fault.Fault.{Fault}
-use Rattle.ar_orders.specs.declared.fault.Fault.TheVariants.{Start, Line}
-use Rattle.ar_orders.specs.declared.fault.FaultKind.{FaultKind}
-use Rattle.ar_orders.specs.declared.fault.FaultKind.TheVariants.{TooManyLines, NoMemory, ReadFault, WriteFault}
-use Rattle.ar_orders.specs.declared.order.Order.{Order}
-use Rattle.ar_orders.specs.declared.order.Order.TheVariants.{Act, Ask}
-use Rattle.ar_orders.specs.declared.order.Question.{Question}
+use Rattle.ar_language.specs.declared.fault.Fault.{Fault}
+use Rattle.ar_language.specs.declared.fault.Fault.TheVariants.{Start, Line}
+use Rattle.ar_language.specs.declared.fault.FaultKind.{FaultKind}
+use Rattle.ar_language.specs.declared.fault.FaultKind.TheVariants.{TooManyLines, NoMemory, ReadFault, WriteFault}
+use Rattle.ar_language.specs.declared.order.Order.{Order}
+use Rattle.ar_language.specs.declared.order.Order.TheVariants.{Act, Ask}
+use Rattle.ar_language.specs.declared.order.Question.{Question}
 use Rattle.std.specs.declared.io.traits.Read.{Ghosts}
-use Rattle.ar_orders.specs.declared.lines.Lines.{Lines}
-use Rattle.ar_orders.specs.Forms.{ReadsLine}
-use Rattle.ar_orders.specs.Left.{IsStopped}
-use Rattle.ar_orders.specs.Lines.{line_fault, line_at, IsLine, IsOfStream, Took}
+use Rattle.ar_language.specs.declared.lines.Lines.{Lines}
+use Rattle.ar_language.specs.Forms.{ReadsLine}
+use Rattle.ar_language.specs.Left.{IsStopped}
+use Rattle.ar_language.specs.Lines.{line_fault, line_at, IsLine, IsOfStream, Took}
 use Rattle.ar_script.specs.Orders.{event_in, Looks, TakesMemory}
 
 -- the order is met in this turn, which left the array so: an action is its event, and a question a look at what it asks for alone

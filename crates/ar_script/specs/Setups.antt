@@ -4,7 +4,7 @@ use Rattle.ar_disks.specs.Disk.{DiskState}
 use Rattle.ar_disks.specs.declared.geometry.Geometry.{Geometry}
 use Rattle.ar_disks.specs.Geometry.{extent_len_of}
 use Rattle.ar_disks.specs.Memory.{sound_disk}
-use Rattle.ar_image.specs.Image.{ArrayState, geometry_of}
+use Rattle.ar_volume.specs.Image.{ArrayState, geometry_of}
 use Rattle.ar_script.specs.declared.run.Setup.{Setup}
 
 -- a new disk of a shape: EE in every byte, and no fault

@@ -3,15 +3,15 @@ ghost use Rattle.std.specs.Prelude.{◌≡◌, ◌≢◌, ℕ, ◌+◌, ◌^◌,
 ghost use Rattle.std.specs.Option.{option_to_list};
 ghost use Rattle.ar_book.specs.Book.{TablesAgree};
 ghost use Rattle.ar_book.specs.Tables.{unit_in};
-ghost use Rattle.ar_orders.specs.declared.order.Order.TheVariants.{Ask};
-ghost use Rattle.ar_orders.specs.declared.order.Question.TheVariants.{Picture as PictureAsked};
+ghost use Rattle.ar_language.specs.declared.order.Order.TheVariants.{Ask};
+ghost use Rattle.ar_language.specs.declared.order.Question.TheVariants.{Picture as PictureAsked};
 ghost use Rattle.ar_picture.specs.Writing.{AddsBytes, AddsSome};
 ghost use Rattle.ar_script.specs.Orders.{IsLost};
 ghost use Rattle.ar_script.specs.Pictures.{IsPicture, health_shown, class_shown, group_in, groups_in, unit_at, units_in, addr_at, held_at, AddsOne, AddsHomes, HoldsBlocks};
 
 use ar_core::{Array, Class, GroupView, Health, HomeOf};
 use ar_disks::{Addr, Disk, Host};
-use ar_orders::FaultKind;
+use ar_language::FaultKind;
 use ar_picture::{Group, Held, Picture, UNITS_MAX, Unit, write_map};
 use std::alloc::{AllocError, Global};
 use std::io::Write;

@@ -1,7 +1,7 @@
 // The data of commands.
 ghost use Rattle.std.specs.Prelude.{◌≡◌, ◌<◌, IfOk, OnOk, OnErr, length, replicate};
 
-use ar_orders::Data;
+use ar_language::Data;
 use bytes::{Bytes, BytesMut};
 use std::alloc::{AllocError, Global};
 use std::mem;

@@ -1,5 +1,5 @@
 //! Scripts: lines that make, change, command and show the units of an array and its disks, and the text that answers them. What a
-//! line asks for is told by `ar_orders`.
+//! line asks for is told by `ar_language`.
 #![tactic(auto)]
 
 mod drawing;

@@ -3,9 +3,9 @@ ghost use Rattle.std.specs.Prelude.{◌≡◌, ◌≢◌, ◌≤◌, ◌⊎◌, 
 ghost use Rattle.std.specs.Io.Buffered.{writer_buffer, writer_contents};
 ghost use Rattle.std.specs.Io.KnownBytes.{Keeps};
 ghost use Rattle.ar_extents.specs.Changes.{start_fault};
-ghost use Rattle.ar_orders.specs.Forms.{is_silent};
-ghost use Rattle.ar_orders.specs.Left.{lines_left, lines_begun, IsFresh};
-ghost use Rattle.ar_orders.specs.Lines.{lines_of, is_write_fault as tells_write_fault, AreThere, IsNumbered, IsReached};
+ghost use Rattle.ar_language.specs.Forms.{is_silent};
+ghost use Rattle.ar_language.specs.Left.{lines_left, lines_begun, IsFresh};
+ghost use Rattle.ar_language.specs.Lines.{lines_of, is_write_fault as tells_write_fault, AreThere, IsNumbered, IsReached};
 ghost use Rattle.ar_picture.specs.Writing.{AddsBytes};
 ghost use Rattle.ar_script.specs.Ends.{Ends};
 ghost use Rattle.ar_script.specs.Orders.{MeetsLine, AnswersLine};
@@ -14,7 +14,7 @@ ghost use Rattle.ar_script.specs.Setups.{disks_of};
 
 use crate::runner::Runner;
 use ar_disks::Geometry;
-use ar_orders::{Fault, FaultKind, Lines, next_line, order_in};
+use ar_language::{Fault, FaultKind, Lines, next_line, order_in};
 use std::alloc::Global;
 use std::io::{BufWriter, Read, Write};
 

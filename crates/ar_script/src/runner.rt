@@ -1,7 +1,7 @@
 // What a script runs on: an array, and how it answers an order.
 ghost use Rattle.std.specs.Prelude.{◌≡◌, ◌≢◌, ◌≤◌, IfOk, IfErr, OnOk, OnErr, None, Err};
 ghost use Rattle.ar_extents.specs.Changes.{start_fault};
-ghost use Rattle.ar_image.specs.Start.{IsStarted};
+ghost use Rattle.ar_volume.specs.Start.{IsStarted};
 ghost use Rattle.ar_core.specs.Step.{Steps};
 ghost use Rattle.ar_picture.specs.Writing.{AddsBytes, AddsSome};
 ghost use Rattle.ar_script.specs.Orders.{event_in, Looks, TakesMemory, HasAnswer, IsLost, Leaves};
@@ -14,7 +14,7 @@ use crate::filled::Filled;
 use crate::text::{write_groups, write_health, write_home, write_levels, write_outcome, write_row};
 use ar_core::{Array, CAPACITY_LIMIT, Event, EventOf, NewDisk, Outcome};
 use ar_disks::{Block, Geometry, MemDisk};
-use ar_orders::{Action, Fault, FaultKind, Order, Question};
+use ar_language::{Action, Fault, FaultKind, Order, Question};
 use ar_picture::Picture;
 use std::alloc::{AllocError, Global};
 use std::io::Write;
@@ -35,7 +35,7 @@ pub struct Runner {
 impl Model for Runner {
     ghost use Rattle.std.specs.Prelude.{◌≡◌, length};
     ghost use Rattle.ar_disks.specs.Geometry.{block_len_of};
-    ghost use Rattle.ar_image.specs.Image.{ArrayState, geometry_of};
+    ghost use Rattle.ar_volume.specs.Image.{ArrayState, geometry_of};
 
     ghost Value = { ArrayState };
 

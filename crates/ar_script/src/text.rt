@@ -8,7 +8,7 @@ use ar_core::{
     Rebuild, Refusal, Shown, UnitRefusal,
 };
 use ar_disks::{Addr, Disk};
-use ar_orders::Notation;
+use ar_language::Notation;
 use ar_scsi::{Reply, Status};
 use std::io;
 use std::io::Write;

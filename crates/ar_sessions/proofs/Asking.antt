@@ -9,7 +9,7 @@ use Rattle.ar_scsi.specs.Reply.{check}
 use Rattle.ar_scsi.specs.Sense.{internal_target_failure}
 use Rattle.ar_unit.specs.Unit.{IsGiven, answer}
 use Rattle.ar_unit.specs.Broken.{needs_blocks, is_good, where_broken}
-use Rattle.ar_image.specs.Image.{is_broken}
+use Rattle.ar_volume.specs.Image.{is_broken}
 use Rattle.ar_history.specs.Kept.{KeptState, standing}
 use Rattle.ar_history.specs.Seat.{SeatState}
 use Rattle.ar_history.specs.Serving.{Serves, IsUnrecorded}

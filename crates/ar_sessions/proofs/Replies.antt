@@ -22,8 +22,8 @@ use Rattle.ar_unit.specs.Unit.{UnitState, Absent, Present, Answered, Entry, IsWh
 use Rattle.ar_unit.specs.Broken.{needs_blocks, is_good, where_broken}
 use Rattle.ar_unit.proofs.Laws.{after-whole}
 use Rattle.ar_unit.proofs.Pieces.{length-concat}
-use Rattle.ar_image.specs.Sectors.{Address}
-use Rattle.ar_image.specs.Image.{is_broken}
+use Rattle.ar_volume.specs.Sectors.{Address}
+use Rattle.ar_volume.specs.Image.{is_broken}
 use Rattle.ar_history.specs.History.{replay, entries_at}
 use Rattle.ar_history.specs.Kept.{KeptState, standing, with_attention}
 use Rattle.ar_history.specs.Seat.{SeatState}

@@ -8,8 +8,8 @@ pub use Rattle.ar_history.specs.Kept
 pub use Rattle.ar_history.specs.Serving
 pub use Rattle.ar_history.specs.Operations
 pub use Rattle.ar_core.specs.Step
-pub use Rattle.ar_image.specs.Image
-pub use Rattle.ar_image.specs.Sectors
+pub use Rattle.ar_volume.specs.Image
+pub use Rattle.ar_volume.specs.Sectors
 pub use Rattle.ar_book.specs.Tables
 pub use Rattle.ar_frames.specs.Frame
 pub use Rattle.ar_frames.specs.Port as SessionPort

@@ -3,7 +3,7 @@ use Rattle.std.specs.Prelude.{◌≡◌, ◌⊎◌, ℕ, Bool, true, false, ◌&
 use Rattle.ar_scsi.specs.declared.reply.Reply.{Reply}
 use Rattle.ar_scsi.specs.Reading.{reading}
 use Rattle.ar_unit.specs.Broken.{needs_blocks, is_good}
-use Rattle.ar_image.specs.Image.{is_broken}
+use Rattle.ar_volume.specs.Image.{is_broken}
 use Rattle.ar_history.specs.Kept.{KeptState, MayDouble, exchange_of}
 use Rattle.ar_history.specs.Seat.{SeatState}
 use Rattle.ar_history.specs.Serving.{Serves, Begins, DoesCommand, HasPlace, GrowsNothing}

@@ -1,8 +1,8 @@
 -- Work in the background.
 use Rattle.std.specs.Prelude.{◌≡◌, ℕ, ◌+◌, ◌*◌, Bool, true, false, not, nat_lt, min, if◌then◌else◌, Option, Some, None}
 use Rattle.ar_book.specs.Tables.{free_groups}
-use Rattle.ar_image.specs.Image.{is_broken, image}
-use Rattle.ar_image.specs.Sectors.{Address}
+use Rattle.ar_volume.specs.Image.{is_broken, image}
+use Rattle.ar_volume.specs.Sectors.{Address}
 use Rattle.ar_core.specs.Events.{Outcome}
 use Rattle.ar_core.specs.Step.{Steps}
 use Rattle.ar_core.specs.declared.event.OutcomeOf.TheVariants as outcomes

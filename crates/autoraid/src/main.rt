@@ -7,7 +7,7 @@ mod drawing;
 mod serve;
 mod unit;
 
-use ar_orders::Fault;
+use ar_language::Fault;
 use ar_script::{Runner, Setup, run_on, run_script};
 use command_line::{CommandLineFault, Order, order_in};
 use drawing::{DrawingFault, draw};

@@ -1,6 +1,6 @@
 // Units as the command line names them.
 use ar_disks::Addr;
-use ar_orders::unit_and_number;
+use ar_language::unit_and_number;
 
 /// A unit that is to be made.
 #[derive(Drop)]

@@ -1,5 +1,5 @@
 use Rattle.std.proofs.Common.{rules}
-use Rattle.ar_orders.specs.Left.{lines_left}
+use Rattle.ar_language.specs.Left.{lines_left}
 use Rattle.ar_script.proofs.Ending.{plays_finished, there_ended, told_ended}
 use Rattle.ar_script.proofs.run.answer_all.Goals as goal
 

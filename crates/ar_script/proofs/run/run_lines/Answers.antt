@@ -1,8 +1,8 @@
 use Rattle.std.proofs.Common.{rules, ◌≡◌, ◌∙◌, max, suc, true, false, ◌+◌, ◌≤◌, Ok, Err, IfErr, add-zero, refl, sym, ap, subst, arith}
-use Rattle.ar_orders.specs.declared.fault.Fault.TheVariants.{Line}
-use Rattle.ar_orders.specs.Left.{lines_left, lines_begun, IsStopped}
-use Rattle.ar_orders.proofs.Going.{begun_there}
-use Rattle.ar_orders.specs.Lines.{AreThere, StopsAt, IsOfNext, IsNumbered, is_given, is_lacking}
+use Rattle.ar_language.specs.declared.fault.Fault.TheVariants.{Line}
+use Rattle.ar_language.specs.Left.{lines_left, lines_begun, IsStopped}
+use Rattle.ar_language.proofs.Going.{begun_there}
+use Rattle.ar_language.specs.Lines.{AreThere, StopsAt, IsOfNext, IsNumbered, is_given, is_lacking}
 use Rattle.ar_picture.proofs.Growing.{grows_same, kept_grows, grows_then}
 use Rattle.ar_script.specs.Plays.{PlaysAll, PlaysTo}
 use Rattle.ar_script.proofs.Ending.{plays_none, plays_line, plays_fault, plays_ended, plays_unread, begun_as, begun_within, there_begun, there_given, told_next, told_last, not_write}

@@ -1,7 +1,7 @@
 -- Each turn takes a line, and plays it, and its answer is added to those before.
 use Rattle.std.proofs.Common.{◌≤◌}
 use Rattle.std.specs.Io.Buffered.{writer_contents}
-use Rattle.ar_orders.specs.Left.{lines_left, IsBegunByByte}
+use Rattle.ar_language.specs.Left.{lines_left, IsBegunByByte}
 use Rattle.ar_picture.specs.Writing.{AddsBytes}
 use Rattle.ar_script.specs.Plays.{PlaysAll}
 use Rattle.ar_script.proofs.run.run_lines.Given as goal

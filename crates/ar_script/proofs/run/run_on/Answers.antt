@@ -1,4 +1,4 @@
-use Rattle.ar_orders.specs.Lines.{lines_of}
+use Rattle.ar_language.specs.Lines.{lines_of}
 use Rattle.ar_script.proofs.Ending.{none_begun, there_none}
 use Rattle.ar_script.proofs.run.run_on.Goals as goal
 

@@ -1,4 +1,4 @@
-use Rattle.ar_orders.specs.Left.{lines_left}
+use Rattle.ar_language.specs.Left.{lines_left}
 use Rattle.ar_script.proofs.Ending.{none_begun, there_none}
 use Rattle.ar_script.proofs.run.write_answers.Goals as goal
 

@@ -3,7 +3,7 @@ use Rattle.std.proofs.lemmas.List.{map-id}
 use Rattle.std.proofs.lemmas.Result.{IfOk-at_ok}
 use Rattle.ar_disks.specs.Disk.{DiskState}
 use Rattle.ar_extents.specs.Changes.{start_fault}
-use Rattle.ar_image.specs.Start.{IsStarted}
+use Rattle.ar_volume.specs.Start.{IsStarted}
 use Rattle.ar_script.proofs.FaultLemmas.{ok_before}
 use Rattle.ar_script.specs.Setups.{disks_of}
 use Rattle.ar_script.proofs.runner.start_array.Goals as goal

@@ -1,7 +1,7 @@
 use Rattle.std.proofs.Common.{refl, length, subst}
 use Rattle.ar_core.specs.declared.event.EventOf.TheVariants.{AddDisk as AddDiskEvent}
 use Rattle.ar_core.specs.declared.event.OutcomeOf.TheVariants.{AddDisk as AddDiskOutcome}
-use Rattle.ar_image.specs.Image.{ArrayState}
+use Rattle.ar_volume.specs.Image.{ArrayState}
 use Rattle.ar_core.specs.Step.{Steps}
 use Rattle.ar_core.proofs.Events.{quiet_kept}
 use Rattle.ar_core.proofs.TakingIn.{steps_added}

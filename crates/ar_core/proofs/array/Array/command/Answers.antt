@@ -2,8 +2,8 @@ use Rattle.std.proofs.Common.{◌≡◌, true, false, Bool, ◌&&◌, not, sym, 
 use Rattle.std.specs.Prelude.{◌==◌}
 use Rattle.ar_scsi.specs.Field.{operation_code}
 use Rattle.ar_book.specs.Tables.{has_unit}
-use Rattle.ar_image.specs.Image.{ArrayState, attention_at}
-use Rattle.ar_image.specs.Seen.{IsUnit}
+use Rattle.ar_volume.specs.Image.{ArrayState, attention_at}
+use Rattle.ar_volume.specs.Seen.{IsUnit}
 use Rattle.ar_core.proofs.Commanding.{tells, commands_served, commands_told, commands_absent}
 use Rattle.ar_core.proofs.array.Array.command.Goals as goal
 use Rattle.ar_core.proofs.array.Array.command.Goals.{else-attention-via-then-attention+else-not-is_inquiry, else-attention-via-else-attention}

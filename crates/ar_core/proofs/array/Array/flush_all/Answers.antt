@@ -3,10 +3,10 @@ use Rattle.ar_disks.specs.Geometry.{block_len_of}
 use Rattle.ar_cache.specs.Backing.{stored}
 use Rattle.ar_cache.specs.Cache.{CacheState}
 use Rattle.ar_store.specs.Slots.{stands}
-use Rattle.ar_image.specs.Image.{ArrayState, seen_at, image_at}
+use Rattle.ar_volume.specs.Image.{ArrayState, seen_at, image_at}
 use Rattle.ar_core.proofs.Events.{padded_follows, unit_follows}
-use Rattle.ar_image.proofs.Images.{image_same}
-use Rattle.ar_image.proofs.Seeing.{seen_empty, unit_same}
+use Rattle.ar_volume.proofs.Images.{image_same}
+use Rattle.ar_volume.proofs.Seeing.{seen_empty, unit_same}
 use Rattle.ar_core.proofs.array.Array.flush_all.Goals as goal
 
 pub invariant_of-self : goal.invariant_of-self

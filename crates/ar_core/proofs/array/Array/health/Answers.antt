@@ -1,7 +1,7 @@
 use Rattle.std.proofs.Common.{subst}
 use Rattle.ar_unit.specs.Unit.{IsWhole}
-use Rattle.ar_image.specs.Image.{ArrayState, image}
-use Rattle.ar_image.proofs.Images.{image_whole}
+use Rattle.ar_volume.specs.Image.{ArrayState, image}
+use Rattle.ar_volume.proofs.Images.{image_whole}
 use Rattle.ar_core.proofs.array.Array.health.Goals as goal
 
 pub returns-clause-whole : goal.returns-clause-whole

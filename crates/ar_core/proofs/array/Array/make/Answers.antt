@@ -2,7 +2,7 @@ use Rattle.std.proofs.Common.{sym, ap, subst, ◌∙◌}
 use Rattle.ar_disks.specs.Geometry.{block_len_of}
 use Rattle.ar_core.specs.declared.event.EventOf.TheVariants.{Make as MakeEvent}
 use Rattle.ar_core.specs.declared.event.OutcomeOf.TheVariants.{Make as MakeOutcome}
-use Rattle.ar_image.specs.Image.{ArrayState}
+use Rattle.ar_volume.specs.Image.{ArrayState}
 use Rattle.ar_core.specs.Step.{Steps}
 use Rattle.ar_core.proofs.Events.{steps_made, padded_made}
 use Rattle.ar_core.proofs.array.Array.make.Goals as goal

@@ -5,9 +5,9 @@ use Rattle.ar_scsi.specs.Data.{capacity_data}
 use Rattle.ar_scsi.specs.Reply.{good}
 use Rattle.ar_unit.specs.Unit.{obeyed, IsGiven}
 use Rattle.ar_unit.specs.Broken.{broken_obeyed}
-use Rattle.ar_image.specs.Image.{unit_sectors, attention_at}
+use Rattle.ar_volume.specs.Image.{unit_sectors, attention_at}
 use Rattle.ar_core.specs.Served.{Serves, Settles}
-use Rattle.ar_image.proofs.Images.{length-unit_sectors}
+use Rattle.ar_volume.proofs.Images.{length-unit_sectors}
 use Rattle.ar_core.proofs.Serving.{serves_quiet, settles_same}
 use Rattle.ar_core.proofs.Short.{capacity_few, given_few, inquiry_few}
 use Rattle.ar_core.proofs.array.Array.obey.Goals as goal

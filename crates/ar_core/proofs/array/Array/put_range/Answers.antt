@@ -1,12 +1,12 @@
 use Rattle.std.proofs.Common.{◌<◌, ◌*◌, ◌+◌, subst, sym, ap, ◌∙◌, arith}
 use Rattle.ar_disks.specs.declared.geometry.Geometry.{Geometry}
 use Rattle.ar_disks.specs.Geometry.{sectors_of, block_len_of}
-use Rattle.ar_image.specs.Image.{ArrayState, is_broken, geometry_of}
+use Rattle.ar_volume.specs.Image.{ArrayState, is_broken, geometry_of}
 use Rattle.ar_cache.specs.Backing.{InTurn, StopsInTurn}
-use Rattle.ar_image.specs.Sectors.{keys_in}
-use Rattle.ar_image.specs.Storing.{BreaksBlock, Overwrites, PutsBlock, PutsBlocks, ReadsBlock, StopsOver, StopsPutting}
-use Rattle.ar_image.specs.Following.{Follows}
-use Rattle.ar_image.specs.Seen.{IsUnit, Writes}
+use Rattle.ar_volume.specs.Sectors.{keys_in}
+use Rattle.ar_volume.specs.Storing.{BreaksBlock, Overwrites, PutsBlock, PutsBlocks, ReadsBlock, StopsOver, StopsPutting}
+use Rattle.ar_volume.specs.Following.{Follows}
+use Rattle.ar_volume.specs.Seen.{IsUnit, Writes}
 use Rattle.ar_core.proofs.Serving.{key_known, padded_written, range_written}
 use Rattle.ar_core.proofs.array.Array.put_range.Goals as goal
 

@@ -1,8 +1,8 @@
 use Rattle.std.proofs.Common.{◌≡◌, true, false, ◌+◌, nat_lt, Ok, ap, sym, ◌∙◌}
 use Rattle.ar_scsi.specs.declared.command.Command.TheVariants.{Read}
 use Rattle.ar_scsi.specs.Sense.{internal_target_failure, logical_block_address_out_of_range}
-use Rattle.ar_image.specs.Image.{is_broken}
-use Rattle.ar_image.proofs.Images.{length-unit_sectors}
+use Rattle.ar_volume.specs.Image.{is_broken}
+use Rattle.ar_volume.proofs.Images.{length-unit_sectors}
 use Rattle.ar_core.proofs.Serving.{serves_check, settles_check, settles_read, read_past, read_within, not_below}
 use Rattle.ar_core.proofs.array.Array.read.Goals as goal
 

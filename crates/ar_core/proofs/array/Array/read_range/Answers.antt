@@ -9,12 +9,12 @@ use Rattle.ar_scsi.specs.declared.reply.Reply.{Reply}
 use Rattle.ar_scsi.specs.declared.reply.Status.{Status}
 use Rattle.ar_scsi.specs.declared.reply.Status.TheVariants.{Good, CheckCondition, Busy}
 use Rattle.ar_unit.specs.Unit.{IsGiven, leaving}
-use Rattle.ar_image.specs.declared.transfer.Transfer.TheVariants as transfers
-use Rattle.ar_image.specs.Image.{ArrayState, is_broken, geometry_of, seen_at}
-use Rattle.ar_image.specs.Following.{Follows}
+use Rattle.ar_volume.specs.declared.transfer.Transfer.TheVariants as transfers
+use Rattle.ar_volume.specs.Image.{ArrayState, is_broken, geometry_of, seen_at}
+use Rattle.ar_volume.specs.Following.{Follows}
 use Rattle.std.specs.List.{concat}
-use Rattle.ar_image.specs.Sectors.{sectors_in, unit_block}
-use Rattle.ar_image.specs.Seen.{SameSeen, present_at, sectors_read}
+use Rattle.ar_volume.specs.Sectors.{sectors_in, unit_block}
+use Rattle.ar_volume.specs.Seen.{SameSeen, present_at, sectors_read}
 use Rattle.ar_core.specs.Served.{Serves}
 use Rattle.ar_core.proofs.Events.{padded_follows}
 use Rattle.ar_core.proofs.Serving.{serves_read, sectors_read-some}

@@ -4,7 +4,7 @@ use Rattle.ar_scsi.specs.declared.sense.Sense.{Sense}
 use Rattle.ar_scsi.specs.Reading.{reading}
 use Rattle.ar_unit.specs.Unit.{obeyed}
 use Rattle.ar_unit.specs.Broken.{broken_obeyed}
-use Rattle.ar_image.specs.Image.{unit_sectors, attention_at}
+use Rattle.ar_volume.specs.Image.{unit_sectors, attention_at}
 use Rattle.ar_core.specs.Served.{Serves}
 use Rattle.ar_core.proofs.Serving.{serves_check, settles_check}
 use Rattle.ar_core.proofs.array.Array.serve.Goals as goal

@@ -1,6 +1,6 @@
 use Rattle.std.proofs.Common.{map, sym, ap, ◌∙◌}
 use Rattle.ar_disks.specs.Geometry.{block_len_of}
-use Rattle.ar_image.proofs.Seeing.{begun_geometry, begun_padded}
+use Rattle.ar_volume.proofs.Seeing.{begun_geometry, begun_padded}
 use Rattle.ar_core.proofs.array.Array.start.Goals as goal
 
 pub invariant_of-result : goal.invariant_of-result

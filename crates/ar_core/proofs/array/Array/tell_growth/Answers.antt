@@ -1,6 +1,6 @@
 use Rattle.std.proofs.Common.{ap, sym, ◌∙◌}
 use Rattle.ar_disks.specs.Geometry.{block_len_of}
-use Rattle.ar_image.specs.Image.{ArrayState, geometry_of}
+use Rattle.ar_volume.specs.Image.{ArrayState, geometry_of}
 use Rattle.ar_core.proofs.Events.{padded_cleared}
 use Rattle.ar_core.proofs.array.Array.tell_growth.Goals as goal
 

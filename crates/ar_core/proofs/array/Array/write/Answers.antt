@@ -2,8 +2,8 @@ use Rattle.std.proofs.Common.{◌≡◌, true, false, ◌+◌, ◌*◌, nat_lt, 
 use Rattle.std.specs.Prelude.{◌==◌}
 use Rattle.ar_scsi.specs.declared.command.Command.TheVariants.{Write}
 use Rattle.ar_scsi.specs.Sense.{logical_block_address_out_of_range, data_phase_error}
-use Rattle.ar_image.specs.Image.{is_broken, attention_at}
-use Rattle.ar_image.proofs.Images.{length-unit_sectors}
+use Rattle.ar_volume.specs.Image.{is_broken, attention_at}
+use Rattle.ar_volume.proofs.Images.{length-unit_sectors}
 use Rattle.ar_core.proofs.Serving.{serves_check, serves_write, settles_check, settles_write, write_past, write_wrong, write_within, same_false, same_true, not_below}
 use Rattle.ar_core.proofs.array.Array.write.Goals as goal
 

@@ -1,5 +1,5 @@
 use Rattle.std.proofs.Common.{◌∙◌}
-use Rattle.ar_image.specs.Laws.{follows_then}
+use Rattle.ar_volume.specs.Laws.{follows_then}
 use Rattle.ar_core.proofs.Serving.{writes_then}
 use Rattle.ar_core.proofs.array.Array.write_range.Goals as goal
 

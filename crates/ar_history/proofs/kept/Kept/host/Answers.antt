@@ -6,7 +6,7 @@ use Rattle.ar_history.specs.declared.entry.Exchange.{Exchange}
 use Rattle.ar_history.specs.Kept.{KeptState, IsKept}
 use Rattle.ar_history.specs.Seat.{SeatState}
 use Rattle.ar_history.specs.Serving.{Serves, LeavesBlocks}
-use Rattle.ar_image.specs.Image.{ArrayState}
+use Rattle.ar_volume.specs.Image.{ArrayState}
 use Rattle.ar_history.proofs.Commands.{unrecorded_lost, serves_from}
 use Rattle.ar_history.proofs.Memory.{begun_does, leaves_blocks}
 use Rattle.ar_history.proofs.kept.Kept.host.Goals as goal

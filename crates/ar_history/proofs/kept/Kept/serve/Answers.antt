@@ -2,7 +2,7 @@ use Rattle.std.proofs.Common.{rules, ◌≡◌, ◌++◌, ◌∷◌, [], false, 
 use Rattle.std.specs.Prelude.{count_by}
 use Rattle.ar_scsi.specs.declared.reply.Reply.{Reply}
 use Rattle.ar_scsi.specs.Reply.{busy}
-use Rattle.ar_image.specs.Image.{is_broken}
+use Rattle.ar_volume.specs.Image.{is_broken}
 use Rattle.ar_core.specs.Step.{Steps, is_busy}
 use Rattle.ar_core.specs.declared.event.EventOf.TheVariants.{Cmd as CmdEvent}
 use Rattle.ar_core.specs.declared.event.OutcomeOf.TheVariants.{Cmd as CmdOutcome}

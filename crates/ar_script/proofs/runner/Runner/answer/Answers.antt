@@ -1,7 +1,7 @@
 use Rattle.std.proofs.Common.{◌≡◌, IfErr, sym, subst, rules}
 use Rattle.std.proofs.lemmas.Result.{IfOk-at_ok}
-use Rattle.ar_orders.specs.declared.fault.FaultKind.TheVariants.{WriteFault}
-use Rattle.ar_orders.specs.declared.order.Order.{Order}
+use Rattle.ar_language.specs.declared.fault.FaultKind.TheVariants.{WriteFault}
+use Rattle.ar_language.specs.declared.order.Order.{Order}
 use Rattle.ar_script.proofs.FaultLemmas.{ok_before}
 use Rattle.ar_script.specs.Orders.{Acts, Leaves}
 use Rattle.ar_script.proofs.AnswerLemmas.{acted}

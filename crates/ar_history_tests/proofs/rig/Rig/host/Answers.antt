@@ -1,8 +1,0 @@
-use Rattle.std.proofs.Common.{◌∙◌}
-use Rattle.ar_history_tests.proofs.Seats.{order_kept}
-use Rattle.ar_history_tests.proofs.rig.Rig.host.Goals as goal
-
-pub invariant_of-self : goal.invariant_of-self
-invariant_of-self g c = record {
-  order = order_kept c.args.self.now.seats c.from.result c.host.new.seat c.index-self-from.result c.host.ensures.host ∙ c.args.self.now.order;
-}

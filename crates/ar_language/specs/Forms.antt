@@ -1,0 +1,273 @@
+-- What the words of a line ask for, by the first of them. The words after it are counted from 0.
+use Rattle.std.specs.Prelude.{◌≡◌, ◌⊎◌, ℕ, ◌-◌, ◌*◌, ◌<◌, ◌^◌, ◌++◌, ◌==◌, Bool, true, List, [], ◌∷◌, length, replicate, slice_index_or, codes, Option, Some, None, MatchOption, Result, Ok, Err, MatchResult, MatchBool, bytes_eq, map}
+use Rattle.std.specs.List.{list_any, slice_split}
+use Rattle.std.specs.Borrow.{Bor}
+use Rattle.std.specs.Str.Parse.{digits_value}
+use Rattle.hex.specs.Hex.{decode_of}
+use Rattle.ar_disks.specs.declared.address.Addr.{Addr}
+use Rattle.ar_scsi.specs.declared.command.Command.{Command}
+use Rattle.ar_scsi.specs.declared.command.Command.TheVariants.{TestReady, Inquiry, Capacity, Read, Write}
+use Rattle.ar_scsi.specs.Block.{Says}
+use Rattle.ar_language.specs.Blocks.{test_unit_ready_block, inquiry_block, read_capacity_block, read_10_block, read_16_block, write_10_block, write_16_block}
+use Rattle.ar_language.specs.Words.{IsNumber, IsBytePair, IsBlockWord}
+use Rattle.ar_language.specs.declared.fault.FaultKind.{FaultKind}
+use Rattle.ar_language.specs.declared.fault.FaultKind.TheVariants.{BadArgument, UnknownWord}
+use Rattle.ar_language.specs.declared.order.Action.TheVariants as actions
+use Rattle.ar_language.specs.declared.order.Data.{Data}
+use Rattle.ar_language.specs.declared.order.Notation.{Notation}
+use Rattle.ar_language.specs.declared.order.Notation.TheVariants.{Bytes, Runs}
+use Rattle.ar_language.specs.declared.order.Order.{Order}
+use Rattle.ar_language.specs.declared.order.Order.TheVariants.{Act, Ask}
+use Rattle.ar_language.specs.declared.order.Question.TheVariants as questions
+
+-- a `&[&str]`
+abbrev pub Words : Type 0
+Words = List (Bor (List ℕ))
+
+-- a word's text, empty past the end
+abbrev pub word : Words → ℕ → List ℕ
+word words i = (slice_index_or words i (record { ref_ptr = (0, 0); now = [] })).now
+
+-- the number that digits say
+abbrev pub value : List ℕ → ℕ
+value digits = digits_value 10 digits
+
+-- a number that fits so many bits
+pub record IsNumberOf (bits : ℕ) (digits : List ℕ) : Type 0 where
+  pub number : IsNumber digits
+  pub fits : value digits < 2 ^ bits
+
+-- the byte that two digits say
+abbrev pub IsByte : List ℕ → ℕ → Type 0
+IsByte digits byte = decode_of digits ≡ Ok (byte ∷ [])
+
+-- the numbers of a host and of a LUN
+pub record AreAddress (host lun : List ℕ) : Type 0 where
+  pub host_number : IsNumber host
+  pub host_below : value host < 4
+  pub lun_number : IsNumberOf 8 lun
+
+-- and the address that they are
+pub record IsAddress (host lun : List ℕ) (addr : Addr) : Type 0 where
+  pub host_same : addr.host.number ≡ value host
+  pub lun_same : addr.lun ≡ value lun
+
+-- An answer for words of this form alone, and one that they ask for.
+abbrev pub Gives : {T : Type 0} → Type 0 → (T → Type 0) → Option T → Type 0
+Gives Form Asked result = MatchOption result (¬ Form) (λ order. Form × Asked order)
+
+-- a unit, and nothing more
+pub record HasUnit (words : Words) : Type 0 where
+  pub count : length words ≡ 2
+  pub address : AreAddress (word words 0) (word words 1)
+
+-- a unit and a number of so many bits
+pub record HasUnitAndNumber (bits : ℕ) (words : Words) : Type 0 where
+  pub count : length words ≡ 3
+  pub address : AreAddress (word words 0) (word words 1)
+  pub number : IsNumberOf bits (word words 2)
+
+-- the unit that the first two words name
+abbrev pub NamesUnit : Words → Addr → Type 0
+NamesUnit words addr = IsAddress (word words 0) (word words 1) addr
+
+-- an order about that unit
+abbrev pub AboutUnit : Words → (Addr → Order) → Order → Type 0
+AboutUnit words order_at order = (addr : Addr) × NamesUnit words addr × (order ≡ order_at addr)
+
+-- a command to that unit: this block, which says this command, with these data
+abbrev pub Commands : Words → List ℕ → Command → Data → Notation → Order → Type 0
+Commands words cdb command sent notation order =
+    (addr : Addr) × NamesUnit words addr × Says cdb command × (order ≡ Act (actions.Command addr cdb sent notation))
+
+-- no data
+abbrev pub nothing : Data
+nothing = record { len = 0; byte = 0 }
+
+-- `make H L SECTORS`
+abbrev pub AsksMake : Words → Order → Type 0
+AsksMake words = AboutUnit words (λ addr. Act (actions.Make addr (value (word words 2))))
+
+-- `grow H L SECTORS`
+abbrev pub AsksGrow : Words → Order → Type 0
+AsksGrow words = AboutUnit words (λ addr. Act (actions.Grow addr (value (word words 2))))
+
+-- `drop H L`
+abbrev pub AsksDrop : Words → Order → Type 0
+AsksDrop words = AboutUnit words (λ addr. Act (actions.Remove addr))
+
+-- `tur H L`
+abbrev pub AsksTur : Words → Order → Type 0
+AsksTur words = Commands words test_unit_ready_block TestReady nothing Bytes
+
+-- `inquiry H L LEN`
+abbrev pub AsksInquiry : Words → Order → Type 0
+AsksInquiry words = Commands words (inquiry_block (value (word words 2))) (Inquiry (value (word words 2))) nothing Bytes
+
+-- `capacity H L`
+abbrev pub AsksCapacity : Words → Order → Type 0
+AsksCapacity words = Commands words read_capacity_block Capacity nothing Bytes
+
+-- a unit, an address and a number of sectors
+pub record HasSectors (Lba : List ℕ → Type 0) (words : Words) : Type 0 where
+  pub count : length words ≡ 4
+  pub address : AreAddress (word words 0) (word words 1)
+  pub lba : Lba (word words 2)
+  pub sectors : IsNumberOf 16 (word words 3)
+
+-- `read H L LBA COUNT` and `read16 H L LBA COUNT`, by the blocks of READ (10) and of READ (16)
+abbrev pub AsksRead : (ℕ → ℕ → List ℕ) → Words → Order → Type 0
+AsksRead block words =
+    Commands words (block (value (word words 2)) (value (word words 3))) (Read (value (word words 2)) (value (word words 3))) nothing Runs
+
+-- the words of a WRITE, which `fua` may end
+abbrev pub IsForced : Words → Type 0
+IsForced words = (length words ≡ 6) × (word words 5 ≡ codes "fua")
+
+-- a unit, an address, a number of sectors and a byte, and perhaps `fua`
+pub record HasWritten (Lba : List ℕ → Type 0) (words : Words) : Type 0 where
+  pub count : (length words ≡ 5) ⊎ IsForced words
+  pub address : AreAddress (word words 0) (word words 1)
+  pub lba : Lba (word words 2)
+  pub sectors : IsNumberOf 16 (word words 3)
+  pub filled : IsBytePair (word words 4)
+
+-- `write H L LBA COUNT BYTE`, and the same with `fua`, by the block of WRITE (10); `write16` likewise, by that of WRITE (16)
+abbrev pub AsksWrite : (ℕ → ℕ → Bool → List ℕ) → Words → Order → Type 0
+AsksWrite block words order =
+    (byte : ℕ) × IsByte (word words 4) byte
+    × Commands words (block (value (word words 2)) (value (word words 3)) (length words == 6))
+    (Write (value (word words 2)) (value (word words 3)) (length words == 6)) (record { len = value (word words 3) * 512; byte = byte }) Runs order
+
+-- a unit and a command block, and perhaps a number of bytes and their value
+pub record HasBlock (words : Words) : Type 0 where
+  pub count : (length words ≡ 3) ⊎ ((length words ≡ 5) × IsNumberOf 16 (word words 3) × IsBytePair (word words 4))
+  pub address : AreAddress (word words 0) (word words 1)
+  pub block : IsBlockWord (word words 2)
+
+-- the block that a word says, with zeros after its bytes
+abbrev pub IsBlock : List ℕ → List ℕ → Type 0
+IsBlock digits cdb = (bytes : List ℕ) × (decode_of digits ≡ Ok bytes) × (cdb ≡ bytes ++ replicate (16 - length bytes) 0)
+
+-- the data of a command block: none, or so many bytes of one value
+abbrev pub IsSent : Words → Data → Type 0
+IsSent words sent =
+    ((length words ≡ 3) × (sent ≡ nothing))
+    ⊎ ((length words ≡ 5) × (sent.len ≡ value (word words 3)) × IsByte (word words 4) sent.byte)
+
+-- `cdb H L HEX` and `cdb H L HEX COUNT BYTE`
+abbrev pub AsksBlock : Words → Order → Type 0
+AsksBlock words order =
+    (addr : Addr) × (cdb : List ℕ) × (sent : Data) × NamesUnit words addr × IsBlock (word words 2) cdb × IsSent words sent
+    × (order ≡ Act (actions.Command addr cdb sent Bytes))
+
+-- `levels H L`
+abbrev pub AsksLevels : Words → Order → Type 0
+AsksLevels words = AboutUnit words (λ addr. Ask (questions.Levels addr))
+
+-- `home H L RB`
+abbrev pub AsksHome : Words → Order → Type 0
+AsksHome words = AboutUnit words (λ addr. Ask (questions.Home addr (value (word words 2))))
+
+-- a disk, an extent and a row
+pub record HasRow (words : Words) : Type 0 where
+  pub count : length words ≡ 3
+  pub disk : IsNumberOf 8 (word words 0)
+  pub extent : IsNumberOf 16 (word words 1)
+  pub row : IsNumberOf 16 (word words 2)
+
+-- `block D E R`
+abbrev pub AsksRow : Words → Order → Type 0
+AsksRow words order = order ≡ Ask (questions.Block (value (word words 0)) (value (word words 1)) (value (word words 2)))
+
+-- a disk, and nothing more
+pub record HasDisk (words : Words) : Type 0 where
+  pub count : length words ≡ 1
+  pub disk : IsNumberOf 8 (word words 0)
+
+-- `out D`
+abbrev pub AsksOut : Words → Order → Type 0
+AsksOut words order = order ≡ Act (actions.DiskOut (value (word words 0)))
+
+-- `replace D`
+abbrev pub AsksReplace : Words → Order → Type 0
+AsksReplace words order = order ≡ Act (actions.Replace (value (word words 0)))
+
+-- it is the number of a disk
+abbrev pub IsDisk : Words → ℕ → Type 0
+IsDisk words disk = disk ≡ value (word words 0)
+
+-- What a word and the words after it are answered with: an order that they ask for, where they have this form, and else that they
+-- are bad arguments.
+abbrev pub Answers : Type 0 → (Order → Type 0) → Result Order FaultKind → Type 0
+Answers Form Asked result = MatchResult result (λ order. Form × Asked order) (λ kind. (kind ≡ BadArgument) × (¬ Form))
+
+-- the same for a word that stands alone
+abbrev pub Alone : Words → Order → Result Order FaultKind → Type 0
+Alone words order = Answers (length words ≡ 0) (λ given. given ≡ order)
+
+-- the words about the whole array and those that ask to see something, and any other
+abbrev pub ReadsArrayOrder : List ℕ → Words → Result Order FaultKind → Type 0
+ReadsArrayOrder name words result =
+    MatchBool (bytes_eq name (codes "flush")) (Alone words (Act actions.Flush) result) (
+    MatchBool (bytes_eq name (codes "demote")) (Alone words (Act actions.Demote) result) (
+    MatchBool (bytes_eq name (codes "clean")) (Alone words (Act actions.Clean) result) (
+    MatchBool (bytes_eq name (codes "balance")) (Alone words (Act actions.Balance) result) (
+    MatchBool (bytes_eq name (codes "add")) (Alone words (Act actions.AddDisk) result) (
+    MatchBool (bytes_eq name (codes "out")) (Answers (HasDisk words) (AsksOut words) result) (
+    MatchBool (bytes_eq name (codes "replace")) (Answers (HasDisk words) (AsksReplace words) result) (
+    MatchBool (bytes_eq name (codes "rebuild")) (Alone words (Act actions.Rebuild) result) (
+    MatchBool (bytes_eq name (codes "levels")) (Answers (HasUnit words) (AsksLevels words) result) (
+    MatchBool (bytes_eq name (codes "home")) (Answers (HasUnitAndNumber 32 words) (AsksHome words) result) (
+    MatchBool (bytes_eq name (codes "groups")) (Alone words (Ask questions.Groups) result) (
+    MatchBool (bytes_eq name (codes "room")) (Alone words (Ask questions.Room) result) (
+    MatchBool (bytes_eq name (codes "health")) (Alone words (Ask questions.Health) result) (
+    MatchBool (bytes_eq name (codes "picture")) (Alone words (Ask questions.Picture) result) (
+    MatchBool (bytes_eq name (codes "block")) (Answers (HasRow words) (AsksRow words) result) (
+    result ≡ Err UnknownWord)))))))))))))))
+
+-- the words of commands, and those
+abbrev pub ReadsCommand : List ℕ → Words → Result Order FaultKind → Type 0
+ReadsCommand name words result =
+    MatchBool (bytes_eq name (codes "tur")) (Answers (HasUnit words) (AsksTur words) result) (
+    MatchBool (bytes_eq name (codes "inquiry")) (Answers (HasUnitAndNumber 16 words) (AsksInquiry words) result) (
+    MatchBool (bytes_eq name (codes "capacity")) (Answers (HasUnit words) (AsksCapacity words) result) (
+    MatchBool (bytes_eq name (codes "read")) (Answers (HasSectors (IsNumberOf 32) words) (AsksRead read_10_block words) result) (
+    MatchBool (bytes_eq name (codes "write")) (Answers (HasWritten (IsNumberOf 32) words) (AsksWrite write_10_block words) result) (
+    MatchBool (bytes_eq name (codes "read16")) (Answers (HasSectors IsNumber words) (AsksRead read_16_block words) result) (
+    MatchBool (bytes_eq name (codes "write16")) (Answers (HasWritten IsNumber words) (AsksWrite write_16_block words) result) (
+    MatchBool (bytes_eq name (codes "cdb")) (Answers (HasBlock words) (AsksBlock words) result) (
+    ReadsArrayOrder name words result))))))))
+
+-- the words that there are, and any other
+abbrev pub Reads : List ℕ → Words → Result Order FaultKind → Type 0
+Reads name words result =
+    MatchBool (bytes_eq name (codes "make")) (Answers (HasUnitAndNumber 32 words) (AsksMake words) result) (
+    MatchBool (bytes_eq name (codes "grow")) (Answers (HasUnitAndNumber 32 words) (AsksGrow words) result) (
+    MatchBool (bytes_eq name (codes "drop")) (Answers (HasUnit words) (AsksDrop words) result) (
+    ReadsCommand name words result)))
+
+-- an order is something that is asked for
+abbrev pub asked : Result Order FaultKind → Result (Option Order) FaultKind
+asked (Ok order) = Ok (Some order)
+asked (Err kind) = Err kind
+
+-- the words of a line, the first of which names what is asked for
+abbrev pub ReadsNamed : Words → Result (Option Order) FaultKind → Type 0
+ReadsNamed [] result = result ≡ Ok None
+ReadsNamed (name ∷ words) result = (read : Result Order FaultKind) × Reads name.now words read × (result ≡ asked read)
+
+-- the same, where none may be empty
+abbrev pub ReadsWords : Words → Result (Option Order) FaultKind → Type 0
+ReadsWords words result = MatchBool (list_any (λ text. length text.now == 0) words) (result ≡ Err BadArgument) (ReadsNamed words result)
+
+-- an empty line, or one that `#` begins
+abbrev pub is_silent : List ℕ → Bool
+is_silent [] = true
+is_silent (byte ∷ bytes) = byte == 35
+
+-- What a line asks for: nothing, or what its words do, which one space parts.
+abbrev pub ReadsLine : List ℕ → Result (Option Order) FaultKind → Type 0
+ReadsLine line result =
+    MatchBool (is_silent line) (result ≡ Ok None)
+    ((words : Words) × (map (λ text. text.now) words ≡ slice_split (λ byte. byte == 32) line) × ReadsWords words result)

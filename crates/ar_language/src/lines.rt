@@ -1,0 +1,274 @@
+// The lines of a script, read in large pieces.
+ghost use Rattle.std.specs.Prelude.{◌≡◌, ◌+◌, if◌then◌else◌, IfOk, IfSome, IsTrue, is_some, ◌≢◌, ◌==◌, ◌&&◌, ◌||◌, not, true, false, length, ◌-◌, ◌≤◌, ◌<◌, ◌++◌, [], ◌∷◌, None, OnOk, IfErr, OnErr, unwrap_or, vec_len, vec_capacity};
+ghost use Rattle.std.specs.List.{list_all, prefix_len};
+ghost use Rattle.std.specs.Io.Buffered.{reader_buffer, reader_capacity, reader_inner, writer_buffer};
+ghost use Rattle.ar_language.specs.Lines.{lines_of, Took, IsPart, IsFirst, IsLacking, IsFaultFrom, IsUnasked, is_printable, IsLine, front_of, is_bad_next, is_given, is_lacking, part_fault, with_bad};
+
+use crate::{Fault, FaultKind};
+use std::alloc::Global;
+use std::io::{BufRead, BufReader, BufWriter, Read, Write};
+use std::{io, str};
+
+/// Bytes of a line at most, without the one that ends it.
+const LINE_MAX: usize = 4_096;
+
+/// Lines of a script at most.
+const LINES_MAX: u32 = 1_000_000;
+
+/// The lines of a script, one at a time.
+#[derive(Drop)]
+pub struct Lines<R: Read + Drop> {
+    source: BufReader<R>,
+    /// The line that was given last, or what was taken of the next one, once that is begun.
+    line: Vec<u8>,
+    given: u32,
+    is_begun: bool,
+    is_awaited: bool,
+    is_at_end: bool,
+    ghost few: { given + (if is_begun then 1 else 0) ≤ 1000000 },
+    ghost whole: { IsLine line.items },
+    ghost room: { 4096 ≤ vec_capacity line },
+}
+
+impl<R: Read + Drop> Lines<R> {
+    ghost use Rattle.ar_language.specs.Left.{bytes_read, lines_begun, lines_left, IsRefused, IsFresh};
+
+    /// All lines of the reader, of which none is read yet. It fails where memory is refused. No other call takes memory.
+    pub fn new(alloc: Global, reader: R) -> io::Result<Lines<R>>
+        ensures fresh { IfOk result IsFresh }
+        ensures unasked { IfOk result (λ lines. reader_inner lines.source ≡ reader) }
+        ensures all { IfOk result (λ lines. lines_left lines ≡ lines_of (R.remaining reader)) }
+        ensures room { IfOk result (λ lines. vec_capacity lines.line ≡ 4096) }
+        ensures piece { IfOk result (λ lines. reader_capacity lines.source ≡ 8192) }
+    {
+        let line = Vec::with_capacity(alloc, LINE_MAX)?;
+        let source = BufReader::new(alloc, reader)?;
+        Ok(Lines {
+            source,
+            line,
+            given: 0,
+            is_begun: false,
+            is_awaited: false,
+            is_at_end: false,
+        })
+    }
+
+    /// How many lines were begun: those that were given, and one of which something was read.
+    pub fn number(&self) -> u32
+        ensures number { result ≡ lines_begun self.now }
+        ensures few { result ≤ 1000000 }
+    {
+        self.given + u32::from(self.is_begun)
+    }
+
+    /// Whether the next line has to be waited for: what was read of it is taken, and hasn't ended it.
+    pub fn is_awaited(&self) -> bool
+        ensures { result ≡ self.now.is_awaited }
+    {
+        self.is_awaited
+    }
+
+    /// Goes on to the next line, if what was read holds it whole, and says whether it does. The input isn't asked. Without a line, it
+    /// has to be waited for (`is_awaited`), or none is left. Where a line is refused, it stays the next one.
+    pub fn advance(&mut self) -> Result<bool, Fault>
+        ensures unasked { IsUnasked self.old.source self.new.source }
+        ensures given { is_given result ≡ true
+            → IsFirst self.old.is_at_end (bytes_read self.old) self.new.line.items (bytes_read self.new) }
+        ensures lacking { is_lacking result ≡ true → IsLacking self.old.is_at_end (bytes_read self.old) }
+        ensures refused { IfErr result (IsRefused self.old self.new.is_begun) }
+
+        ensures kept { is_given result ≡ false → bytes_read self.new ≡ bytes_read self.old }
+        ensures drained { is_lacking result ≡ true → reader_buffer self.new.source ≡ [] }
+        ensures ended { self.new.is_at_end ≡ self.old.is_at_end }
+        ensures awaited { self.new.is_awaited ≡ (is_lacking result && not self.old.is_at_end) }
+        ensures count { self.new.given ≡ self.old.given + (if is_given result then 1 else 0) }
+        ensures closed { is_given result ≡ true → self.new.is_begun ≡ false }
+        ensures begun { is_lacking result ≡ true → bytes_read self.old ≡ [] → self.new.is_begun ≡ self.old.is_begun }
+    {
+        self.is_awaited = false;
+        if !self.is_begun && self.source.buffer().is_empty() {
+            self.is_awaited = !self.is_at_end;
+            return Ok(false);
+        }
+        self.begin()?;
+        let line = self.given + 1;
+        let has_end = take_part(&mut self.source, &mut self.line).map_err(|kind| Fault::Line {
+            line,
+            kind,
+        })?;
+        Ok(self.close(has_end))
+    }
+
+    // Begins the next line, if it isn't.
+    fn begin(&mut self) -> Result<(), Fault>
+        ensures same { (self.new.source ≡ self.old.source) × (self.new.is_at_end ≡ self.old.is_at_end)
+            × (self.new.is_awaited ≡ self.old.is_awaited) × (self.new.given ≡ self.old.given) }
+        ensures begun { OnOk result ((self.new.is_begun ≡ true) × (self.new.line.items ≡ front_of self.old.is_begun self.old.line.items)) }
+        ensures full { IfErr result (λ fault. (fault ≡ Fault.Line 1000001 FaultKind.TooManyLines) × (self.old.given ≡ 1000000)) }
+        ensures unbegun { OnErr result ((self.old.is_begun ≡ false) × (self.new.is_begun ≡ false)) }
+        ensures room { vec_capacity self.new.line ≡ vec_capacity self.old.line }
+    {
+        if self.is_begun {
+            return Ok(());
+        }
+        if self.given >= LINES_MAX {
+            return Err(Fault::Line {
+                line: self.given + 1,
+                kind: FaultKind::TooManyLines,
+            });
+        }
+        self.line.clear();
+        self.is_begun = true;
+        Ok(())
+    }
+
+    // Gives the line that was begun, if its end was met: the line end, or the end of the input behind some bytes.
+    fn close(&mut self, has_end: bool) -> bool
+        requires { self.old.is_begun ≡ true }
+        ensures same { (self.new.source ≡ self.old.source) × (self.new.line.items ≡ self.old.line.items)
+            × (self.new.is_at_end ≡ self.old.is_at_end) }
+        ensures given { result ≡ (has_end || (self.old.is_at_end && not (vec_len self.old.line == 0))) }
+        ensures awaited { self.new.is_awaited ≡ (not result && not self.old.is_at_end) }
+        ensures begun { self.new.is_begun ≡ not result }
+        ensures count { self.new.given ≡ self.old.given + (if result then 1 else 0) }
+    {
+        let is_whole = has_end || self.is_at_end && !self.line.is_empty();
+        self.is_awaited = !is_whole && !self.is_at_end;
+        if is_whole {
+            self.is_begun = false;
+            self.given += 1;
+        }
+        is_whole
+    }
+
+    /// Asks the input for what comes next, where `advance` said that it has to be waited for. Whoever waits for more has written
+    /// all that was answered, so that nothing is left of it in `out`.
+    pub fn ask<W: Write + Drop>(&mut self, out: &BufWriter<W>) -> Result<(), Fault>
+        requires awaited { self.old.is_awaited ≡ true }
+        requires more { self.old.is_at_end ≡ false }
+        requires drained { reader_buffer self.old.source ≡ [] }
+        requires written { writer_buffer out.now ≡ [] }
+
+        ensures kept { Took (lines_left self.old) (lines_left self.new) [] }
+        ensures fault { IfErr result (λ fault. fault ≡ Fault.Line (self.old.given + 1) FaultKind.ReadFault) }
+        ensures answered { OnOk result (self.new.is_awaited ≡ false) }
+        ensures unread { OnErr result ((self.new.is_awaited ≡ true) × (self.new.is_at_end ≡ false)) }
+        ensures ended { OnOk result (self.new.is_at_end ≡ (length (reader_buffer self.new.source) == 0)) }
+        ensures same { (self.new.line.items ≡ self.old.line.items) × (self.new.is_begun ≡ self.old.is_begun)
+            × (self.new.given ≡ self.old.given) }
+    {
+        let is_written = out.buffer().is_empty();
+        prove!(is_written);
+        if self.source.fill_buf().is_err() {
+            let line = self.given + 1;
+            let kind = FaultKind::ReadFault;
+            return Err(Fault::Line { line, kind });
+        }
+        self.is_awaited = false;
+        self.is_at_end = self.source.buffer().is_empty();
+        Ok(())
+    }
+
+    /// The line, without the byte that ends it.
+    pub fn line(&self) -> &str
+        ensures { result.now ≡ self.now.line.items }
+    {
+        match str::from_utf8(self.line.as_slice()) {
+            Ok(line) => line,
+            // The characters of ASCII are a text.
+            Err(_) => unreachable!(),
+        }
+    }
+}
+
+// Adds what was read of a line to it, and says whether its end is there.
+fn take_part<R: Read + Drop>(
+    source: &mut BufReader<R>,
+    line: &mut Vec<u8>,
+) -> Result<bool, FaultKind>
+    requires whole { IsLine line.old.items }
+    requires room { 4096 ≤ vec_capacity line.old }
+    ensures unasked { IsUnasked source.old source.new }
+    ensures taken { IfOk result (λ has_end. line.old.items ++ reader_buffer source.old
+        ≡ line.new.items ++ (if has_end then 10 ∷ reader_buffer source.new else [])) }
+    ensures drained { IfOk result (λ has_end. has_end ≡ false → reader_buffer source.new ≡ []) }
+    ensures refused { IfErr result (IsFaultFrom (line.old.items ++ reader_buffer source.old)) }
+
+    ensures unchanged { OnErr result ((line.new.items ≡ line.old.items) × (reader_buffer source.new ≡ reader_buffer source.old)) }
+    ensures whole { IsLine line.new.items }
+    ensures room { 4096 ≤ vec_capacity line.new }
+{
+    let (part, next) = part_of(source.buffer());
+    add_part(line, part, next)?;
+    let has_end = next.is_some();
+    let used = part.len() + usize::from(has_end);
+    source.consume(used);
+    Ok(has_end)
+}
+
+// The printable characters at the front of what was read, and the byte behind them, where there is one.
+fn part_of(bytes: &[u8]) -> (&[u8], Option<u8>)
+    ensures parts { IsPart bytes.now result.0.now result.1 }
+    ensures room { length result.0.now + (if is_some result.1 then 1 else 0) ≤ length bytes.now }
+{
+    let len = printable_len(bytes);
+    (&bytes[..len], bytes.get(len).copied())
+}
+
+// How many bytes at the front are printable characters.
+fn printable_len(bytes: &[u8]) -> usize
+    ensures { result ≡ prefix_len is_printable bytes.now }
+{
+    bytes
+        .iter()
+        .position(|byte| !(*byte >= b' ' && *byte <= b'~'))
+        .unwrap_or(bytes.len())
+}
+
+// Adds printable characters to a line. A byte that was read behind them has to be the one that ends it.
+fn add_part(line: &mut Vec<u8>, part: &[u8], next: Option<u8>) -> Result<(), FaultKind>
+    requires whole { IsLine line.old.items }
+    requires room { 4096 ≤ vec_capacity line.old }
+    requires printable { IsTrue (list_all is_printable part.now) }
+    requires stop { IfSome next (λ byte. is_printable byte ≡ false) }
+    ensures taken { OnOk result (line.new.items ≡ line.old.items ++ part.now) }
+    ensures ended { OnOk result (IfSome next (λ byte. byte ≡ 10)) }
+    ensures refused { IfErr result (λ kind. part_fault (4096 - vec_len line.old) (with_bad part.now next) ≡ Some kind) }
+    ensures unchanged { OnErr result (line.new.items ≡ line.old.items) }
+    ensures whole { IsLine line.new.items }
+    ensures room { 4096 ≤ vec_capacity line.new }
+{
+    let room = LINE_MAX - line.len();
+    if is_bad(next) {
+        return Err(bad_fault(part.len() < room));
+    }
+    if part.len() > room {
+        return Err(FaultKind::LineTooLong);
+    }
+    let Ok(()) = line.extend_from_slice(part) else {
+        // The longest line has room.
+        unreachable!()
+    };
+    Ok(())
+}
+
+// What is told of a bad character, which is among the bytes that have room in the line or isn't.
+fn bad_fault(has_room: bool) -> FaultKind
+    ensures { result ≡ (if has_room then FaultKind.BadCharacter else FaultKind.LineTooLong) }
+{
+    if has_room {
+        FaultKind::BadCharacter
+    } else {
+        FaultKind::LineTooLong
+    }
+}
+
+// Whether a byte is there, and doesn't end a line.
+fn is_bad(next: Option<u8>) -> bool
+    ensures { result ≡ is_bad_next next }
+{
+    match next {
+        Some(byte) => byte != b'\n',
+        None => false,
+    }
+}

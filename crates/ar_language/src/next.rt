@@ -1,0 +1,102 @@
+// The next line, which may have to be waited for.
+ghost use Rattle.std.specs.Prelude.{◌≡◌, ◌≢◌, ◌==◌, ◌⊎◌, IsSome, IfErr, OnOk, true, false, [], length};
+ghost use Rattle.std.specs.List.{position};
+ghost use Rattle.std.specs.Io.Buffered.{reader_buffer, writer_buffer, writer_contents};
+ghost use Rattle.std.specs.Io.KnownBytes.{Keeps};
+ghost use Rattle.ar_language.specs.Lines.{Took, IsFirst, IsFaultFrom, IsUnasked, is_given, is_write_fault, StopsAt, IsOfNext, IsReached, IsNumbered};
+ghost use Rattle.ar_language.specs.Left.{bytes_read, lines_begun, lines_left, IsAwaited, IsBegunByByte, IsStopped, GoesOn};
+
+use crate::{Fault, FaultKind, Lines};
+use std::io::{BufWriter, Read, Write};
+
+/// Goes on to the next line, and says whether there is one. The input is asked only where what was read of it tells no line, and
+/// then `out` is written first, so that no answer is held back meanwhile; where a line was read whole, `out` is left alone. No
+/// answer is added to those, and none of them is lost: what couldn't be written is still in the buffer. After a fault the line is
+/// still the next one.
+pub fn next_line<R: Read + Drop, W: Write + Drop>(
+    lines: &mut Lines<R>,
+    out: &mut BufWriter<W>,
+) -> Result<bool, Fault>
+    ensures goes_on { GoesOn lines.old result lines.new }
+    ensures begun { IsBegunByByte lines.old → IsBegunByByte lines.new }
+    ensures awaited { OnOk result (lines.new.is_awaited ≡ false) }
+
+    // The input isn't asked where the line's end was read, or the end was met.
+    ensures unasked { IsSome (position (λ byte. byte == 10) (reader_buffer lines.old.source))
+        → IsUnasked lines.old.source lines.new.source }
+    ensures buffered { IsSome (position (λ byte. byte == 10) (reader_buffer lines.old.source)) → is_given result ≡ true
+        → IsFirst lines.old.is_at_end (bytes_read lines.old) lines.new.line.items (bytes_read lines.new) }
+    ensures ended { lines.old.is_at_end ≡ true → IsUnasked lines.old.source lines.new.source }
+
+    // Nor are the answers written then; and where it was asked, none is left in the buffer, unless they couldn't be written.
+    ensures answers { Keeps (writer_contents W.contents out.old) (writer_contents W.contents out.new) }
+    ensures untouched { IsSome (position (λ byte. byte == 10) (reader_buffer lines.old.source)) → out.new ≡ out.old }
+    ensures over { lines.old.is_at_end ≡ true → out.new ≡ out.old }
+    ensures written { is_write_fault result ≡ false → IsUnasked lines.old.source lines.new.source ⊎ (writer_buffer out.new ≡ []) }
+
+    // Neither is done where what was read tells a fault: the line's own, or that it is one too many.
+    ensures faulty { (kind : FaultKind) → IsFaultFrom (bytes_read lines.old) kind
+        → IsUnasked lines.old.source lines.new.source × (out.new ≡ out.old) }
+    ensures too_many { lines.old.given ≡ 1000000 → bytes_read lines.old ≢ []
+        → IsUnasked lines.old.source lines.new.source × (out.new ≡ out.old) }
+{
+    let is_given = lines.advance()?;
+    if !lines.is_awaited() {
+        return Ok(is_given);
+    }
+    await_line(lines, out)
+}
+
+// The same, where the line has to be waited for.
+fn await_line<R: Read + Drop, W: Write + Drop>(
+    lines: &mut Lines<R>,
+    out: &mut BufWriter<W>,
+) -> Result<bool, Fault>
+    requires { IsAwaited lines.old }
+    ensures goes_on { GoesOn lines.old result lines.new }
+    ensures begun { IsBegunByByte lines.old → IsBegunByByte lines.new }
+    ensures awaited { OnOk result (lines.new.is_awaited ≡ false) }
+    ensures answers { Keeps (writer_contents W.contents out.old) (writer_contents W.contents out.new) }
+    ensures written { is_write_fault result ≡ false → writer_buffer out.new ≡ [] }
+{
+    for _ in 0..u32::MAX {
+        wait(lines, out)?;
+        let is_given = lines.advance()?;
+        if !lines.is_awaited() {
+            return Ok(is_given);
+        }
+    }
+    // Each turn adds a byte to the line.
+    unreachable!()
+}
+
+// Writes what was answered, and asks the input once.
+fn wait<R: Read + Drop, W: Write + Drop>(
+    lines: &mut Lines<R>,
+    out: &mut BufWriter<W>,
+) -> Result<(), Fault>
+    requires { IsAwaited lines.old }
+    ensures answers { Keeps (writer_contents W.contents out.old) (writer_contents W.contents out.new) }
+    // Where they couldn't be written, the input isn't asked.
+    ensures written { is_write_fault result ≡ false → writer_buffer out.new ≡ [] }
+    ensures unasked { is_write_fault result ≡ true → lines.new ≡ lines.old }
+    ensures kept { Took (lines_left lines.old) (lines_left lines.new) [] }
+    ensures begun { IsBegunByByte lines.old → IsBegunByByte lines.new }
+    ensures same { (lines.new.line.items ≡ lines.old.line.items) × (lines.new.is_begun ≡ lines.old.is_begun)
+        × (lines.new.given ≡ lines.old.given) }
+    ensures ended { OnOk result (lines.new.is_at_end ≡ (length (reader_buffer lines.new.source) == 0)) }
+
+    ensures stopped { IfErr result (IsStopped lines.new) }
+    ensures stops { IfErr result (StopsAt (lines_left lines.old)) }
+    ensures next { IfErr result (IsOfNext lines.old.given (lines_begun lines.old)) }
+    ensures reached { IfErr result (IsReached (lines_begun lines.old)) }
+    ensures numbered { IfErr result IsNumbered }
+{
+    if out.flush().is_err() {
+        return Err(Fault::Line {
+            line: lines.number().max(1),
+            kind: FaultKind::WriteFault,
+        });
+    }
+    lines.ask(out)
+}

@@ -1,0 +1,95 @@
+// The words of a line.
+ghost use Rattle.std.specs.Prelude.{◌≡◌, ◌∷◌, [], ◌++◌, ◌-◌, ◌↔◌, ℕ, List, length, replicate, true, false, IsSome, IfSome, IfNone, OnSome, Ok, map, take, min, ◌==◌};
+ghost use Rattle.std.specs.List.{list_all, list_any, position_or_len, slice_split};
+ghost use Rattle.std.specs.Char.{is_ascii_digit};
+ghost use Rattle.std.specs.Option.{SomeIff};
+ghost use Rattle.std.specs.Str.Parse.{digits_value};
+ghost use Rattle.hex.specs.Hex.{decode_of};
+ghost use Rattle.ar_language.specs.Words.{IsNumber, IsBytePair, IsBlockWord};
+
+/// Words that are looked at: no order has more than seven.
+pub const MOST_WORDS: usize = 8;
+
+/// Puts the first words of a line into `words`, as many as have room, and says how many these are, unless one of all its words is
+/// empty. One space parts two words, so that more spaces, and those at an end, make empty words.
+pub fn first_words<'a>(line: &'a str, words: &mut [&'a str; MOST_WORDS]) -> Option<usize>
+    ensures none { IfNone result (list_any (λ word. length word == 0) (slice_split (λ byte. byte == 32) line.now) ≡ true) }
+    ensures some { OnSome result (list_any (λ word. length word == 0) (slice_split (λ byte. byte == 32) line.now) ≡ false) }
+    ensures count { IfSome result (λ count. count ≡ min 8 (length (slice_split (λ byte. byte == 32) line.now))) }
+    ensures words { IfSome result (λ count. take count (map (λ word. word.now) words.new) ≡ take 8 (slice_split (λ byte. byte == 32) line.now)) }
+{
+    let mut count = 0;
+    let mut rest = line;
+    while !rest.is_empty() {
+        let end = word_end(rest);
+        if end == 0 {
+            return None;
+        }
+        if count < MOST_WORDS {
+            words[count] = &rest[..end];
+            count += 1;
+        }
+        if end == rest.len() {
+            return Some(count);
+        }
+        rest = &rest[end + 1..];
+    }
+    // Nothing stands behind the last space, or in the line.
+    None
+}
+
+// Where the first word of a text ends: at a space, or where the text does.
+fn word_end(text: &str) -> usize
+    ensures { result ≡ position_or_len (λ byte. byte == 32) text.now }
+{
+    let bytes = text.as_bytes();
+    bytes
+        .iter()
+        .position(|byte| *byte == b' ')
+        .unwrap_or(bytes.len())
+}
+
+/// The number that a word says: 1 to 10 decimal digits.
+pub fn number(word: &str) -> Option<u64>
+    ensures { SomeIff result (IsNumber word.now) (digits_value 10 word.now) }
+{
+    if word.is_empty() || word.len() > 10 {
+        return None;
+    }
+    let mut number: u64 = 0;
+    for byte in word.as_bytes() {
+        if !byte.is_ascii_digit() {
+            return None;
+        }
+        number = number * 10 + u64::from(*byte - b'0');
+    }
+    Some(number)
+}
+
+/// The byte that a word says: two hexadecimal digits of either case.
+pub fn byte(word: &str) -> Option<u8>
+    ensures valid { IsSome result ↔ IsBytePair word.now }
+    ensures value { IfSome result (λ byte. decode_of word.now ≡ Ok (byte ∷ [])) }
+{
+    let mut byte = [0];
+    if hex::decode_to_slice(word, &mut byte).is_err() {
+        return None;
+    }
+    Some(byte[0])
+}
+
+/// The command block that a word says: 1 to 16 bytes, and zeros after them.
+pub fn block(word: &str) -> Option<[u8; 16]>
+    ensures valid { IsSome result ↔ IsBlockWord word.now }
+    ensures value { IfSome result (λ cdb. (bytes : List ℕ) × (decode_of word.now ≡ Ok bytes) × (cdb ≡ bytes ++ replicate (16 - length bytes) 0)) }
+{
+    if word.is_empty() || word.len() > 32 {
+        return None;
+    }
+    let mut cdb = [0; 16];
+    let bytes = &mut cdb[..word.len() / 2];
+    if hex::decode_to_slice(word, bytes).is_err() {
+        return None;
+    }
+    Some(cdb)
+}

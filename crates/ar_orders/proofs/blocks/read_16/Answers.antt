@@ -1,6 +1,0 @@
-use Rattle.std.proofs.Common.{arith}
-use Rattle.ar_orders.proofs.BlockLemmas.{says_read_16}
-use Rattle.ar_orders.proofs.blocks.read_16.Goals as goal
-
-pub returns-clause-says : goal.returns-clause-says
-returns-clause-says c = rw c.transfer_16.ensures (says_read_16 c.args.lba c.args.count (omega arith) (omega arith))

@@ -1,5 +1,0 @@
-use Rattle.ar_orders.proofs.BlockLemmas.{says_test_unit_ready}
-use Rattle.ar_orders.proofs.blocks.test_unit_ready.Goals as goal
-
-pub returns-clause-says : goal.returns-clause-says
-returns-clause-says c = says_test_unit_ready

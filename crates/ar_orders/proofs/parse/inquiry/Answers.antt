@@ -1,5 +1,0 @@
-use Rattle.std.proofs.Common.{rules}
-use Rattle.ar_orders.proofs.parse.inquiry.Goals as goal
-
-pub returns : goal.returns
-returns c = (search rules, (c.in_ok-addr.addr, search rules, search rules, search rules))

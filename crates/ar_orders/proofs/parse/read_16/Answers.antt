@@ -1,5 +1,0 @@
-use Rattle.std.proofs.Common.{rules}
-use Rattle.ar_orders.proofs.parse.read_16.Goals as goal
-
-pub returns : goal.returns
-returns c = (search rules, (c.in_ok-span.span.addr, search rules, search rules, search rules))

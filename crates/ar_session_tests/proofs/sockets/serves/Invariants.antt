@@ -1,4 +1,0 @@
-use Rattle.ar_session_tests.proofs.sockets.serves.Given as goal
-
-abbrev pub ghosts-serves_on : goal.ghosts-serves_on
-ghosts-serves_on g a = record { name = a.blank.name; parts = a.blank.parts }

@@ -1,4 +1,0 @@
-use Rattle.ar_session_tests.proofs.turns.plays.Given as goal
-
-abbrev pub ghosts-plays_on : goal.ghosts-plays_on
-ghosts-plays_on g a = record { name = a.blank.name; parts = a.blank.parts }

@@ -1,0 +1,18 @@
+use Rattle.std.proofs.Common.{sym, ◌∙◌}
+use Rattle.ar_extents.specs.Changes.{is_broken as is_broken_set}
+use Rattle.ar_volume.proofs.Breaking.{broken_is}
+use Rattle.ar_volume.proofs.Seeing.{heard, lost_told}
+use Rattle.ar_volume.proofs.behind.BehindBacking.put.Goals as goal
+
+pub returns-clause-breaks : goal.returns-clause-breaks
+returns-clause-breaks g c = λ lost.
+    let put = c.put.ensures in
+    let new = c.put.new.self in
+    record {
+      unmoved = put.unmoved lost;
+      prepared = put.prepared lost;
+      opened = put.opened lost;
+      asks = put.asks;
+      broken = broken_is new.disks.health (lost_told (is_broken_set new.disks.health) (sym lost ∙ put.outcome ∙ heard new.disks.health));
+      lost = put.broken;
+    }

@@ -1,0 +1,16 @@
+use Rattle.std.proofs.Common.{refl, subst}
+use Rattle.ar_volume.specs.Image.{ArrayState}
+use Rattle.ar_volume.specs.Seen.{SameSeen}
+use Rattle.ar_volume.proofs.Seeing.{joined_unmarked, all_seen}
+use Rattle.ar_volume.proofs.blocks.Blocks.clear_attention.Goals as goal
+
+pub invariant_of-self : goal.invariant_of-self
+invariant_of-self g c =
+    joined_unmarked c.self.inside.behind.store c.clear_attention.new.self c.self.inside.cache c.args.addr
+    c.clear_attention.ensures.disks c.clear_attention.ensures.book c.self.invariant
+
+pub returns-clause-seen : goal.returns-clause-seen
+returns-clause-seen g c =
+    let old : ArrayState = record { store = c.self.inside.behind.store; cache = c.self.inside.cache } in
+    let new : ArrayState = record { store = c.clear_attention.new.self; cache = c.self.inside.cache } in
+    subst (λ (s : ArrayState). SameSeen s new) c.self.view_is (all_seen old new refl c.clear_attention.ensures.stands)

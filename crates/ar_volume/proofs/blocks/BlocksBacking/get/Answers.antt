@@ -1,0 +1,16 @@
+use Rattle.std.proofs.Common.{◌≡◌, refl, sym, subst, ◌∙◌}
+use Rattle.ar_cache.specs.Backing.{SameBlocks}
+use Rattle.ar_volume.specs.Image.{ArrayState, seen_at}
+use Rattle.ar_volume.proofs.Seeing.{seen_by, seen_read}
+use Rattle.ar_volume.proofs.blocks.BlocksBacking.get.Goals as goal
+
+pub returns-clause-content : goal.returns-clause-content
+returns-clause-content g c = λ done.
+    let old : ArrayState = record { store = c.self.inside.behind.store; cache = c.self.inside.cache } in
+    subst (λ (s : ArrayState). c.get.new.into ≡ seen_at s c.args.key) c.self.view_is (c.get.ensures.content done ∙ sym (seen_by old c.args.key))
+
+pub returns-clause-blocks : goal.returns-clause-blocks
+returns-clause-blocks g c = λ done.
+    let old : ArrayState = record { store = c.self.inside.behind.store; cache = c.self.inside.cache } in
+    let new : ArrayState = record { store = c.get.new.backing.store; cache = c.self.inside.cache } in
+    subst (λ (s : ArrayState). SameBlocks (seen_at s) (seen_at new)) c.self.view_is (seen_read old new refl (c.get.ensures.blocks done))

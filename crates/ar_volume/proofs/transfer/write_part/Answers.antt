@@ -1,0 +1,22 @@
+use Rattle.std.proofs.Common.{◌≡◌, ◌⊎◌, ℕ, ◌*◌, ◌+◌, ◌≤◌, List, length, ap, ◌∙◌, inl, inr, arith}
+use Rattle.ar_disks.specs.Geometry.{sectors_of, block_len_of}
+use Rattle.ar_disks.specs.Block.{sectors_at}
+use Rattle.ar_disks.proofs.Sectors.{block_len-sectors, sectors_at-with_sectors_inside, sectors_at-with_sectors_outside}
+use Rattle.ar_volume.proofs.transfer.write_part.Goals as goal
+
+pub returns-in-Done-clause-inside : goal.returns-in-Done-clause-inside
+returns-in-Done-clause-inside g c = λ done i low high.
+    let len : block_len_of c.args.geometry ≡ 512 * sectors_of c.args.geometry = block_len-sectors c.args.geometry in
+    let whole : length c.get.new.into ≡ block_len_of c.args.geometry = c.get.ensures.len ∙ c.requires.whole in
+    ap (λ (b : List ℕ). sectors_at b i 1) ((c.put-in-Done.ensures.written done).written ∙ c.bytes.ensures ∙ c.set_sectors.ensures.sectors)
+    ∙ sectors_at-with_sectors_inside c.get.new.into c.args.bytes.now c.args.first i low (omega (arith, c.requires.sectors)) (omega (arith, c.requires.sectors, c.requires.within))
+
+pub returns-in-Done-clause-outside : goal.returns-in-Done-clause-outside
+returns-in-Done-clause-outside g c = λ done i apart exists.
+    let len : block_len_of c.args.geometry ≡ 512 * sectors_of c.args.geometry = block_len-sectors c.args.geometry in
+    let whole : length c.get.new.into ≡ block_len_of c.args.geometry = c.get.ensures.len ∙ c.requires.whole in
+    let far : (i + 1 ≤ c.args.first) ⊎ (512 * c.args.first + length c.args.bytes.now ≤ 512 * i) =
+    elim apart [ inl before ↦ inl (omega arith) | inr after ↦ inr (omega (arith, c.requires.sectors)) ] in
+    ap (λ (b : List ℕ). sectors_at b i 1) ((c.put-in-Done.ensures.written done).written ∙ c.bytes.ensures ∙ c.set_sectors.ensures.sectors)
+    ∙ sectors_at-with_sectors_outside c.get.new.into c.args.bytes.now c.args.first i far (omega (arith, c.requires.sectors, c.requires.within))
+    ∙ ap (λ (b : List ℕ). sectors_at b i 1) (c.get.ensures.content c.in-Done.is)

@@ -1,0 +1,48 @@
+-- What a demotion and a clean do.
+use Rattle.std.specs.Prelude.{◌≡◌, ◌≢◌, ◌↔◌, ◌<◌, ◌≤◌, IsTrue}
+use Rattle.ar_extents.specs.declared.health.Health.TheVariants.{Broken as AllBroken}
+use Rattle.ar_book.specs.declared.class.Class.TheVariants.{Parity}
+use Rattle.ar_book.specs.Tables.{free_groups}
+use Rattle.ar_store.specs.Placing.{HasNoHole}
+use Rattle.ar_store.specs.Slots.{BesideHold}
+use Rattle.ar_moves.specs.declared.step.Move.{Move}
+use Rattle.ar_moves.specs.declared.step.Move.TheVariants.{Idle, Broken}
+use Rattle.ar_moves.specs.Moves.{IfMoved, LeavesBlocks, IsLeft}
+use Rattle.ar_moves.specs.Demotion.{Demotes, NamesNoDemotion, MayHaveOpened, LeavesReady, HoldsZerosBeside, AsksToDemote}
+use Rattle.ar_moves.specs.Cleaning.{Cleans, NothingToClean, AsksToClean, cleaning_left}
+use Rattle.ar_volume.specs.Image.{ArrayState, is_broken}
+
+-- what both leave: every block as it stood, and the cache. Broken is answered exactly where the array is broken after it.
+pub record MovesBlock (old : ArrayState) (answer : Move) (new : ArrayState) : Type 0 where
+  pub leaves : LeavesBlocks old.store new.store
+  pub cache : new.cache ≡ old.cache
+  pub broken : (answer ≡ Broken) ↔ IsTrue (is_broken new)
+
+-- The block that the rule of demotion names went to the slot that it names, in a group that was opened for it where the rule says
+-- so; or the rule names nothing, and nothing has changed. Where the array broke, a group that the rule opens is open. Each other slot of
+-- the block's new group that held a block holds it; no disk was asked but those that this asks, and no row was written but the
+-- slot's, or those of the group that was opened.
+pub record DemotesOne (old : ArrayState) (answer : Move) (new : ArrayState) : Type 0 where
+  pub moves : MovesBlock old answer new
+  pub moved : IfMoved answer (λ key to. Demotes old.store.book key to new.store.book)
+  pub zeros : IfMoved answer (λ key to. HasNoHole old.store.book Parity → HoldsZerosBeside new.store to)
+  pub beside : IfMoved answer (λ key to. BesideHold old.store new.store to)
+  pub idle : answer ≡ Idle → IsLeft old.store new.store (NamesNoDemotion old.store.book)
+  pub nothing : NamesNoDemotion old.store.book → new.store ≡ old.store
+  pub opened : answer ≡ Broken → MayHaveOpened old.store.book new.store.book
+  pub ready : answer ≡ Broken → old.store.disks.health ≢ AllBroken → LeavesReady old.store.book new.store.book
+  pub asks : AsksToDemote old.store new.store
+
+-- The block that the rule of cleaning names went to the slot that it names, and less is left to be cleaned; or the rule names
+-- nothing, and nothing has changed. No group is opened. Each other slot of the block's new group that held a block holds it; no
+-- disk was asked but those that this move asks, and no row was written but the slot's.
+pub record CleansOne (old : ArrayState) (answer : Move) (new : ArrayState) : Type 0 where
+  pub moves : MovesBlock old answer new
+  pub moved : IfMoved answer (λ key to. Cleans old.store.book key to new.store.book)
+  pub less : IfMoved answer (λ key to. cleaning_left new.store.book < cleaning_left old.store.book)
+  pub beside : IfMoved answer (λ key to. BesideHold old.store new.store to)
+  pub idle : answer ≡ Idle → IsLeft old.store new.store (NothingToClean old.store.book)
+  pub nothing : NothingToClean old.store.book → new.store ≡ old.store
+  pub unmoved : answer ≡ Broken → new.store.book ≡ old.store.book
+  pub free : free_groups old.store.book ≤ free_groups new.store.book
+  pub asks : AsksToClean old.store new.store

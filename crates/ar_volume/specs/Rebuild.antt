@@ -1,0 +1,32 @@
+-- What a step of a rebuild does.
+use Rattle.std.specs.Prelude.{◌≡◌, ◌↔◌, IsTrue}
+use Rattle.ar_extents.specs.Follows.{Keeps}
+use Rattle.ar_extents.specs.Health.{IsRebuilding}
+use Rattle.ar_extents.specs.Changes.{with_done}
+use Rattle.ar_store.specs.Slots.{AllStand, SlotsHold}
+use Rattle.ar_rebuild.specs.declared.step.Rebuild.{Rebuild}
+use Rattle.ar_rebuild.specs.declared.step.Rebuild.TheVariants.{Idle, GivenUp, Broken}
+use Rattle.ar_rebuild.specs.Rows.{IsBesideNext, HasNothingNext, IsSpared, AsksNext, StopsWriting}
+use Rattle.ar_rebuild.specs.Rebuild.{Answers, Advances, IsQuiet as NothingToRebuild}
+use Rattle.ar_volume.specs.Image.{ArrayState, is_broken}
+
+-- The lowest extent that wasn't done of the replaced disk is, or why it is not is told. Every slot holds what it held, on that
+-- extent too, and every block stands as it did; tables and cache stay, and so do the rows of all other extents. No disk is
+-- accessed but those of the extent and of the members from which it is written. Where no used group has the extent none is: it
+-- counts as done, and that is all. The array is broken by another disk than the replaced one: once that has faulted nothing more
+-- is asked. Where the rebuild ends so, or is given up, the extent's rows are written up to one.
+pub record RebuildsOne (old : ArrayState) (answer : Rebuild) (new : ArrayState) : Type 0 where
+  pub answers : Answers old.store.disks new.store.disks answer
+  pub idle : (answer ≡ Idle) ↔ NothingToRebuild old.store.disks.health
+  pub broken : (answer ≡ Broken) ↔ IsTrue (is_broken new)
+  pub spared : answer ≡ Broken → IsSpared old.store.disks new.store.disks
+  pub given_up : answer ≡ GivenUp → StopsWriting old.store new.store.disks
+  pub lost : answer ≡ Broken → IsRebuilding old.store.disks.health → StopsWriting old.store new.store.disks
+  pub tables : new.store.book ≡ old.store.book
+  pub stands : AllStand old.store new.store
+  pub slots : SlotsHold old.store new.store
+  pub rows : Keeps (IsBesideNext old.store.disks) old.store.disks new.store.disks
+  pub asks : AsksNext old.store new.store.disks
+  pub nothing : HasNothingNext old.store → new.store.disks ≡ with_done old.store.disks
+  pub advances : Advances old.store.disks new.store.disks
+  pub cache : new.cache ≡ old.cache

@@ -1,0 +1,19 @@
+// Groups that are formed of added disks, and extents that move to them.
+ghost use Rattle.std.specs.Prelude.{◌≡◌, false};
+ghost use Rattle.ar_volume.specs.Balance.{BalancesOne};
+ghost use Rattle.ar_volume.specs.Image.{is_broken};
+ghost use Rattle.ar_volume.specs.Seen.{SameSeen};
+
+use crate::Blocks;
+use ar_balance::{Balance, balance_one};
+use ar_disks::Disk;
+
+impl<D: Disk> Blocks<D> {
+    /// Balances the disks by one step.
+    pub fn balance_one(&mut self) -> Balance
+        ensures balances { BalancesOne self.old result self.new }
+        ensures seen { is_broken self.new ≡ false → SameSeen self.old self.new }
+    {
+        balance_one(&mut self.behind.store)
+    }
+}

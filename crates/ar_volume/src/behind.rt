@@ -1,0 +1,47 @@
+// The store, as what the cache gives its blocks to.
+ghost use Rattle.std.specs.Prelude.{◌≡◌};
+ghost use Rattle.ar_extents.specs.Changes.{is_broken as is_broken_set};
+ghost use Rattle.ar_store.specs.Slots.{stands};
+ghost use Rattle.ar_volume.specs.Image.{knows_in};
+ghost use Rattle.ar_volume.specs.Following.{StoreFollows, ReadsStored, PutsStored, BreaksStored};
+ghost use Rattle.ar_volume.specs.Laws.{store_refl, store_then};
+
+use ar_cache::Backing;
+use ar_disks::{Block, Completion, Disk, Key};
+use ar_store::Store;
+
+/// The store behind the cache. The keys that it knows are those of units' blocks.
+#[derive(Drop)]
+pub struct Behind<D: Disk> {
+    pub store: Store<D>,
+}
+
+impl<D: Disk> Backing for Behind<D> {
+    ghost block_at = { λ b. stands b.store };
+
+    ghost knows = { λ b. knows_in b.store };
+
+    ghost geometry = { λ b. b.store.disks.geometry };
+
+    ghost is_broken = { λ b. is_broken_set b.store.disks.health };
+
+    ghost follows = { λ old new. StoreFollows old.store new.store };
+
+    ghost gets = { λ old key new. ReadsStored old.store key new.store };
+
+    ghost puts = { λ old key new. PutsStored old.store key new.store };
+
+    ghost breaks = { λ old key new. BreaksStored old.store key new.store };
+
+    fn get(&mut self, key: Key, into: &mut Block) -> Completion {
+        self.store.get(key, into)
+    }
+
+    fn put(&mut self, key: Key, from: &[u8]) -> Completion {
+        self.store.put(key, from)
+    }
+
+    ghost follows_refl = { λ s. store_refl s.store };
+
+    ghost follows_trans = { λ a b c first later. store_then a.store b.store c.store first later };
+}

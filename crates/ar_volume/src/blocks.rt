@@ -1,0 +1,242 @@
+// The blocks of all units: a write-back cache over the store.
+ghost use Rattle.std.specs.Prelude.{◌≡◌, ◌≢◌, ◌≤◌, ◌<◌, All, map, None, false, IfOk, IfErr, OnOk, MatchOption, length, unwrap_or};
+ghost use Rattle.ar_disks.specs.declared.address.Key.{Key};
+ghost use Rattle.ar_disks.specs.Block.{zeros};
+ghost use Rattle.ar_disks.specs.Geometry.{block_len_of, rows_of};
+ghost use Rattle.ar_extents.specs.Set.{HasExtent};
+ghost use Rattle.ar_extents.specs.Access.{Accesses, Gets, is_read};
+ghost use Rattle.ar_extents.specs.Follows.{Keeps, Anywhere};
+ghost use Rattle.ar_book.specs.Tables.{has_unit};
+ghost use Rattle.ar_cache.specs.Cache.{cached};
+ghost use Rattle.ar_volume.specs.Image.{is_broken, geometry_of, seen_at, knows_in, attention_at};
+ghost use Rattle.ar_volume.specs.Following.{Follows};
+ghost use Rattle.ar_volume.specs.Laws.{follows_refl, follows_then};
+ghost use Rattle.ar_volume.specs.Storing.{BreaksBlock, PutsBlock, ReadsBlock};
+
+use crate::behind::Behind;
+use crate::{Flush, Refusal};
+use ar_book::Book;
+use ar_cache::{Backing, Cache};
+use ar_disks::{Addr, Block, Completion, Disk, Geometry, Key, Place};
+use ar_extents::{DiskSet, Got, Health, StartFault, fault_of};
+use ar_store::Store;
+use std::alloc::Global;
+use std::marker::Model;
+
+/// The blocks of all units, by key. A read sees the cached block where there is one.
+#[derive(Drop)]
+pub struct Blocks<D: Disk> {
+    pub(crate) cache: Cache,
+    pub(crate) behind: Behind<D>,
+}
+
+impl<D: Disk> Model for Blocks<D> {
+    ghost use Rattle.ar_volume.specs.Image.{ArrayState, IsJoined};
+
+    ghost Value = { ArrayState };
+
+    ghost view = { λ b. record { store = b.behind.store; cache = b.cache } };
+
+    ghost invariant = { λ b. IsJoined (record { store = b.behind.store; cache = b.cache }) };
+}
+
+impl<D: Disk> Backing for Blocks<D> {
+    ghost block_at = { seen_at };
+
+    ghost knows = { λ b. knows_in b.store };
+
+    ghost geometry = { geometry_of };
+
+    ghost is_broken = { is_broken };
+
+    ghost follows = { Follows };
+
+    ghost gets = { ReadsBlock };
+
+    ghost puts = { PutsBlock };
+
+    ghost breaks = { BreaksBlock };
+
+    fn get(&mut self, key: Key, into: &mut Block) -> Completion {
+        if self.is_broken() {
+            return Completion::Broken;
+        }
+        self.cache.get(key, into, &mut self.behind)
+    }
+
+    fn put(&mut self, key: Key, from: &[u8]) -> Completion {
+        if self.is_broken() {
+            return Completion::Broken;
+        }
+        self.cache.put(key, from, &mut self.behind)
+    }
+
+    ghost follows_refl = { follows_refl };
+
+    ghost follows_trans = { follows_then };
+}
+
+impl<D: Disk> Blocks<D> {
+    ghost use Rattle.ar_extents.specs.declared.refusal.StartFault.TheVariants.{NoMemory};
+    ghost use Rattle.ar_extents.specs.Set.{CanCount};
+    ghost use Rattle.ar_extents.specs.Changes.{start_fault};
+    ghost use Rattle.ar_store.specs.Kept.{IsKept};
+    ghost use Rattle.ar_volume.specs.Image.{IsJoined};
+    ghost use Rattle.ar_volume.specs.Start.{IsStarted};
+    ghost use Rattle.ar_volume.specs.Seen.{IsUnit};
+
+    /// The blocks of no unit, on these disks, behind an empty cache of so many blocks (at most 65,536). Disks that are refused
+    /// are handed back.
+    pub fn start(
+        alloc: Global,
+        disks: Vec<D>,
+        cache: u32,
+    ) -> Result<Blocks<D>, (StartFault, Vec<D>)>
+        requires few { cache ≤ 65536 }
+        requires counting { All CanCount (map D.state disks.items) }
+        ensures taken { OnOk result (start_fault (map D.state disks.items) ≡ None) }
+        ensures started { IfOk result (IsStarted (map D.state disks.items) cache) }
+        ensures refused { IfErr result (λ back. back.0 ≡ unwrap_or (start_fault (map D.state disks.items)) NoMemory) }
+        ensures handed_back { IfErr result (λ back. back.1 ≡ disks) }
+    {
+        if let Some(fault) = fault_of(&disks) {
+            return Err((fault, disks));
+        }
+        let Ok(cache) = Cache::new(alloc, disks[0].geometry(), cache) else {
+            return Err((StartFault::NoMemory, disks));
+        };
+        let store = Store::start(alloc, disks)?;
+        Ok(Blocks {
+            cache,
+            behind: Behind { store },
+        })
+    }
+
+    /// Which disk is down, if any.
+    pub fn health(&self) -> Health
+        ensures health { result ≡ self.now.store.disks.health }
+        ensures joined { IsJoined self.now }
+        ensures kept { IsKept self.now.store }
+        ensures whole { result ≢ Health.Broken → (k : Key) → length (seen_at self.now k) ≡ block_len_of (geometry_of self.now) }
+    {
+        // The cache is asked for what it keeps true alone: its blocks are whole.
+        let _cached = self.cache.len();
+        self.behind.store.health()
+    }
+
+    /// Whether the data are lost.
+    pub fn is_broken(&self) -> bool
+        ensures broken { result ≡ is_broken self.now }
+        ensures whole { result ≡ false → (k : Key) → length (seen_at self.now k) ≡ block_len_of (geometry_of self.now) }
+    {
+        matches!(self.health(), Health::Broken)
+    }
+
+    /// The book of the store.
+    pub fn book(&self) -> &Book
+        ensures book { result.now ≡ self.now.store.book }
+        ensures kept { IsKept self.now.store }
+    {
+        &self.behind.store.space.book
+    }
+
+    /// The disks of the store.
+    pub fn disks(&self) -> &DiskSet<D>
+        ensures { result.now ≡ self.now.store.disks }
+    {
+        &self.behind.store.space.disks
+    }
+
+    /// The geometry of the blocks.
+    pub fn geometry(&self) -> Geometry
+        ensures { result ≡ geometry_of self.now }
+    {
+        self.disks().geometry()
+    }
+
+    /// How many sectors the unit at an address has; None where there is no unit.
+    pub fn sectors(&self, addr: Addr) -> Option<u32>
+        ensures { MatchOption result (has_unit self.now.store.book addr ≡ false) (IsUnit self.now addr) }
+    {
+        self.book().sectors(addr)
+    }
+
+    /// Whether the unit at an address has to tell that it has grown.
+    pub fn attention(&self, addr: Addr) -> bool
+        ensures { result ≡ attention_at self.now.store.book addr }
+    {
+        self.book().attention(addr)
+    }
+}
+
+// The events of units, of the cache and of disks. Where the data are lost they change nothing.
+impl<D: Disk> Blocks<D> {
+    ghost use Rattle.ar_book.specs.Changes.{unmarked};
+    ghost use Rattle.ar_book.specs.Book.{TablesAgree};
+    ghost use Rattle.ar_volume.specs.Image.{with_book};
+    ghost use Rattle.ar_volume.specs.Seen.{SameSeen, SamePlaces};
+    ghost use Rattle.ar_volume.specs.Changes.{Makes, Grows, Removes};
+
+    /// Makes a unit, its sectors all zero.
+    pub fn make(&mut self, addr: Addr, sectors: u32) -> Result<(), Refusal>
+        ensures makes { Makes self.old addr sectors result self.new }
+        ensures seen { SameSeen self.old self.new }
+    {
+        if self.is_broken() {
+            return Err(Refusal::Broken);
+        }
+        self.behind.store.make(addr, sectors).map_err(Refusal::Unit)
+    }
+
+    /// Makes a unit longer, by sectors that are zero, and marks it.
+    pub fn grow(&mut self, addr: Addr, sectors: u32) -> Result<(), Refusal>
+        ensures grows { Grows self.old addr sectors result self.new }
+        ensures seen { SameSeen self.old self.new }
+    {
+        if self.is_broken() {
+            return Err(Refusal::Broken);
+        }
+        self.behind.store.grow(addr, sectors).map_err(Refusal::Unit)
+    }
+
+    /// Removes a unit. Its cached blocks are forgotten.
+    pub fn remove(&mut self, addr: Addr) -> Result<(), Refusal>
+        ensures removes { Removes self.old addr result self.new }
+        ensures tables { TablesAgree self.old.store.book }
+        ensures others { (k : Key) → k.addr ≢ addr → seen_at self.new k ≡ seen_at self.old k }
+        ensures zeros { OnOk result ((k : Key) → k.addr ≡ addr → seen_at self.new k ≡ zeros (block_len_of (geometry_of self.old))) }
+    {
+        if let Health::Broken = self.health() {
+            return Err(Refusal::Broken);
+        }
+        self.behind.store.drop_unit(addr).map_err(Refusal::Unit)?;
+        self.cache.forget(addr);
+        Ok(())
+    }
+
+    /// Clears a unit's mark.
+    pub fn clear_attention(&mut self, addr: Addr)
+        ensures cleared { self.new ≡ with_book self.old (unmarked self.old.store.book addr) }
+        ensures seen { SameSeen self.old self.new }
+    {
+        self.behind.store.clear_attention(addr);
+    }
+
+    /// Reads a row of an extent as it stands on its disk.
+    pub fn read_place(&mut self, place: Place, row: u16, into: &mut Block) -> Got
+        requires place { HasExtent self.old.store.disks place }
+        requires row { row < rows_of (geometry_of self.old) }
+        requires whole { length into.old ≡ block_len_of (geometry_of self.old) }
+
+        ensures answer { Gets self.old.store.disks self.new.store.disks place row into.new result }
+        ensures access { Accesses self.old.store.disks self.new.store.disks place (is_read result) }
+
+        ensures keeps { Keeps Anywhere self.old.store.disks self.new.store.disks }
+        ensures places { SamePlaces self.old self.new }
+        ensures seen { is_broken self.new ≡ false → SameSeen self.old self.new }
+        ensures follows { Follows self.old self.new }
+        ensures len { length into.new ≡ length into.old }
+    {
+        self.behind.store.read_place(place, row, into)
+    }
+}

@@ -1,0 +1,18 @@
+// A disk that is taken out.
+ghost use Rattle.std.specs.Prelude.{◌≡◌, false};
+ghost use Rattle.ar_volume.specs.DiskOut.{TakesDiskOut};
+ghost use Rattle.ar_volume.specs.Image.{is_broken};
+ghost use Rattle.ar_volume.specs.Seen.{SameSeen};
+
+use crate::{Blocks, Refusal};
+use ar_disks::Disk;
+
+impl<D: Disk> Blocks<D> {
+    /// Takes a disk out.
+    pub fn fail(&mut self, disk: u8) -> Result<(), Refusal>
+        ensures takes_out { TakesDiskOut self.old disk result self.new }
+        ensures seen { is_broken self.new ≡ false → SameSeen self.old self.new }
+    {
+        self.behind.store.fail(disk).map_err(Refusal::Disk)
+    }
+}

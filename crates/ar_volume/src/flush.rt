@@ -1,0 +1,84 @@
+// What is given from the cache to the disks.
+ghost use Rattle.std.specs.Prelude.{◌≡◌, ◌≢◌, ◌≤◌, ◌+◌, ◌-◌, ℕ, None, false, IsTrue, [], reverse};
+ghost use Rattle.ar_disks.specs.declared.address.Key.{Key};
+ghost use Rattle.std.specs.Map.{keys_of};
+ghost use Rattle.ar_cache.specs.Backing.{InTurn, StopsInTurn, stored};
+ghost use Rattle.ar_cache.specs.Cache.{cached, with_entries};
+ghost use Rattle.ar_volume.specs.Flush.{FlushesOne};
+ghost use Rattle.ar_volume.specs.Following.{Follows, PutsStored};
+ghost use Rattle.ar_volume.specs.Image.{is_broken};
+ghost use Rattle.ar_volume.specs.Sectors.{key_of, keys_from};
+ghost use Rattle.ar_volume.specs.Seen.{SameSeen, IsSpared};
+ghost use Rattle.ar_volume.specs.Storing.{BreaksForced, ForcesBlock, LeavesSome};
+
+use crate::{Blocks, Flush};
+use ar_disks::{Addr, Completion, Disk, Key};
+
+impl<D: Disk> Blocks<D> {
+    /// Gives the least recently used cached block to the disks.
+    pub fn flush_one(&mut self) -> Flush
+        ensures flushes { FlushesOne self.old result self.new }
+        ensures seen { is_broken self.new ≡ false → SameSeen self.old self.new }
+        ensures follows { Follows self.old self.new }
+    {
+        if self.is_broken() {
+            return Flush::Broken;
+        }
+        self.cache.flush_one(&mut self.behind)
+    }
+
+    /// Gives all cached blocks to the disks, the least recently used first. An empty cache changes nothing.
+    pub fn flush_all(&mut self) -> Completion
+        ensures answer { result ≡ stored (is_broken self.new) }
+        ensures emptied { result ≡ Completion.Done → self.new.cache ≡ with_entries self.old.cache [] }
+        ensures puts { result ≡ Completion.Done
+            → InTurn PutsStored (reverse (keys_of self.old.cache.entries)) self.old.store self.new.store }
+        ensures quiet { self.old.cache.entries ≡ [] → self.new ≡ self.old }
+        ensures stopped { result ≡ Completion.Broken → is_broken self.old ≡ false → LeavesSome self.old self.new }
+        ensures lost { IsTrue (is_broken self.old) → self.new ≡ self.old }
+        ensures seen { result ≡ Completion.Done → SameSeen self.old self.new }
+        ensures follows { Follows self.old self.new }
+    {
+        if self.is_broken() {
+            return Completion::Broken;
+        }
+        self.cache.flush_all(&mut self.behind)
+    }
+
+    // Gives one block to the disks, where it is cached.
+    fn flush_key(&mut self, key: Key) -> Completion
+        requires sound { is_broken self.old ≡ false }
+        ensures answer { result ≡ stored (is_broken self.new) }
+        ensures gone { result ≡ Completion.Done → cached self.new.cache key ≡ None }
+        ensures others { result ≡ Completion.Done → (k : Key) → k ≢ key → cached self.new.cache k ≡ cached self.old.cache k }
+        ensures forces { result ≡ Completion.Done → ForcesBlock self.old key self.new }
+        ensures breaks { result ≡ Completion.Broken → BreaksForced self.old key self.new }
+        ensures seen { result ≡ Completion.Done → SameSeen self.old self.new }
+        ensures follows { Follows self.old self.new }
+    {
+        self.cache.flush_key(key, &mut self.behind)
+    }
+
+    /// Gives the blocks `first` to `last` of a unit to the disks, those that are cached, in ascending order, and no other.
+    pub fn force(&mut self, addr: Addr, first: u32, last: u32) -> Completion
+        requires sound { is_broken self.old ≡ false }
+        requires few { last ≤ 1048576 }
+        ensures answer { result ≡ stored (is_broken self.new) }
+        ensures forced { result ≡ Completion.Done → (rb : ℕ) → first ≤ rb → rb ≤ last → cached self.new.cache (key_of addr rb) ≡ None }
+        ensures spared { result ≡ Completion.Done → IsSpared self.old.cache self.new.cache addr first (last + 1) }
+        ensures in_turn { result ≡ Completion.Done → InTurn ForcesBlock (keys_from addr first (last + 1 - first)) self.old self.new }
+        ensures stopped { result ≡ Completion.Broken
+            → StopsInTurn ForcesBlock BreaksForced (keys_from addr first (last + 1 - first)) self.old self.new }
+        ensures seen { result ≡ Completion.Done → SameSeen self.old self.new }
+        ensures follows { Follows self.old self.new }
+    {
+        let mut rb = first;
+        while rb <= last {
+            match self.flush_key(Key { addr, rb }) {
+                Completion::Done => rb += 1,
+                Completion::Broken => return Completion::Broken,
+            }
+        }
+        Completion::Done
+    }
+}

@@ -1,0 +1,30 @@
+// Blocks that move between the levels, and between groups.
+ghost use Rattle.std.specs.Prelude.{◌≡◌, false};
+ghost use Rattle.ar_volume.specs.Following.{Follows};
+ghost use Rattle.ar_volume.specs.Image.{is_broken};
+ghost use Rattle.ar_volume.specs.Moves.{DemotesOne, CleansOne};
+ghost use Rattle.ar_volume.specs.Seen.{SameSeen};
+
+use crate::Blocks;
+use ar_disks::Disk;
+use ar_moves::{Move, clean_one, demote_one};
+
+impl<D: Disk> Blocks<D> {
+    /// Demotes the mirrored block on the disks that was written longest ago.
+    pub fn demote_one(&mut self) -> Move
+        ensures demotes { DemotesOne self.old result self.new }
+        ensures seen { is_broken self.new ≡ false → SameSeen self.old self.new }
+        ensures follows { Follows self.old self.new }
+    {
+        demote_one(&mut self.behind.store)
+    }
+
+    /// Moves one block out of the emptiest group that can be emptied into the others of its class.
+    pub fn clean_one(&mut self) -> Move
+        ensures cleans { CleansOne self.old result self.new }
+        ensures seen { is_broken self.new ≡ false → SameSeen self.old self.new }
+        ensures follows { Follows self.old self.new }
+    {
+        clean_one(&mut self.behind.store)
+    }
+}

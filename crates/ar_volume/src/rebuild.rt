@@ -1,0 +1,19 @@
+// The rebuild of a disk that was replaced.
+ghost use Rattle.std.specs.Prelude.{◌≡◌, false};
+ghost use Rattle.ar_volume.specs.Rebuild.{RebuildsOne};
+ghost use Rattle.ar_volume.specs.Image.{is_broken};
+ghost use Rattle.ar_volume.specs.Seen.{SameSeen};
+
+use crate::Blocks;
+use ar_disks::Disk;
+use ar_rebuild::{Rebuild, rebuild_one};
+
+impl<D: Disk> Blocks<D> {
+    /// Rebuilds one extent of the disk that was replaced.
+    pub fn rebuild_one(&mut self) -> Rebuild
+        ensures rebuilds { RebuildsOne self.old result self.new }
+        ensures seen { is_broken self.new ≡ false → SameSeen self.old self.new }
+    {
+        rebuild_one(&mut self.behind.store)
+    }
+}
