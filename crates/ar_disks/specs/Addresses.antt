@@ -1,7 +1,7 @@
--- Addresses of units.
+-- Equality of unit addresses.
 use Rattle.std.specs.Prelude.{Bool, ◌==◌, ◌&&◌}
 use Rattle.ar_disks.specs.declared.address.Addr.{Addr}
 
--- whether the two are one address
+-- the addresses are equal: the same host and the same LUN
 abbrev pub same_addr : Addr → Addr → Bool
 same_addr a b = (a.host.number == b.host.number) && (a.lun == b.lun)

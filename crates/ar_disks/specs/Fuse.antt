@@ -1,12 +1,12 @@
--- A disk that goes after a number of calls.
+-- A disk that fails after a number of accesses.
 use Rattle.std.specs.Prelude.{ℕ, true}
 use Rattle.ar_disks.specs.Disk.{DiskState, counted}
 
--- what stands on the disk, and how many calls it still passes
+-- the disk, and the number of accesses that still pass
 pub record FuseState : Type 0 where
   pub disk : DiskState
   pub left : ℕ
 
--- after a call that the fuse doesn't pass
+-- after an access that doesn't pass: the disk has failed, and its bytes stay
 abbrev pub blown : FuseState → FuseState
 blown fuse = record { disk = record fuse.disk { gone = true; faults = counted fuse.disk.faults }; left = fuse.left }

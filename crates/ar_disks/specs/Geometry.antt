@@ -1,4 +1,4 @@
--- The numbers of a geometry.
+-- The sizes of a geometry.
 use Rattle.std.specs.Prelude.{ℕ, ◌*◌}
 use Rattle.ar_disks.specs.declared.geometry.Geometry.{Geometry}
 use Rattle.ar_disks.specs.declared.geometry.Geometry.TheVariants.{Paper, Small}

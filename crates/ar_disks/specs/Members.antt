@@ -17,11 +17,11 @@ with_member m (suc zero) p = record m { second = p }
 with_member m (suc (suc zero)) p = record m { third = p }
 with_member m (suc (suc (suc n))) p = record m { fourth = p }
 
--- the members stand on four different disks
+-- the members are on four different disks
 abbrev pub AreApart : Members → Type 0
 AreApart m = (i j : ℕ) → i < 4 → j < 4 → i ≢ j → (member m i).disk ≢ (member m j).disk
 
--- no extent is a member of both
+-- no extent is a member of both groups
 abbrev pub AreDisjoint : Members → Members → Type 0
 AreDisjoint m n =
     (i j : ℕ) → i < 4 → j < 4 → (member m i).disk ≡ (member n j).disk → (member m i).extent ≢ (member n j).extent

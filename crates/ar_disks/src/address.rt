@@ -1,7 +1,7 @@
-// Who owns a unit, which block of it is meant, and where the four members of a group stand.
+// The addresses of units, of their blocks, and of the extents of a group. A host's number is below 4.
 ghost use Rattle.std.specs.Prelude.{◌≡◌, ◌<◌, IsSome, IfSome, ◌↔◌};
 
-/// One of the four hosts, by its number 0 to 3.
+/// One of the four hosts, numbered 0 to 3.
 #[derive(Clone, Copy, Debug, PartialEq, Eq, Hash)]
 pub struct Host {
     number: u8,
@@ -9,7 +9,7 @@ pub struct Host {
 }
 
 impl Host {
-    /// The host of this number, or None where it is over 3.
+    /// The host `number`, or None where it is over 3.
     pub fn new(number: u8) -> Option<Host>
         ensures valid { IsSome result ↔ (number < 4) }
         ensures number { IfSome result (λ host. host.number ≡ number) }
@@ -30,28 +30,28 @@ impl Host {
     }
 }
 
-/// A logical unit's address: the host that owns it, and the number that the host gives it.
+/// The address of a logical unit: the host that owns it, and its logical unit number (LUN).
 #[derive(Clone, Copy, Debug, PartialEq, Eq, Hash)]
 pub struct Addr {
     pub host: Host,
     pub lun: u8,
 }
 
-/// A relocation block of a unit, by its number in the unit (from 0).
+/// Relocation block (AutoRAID's RB) number `rb` of the unit `addr`, counted from 0.
 #[derive(Clone, Copy, Debug, PartialEq, Eq, Hash)]
 pub struct Key {
     pub addr: Addr,
     pub rb: u32,
 }
 
-/// An extent of a disk, by the numbers of both (from 0).
+/// Extent (AutoRAID's PEX) number `extent` of disk `disk`, both counted from 0.
 #[derive(Clone, Copy, Debug, PartialEq, Eq)]
 pub struct Place {
     pub disk: u8,
     pub extent: u16,
 }
 
-/// The four extents of a group, in the order of its member positions 0 to 3.
+/// The four extents of a group (AutoRAID's PEG), by member position 0 to 3.
 #[derive(Clone, Copy, Debug, PartialEq, Eq)]
 pub struct Members {
     pub first: Place,
@@ -63,7 +63,7 @@ pub struct Members {
 impl Members {
     ghost use Rattle.ar_disks.specs.Members.{member, with_member};
 
-    /// The extent at a member position, 0 to 3.
+    /// The extent at member position `position`, 0 to 3.
     pub fn at(&self, position: u8) -> Place
         requires { position < 4 }
         ensures { result ≡ member self.now position }
@@ -76,7 +76,7 @@ impl Members {
         }
     }
 
-    /// Puts another extent at a member position, 0 to 3; the others stay.
+    /// Replaces the extent at member position `position`, 0 to 3; the others stay.
     pub fn set(&mut self, position: u8, place: Place)
         requires { position < 4 }
         ensures { self.new ≡ with_member self.old position place }

@@ -1,4 +1,4 @@
-// The bytes of one relocation block.
+// A relocation block: a byte buffer that no call resizes.
 ghost use Rattle.std.specs.Prelude.{◌≡◌, ◌+◌, ◌*◌, ◌≤◌, ◌<◌, length, IfOk, List, ℕ};
 ghost use Rattle.ar_disks.specs.Geometry.{block_len_of};
 ghost use Rattle.ar_disks.specs.Block.{zeros, xor, sectors_at, with_sectors};
@@ -8,9 +8,9 @@ use crate::geometry::{Geometry, SECTOR_LEN};
 use std::alloc::{AllocError, Global};
 use std::marker::Model;
 
-/// The bytes of one relocation block, on the heap. Contracts see it as their list.
+/// The bytes of one relocation block, on the heap. Contracts see it as the list of its bytes.
 ///
-/// Only `new` takes memory, and no call changes the length.
+/// Only `new` allocates, and no call changes the length.
 #[derive(Debug, Drop)]
 pub struct Block {
     bytes: Vec<u8>,
@@ -24,7 +24,7 @@ impl Model for Block {
 
 impl Block {
     #[tactic(auto, unfolding(crate::specs::Block::zeros))]
-    /// A block of zeros, as long as the geometry says. It fails where memory is refused.
+    /// A block of `geometry.block_len()` zero bytes. Fails if out of memory.
     pub fn new(alloc: Global, geometry: Geometry) -> Result<Block, AllocError>
         ensures zero { IfOk result (λ block. block ≡ zeros (block_len_of geometry)) }
         ensures len { IfOk result (λ block. length block ≡ block_len_of geometry) }
@@ -49,7 +49,7 @@ impl Block {
         self.bytes.fill(0);
     }
 
-    /// Takes over the bytes of a block of the same length.
+    /// Copies the bytes of `other`, a block of the same length.
     pub fn copy_from(&mut self, other: &Block)
         requires { length other.now ≡ length self.old }
         ensures { self.new ≡ other.now }
@@ -57,7 +57,7 @@ impl Block {
         self.bytes.copy_from_slice(&other.bytes);
     }
 
-    /// Takes over bytes, as many as the block has.
+    /// Copies `bytes`, which are as long as the block.
     pub fn copy_from_slice(&mut self, bytes: &[u8])
         requires { length bytes.now ≡ length self.old }
         ensures { self.new ≡ bytes.now }
@@ -65,7 +65,7 @@ impl Block {
         self.bytes.copy_from_slice(bytes);
     }
 
-    /// Adds this block to another of the same length: each byte there becomes the exclusive or of the two.
+    /// XORs this block into `target`, a block of the same length.
     pub fn xor_into(&self, target: &mut Block)
         requires { length target.old ≡ length self.now }
         ensures sum { target.new ≡ xor target.old self.now }
@@ -74,7 +74,7 @@ impl Block {
         target.add(&self.bytes);
     }
 
-    /// Adds as many bytes as the block has: each of its bytes becomes the exclusive or of the two.
+    /// XORs `bytes`, which are as long as the block, into this block.
     pub fn add(&mut self, bytes: &[u8])
         requires { length bytes.now ≡ length self.old }
         ensures sum { self.new ≡ xor self.old bytes.now }
@@ -83,7 +83,7 @@ impl Block {
         add_into(bytes, &mut self.bytes);
     }
 
-    /// One sector: 512 bytes.
+    /// Sector `index`: 512 bytes.
     pub fn sector(&self, index: usize) -> &[u8]
         requires { 512 * (index + 1) ≤ length self.now }
         ensures bytes { result.now ≡ sectors_at self.now index 1 }
@@ -93,7 +93,7 @@ impl Block {
     }
 
     #[tactic(auto, unfolding(crate::specs::Block::sectors_at))]
-    /// Several sectors in order, from a first one on.
+    /// `count` sectors, from sector `first` on.
     pub fn sectors(&self, first: usize, count: usize) -> &[u8]
         requires { 512 * (first + count) ≤ length self.now }
         ensures bytes { result.now ≡ sectors_at self.now first count }
@@ -102,7 +102,7 @@ impl Block {
         &self.bytes[first * SECTOR_LEN..(first + count) * SECTOR_LEN]
     }
 
-    /// Puts 512 bytes in place of one sector. The others stay.
+    /// Overwrites sector `index` with 512 bytes. The other sectors stay.
     pub fn set_sector(&mut self, index: usize, bytes: &[u8])
         requires exists { 512 * (index + 1) ≤ length self.old }
         requires whole { length bytes.now ≡ 512 }
@@ -113,7 +113,7 @@ impl Block {
     }
 
     #[tactic(auto, unfolding(crate::specs::Block::with_sectors))]
-    /// Puts bytes in place of as many, from the first of a sector on. The others stay. Callers give whole sectors.
+    /// Overwrites the block with `bytes` from sector `first` on. The other bytes stay. Callers pass whole sectors.
     pub fn set_sectors(&mut self, first: usize, bytes: &[u8])
         requires { 512 * first + length bytes.now ≤ length self.old }
         ensures sectors { self.new ≡ with_sectors self.old first bytes.now }

@@ -1,8 +1,8 @@
-// Whole-slice work on bytes, which blocks and disks share.
+// The byte-slice operations that blocks and disks share. Neither changes a length.
 ghost use Rattle.std.specs.Prelude.{◌≡◌, ◌+◌, ◌≤◌, ◌++◌, length, take, drop};
 ghost use Rattle.ar_disks.specs.Block.{xor};
 
-/// Copies bytes over those that stand from a place on.
+/// Overwrites `target` with `bytes`, from offset `at` on.
 pub fn overwrite(target: &mut [u8], at: usize, bytes: &[u8])
     requires { at + length bytes.now ≤ length target.old }
     ensures { target.new ≡ take at target.old ++ (bytes.now ++ drop (at + length bytes.now) target.old) }
@@ -10,7 +10,7 @@ pub fn overwrite(target: &mut [u8], at: usize, bytes: &[u8])
     target[at..at + bytes.len()].copy_from_slice(bytes);
 }
 
-/// Adds bytes to as many others: each becomes the exclusive or of the two.
+/// XORs `bytes` into `target`, which has the same length.
 pub fn add_into(bytes: &[u8], target: &mut [u8])
     requires { length target.old ≡ length bytes.now }
     ensures { target.new ≡ xor target.old bytes.now }

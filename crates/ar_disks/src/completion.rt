@@ -1,10 +1,10 @@
-// How a call on what keeps blocks ends.
+// The outcome of a block access: a missing disk doesn't keep it from being done, a failed array does.
 
-/// How a call that reads or writes a block ended, on disks or on what stands over them.
+/// The outcome of a block read or write, on the disks or in a layer above them.
 #[derive(Clone, Copy, Debug, PartialEq, Eq)]
 pub enum Completion {
-    /// It is done, perhaps without a disk that is missing.
+    /// Completed, possibly degraded, with a disk missing.
     Done,
-    /// What keeps the blocks is broken, perhaps since this very call.
+    /// The array has failed (two disks missing at once), possibly in this very call.
     Broken,
 }

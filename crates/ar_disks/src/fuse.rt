@@ -1,4 +1,4 @@
-// A disk that is lost after a number of calls, for tests.
+// Fault injection for tests: a disk that passes a number of accesses, fails at the next one and stays failed.
 ghost use Rattle.std.specs.Prelude.{◌≡◌, ◌-◌, ◌<◌, ◌↔◌, IsTrue, false, length};
 ghost use Rattle.std.specs.Bool.{OnTrue, OnFalse};
 ghost use Rattle.ar_disks.specs.Geometry.{block_len_of};
@@ -7,7 +7,7 @@ ghost use Rattle.ar_disks.specs.Disk.{HasPlace, Reads, Writes};
 use crate::{Block, Disk, Geometry, MemDisk};
 use std::marker::Model;
 
-/// A disk in memory that passes a number of reads and writes and is gone from the next one on.
+/// A disk in memory that passes `left` reads and writes and fails at the next one.
 #[derive(Debug, Drop)]
 pub struct FuseDisk {
     disk: MemDisk,
@@ -30,7 +30,7 @@ impl Model for FuseDisk {
 impl FuseDisk {
     ghost use Rattle.ar_disks.specs.Fuse.{blown};
 
-    /// The disk, with a fuse of so many reads and writes. It is not gone yet and has met no fault.
+    /// The disk `disk` with a fuse of `calls` reads and writes. It has not failed yet and has counted no fault.
     pub fn new(disk: MemDisk, calls: u64) -> FuseDisk
         ensures disk { result.disk ≡ disk }
         ensures left { result.left ≡ calls }
@@ -43,14 +43,14 @@ impl FuseDisk {
         }
     }
 
-    /// How many reads and writes still pass.
+    /// The number of reads and writes that still pass.
     pub fn left(&self) -> u64
         ensures { result ≡ self.now.left }
     {
         self.left
     }
 
-    // Uses up one call of the fuse, or counts a fault where none is left.
+    // Uses up one access of the fuse, or fails the disk and counts a fault where none is left.
     fn passes(&mut self) -> bool
         ensures passes { IsTrue result ↔ (0 < self.old.left) }
         ensures used { OnTrue result (self.new ≡ record self.old { left = self.old.left - 1 }) }
@@ -85,7 +85,7 @@ impl Disk for FuseDisk {
         requires whole { length into.old ≡ block_len_of self.old.disk.geometry }
         ensures read { Reads self.old.disk self.new.disk ext row result into.new }
         ensures len { length into.new ≡ length into.old }
-        // It passes as many calls as the fuse has left. Of another one the fault is counted, and what stands on the disk stays.
+        // It passes `left` accesses. The next one fails the disk and counts a fault; the bytes stay.
         ensures fuse { IsTrue result ↔ (0 < self.old.left) }
         ensures left { self.new.left ≡ self.old.left - 1 }
         ensures blown { OnFalse result (self.new ≡ blown self.old) }
@@ -97,7 +97,7 @@ impl Disk for FuseDisk {
         requires place { HasPlace self.old.disk ext row }
         requires whole { length from.now ≡ block_len_of self.old.disk.geometry }
         ensures written { Writes self.old.disk self.new.disk ext row result from.now }
-        // It passes as many calls as the fuse has left. Of another one the fault is counted, and what stands on the disk stays.
+        // It passes `left` accesses. The next one fails the disk and counts a fault; the bytes stay.
         ensures fuse { IsTrue result ↔ (0 < self.old.left) }
         ensures left { self.new.left ≡ self.old.left - 1 }
         ensures blown { OnFalse result (self.new ≡ blown self.old) }

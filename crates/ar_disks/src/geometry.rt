@@ -1,16 +1,20 @@
-// The two shapes that a disk's extents come in.
+// The two geometries. A row of an extent stores one block:
+//
+//             sector    block                 extent
+//     Paper   512 B     128 sectors, 64 KiB   16 rows, 1 MiB
+//     Small   512 B       2 sectors,  1 KiB    2 rows, 2 KiB
 ghost use Rattle.std.specs.Prelude.{◌≡◌, ◌∷◌, []};
 ghost use Rattle.ar_disks.specs.Geometry.{sectors_of, rows_of, block_len_of};
 
 /// The size of a sector, in bytes.
 pub const SECTOR_LEN: usize = 512;
 
-/// How many sectors a relocation block has, and how many rows (one block of each member) an extent has.
+/// The number of sectors of a relocation block, and of rows (one block each) of an extent.
 #[derive(Clone, Copy, Debug, PartialEq, Eq)]
 pub enum Geometry {
-    /// Blocks of 128 sectors, extents of 16 rows: 64 KiB and 1 MiB.
+    /// The sizes of the AutoRAID paper (Data layout): blocks of 128 sectors (64 KiB), extents of 16 rows (1 MiB).
     Paper,
-    /// Blocks of 2 sectors, extents of 2 rows: 1 KiB and 2 KiB.
+    /// Blocks of 2 sectors (1 KiB), extents of 2 rows (2 KiB).
     Small,
 }
 
@@ -21,7 +25,7 @@ impl Geometry {
     /// Blocks of 2 sectors, extents of 2 rows.
     pub const SMALL: Geometry = Geometry::Small;
 
-    /// Both shapes, that of large blocks first.
+    /// Both geometries, `Paper` first.
     pub fn both() -> [Geometry; 2]
         ensures { result ≡ Geometry.Paper ∷ Geometry.Small ∷ [] }
     {

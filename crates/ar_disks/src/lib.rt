@@ -1,4 +1,5 @@
-//! Blocks and disks: geometry, unit addresses, the blocks that are moved, and the trait of a disk with two disks in memory.
+//! Relocation blocks and the disks that store them. A write changes its own place alone, whatever it returns, and a
+//! failed disk stays failed.
 #![tactic(auto)]
 
 mod address;

@@ -1,4 +1,7 @@
-// A disk in memory, which never faults.
+// A disk in memory, which never faults. Its bytes are one allocation, extent by extent and row by row (R rows each):
+//
+//     extent 0                           extent 1
+//     | row 0 | row 1 | .. | row R-1 |   | row 0 | row 1 | ..
 ghost use Rattle.std.specs.Prelude.{◌≡◌, ◌*◌, ◌+◌, ◌<◌, IsTrue, IfOk, length, replicate};
 ghost use Rattle.ar_disks.specs.Geometry.{extent_len_of, block_len_of};
 ghost use Rattle.ar_disks.specs.Disk.{HasPlace, Reads, Writes, offset_of};
@@ -8,7 +11,7 @@ use crate::{Block, Disk, Geometry};
 use std::alloc::{AllocError, Global};
 use std::marker::Model;
 
-/// A disk in memory, its bytes in one allocation. It never faults. Contracts see it as what stands on it.
+/// A disk in memory that never faults. Contracts see it as a `DiskState`.
 #[derive(Debug, Drop)]
 pub struct MemDisk {
     geometry: Geometry,
@@ -32,7 +35,7 @@ impl Model for MemDisk {
 impl MemDisk {
     ghost use Rattle.ar_disks.specs.Memory.{sound_disk};
 
-    /// A disk that starts with these bytes, extent by extent.
+    /// A disk whose first contents are `bytes`, extent by extent.
     pub fn new(geometry: Geometry, extents: u16, bytes: Vec<u8>) -> MemDisk
         requires { length bytes.items ≡ extents * extent_len_of geometry }
         ensures { result ≡ sound_disk geometry extents bytes.items }
@@ -44,7 +47,7 @@ impl MemDisk {
         }
     }
 
-    /// A disk that starts with one byte everywhere. It fails where memory is refused.
+    /// A disk with `byte` in every place. Fails if out of memory.
     pub fn filled(
         alloc: Global,
         geometry: Geometry,
@@ -100,14 +103,14 @@ impl Disk for MemDisk {
     }
 }
 
-// How many bytes a disk has.
+// The size of a disk, in bytes.
 fn disk_len(geometry: Geometry, extents: u16) -> usize
     ensures { result ≡ extents * extent_len_of geometry }
 {
     usize::from(extents) * (usize::from(geometry.rows()) * geometry.block_len())
 }
 
-// Where a row of an extent begins among a disk's bytes.
+// The offset of a row of an extent in a disk's bytes.
 fn offset(geometry: Geometry, ext: u16, row: u16) -> usize
     ensures { result ≡ offset_of geometry ext row }
 {

@@ -1,11 +1,11 @@
-// The blocks that a call works in.
+// Work buffers that are allocated once, so that reads and writes allocate nothing.
 ghost use Rattle.std.specs.Prelude.{◌≡◌, IfOk, length};
 ghost use Rattle.ar_disks.specs.Geometry.{block_len_of};
 
 use crate::{Block, Geometry};
 use std::alloc::{AllocError, Global};
 
-/// Three blocks of one geometry that a call works in, so that it takes no memory. What they hold between calls means nothing.
+/// Three work buffers of one geometry, so that a call allocates nothing. Between calls their contents mean nothing.
 #[derive(Debug, Drop)]
 pub struct Scratch {
     pub geometry: Geometry,
@@ -18,7 +18,7 @@ pub struct Scratch {
 }
 
 impl Scratch {
-    /// Three blocks as long as the geometry says. It fails where memory is refused.
+    /// Allocates three blocks of `geometry`. Fails if out of memory.
     pub fn new(alloc: Global, geometry: Geometry) -> Result<Scratch, AllocError>
         ensures { IfOk result (λ scratch. scratch.geometry ≡ geometry) }
     {

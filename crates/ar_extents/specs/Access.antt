@@ -1,4 +1,4 @@
--- What a read and a write of a row do to a set.
+-- What a read and a write of a row change in a set.
 use Rattle.std.specs.Prelude.{◌≡◌, ◌≢◌, ℕ, ◌+◌, Bool, true, false, List, length, if◌then◌else◌}
 use Rattle.ar_disks.specs.declared.address.Place.{Place}
 use Rattle.ar_disks.specs.Disk.{DiskState}
@@ -14,12 +14,12 @@ use Rattle.ar_extents.specs.declared.health.Health.{Health}
 use Rattle.ar_extents.specs.Set.{SetState, disk_in, faults_of, content, IsLost, IsSound, IsMissing}
 use Rattle.ar_extents.specs.Follows.{Faulted, Follows}
 
--- The disks of a list before and after an access of one: the others stay.
+-- an access of disk `d` changes no other disk of the list
 pub record OthersStay (olds news : List DiskState) (d : ℕ) : Type 0 where
   pub others : (x : ℕ) → x ≢ d → disk_in news x ≡ disk_in olds x
   pub len : length news ≡ length olds
 
--- One disk of the set was accessed and answered: nothing else changed, but that a fault is counted and moves health.
+-- disk `d` was accessed, with or without a fault: nothing else changed, but that a fault is counted and moves health
 pub record Touches (old new : SetState) (d : ℕ) (answered : Bool) : Type 0 where
   pub geometry : new.geometry ≡ old.geometry
   pub extents : new.extents ≡ old.extents
@@ -28,53 +28,53 @@ pub record Touches (old new : SetState) (d : ℕ) (answered : Bool) : Type 0 whe
   pub faults : faults_of new d ≡ (if answered then faults_of old d else faults_of old d + 1)
   pub loose : new.loose ≡ old.loose
 
--- A lost extent isn't accessed: nothing changes then. A sound one's disk alone is. Whatever is answered, no disk is lost
--- without a cause, and what is loose stays so.
+-- An access of a lost extent changes nothing, that of a usable one its disk alone. Whatever is returned, no disk fails
+-- without a cause, and unassigned extents stay so.
 pub record Accesses (old new : SetState) (place : Place) (answered : Bool) : Type 0 where
   pub lost : IsLost old place → new ≡ old
   pub sound : IsSound old place → Touches old new place.disk answered
   pub follows : Follows old new
   pub loose : new.loose ≡ old.loose
 
--- the bytes are those of a row that could be used, and still can
+-- the bytes are those of the row, and the extent was and still is usable
 pub record IsRead (old new : SetState) (place : Place) (row : ℕ) (bytes : List ℕ) : Type 0 where
   pub bytes_are : bytes ≡ content old place row
   pub was_sound : IsSound old place
   pub sound : IsSound new place
 
--- what the answer of a read says
+-- what each outcome of a read means
 abbrev pub Gets : SetState → SetState → Place → ℕ → List ℕ → Got → Type 0
 Gets old new place row bytes Read = IsRead old new place row bytes
 Gets old new place row bytes ReadMissing = IsMissing new place
 Gets old new place row bytes ReadBroken = new.health ≡ Broken
 
--- the row, which could be used and still can, has these bytes now
+-- the row has these bytes now, and the extent was and still is usable
 pub record IsWritten (old new : SetState) (place : Place) (row : ℕ) (bytes : List ℕ) : Type 0 where
   pub content_is : content new place row ≡ bytes
   pub was_sound : IsSound old place
   pub sound : IsSound new place
 
--- what the answer of a write says
+-- what each outcome of a write means
 abbrev pub Puts : SetState → SetState → Place → ℕ → List ℕ → Put → Type 0
 Puts old new place row bytes Written = IsWritten old new place row bytes
 Puts old new place row bytes PutMissing = IsMissing new place
 Puts old new place row bytes PutBroken = new.health ≡ Broken
 
--- the lowest extent that isn't done of the disk that is rebuilt
+-- the extent that is rebuilt next: the lowest of the new disk that isn't done
 abbrev pub next_place : SetState → Place
 next_place s = record { disk = rebuilt_disk s.health; extent = next_extent s.health }
 
--- the disk that was rebuilt has faulted, and is out
+-- the disk that was being rebuilt has faulted, and is `Out`
 pub record IsGivenUp (old new : SetState) : Type 0 where
   pub faulted : Faulted old new (rebuilt_disk old.health)
   pub out : new.health ≡ Out (rebuilt_disk old.health)
 
--- what the answer of a write to the extent that is rebuilt next says
+-- what each outcome of a write to the extent that is rebuilt next means
 abbrev pub PutsNew : SetState → SetState → ℕ → List ℕ → PutNew → Type 0
 PutsNew old new row bytes NewWritten = (content new (next_place old) row ≡ bytes) × (new.health ≡ old.health)
 PutsNew old new row bytes GivenUp = IsGivenUp old new
 
--- whether the disk answered
+-- the read was done
 abbrev pub is_read : Got → Bool
 is_read Read = true
 is_read ReadMissing = false
@@ -91,7 +91,7 @@ abbrev pub is_new_written : PutNew → Bool
 is_new_written NewWritten = true
 is_new_written GivenUp = false
 
--- the answer of a read, and of a write, at an extent that is lost
+-- the outcome of a read, and of a write, at a lost extent
 abbrev pub lost_got : Health → Got
 lost_got Whole = ReadMissing
 lost_got (Out x) = ReadMissing

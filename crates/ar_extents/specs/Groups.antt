@@ -1,4 +1,4 @@
--- The words that all groups of four extents share, whatever stands in them.
+-- What mirrored and parity groups share: four extents on four disks, and the outcome of a call.
 use Rattle.std.specs.Prelude.{◌≡◌, ◌≢◌, ℕ, ◌<◌, slice_set}
 use Rattle.ar_disks.specs.declared.address.Place.{Place}
 use Rattle.ar_disks.specs.declared.address.Members.{Members}
@@ -16,7 +16,7 @@ pub record IsGroup (s : SetState) (m : Members) : Type 0 where
   pub extents : (i : ℕ) → i < 4 → HasExtent s (member m i)
   pub apart : AreApart m
 
--- what a call on a group answers where it leaves this health: only a broken set keeps it from being done
+-- the outcome of a call on a group that leaves this health: it is done unless the set has failed
 abbrev pub outcome_of : Health → Completion
 outcome_of Whole = Done
 outcome_of (Out x) = Done
@@ -33,6 +33,6 @@ pub record IsMember (m : Members) (place : Place) : Type 0 where
 abbrev pub IsOutside : Members → Place → Type 0
 IsOutside m place = (i : ℕ) → i < 4 → place ≢ member m i
 
--- the set once a disk is lost, and anything may stand on it
+-- the set after disk `d` is lost, with any contents (`disk`) on it
 abbrev pub without_disk : SetState → ℕ → DiskState → SetState
 without_disk s d disk = record s { disks = slice_set s.disks d disk; health = after_fault s.health d }

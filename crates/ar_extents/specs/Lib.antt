@@ -6,7 +6,7 @@ pub mod Loose
 pub mod Changes
 pub mod Groups
 pub mod Texts
--- the words of ar_disks that clauses of this crate cite
+-- definitions of ar_disks that clauses of this crate use
 pub use Rattle.ar_disks.specs.Geometry
 pub use Rattle.ar_disks.specs.Disk
 pub use Rattle.ar_disks.specs.Members

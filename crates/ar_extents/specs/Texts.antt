@@ -1,9 +1,9 @@
--- How refusals are written.
+-- The text of refusals.
 use Rattle.std.specs.Prelude.{ℕ, List, codes}
 use Rattle.ar_extents.specs.declared.refusal.DiskRefusal.{DiskRefusal}
 use Rattle.ar_extents.specs.declared.refusal.DiskRefusal.TheVariants.{TooManyDisks, WrongSize, NotOut, NoSuchDisk, NoMemory, Broken}
 
--- a disk's refusal, with its number
+-- the text of a refusal: its number and its name
 abbrev pub disk_refusal_text : DiskRefusal → List ℕ
 disk_refusal_text TooManyDisks = codes "E1 TooManyDisks"
 disk_refusal_text WrongSize = codes "E2 WrongSize"

@@ -1,43 +1,43 @@
-// What reads and writes of a set answer.
+// The outcomes of row accesses: done, or why the extent isn't used.
 ghost use Rattle.std.specs.Prelude.{◌≡◌};
 
 use crate::Health;
 
-/// What a read of a row met.
+/// The outcome of a row read.
 #[derive(Clone, Copy, Debug, PartialEq, Eq)]
 pub enum Got {
-    /// The bytes came.
+    /// The bytes were read.
     Read,
-    /// The extent is missing, perhaps since this very call.
+    /// The extent is missing, possibly since this very call.
     Missing,
-    /// The set is broken, perhaps since this very call.
+    /// The set has failed (two disks missing at once), possibly in this very call.
     Broken,
 }
 
-/// What a write of a row met.
+/// The outcome of a row write.
 #[derive(Clone, Copy, Debug, PartialEq, Eq)]
 pub enum Put {
-    /// The bytes stand there.
+    /// The bytes are stored.
     Written,
-    /// The extent is missing, perhaps since this very call.
+    /// The extent is missing, possibly since this very call.
     Missing,
-    /// The set is broken, perhaps since this very call.
+    /// The set has failed (two disks missing at once), possibly in this very call.
     Broken,
 }
 
-/// What a write to the extent that is rebuilt met.
+/// The outcome of a row write to the extent that is rebuilt next.
 #[derive(Clone, Copy, Debug, PartialEq, Eq)]
 pub enum PutNew {
-    /// The bytes stand there.
+    /// The bytes are stored.
     Written,
-    /// The new disk faulted, and is out.
+    /// The new disk faulted, and has failed (`Out`).
     GivenUp,
 }
 
 impl Got {
     ghost use Rattle.ar_extents.specs.Access.{lost_got};
 
-    // The answer at an extent that isn't used.
+    // The outcome at an extent that isn't used.
     pub(crate) fn lost(health: Health) -> Got
         ensures { result ≡ lost_got health }
     {
@@ -51,7 +51,7 @@ impl Got {
 impl Put {
     ghost use Rattle.ar_extents.specs.Access.{lost_put};
 
-    // The answer at an extent that isn't used.
+    // The outcome at an extent that isn't used.
     pub(crate) fn lost(health: Health) -> Put
         ensures { result ≡ lost_put health }
     {

@@ -1,18 +1,22 @@
-// Which disk is down, if any.
+// Health: at most one disk is down, or the set has failed for good.
+//
+//     Whole --fault--> Out d --replace d--> Rebuilding d 0 --extent done--> Rebuilding d 1 .. --last--> Whole
+//                        |                        |  fault of d: Out d
+//                        +--- fault of another ---+--------------------> Broken
 ghost use Rattle.std.specs.Prelude.{◌≡◌};
 
 use ar_disks::Place;
 
-/// Whether all disks are sound, or which one isn't.
+/// The health of a set: which disk is down, if any.
 #[derive(Clone, Copy, Debug, PartialEq, Eq)]
 pub enum Health {
-    /// Every disk is sound.
+    /// Healthy: all disks are present.
     Whole,
-    /// This disk is out: none of its extents is used.
+    /// This disk has failed: none of its extents is used.
     Out(u8),
-    /// This disk was replaced: its extents below the mark are rebuilt, and the others aren't used yet.
+    /// This disk was replaced: its extents below the second number are rebuilt, the others aren't used yet.
     Rebuilding(u8, u16),
-    /// Two disks were down at once. No extent is used any more.
+    /// Two disks were down at once: data loss. No extent is used any more.
     Broken,
 }
 
@@ -31,7 +35,7 @@ impl Health {
         }
     }
 
-    // Whether an extent is missing, which on a broken set none is.
+    // Whether an extent is missing. In a failed set none is.
     pub(crate) fn is_missing(self, place: Place) -> bool
         ensures { result ≡ is_missing self place.disk place.extent }
     {
@@ -41,7 +45,7 @@ impl Health {
         }
     }
 
-    // Health once a disk has faulted, or was taken out.
+    // The health after `disk` has faulted or was taken out.
     pub(crate) fn after_fault(self, disk: u8) -> Health
         ensures { result ≡ after_fault self disk }
     {

@@ -1,4 +1,5 @@
-//! The disk set: which disks are sound, reads and writes of their extents, and which extents are in no group.
+//! The disk set: 4 to 12 disks of one shape, their health, and which extents are in no group. A disk fails only where
+//! an access faults or it is taken out, and an extent of a failed disk is never accessed.
 #![tactic(auto)]
 
 mod answers;

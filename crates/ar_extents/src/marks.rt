@@ -1,10 +1,10 @@
-// Which extents of one disk are loose.
+// Which extents of one disk are unassigned (`loose`): one flag an extent, true where it is in no group.
 ghost use Rattle.std.specs.Prelude.{◌≡◌, ◌<◌, ◌≤◌, true, length, replicate, slice_set, IfOk, count_by, position};
 
 use std::alloc::{AllocError, Global};
 use std::marker::Model;
 
-// A mark for each extent: true where it is in no group.
+// A flag for each extent of a disk: true where the extent is unassigned.
 #[derive(Debug, Drop)]
 pub(crate) struct Marks {
     marks: Vec<bool>,
@@ -19,7 +19,7 @@ impl Model for Marks {
 }
 
 impl Marks {
-    // Marks of so many extents, all loose.
+    // The flags of `extents` extents, all unassigned. Fails if out of memory.
     pub(crate) fn new(alloc: Global, extents: u16) -> Result<Marks, AllocError>
         ensures { IfOk result (λ marks. marks ≡ replicate extents true) }
     {
@@ -27,7 +27,7 @@ impl Marks {
         Ok(Marks { marks })
     }
 
-    // How many extents are loose.
+    // The number of unassigned extents.
     pub(crate) fn count(&self) -> u16
         requires { length self.now ≤ 1024 }
         ensures { result ≡ count_by (λ mark. mark) self.now }
@@ -35,7 +35,7 @@ impl Marks {
         self.marks.iter().filter(|mark| **mark).count() as u16
     }
 
-    // The lowest loose extent.
+    // The lowest unassigned extent.
     pub(crate) fn lowest(&self) -> Option<u16>
         requires { length self.now ≤ 1024 }
         ensures { result ≡ position (λ mark. mark) self.now }
@@ -44,7 +44,7 @@ impl Marks {
         Some(extent as u16)
     }
 
-    // Marks one extent.
+    // Sets the flag of one extent.
     pub(crate) fn set(&mut self, extent: u16, mark: bool)
         requires { extent < length self.old }
         ensures { self.new ≡ slice_set self.old extent mark }
@@ -53,7 +53,7 @@ impl Marks {
     }
 }
 
-// Where the first true mark stands.
+// The index of the first flag that is set.
 fn first_set(marks: &[bool]) -> Option<usize>
     ensures { result ≡ position (λ mark. mark) marks.now }
 {

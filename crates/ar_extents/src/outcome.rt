@@ -1,12 +1,12 @@
-// What the rebuild of a row answers, whatever kind of group it is of.
+// The outcome of a row's rebuild, the same for mirrored and parity groups.
 
-/// What the rebuild of a row met.
+/// The outcome of the rebuild of a row.
 #[derive(Clone, Copy, Debug, PartialEq, Eq)]
 pub enum RowOutcome {
-    /// The row stands on the new disk.
+    /// The row is stored on the new disk.
     Done,
-    /// The new disk faulted, and is out.
+    /// The new disk faulted, and has failed (`Out`).
     GivenUp,
-    /// The set is broken, since this very call.
+    /// The set has failed (two disks missing at once) in this very call.
     Broken,
 }

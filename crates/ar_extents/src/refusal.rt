@@ -1,26 +1,26 @@
-// Why disks aren't taken.
+// Why a set refuses disks. A refusal changes nothing.
 use std::fmt;
 use std::fmt::{Display, Formatter};
 use thiserror::Error;
 
-/// Why a disk isn't added, replaced or taken out. The set is then as it was.
+/// Why a disk isn't added, replaced or taken out. The set is unchanged.
 #[derive(Clone, Copy, Debug, PartialEq, Eq, Error)]
 pub enum DiskRefusal {
     /// The set has 12 disks already.
     TooManyDisks,
-    /// The disk's geometry or number of extents isn't the set's.
+    /// The disk's geometry or number of extents differs from the set's.
     WrongSize,
-    /// The disk that was to be replaced isn't out.
+    /// The disk to replace hasn't failed.
     NotOut,
-    /// There is no disk of this number.
+    /// The set has no disk of this number.
     NoSuchDisk,
-    /// Memory was refused.
+    /// Out of memory.
     NoMemory,
-    /// The set is broken.
+    /// The set has failed: two disks missing at once.
     Broken,
 }
 
-// (By hand, as the text that a derived one writes is stated by no clause.)
+// (By hand: the text that a derived `Display` writes is not specified.)
 impl Display for DiskRefusal {
     ghost use Rattle.std.specs.Prelude.{Some};
     ghost use Rattle.ar_extents.specs.Texts.{disk_refusal_text};
@@ -39,7 +39,7 @@ impl Display for DiskRefusal {
     }
 }
 
-/// Why a set doesn't begin.
+/// Why a set isn't started.
 #[derive(Clone, Copy, Debug, PartialEq, Eq, Error)]
 pub enum StartFault {
     /// There are fewer than 4 disks, or more than 12.
@@ -48,7 +48,7 @@ pub enum StartFault {
     /// The disks differ in shape, or don't have 1 to 1,024 extents.
     #[error("WrongSize")]
     WrongSize,
-    /// Memory was refused.
+    /// Out of memory.
     #[error("NoMemory")]
     NoMemory,
 }

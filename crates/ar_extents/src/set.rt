@@ -1,4 +1,5 @@
-// The disks of an array.
+// The disks of an array: 4 to 12 of one shape, with a flag for each extent. A disk in use can still count a fault, so
+// that every fault shows in the counts.
 ghost use Rattle.std.specs.Prelude.{◌≡◌, ◌≤◌, length};
 
 use crate::Health;
@@ -13,7 +14,7 @@ mod start;
 
 pub use start::fault_of;
 
-/// Disks of one shape, with their health and the marks of their loose extents.
+/// Disks of one shape, with their health and the flags of their unassigned (`loose`) extents.
 #[derive(Drop)]
 pub struct DiskSet<D: Disk> {
     geometry: Geometry,
@@ -45,7 +46,7 @@ impl<D: Disk> DiskSet<D> {
         self.geometry
     }
 
-    /// How many extents each disk has: 1 to 1,024.
+    /// The number of extents of each disk, 1 to 1,024.
     pub fn extents(&self) -> u16
         ensures same { result ≡ self.now.extents }
         ensures at_least { 1 ≤ result }
@@ -54,7 +55,7 @@ impl<D: Disk> DiskSet<D> {
         self.extents
     }
 
-    /// How many disks there are, 4 to 12.
+    /// The number of disks, 4 to 12.
     pub fn count(&self) -> u8
         ensures same { result ≡ length self.now.disks }
         ensures at_least { 4 ≤ result }
@@ -68,13 +69,13 @@ impl<D: Disk> DiskSet<D> {
         ensures same { result ≡ self.now.health }
         ensures fits { HealthFits result (length self.now.disks) self.now.extents }
 
-        // What the type keeps, for callers that need it.
+        // The invariant of the type, for callers that need it.
         ensures kept { IsKept self.now }
     {
         self.health
     }
 
-    /// Whether an extent is missing: its disk is out, or isn't rebuilt so far. On a broken set none is.
+    /// Whether an extent is missing: its disk has failed, or the extent isn't rebuilt yet. In a failed set none is.
     pub fn missing(&self, place: Place) -> bool
         ensures { result ≡ is_missing self.now.health place.disk place.extent }
     {

@@ -1,10 +1,10 @@
-// Disks of one shape.
+// The shape of a disk, by which a set accepts it: its geometry and its number of extents.
 ghost use Rattle.std.specs.Prelude.{◌≡◌};
 ghost use Rattle.ar_extents.specs.Changes.{has_shape, same_geometry};
 
 use ar_disks::{Disk, Geometry};
 
-// Whether a disk has this shape.
+// Whether the disk has this shape.
 pub(crate) fn has_shape<D: Disk>(disk: &D, geometry: Geometry, extents: u16) -> bool
     ensures { result ≡ has_shape geometry extents (D.state disk.now) }
 {

@@ -1,4 +1,4 @@
--- What the calls on a mirrored group answer, and what they leave as it was.
+-- What calls on a mirrored group return, and what they leave unchanged.
 use Rattle.std.specs.Prelude.{◌≡◌, ◌≢◌, ℕ, ◌<◌, List}
 use Rattle.ar_disks.specs.declared.geometry.Geometry.{Geometry}
 use Rattle.ar_disks.specs.declared.address.Place.{Place}
@@ -15,44 +15,45 @@ use Rattle.ar_extents.specs.Access.{next_place, IsGivenUp}
 use Rattle.ar_mirror.specs.Slots.{one_of, other_of, row_of, slots_of}
 use Rattle.ar_mirror.specs.Holds.{Holds}
 
--- the bytes are the block that the slot held, read from the first member of its pair that is still sound
+-- the bytes are the block that the slot held, read from its first member if that is usable after the call, else the
+-- other
 pub record IsGiven (old new : SetState) (m : Members) (slot : ℕ) (bytes : List ℕ) : Type 0 where
   pub held : (block : List ℕ) → Holds old m slot block → bytes ≡ block
   pub first : IsSound new (one_of old.geometry m slot) → bytes ≡ content old (one_of old.geometry m slot) (row_of old.geometry slot)
   pub second : IsLost new (one_of old.geometry m slot) → bytes ≡ content old (other_of old.geometry m slot) (row_of old.geometry slot)
 
--- what the answer of a read says
+-- what each outcome of a read means
 abbrev pub Gives : SetState → SetState → Members → ℕ → List ℕ → Completion → Type 0
 Gives old new m slot bytes Done = IsGiven old new m slot bytes
 Gives old new m slot bytes Broken = Unit {0}
 
--- the extent is one of the slot's pair
+-- the extent is a member of the slot's pair
 abbrev pub IsInPair : Geometry → Members → ℕ → Place → Type 0
 IsInPair g m slot p = IsEither (one_of g m slot) (other_of g m slot) p
 
--- no block but those of the slot's row in its pair may have changed
+-- only the slot's row in the members of its pair may have changed
 pub record KeepsButSlot (m : Members) (slot : ℕ) (old new : SetState) : Type 0 where
   pub rows : (p : Place) (row : ℕ) → (IsInPair old.geometry m slot p → row ≢ row_of old.geometry slot) → content new p row ≡ content old p row
 
--- every other slot of the group holds what it held
+-- every other slot of the group keeps its block
 pub record OtherSlotsHold (m : Members) (slot : ℕ) (old new : SetState) : Type 0 where
   pub slots : (t : ℕ) → t < slots_of old.geometry → t ≢ slot → (block : List ℕ) → Holds old m t block → Holds new m t block
 
--- every slot of every group that shares no extent with this one holds what it held
+-- every slot of every group that shares no extent with this one keeps its block
 pub record OtherGroupsHold (m : Members) (old new : SetState) : Type 0 where
   pub groups : (n : Members) → AreDisjoint m n → (t : ℕ) → t < slots_of old.geometry → (block : List ℕ) → Holds old n t block → Holds new n t block
 
--- every slot of every mirrored group holds what it held
+-- every slot of every mirrored group keeps its block
 pub record AllSlotsHold (old new : SetState) : Type 0 where
   pub slots : (m : Members) (slot : ℕ) (block : List ℕ) → Holds old m slot block → Holds new m slot block
 
--- the row of the rebuilt extent is that of its partner
+-- the row of the rebuilt extent has the content of its partner's, and health is unchanged
 pub record IsCopied (old new : SetState) (partner : Place) (row : ℕ) : Type 0 where
   pub same : content new (next_place old) row ≡ content old partner row
   pub was_sound : IsSound old partner
   pub health : new.health ≡ old.health
 
--- what the answer of a rebuilt row says
+-- what each outcome of a row's rebuild means
 abbrev pub Rebuilds : SetState → SetState → Place → ℕ → RowOutcome → Type 0
 Rebuilds old new partner row RowDone = IsCopied old new partner row
 Rebuilds old new partner row GivenUp = IsGivenUp old new

@@ -1,7 +1,7 @@
 pub mod Slots
 pub mod Holds
 pub mod Calls
--- the words of lower crates that clauses of this crate cite
+-- definitions of lower crates that clauses of this crate use
 pub use Rattle.ar_extents.specs.Set
 pub use Rattle.ar_extents.specs.Follows
 pub use Rattle.ar_extents.specs.Access

@@ -1,4 +1,4 @@
-// What crates above cite of mirrored slots.
+// Redundancy of mirrored slots: one disk may fail.
 ghost use Rattle.std.specs.Prelude.{◌≡◌, ◌≢◌, ◌<◌, ℕ, List};
 ghost use Rattle.ar_disks.specs.declared.address.Members.{Members};
 ghost use Rattle.ar_disks.specs.Disk.{DiskState};
@@ -8,8 +8,8 @@ ghost use Rattle.ar_extents.specs.Groups.{IsGroup, without_disk};
 ghost use Rattle.ar_mirror.specs.Slots.{slots_of};
 ghost use Rattle.ar_mirror.specs.Holds.{Holds};
 
-/// A slot outlives the loss of any one disk: with anything at all on that disk, and the disk counted as lost, it holds the
-/// same block. And as long as the set isn't broken, it holds one block at most. It does nothing when it is called.
+/// A slot outlives the failure of any one disk: with the disk lost, and any contents on it, the slot holds the same
+/// block. Unless the set has failed, it holds one block at most. A call has no effect.
 pub fn mirrored_slots_survive_a_loss()
     ensures survives { (s : SetState) (m : Members) (slot : ℕ) (block : List ℕ) (d : ℕ) (disk : DiskState) → Holds s m slot block
         → Holds (without_disk s d disk) m slot block }

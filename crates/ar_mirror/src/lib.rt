@@ -1,4 +1,5 @@
-//! Mirrored groups over a disk set: each slot is the same row of two extents on different disks.
+//! Mirrored groups (RAID 1) over a disk set: a slot is the same row of two extents on different disks, and each of the
+//! two that isn't lost has its block.
 #![tactic(auto)]
 
 mod laws;

@@ -1,10 +1,14 @@
-// Which row of which members a slot is.
+// The slots of a mirrored group. Members 0 and 1 are a pair, and so are 2 and 3; with 2 rows an extent:
+//
+//              member 0   member 1   member 2   member 3
+//     row 0    slot 0     slot 0     slot 2     slot 2
+//     row 1    slot 1     slot 1     slot 3     slot 3
 ghost use Rattle.std.specs.Prelude.{◌≡◌, ◌<◌};
 ghost use Rattle.ar_mirror.specs.Slots.{one_of, other_of, row_of, slots_of, partner_of};
 
 use ar_disks::{Geometry, Members, Place};
 
-// A row of the two members of a pair.
+// The same row of the two members of a pair.
 #[derive(Clone, Copy)]
 pub(crate) struct Pair {
     pub(crate) one: Place,
@@ -12,7 +16,7 @@ pub(crate) struct Pair {
     pub(crate) row: u16,
 }
 
-// Where a slot lies.
+// The place of a slot.
 pub(crate) fn pair_of(geometry: Geometry, members: &Members, slot: u16) -> Pair
     requires { slot < slots_of geometry }
     ensures one { result.one ≡ one_of geometry members.now slot }
@@ -28,7 +32,7 @@ pub(crate) fn pair_of(geometry: Geometry, members: &Members, slot: u16) -> Pair
     }
 }
 
-// The member position that is in a pair with this one.
+// The other member position of the pair.
 pub(crate) fn partner(position: u8) -> u8
     requires { position < 4 }
     ensures partner { result ≡ partner_of position }

@@ -1,4 +1,4 @@
-// Rebuilding of rows.
+// The rebuild of a row from its mirror. Nothing is written unless the mirror was read.
 ghost use Rattle.std.specs.Prelude.{◌≡◌, ◌≢◌, ◌<◌, length};
 ghost use Rattle.ar_disks.specs.Geometry.{rows_of, block_len_of};
 ghost use Rattle.ar_disks.specs.Members.{member};
@@ -14,9 +14,10 @@ use crate::pair::partner;
 use ar_disks::{Block, Disk, Members, Place, Scratch};
 use ar_extents::{DiskSet, Got, PutNew, RowOutcome};
 
-/// Copies a row to the member at a position, 0 to 3, from the other member of its pair. The member has to be the extent that
-/// is rebuilt next: the lowest that isn't done of the disk that is being rebuilt. `GivenUp` says that this disk faulted: it
-/// is out then, and any bytes may stand in the row. With `Broken`, where the other member couldn't be read, nothing is written.
+/// Copies row `row` to the member at position `position`, 0 to 3, from the other member of its pair. The member is the
+/// extent that is rebuilt next: the lowest of the new disk that isn't done. `GivenUp` reports that the new disk faulted
+/// and is `Out`; the row then has unspecified bytes. `Broken` reports that the other member couldn't be read; nothing
+/// is written.
 pub fn rebuild_row<D: Disk>(
     set: &mut DiskSet<D>,
     members: &Members,
@@ -48,7 +49,7 @@ pub fn rebuild_row<D: Disk>(
     copy_row(set, from, row, &mut scratch.first)
 }
 
-// Copies a row from an extent of another disk to the one that is rebuilt next, by way of a block.
+// Copies a row from an extent of another disk to the one that is rebuilt next, through `block`.
 fn copy_row<D: Disk>(set: &mut DiskSet<D>, from: Place, row: u16, block: &mut Block) -> RowOutcome
     requires from { HasExtent set.old from }
     requires apart { (next_place set.old).disk ≢ from.disk }
@@ -73,7 +74,7 @@ fn copy_row<D: Disk>(set: &mut DiskSet<D>, from: Place, row: u16, block: &mut Bl
             PutNew::Written => RowOutcome::Done,
             PutNew::GivenUp => RowOutcome::GivenUp,
         },
-        // One disk is down already, so a fault of another one breaks the set.
+        // One disk is down already, so a fault of another one fails the set.
         Got::Missing | Got::Broken => RowOutcome::Broken,
     }
 }

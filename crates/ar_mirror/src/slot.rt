@@ -1,4 +1,5 @@
-// Reads and writes of slots.
+// Reads and writes of slots. A write stores the block in each member of the pair that isn't missing, so that a read may
+// take either.
 ghost use Rattle.std.specs.Prelude.{◌≡◌, ◌<◌, length};
 ghost use Rattle.ar_disks.specs.Geometry.{block_len_of};
 ghost use Rattle.ar_extents.specs.Follows.{Keeps, Anywhere, IsPlace, WorksOn, WorksInTurn};
@@ -12,8 +13,9 @@ use crate::pair::pair_of;
 use ar_disks::{Block, Completion, Disk, Members};
 use ar_extents::{DiskSet, Got, Put};
 
-/// Reads a slot, below twice the rows of an extent, into `into`, a block of the set's length. It reads the first member of
-/// the slot's pair that isn't missing and, where that one faults, the other. After `Broken` any bytes may stand in `into`.
+/// Reads slot `slot`, below twice the rows of an extent, into `into`, a block of the set's length. It reads the first
+/// member of the slot's pair or, where that one is missing or faults, the other. After `Broken`, `into` has unspecified
+/// bytes.
 pub fn get<D: Disk>(
     set: &mut DiskSet<D>,
     members: &Members,
@@ -29,7 +31,7 @@ pub fn get<D: Disk>(
 
     ensures keeps { Keeps Anywhere set.old set.new }
     ensures works { WorksOn (IsInPair set.old.geometry members.now slot) set.old set.new }
-    // While the first member is sound, the other isn't asked.
+    // While the first member is usable, the other isn't accessed.
     ensures first { IsSound set.new (one_of set.old.geometry members.now slot)
         → WorksOn (IsPlace (one_of set.old.geometry members.now slot)) set.old set.new }
     ensures len { length into.new ≡ length into.old }
@@ -39,29 +41,30 @@ pub fn get<D: Disk>(
         Got::Read => Completion::Done,
         Got::Missing => match set.get(pair.other, pair.row, into) {
             Got::Read => Completion::Done,
-            // Two members of different disks are never both missing.
+            // Members on different disks are never both missing.
             Got::Missing | Got::Broken => Completion::Broken,
         },
         Got::Broken => Completion::Broken,
     }
 }
 
-/// Writes a slot, below twice the rows of an extent, from a block of the set's length. It writes every member of the slot's
-/// pair that isn't missing, the first before the other. After `Broken` any bytes may stand in the slot's rows.
+/// Writes `from`, a block of the set's length, to slot `slot`, below twice the rows of an extent. It writes each member
+/// of the slot's pair that isn't missing, the first before the other. After `Broken`, the slot's rows have unspecified
+/// bytes.
 pub fn put<D: Disk>(set: &mut DiskSet<D>, members: &Members, slot: u16, from: &[u8]) -> Completion
     requires group { IsGroup set.old members.now }
     requires slot { slot < slots_of set.old.geometry }
     requires whole { length from.now ≡ block_len_of set.old.geometry }
 
     ensures outcome { result ≡ outcome_of set.new.health }
-    // On a broken set no member is sound, so this speaks of what is done.
+    // In a failed set no member is usable, so this clause constrains `Done` alone.
     ensures holds { Holds set.new members.now slot from.now }
     ensures slots { OtherSlotsHold members.now slot set.old set.new }
     ensures groups { OtherGroupsHold members.now set.old set.new }
 
     ensures keeps { KeepsButSlot members.now slot set.old set.new }
     ensures works { WorksOn (IsInPair set.old.geometry members.now slot) set.old set.new }
-    // The first member of the pair, and then the other.
+    // The first member is written before the other.
     ensures order { WorksInTurn (one_of set.old.geometry members.now slot) (other_of set.old.geometry members.now slot) set.old set.new }
 {
     let pair = pair_of(set.geometry(), members, slot);

@@ -1,4 +1,4 @@
--- What calls on a group answer.
+-- What calls on a parity group return, and in which order they access its members.
 use Rattle.std.specs.Prelude.{◌≡◌, ◌≢◌, ℕ, List}
 use Rattle.ar_disks.specs.declared.address.Members.{Members}
 use Rattle.ar_disks.specs.declared.address.Place.{Place}
@@ -14,13 +14,12 @@ use Rattle.ar_extents.specs.declared.outcome.RowOutcome.TheVariants.{Done as Row
 use Rattle.ar_parity.specs.Row.{Blocks, block, changed, parity_position}
 use Rattle.ar_parity.specs.Group.{RowAgrees}
 
--- a call answers `Broken` exactly where the set is broken after it
+-- a call returns `Broken` exactly where the set has failed after it
 abbrev pub Tells : SetState → Completion → Type 0
 Tells s Done = s.health ≢ AllBroken
 Tells s Broken = s.health ≡ AllBroken
 
--- Whatever four blocks the row agreed on, it agrees on them with a new block at a position, and with the parity that goes with
--- it.
+-- Whatever four blocks the stripe agreed on, it agrees on them with the new block at its position and the new parity.
 pub record Changes (old new : SetState) (m : Members) (row position : ℕ) (bytes : List ℕ) : Type 0 where
   pub agrees : (blocks : Blocks) → RowAgrees old m row blocks → RowAgrees new m row (changed blocks position (parity_position row) bytes)
 
@@ -28,24 +27,25 @@ pub record Changes (old new : SetState) (m : Members) (row position : ℕ) (byte
 abbrev pub IsOffDiskOf : Place → Place → Type 0
 IsOffDiskOf one place = place.disk ≢ one.disk
 
--- Rows of other disks than the parity's were read, and nothing was written; and then no extent was asked but a slot's own and the
--- one with its row's parity. So what is written was known before, and none that is only read for it is asked once it stands.
+-- Rows of disks other than the parity's were read, and nothing was written; then only the slot's own extent and the
+-- parity's were accessed. So each new block was computed before the first write, and no member that is only read for it
+-- is accessed later.
 pub record ReadsBefore (own parity : Place) (old new : SetState) : Type 0 where
   pub read : SetState
   pub reads : WorksOn (IsOffDiskOf parity) old read
   pub kept : Keeps Anywhere old read
   pub writes : WorksOn (IsEither own parity) read new
 
--- At first no extent but the one with a row's parity was asked, and nothing was written; and then a slot's own was, and the parity's
--- behind it.
+-- First only the parity's extent was accessed, and nothing was written; then the slot's own was accessed, and the
+-- parity's after it.
 pub record WritesInTurn (own parity : Place) (old new : SetState) : Type 0 where
   pub read : SetState
   pub reads : WorksOn (IsPlace parity) old read
   pub kept : Keeps Anywhere old read
   pub writes : WorksInTurn own parity read new
 
--- At first no extent but a slot's own was asked, and nothing was written. Where it could be used after that, no other was asked but
--- the one with the row's parity, whatever faulted then, and that one was written after the own; and where it couldn't, the others were
+-- First only the slot's own extent was accessed, and nothing was written. If it was usable after that, no other was
+-- accessed but the parity's, whatever faulted then, and that one was written after the own. In any case the others were
 -- read before anything was written.
 pub record AsksOwnFirst (own parity : Place) (old new : SetState) : Type 0 where
   pub between : SetState
@@ -54,12 +54,12 @@ pub record AsksOwnFirst (own parity : Place) (old new : SetState) : Type 0 where
   pub known : IsSound between own → WritesInTurn own parity between new
   pub before : ReadsBefore own parity between new
 
--- The member's row has the block that agrees with the three others, and nothing was lost.
+-- The member's row has the block that agrees with the three others, and health is unchanged.
 pub record IsRebuilt (old new : SetState) (m : Members) (position row : ℕ) : Type 0 where
   pub agrees : (blocks : Blocks) → RowAgrees old m row blocks → content new (member m position) row ≡ block blocks position
   pub health : new.health ≡ old.health
 
--- what the rebuild of a row answers
+-- what each outcome of a row's rebuild means
 abbrev pub Rebuilds : SetState → SetState → Members → ℕ → ℕ → RowOutcome → Type 0
 Rebuilds old new m position row RowDone = IsRebuilt old new m position row
 Rebuilds old new m position row GivenUp = IsGivenUp old new

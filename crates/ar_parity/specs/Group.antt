@@ -1,4 +1,4 @@
--- What a group with parity holds.
+-- The invariant of a parity group, and the block that a slot holds.
 use Rattle.std.specs.Prelude.{◌≡◌, ◌≢◌, ℕ, zero, suc, ◌<◌, ◌≤◌, List, if◌then◌else◌}
 use Rattle.ar_disks.specs.declared.address.Place.{Place}
 use Rattle.ar_disks.specs.declared.address.Members.{Members}
@@ -12,28 +12,29 @@ use Rattle.ar_extents.specs.Follows.{Keeps, WorksOn}
 use Rattle.ar_extents.specs.Groups.{IsMember, IsOutside}
 use Rattle.ar_parity.specs.Row.{Blocks, block, AddUp, zero_blocks, row_of, data_position}
 
--- a member that can be used has these bytes in a row
+-- the member, if it is usable, stores these bytes in the row
 pub record Stands (s : SetState) (m : Members) (row i : ℕ) (bytes : List ℕ) : Type 0 where
   pub content_is : IsSound s (member m i) → content s (member m i) row ≡ bytes
 
--- a row agrees on four blocks: their sum is the zero block, and each member that can be used has its block of the four
+-- a stripe agrees on four blocks: their XOR is the zero block, and each usable member stores its one of the four
 pub record RowAgrees (s : SetState) (m : Members) (row : ℕ) (blocks : Blocks) : Type 0 where
   pub add_up : AddUp (block_len_of s.geometry) blocks
   pub stand : (i : ℕ) → i < 4 → Stands s m row i (block blocks i)
 
--- a slot holds a block: its row agrees on four blocks, and this is the one at the slot's position
+-- a slot holds a block: its stripe agrees on four blocks, and this is the one at the slot's position
 pub record Holds (s : SetState) (m : Members) (slot : ℕ) (bytes : List ℕ) : Type 0 where
   pub blocks : Blocks
   pub agrees : RowAgrees s m (row_of slot) blocks
   pub here : block blocks (data_position slot) ≡ bytes
 
--- nothing but one row of the group may have other content
+-- only this stripe of the group may have changed
 pub record KeepsButRow (m : Members) (row : ℕ) (old new : SetState) : Type 0 where
   pub other_rows : (place : Place) (r : ℕ) → r ≢ row → content new place r ≡ content old place r
   pub other_places : Keeps (IsOutside m) old new
 
--- The opening of a group stopped at a row: those before it agree on zeros, in a state in which the set could still be used, and of
--- those past it nothing was written. On the way there and from there on no extent but the group's was asked.
+-- The zeroing of a group stopped at stripe `row`. In the state `opened` the stripes before it agree on zeros and, if
+-- there are any, the set hadn't failed; from `row` on none was written yet. After that only this stripe was.
+-- Throughout, only the group's extents were accessed.
 pub record StopsOpening (m : Members) (old new : SetState) : Type 0 where
   pub row : ℕ
   pub there : row < rows_of old.geometry
@@ -45,18 +46,18 @@ pub record StopsOpening (m : Members) (old new : SetState) : Type 0 where
   pub past : (place : Place) (r : ℕ) → row ≤ r → content opened place r ≡ content old place r
   pub here : KeepsButRow m row opened new
 
--- the sum of the contents of a row's three members beside a position, in order of position
+-- the XOR of a stripe's three blocks other than the one at a position, in order of position
 abbrev pub sum_beside : SetState → Members → ℕ → ℕ → List ℕ
 sum_beside s m row zero = xor (xor (content s m.second row) (content s m.third row)) (content s m.fourth row)
 sum_beside s m row (suc zero) = xor (xor (content s m.first row) (content s m.third row)) (content s m.fourth row)
 sum_beside s m row (suc (suc zero)) = xor (xor (content s m.first row) (content s m.second row)) (content s m.fourth row)
 sum_beside s m row (suc (suc (suc n))) = xor (xor (content s m.first row) (content s m.second row)) (content s m.third row)
 
--- the block that stands at a position of a row: the member's content where it is used, else the sum of the three others
+-- the block stored at a position of a stripe: the member's content if it is usable, else the XOR of the three others
 abbrev pub standing_at : SetState → Members → ℕ → ℕ → List ℕ
 standing_at s m row i =
     if is_lost s.health (member m i).disk (member m i).extent then sum_beside s m row i else content s (member m i) row
 
--- the block that stands in a slot: the content of its member where that one is used, else the sum of its row's three others
+-- the block stored in a slot: its member's content if that one is usable, else the XOR of its stripe's three others
 abbrev pub standing : SetState → Members → ℕ → List ℕ
 standing s m slot = standing_at s m (row_of slot) (data_position slot)

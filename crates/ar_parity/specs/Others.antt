@@ -1,4 +1,4 @@
--- The two other positions of a row.
+-- The two remaining positions of a stripe.
 use Rattle.std.specs.Prelude.{ℕ, ◌==◌, ◌||◌, if◌then◌else◌}
 
 -- the lowest position that is neither of two

@@ -1,4 +1,4 @@
-// What is read where a member is lost.
+// Degraded reads: a lost block is the XOR of the three others of its stripe.
 ghost use Rattle.std.specs.Prelude.{◌≡◌, ◌≢◌, ◌<◌, length};
 ghost use Rattle.ar_disks.specs.Block.{xor};
 ghost use Rattle.ar_disks.specs.Geometry.{rows_of, block_len_of};
@@ -16,7 +16,7 @@ use crate::steps::{add_beside, read_beside};
 use ar_disks::{Block, Completion, Disk, Members};
 use ar_extents::DiskSet;
 
-// Adds the two blocks of a row that are neither the lost one nor the one beside it.
+// Computes the XOR of the two blocks of a stripe that are neither at `lost` nor at `beside`.
 pub fn sum_of_two<D: Disk>(
     set: &mut DiskSet<D>,
     members: &Members,
@@ -38,7 +38,7 @@ pub fn sum_of_two<D: Disk>(
     ensures answer { Tells set.new result }
     ensures sum { OnDone result ((blocks : Blocks) → RowAgrees set.old members.now row blocks
         → into.new ≡ xor (block blocks beside) (block blocks lost)) }
-    // The one beside the lost one isn't asked.
+    // The disk of `beside` isn't accessed.
     ensures beside { WorksOn (IsOffDiskOf (member members.now beside)) set.old set.new }
     ensures health { OnDone result (set.new.health ≡ set.old.health) }
 
@@ -56,7 +56,7 @@ pub fn sum_of_two<D: Disk>(
     }
 }
 
-// Adds the three blocks of a row beside the lost one, which gives the lost one.
+// Computes the lost block: the XOR of the three others of its stripe.
 pub fn sum_of_three<D: Disk>(
     set: &mut DiskSet<D>,
     members: &Members,

@@ -1,4 +1,4 @@
-// Blocks of a group with parity, by slot.
+// Reads and writes of slots. The XOR of a stripe's four blocks stays zero, with a missing member as well.
 ghost use Rattle.std.specs.Prelude.{◌≡◌, ◌≢◌, ℕ, ◌*◌, ◌<◌, List, length};
 ghost use Rattle.ar_disks.specs.Block.{zeros};
 ghost use Rattle.ar_disks.specs.Geometry.{rows_of, block_len_of};
@@ -18,9 +18,9 @@ use crate::zero::zero_row;
 use ar_disks::{Block, Completion, Disk, Members, Scratch};
 use ar_extents::{DiskSet, Got};
 
-/// Writes zeros to every row of the members that aren't missing, whatever stood there: every slot holds zeros then.
+/// Writes zeros to every row of the members that aren't missing, in order of the rows: every slot then holds zeros.
 ///
-/// `Broken` says that the set is broken; any bytes may stand then in the row at which it broke.
+/// `Broken` reports that the set has failed; the stripe at which it failed then has unspecified bytes.
 pub fn open_zero<D: Disk>(
     set: &mut DiskSet<D>,
     members: &Members,
@@ -33,7 +33,7 @@ pub fn open_zero<D: Disk>(
         → Holds set.new members.now slot (zeros (block_len_of set.old.geometry)) }
     ensures rows { (row : ℕ) → row < rows_of set.old.geometry
         → RowAgrees set.new members.now row (zero_blocks (block_len_of set.old.geometry)) }
-    // The rows are written in their order, up to the one at which the set broke.
+    // The rows are written in order, up to the one at which the set failed.
     ensures stopped { result ≡ Completion.Broken → StopsOpening members.now set.old set.new }
 
     ensures keeps { Keeps (IsOutside members.now) set.old set.new }
@@ -51,9 +51,10 @@ pub fn open_zero<D: Disk>(
     Completion::Done
 }
 
-/// Reads the block of a slot into `into`: from its member, or where that is missing as the sum of the row's three others.
+/// Reads slot `slot`, below three times the rows of an extent, into `into`, a block of the set's length: from its
+/// member or, if that one is missing, as the XOR of the stripe's three others.
 ///
-/// After `Broken` any bytes may stand in `into`.
+/// After `Broken`, `into` has unspecified bytes.
 pub fn get<D: Disk>(
     set: &mut DiskSet<D>,
     members: &Members,
@@ -71,7 +72,7 @@ pub fn get<D: Disk>(
 
     ensures keeps { Keeps Anywhere set.old set.new }
     ensures works { WorksOn (IsMember members.now) set.old set.new }
-    // While the slot's member is sound, no other is asked.
+    // While the slot's member is usable, no other is accessed.
     ensures first { IsSound set.new (member members.now (data_position slot))
         → WorksOn (IsPlace (member members.now (data_position slot))) set.old set.new }
 
@@ -87,11 +88,12 @@ pub fn get<D: Disk>(
     }
 }
 
-/// Writes the block of a slot, and the parity of its row with it, each unless its member is missing. What stood there is read
-/// first, or where the slot's member is missing the row's two other blocks; nothing where the parity is. Every other slot that
-/// held a block holds the same.
+/// Writes `from`, a block of the set's length, to slot `slot`, below three times the rows of an extent, and updates the
+/// stripe's parity, each unless its member is missing. It reads the old block and parity first (read-modify-write) or,
+/// if the slot's member is missing, the two other data blocks (reconstruct-write); if the parity is missing, nothing.
+/// Every other slot keeps its block.
 ///
-/// After `Broken` any bytes may stand in the row of these two members.
+/// After `Broken`, the stripe's row in these two members has unspecified bytes.
 pub fn put<D: Disk>(
     set: &mut DiskSet<D>,
     members: &Members,
@@ -109,19 +111,19 @@ pub fn put<D: Disk>(
     ensures holds { (b : List ℕ) → Holds set.old members.now slot b → Holds set.new members.now slot from.now }
     ensures slots { (k : ℕ) → k ≢ slot → (b : List ℕ) → Holds set.old members.now k b → Holds set.new members.now k b }
 
-    // In the row, only the slot's own member and the one with the parity are written.
+    // In the stripe, only the slot's own member and the parity's are written.
     ensures others { (i : ℕ) → i < 4 → i ≢ data_position slot → i ≢ parity_position (row_of slot)
         → content set.new (member members.now i) (row_of slot) ≡ content set.old (member members.now i) (row_of slot) }
 
     ensures keeps { KeepsButRow members.now (row_of slot) set.old set.new }
     ensures works { WorksOn (IsMember members.now) set.old set.new }
-    // While the slot's member is sound, no other is asked but the one with the row's parity.
+    // While the slot's member is usable, no other is accessed but the parity's.
     ensures known { IsSound set.new (member members.now (data_position slot))
         → WorksOn (IsEither (member members.now (data_position slot)) (member members.now (parity_position (row_of slot)))) set.old set.new }
-    // Nor where it was, once it had been read, whatever faults then.
+    // The same if it was usable after its read, whatever faults then; and its own is written before the parity's.
     ensures first { AsksOwnFirst (member members.now (data_position slot)) (member members.now (parity_position (row_of slot)))
         set.old set.new }
-    // Where the parity is missing, the slot's member alone is.
+    // If the parity is missing, the slot's member alone is accessed.
     ensures alone { IsMissing set.old (member members.now (parity_position (row_of slot)))
         → WorksOn (IsPlace (member members.now (data_position slot))) set.old set.new }
     ensures scratch { scratch.new.geometry ≡ scratch.old.geometry }

@@ -1,4 +1,4 @@
-// What crates above cite of groups.
+// Redundancy of parity groups: one disk may fail.
 ghost use Rattle.std.specs.Prelude.{◌≡◌, ◌≢◌, ℕ, List};
 ghost use Rattle.ar_disks.specs.declared.address.Members.{Members};
 ghost use Rattle.ar_disks.specs.Disk.{DiskState};
@@ -8,8 +8,8 @@ ghost use Rattle.ar_extents.specs.Set.{SetState};
 ghost use Rattle.ar_extents.specs.Groups.{without_disk};
 ghost use Rattle.ar_parity.specs.Group.{Holds};
 
-/// The law of redundancy: with any one disk lost, and its contents put to anything, a slot still holds the block that it
-/// held; and while the set isn't broken a slot holds one block at most. It does nothing when it is called.
+/// A slot outlives the failure of any one disk: with the disk lost, and any contents on it, the slot holds the same
+/// block. Unless the set has failed, it holds one block at most. A call has no effect.
 pub fn redundancy()
     ensures kept { (s : SetState) (m : Members) (slot : ℕ) (b : List ℕ) (d : ℕ) (disk : DiskState)
         → Holds s m slot b → Holds (without_disk s d disk) m slot b }

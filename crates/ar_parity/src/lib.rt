@@ -1,4 +1,5 @@
-//! Groups with parity: three blocks of data in each row, and a fourth that makes their sum the zero block.
+//! Parity groups (RAID 5) over a disk set: each stripe has three data blocks and their XOR, the parity, in rotating
+//! places. So any one of the four can be computed from the others.
 #![tactic(auto)]
 
 mod degraded;

@@ -1,4 +1,4 @@
-// The rebuild of a row on a new disk.
+// The rebuild of a row from the three others of its stripe. Nothing is written unless all three were read.
 ghost use Rattle.std.specs.Prelude.{◌≡◌, ℕ, ◌<◌};
 ghost use Rattle.ar_disks.specs.Geometry.{rows_of};
 ghost use Rattle.ar_disks.specs.Members.{member};
@@ -15,11 +15,11 @@ use crate::degraded::sum_of_three;
 use ar_disks::{Completion, Disk, Members, Scratch};
 use ar_extents::{DiskSet, PutNew, RowOutcome};
 
-/// Writes the sum of a row's three other blocks to the member at a position, which is the lowest extent that isn't done of
-/// the disk that is rebuilt.
+/// Writes the XOR of a stripe's three other blocks to row `row` of the member at position `position`, 0 to 3. The
+/// member is the extent that is rebuilt next: the lowest of the new disk that isn't done.
 ///
-/// `GivenUp` says that this disk faulted: it is out then, and any bytes may stand in the row of that member. With `Broken`, where
-/// the others couldn't be read, nothing is written.
+/// `GivenUp` reports that the new disk faulted and is `Out`; the row then has unspecified bytes. `Broken` reports that
+/// another member couldn't be read; nothing is written.
 pub fn rebuild_row<D: Disk>(
     set: &mut DiskSet<D>,
     members: &Members,

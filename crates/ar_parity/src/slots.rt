@@ -1,9 +1,15 @@
-// Where slots and parity stand in a group.
+// The slots of a parity group: the parity rotates, the data are in order past it (right-asymmetric, as md calls it).
+//
+//              member 0   member 1   member 2   member 3
+//     row 0    P          slot 0     slot 1     slot 2
+//     row 1    slot 3     P          slot 4     slot 5
+//     row 2    slot 6     slot 7     P          slot 8
+//     row 3    slot 9     slot 10    slot 11    P
 ghost use Rattle.std.specs.Prelude.{◌≡◌, ◌<◌, ◌≢◌, ◌%◌};
 ghost use Rattle.ar_parity.specs.Row.{row_of, data_position, parity_position};
 ghost use Rattle.ar_parity.specs.Others.{low_other, high_other};
 
-// Slots of a row.
+// The data blocks of a stripe.
 const DATA_BLOCKS: u16 = 3;
 
 // The row of a slot.
@@ -13,7 +19,7 @@ pub fn row_of_slot(slot: u16) -> u16
     slot / DATA_BLOCKS
 }
 
-// The member position of a row's parity.
+// The member position of a stripe's parity.
 pub fn parity_at(row: u16) -> u8
     ensures position { result ≡ parity_position row }
     ensures below { result < 4 }
@@ -35,7 +41,7 @@ pub fn data_at(slot: u16) -> u8
     }
 }
 
-// Another position of a row.
+// A position other than this one.
 pub fn another(position: u8) -> u8
     requires { position < 4 }
     ensures below { result < 4 }

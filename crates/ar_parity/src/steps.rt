@@ -1,4 +1,5 @@
-// One read or write of a member, in a call that goes on without a lost disk.
+// Single accesses of a member. A write skips a missing member; a read beside a lost one succeeds, or the set has
+// failed.
 ghost use Rattle.std.specs.Prelude.{◌≡◌, ◌≢◌, ℕ, ◌<◌, List, length};
 ghost use Rattle.ar_disks.specs.Block.{xor};
 ghost use Rattle.ar_disks.specs.Geometry.{rows_of, block_len_of};
@@ -13,7 +14,7 @@ ghost use Rattle.ar_parity.specs.Call.{Tells};
 use ar_disks::{Block, Completion, Disk, Members};
 use ar_extents::{DiskSet, Got, Put};
 
-// Writes a row of a member, unless it is missing.
+// Writes a row of the member at `position`, unless it is missing.
 pub fn write<D: Disk>(
     set: &mut DiskSet<D>,
     members: &Members,
@@ -36,7 +37,7 @@ pub fn write<D: Disk>(
     }
 }
 
-// Reads a row of a member beside one that is lost.
+// Reads a row of a member other than the lost one.
 pub fn read_beside<D: Disk>(
     set: &mut DiskSet<D>,
     members: &Members,
@@ -67,7 +68,7 @@ pub fn read_beside<D: Disk>(
     }
 }
 
-// Adds a row of a member beside one that is lost.
+// XORs a row of a member other than the lost one into `into`.
 pub fn add_beside<D: Disk>(
     set: &mut DiskSet<D>,
     members: &Members,

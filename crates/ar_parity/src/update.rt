@@ -1,4 +1,4 @@
-// How a put changes a row: each new block is computed before the first write.
+// The write of one block of a stripe: the new block and the new parity are both computed before the first write.
 ghost use Rattle.std.specs.Prelude.{◌≡◌, ◌≢◌, ℕ, ◌<◌, length};
 ghost use Rattle.ar_disks.specs.Geometry.{rows_of, block_len_of};
 ghost use Rattle.ar_disks.specs.Members.{member};
@@ -15,7 +15,7 @@ use crate::steps::write;
 use ar_disks::{Block, Completion, Disk, Members, Scratch};
 use ar_extents::{DiskSet, Got};
 
-// Writes a block, and then the parity of its row, each unless its member is missing.
+// Writes a data block, and then the parity of its stripe, each unless its member is missing.
 fn write_both<D: Disk>(
     set: &mut DiskSet<D>,
     members: &Members,
@@ -48,8 +48,8 @@ fn write_both<D: Disk>(
     }
 }
 
-// Puts a block where the block before it is known: reads the parity into `sum` and adds the change. Where the parity is
-// missing the block alone is written.
+// Read-modify-write, with the old block known: reads the parity into `sum` and XORs the change into it. If the parity
+// is missing, the block alone is written.
 fn update<D: Disk>(
     set: &mut DiskSet<D>,
     members: &Members,
@@ -89,7 +89,8 @@ fn update<D: Disk>(
     }
 }
 
-// Puts a block whose member is lost, by the parity alone: the sum of the block and of the two others of its row.
+// Reconstruct-write of a block whose member is lost: the parity becomes the XOR of the block and the stripe's two
+// others.
 fn put_lost<D: Disk>(
     set: &mut DiskSet<D>,
     members: &Members,
@@ -116,7 +117,7 @@ fn put_lost<D: Disk>(
 
     ensures keeps { KeepsButRow members.now row set.old set.new }
     ensures works { WorksOn (IsMember members.now) set.old set.new }
-    // The two others are read before the parity is written, and not asked after it.
+    // The two others are read before the parity is written, and not accessed after that.
     ensures before { ReadsBefore (member members.now position) (member members.now (parity_position row)) set.old set.new }
 
     ensures sum_len { length sum.new ≡ length sum.old }
@@ -132,7 +133,7 @@ fn put_lost<D: Disk>(
     }
 }
 
-// Puts a block by what stands in the row: reads the block before it or, where its member is missing, the two others.
+// Writes a block by what the stripe stores: reads the old block or, if its member is missing, the two others.
 fn change_by_reading<D: Disk>(
     set: &mut DiskSet<D>,
     members: &Members,
@@ -155,7 +156,7 @@ fn change_by_reading<D: Disk>(
 
     ensures keeps { KeepsButRow members.now row set.old set.new }
     ensures works { WorksOn (IsMember members.now) set.old set.new }
-    // While the member is sound, no disk but its own and the parity's is asked; nor where it was, once it had been read.
+    // While the member is usable, or if it was after its read, no disk but its own and the parity's is accessed.
     ensures known { IsSound set.new (member members.now position)
         → WorksOn (IsEither (member members.now position) (member members.now (parity_position row))) set.old set.new }
     ensures first { AsksOwnFirst (member members.now position) (member members.now (parity_position row)) set.old set.new }
@@ -169,7 +170,7 @@ fn change_by_reading<D: Disk>(
     }
 }
 
-// Puts a block at a position of a row, by the form that the row's members allow.
+// Writes a block at a position of a stripe, by the method that the stripe's members allow.
 pub fn change<D: Disk>(
     set: &mut DiskSet<D>,
     members: &Members,
@@ -192,11 +193,11 @@ pub fn change<D: Disk>(
 
     ensures keeps { KeepsButRow members.now row set.old set.new }
     ensures works { WorksOn (IsMember members.now) set.old set.new }
-    // While the member is sound, no disk but its own and the parity's is asked; nor where it was, once it had been read.
+    // While the member is usable, or if it was after its read, no disk but its own and the parity's is accessed.
     ensures known { IsSound set.new (member members.now position)
         → WorksOn (IsEither (member members.now position) (member members.now (parity_position row))) set.old set.new }
     ensures first { AsksOwnFirst (member members.now position) (member members.now (parity_position row)) set.old set.new }
-    // Where the parity is missing, its own alone is.
+    // If the parity is missing, its own disk alone is accessed.
     ensures alone { IsMissing set.old (member members.now (parity_position row)) → WorksOn (IsPlace (member members.now position)) set.old set.new }
     ensures scratch { scratch.new.geometry ≡ scratch.old.geometry }
 {

@@ -1,4 +1,4 @@
-// The opening of a row.
+// A stripe of zeros, of which the parity is zeros too.
 ghost use Rattle.std.specs.Prelude.{◌≡◌, ◌<◌, length};
 ghost use Rattle.ar_disks.specs.Block.{zeros};
 ghost use Rattle.ar_disks.specs.Geometry.{rows_of, block_len_of};
@@ -12,7 +12,7 @@ use crate::steps::write;
 use ar_disks::{Block, Completion, Disk, Members};
 use ar_extents::DiskSet;
 
-// Writes zeros to a row of each member, unless it is missing.
+// Writes zeros to a row of each member that isn't missing.
 pub fn zero_row<D: Disk>(
     set: &mut DiskSet<D>,
     members: &Members,

@@ -1,4 +1,4 @@
--- What is still known of a unit on an array that has lost its data, and what it answers then.
+-- A unit on a failed array: its data are lost, and what is left of it, its shape, decides every reply.
 use Rattle.std.specs.Prelude.{ℕ, ◌*◌, Bool, true, false, ◌==◌, ◌&&◌, not, if◌then◌else◌, max, List, length, take, Result, Ok, Err}
 use Rattle.ar_scsi.specs.declared.command.Command.{Command}
 use Rattle.ar_scsi.specs.declared.command.Command.TheVariants.{TestReady, Inquiry, Capacity, Read, Write}
@@ -13,7 +13,7 @@ use Rattle.ar_scsi.specs.Reply.{good, check}
 use Rattle.ar_scsi.specs.Sense.{internal_target_failure, capacity_data_has_changed, logical_block_address_out_of_range, data_phase_error}
 use Rattle.ar_unit.specs.Unit.{UnitState, Absent, Present, absent_reply, is_past_end, Entry, Make, Grow, Remove, Cmd}
 
--- whether the unit is there, how many sectors it has, and its mark
+-- whether the unit is present, its number of sectors, and whether a UNIT ATTENTION is pending (its mark)
 pub record Shape : Type 0 where
   pub present : Bool
   pub sectors : ℕ
@@ -24,7 +24,7 @@ abbrev pub shape_of : UnitState → Shape
 shape_of Absent = record { present = false; sectors = 0; attention = false }
 shape_of (Present sectors attention) = record { present = true; sectors = length sectors; attention = attention }
 
--- the shape after an entry. A command leaves everything but a mark that it has told.
+-- the shape after an entry: any command but INQUIRY clears a pending UNIT ATTENTION, and a command changes nothing else
 abbrev pub shape_after : Shape → Entry → Shape
 shape_after shape (Make n) = record { present = true; sectors = n; attention = false }
 shape_after shape (Grow n) =
@@ -32,7 +32,7 @@ shape_after shape (Grow n) =
 shape_after shape Remove = record { present = false; sectors = 0; attention = false }
 shape_after shape (Cmd cdb bytes) = record shape { attention = shape.attention && (operation_code cdb == 0x12) }
 
--- the command needs the unit's blocks, or says that they can be had
+-- the command accesses the unit's blocks or, as TEST UNIT READY, reports that they can be accessed
 abbrev pub needs_blocks : Result Command Sense → Bool
 needs_blocks (Ok TestReady) = true
 needs_blocks (Ok (Read lba count)) = true
@@ -45,11 +45,11 @@ is_good Good = true
 is_good CheckCondition = false
 is_good Busy = false
 
--- what a broken array says in place of a reply: HARDWARE ERROR to a command that needs blocks and would be GOOD
+-- a failed array's reply in place of `reply`: HARDWARE ERROR to a command that needs blocks and would be GOOD
 abbrev pub where_broken : List ℕ → Reply → Reply
 where_broken cdb reply = if is_good reply.status && needs_blocks (reading cdb) then check internal_target_failure else reply
 
--- the same from the command block on, by the number of sectors
+-- its reply from a present unit with no UNIT ATTENTION to report, by the number of sectors and of data bytes sent
 unfoldable pub broken_obeyed : ℕ → Result Command Sense → ℕ → Reply
 broken_obeyed sectors (Err sense) sent = check sense
 broken_obeyed sectors (Ok TestReady) sent = check internal_target_failure
@@ -61,7 +61,7 @@ broken_obeyed sectors (Ok (Write lba count fua)) sent =
     if is_past_end sectors lba count then check logical_block_address_out_of_range
     else (if not (sent == count * 512) then check data_phase_error else check internal_target_failure)
 
--- the reply of a broken array to a command block with so many bytes of data, by the shape alone
+-- its reply to the command block `cdb` with `sent` bytes of data, by the unit's shape alone
 unfoldable pub broken_answer : Shape → List ℕ → ℕ → Reply
 broken_answer shape cdb sent =
     if not shape.present then absent_reply cdb

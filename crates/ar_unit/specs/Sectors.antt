@@ -10,19 +10,19 @@ Sector = List ℕ
 unfoldable pub zero_sector : Sector
 zero_sector = replicate 512 0
 
--- n of them
+-- `n` zero sectors
 abbrev pub zero_sectors : ℕ → List Sector
 zero_sectors n = replicate n zero_sector
 
--- the bytes of sectors, one after another
+-- the bytes of the sectors, concatenated
 abbrev pub joined : List Sector → List ℕ
 joined sectors = concat sectors
 
--- bytes cut into n pieces of a length
+-- the bytes cut into `n` pieces of length `len`
 abbrev pub cut : ℕ → ℕ → List ℕ → List (List ℕ)
 cut len zero bytes = []
 cut len (suc n) bytes = take len bytes ∷ cut len n (drop len bytes)
 
--- sectors, of which `count` from number lba on are replaced by those that the bytes make
+-- the sectors, `count` of them from `lba` on overwritten by `bytes`
 abbrev pub written : List Sector → ℕ → ℕ → List ℕ → List Sector
 written sectors lba count bytes = take lba sectors ++ cut 512 count bytes ++ drop (lba + count) sectors

@@ -1,4 +1,4 @@
--- What a logical unit is: a plain list of sectors, or nothing. No disk, no cache and no other unit stands here.
+-- The model of a logical unit: absent, or a plain list of sectors. No disk, no cache and no other unit occurs here.
 use Rattle.std.specs.Prelude.{◌≡◌, ◌≢◌, ℕ, ◌+◌, ◌-◌, ◌*◌, Bool, true, false, ◌==◌, not, nat_lt, if◌then◌else◌, List, [], ◌∷◌, ◌++◌, length, take, drop, All, Result, Ok, Err}
 use Rattle.ar_scsi.specs.declared.command.Command.{Command}
 use Rattle.ar_scsi.specs.declared.command.Command.TheVariants.{TestReady, Inquiry, Capacity, Read, Write}
@@ -12,7 +12,7 @@ use Rattle.ar_scsi.specs.Reply.{good, check, busy}
 use Rattle.ar_scsi.specs.Sense.{logical_unit_not_supported, capacity_data_has_changed, logical_block_address_out_of_range, data_phase_error}
 use Rattle.ar_unit.specs.Sectors.{Sector, zero_sectors, joined, written}
 
--- no unit; or its sectors, and whether it still has to tell that it has grown (SAM-3, Unit attention condition)
+-- absent; or its sectors, and whether a UNIT ATTENTION is pending since it has grown (SAM-3, Unit attention condition)
 pub data UnitState : Type 0 where
   Absent : UnitState
   Present : (sectors : List Sector) (attention : Bool) → UnitState
@@ -22,18 +22,18 @@ pub record Answered : Type 0 where
   pub reply : Reply
   pub state : UnitState
 
--- a reply that leaves this unit
+-- this reply, with the unit left in this state
 abbrev pub leaving : UnitState → Reply → Answered
 leaving state reply = record { reply = reply; state = state }
 
--- where no unit is: INQUIRY tells so, whatever its other fields, and each other command is refused (SAM-3, Incorrect logical unit
--- selection)
+-- the reply of an absent unit: INQUIRY reports the absence, whatever its other fields, and any other command is
+-- terminated with LOGICAL UNIT NOT SUPPORTED (SAM-3, Incorrect logical unit selection)
 abbrev pub absent_reply : List ℕ → Reply
 absent_reply cdb =
     if operation_code cdb == 0x12 then good (take (allocation_length cdb) (inquiry_data false))
     else check logical_unit_not_supported
 
--- a range of blocks ends past a unit of n sectors. The sum has no bound.
+-- `count` blocks from `lba` on end past a unit of `n` sectors; the sum doesn't overflow
 abbrev pub is_past_end : ℕ → ℕ → ℕ → Bool
 is_past_end n lba count = nat_lt n (lba + count)
 
@@ -43,14 +43,15 @@ read_reply sectors lba count =
     if is_past_end (length sectors) lba count then check logical_block_address_out_of_range
     else good (joined (take count (drop lba sectors)))
 
--- the answer to a WRITE with these bytes of data
+-- the reply to a WRITE of these bytes, and the unit after it: unchanged by an error
 abbrev pub write_answer : List Sector → Bool → ℕ → ℕ → List ℕ → Answered
 write_answer sectors attention lba count bytes =
     if is_past_end (length sectors) lba count then leaving (Present sectors attention) (check logical_block_address_out_of_range)
     else (if not (length bytes == count * 512) then leaving (Present sectors attention) (check data_phase_error)
     else leaving (Present (written sectors lba count bytes) attention) (good []))
 
--- the table from the command block on, where a unit is: the block's fault first, then the range, then the length of the data
+-- a present unit's reply with no UNIT ATTENTION to report, and the unit after it; the first error is reported: of the
+-- block, of the range, of the length of the data
 unfoldable pub obeyed : List Sector → Bool → Result Command Sense → List ℕ → Answered
 obeyed sectors attention (Err sense) bytes = leaving (Present sectors attention) (check sense)
 obeyed sectors attention (Ok TestReady) bytes = leaving (Present sectors attention) (good [])
@@ -59,8 +60,9 @@ obeyed sectors attention (Ok Capacity) bytes = leaving (Present sectors attentio
 obeyed sectors attention (Ok (Read lba count)) bytes = leaving (Present sectors attention) (read_reply sectors lba count)
 obeyed sectors attention (Ok (Write lba count fua)) bytes = write_answer sectors attention lba count bytes
 
--- the reply to a command block with these bytes of data, and the unit after it: of these the first that fits is no unit, a mark
--- that every command but INQUIRY is told, and then the table from the block on
+-- The reply to the command block `cdb` with the data `bytes`, and the unit after it. An absent unit comes first, then a
+-- pending UNIT ATTENTION, which any command but INQUIRY reports and clears (SAM-3, Unit attention condition), then the
+-- command.
 unfoldable pub answer : UnitState → List ℕ → List ℕ → Answered
 answer Absent cdb bytes = leaving Absent (absent_reply cdb)
 answer (Present sectors true) cdb bytes =
@@ -68,37 +70,37 @@ answer (Present sectors true) cdb bytes =
     else leaving (Present sectors false) (check capacity_data_has_changed)
 answer (Present sectors false) cdb bytes = obeyed sectors false (reading cdb) bytes
 
--- the reply of a program that may be refused memory: the table's, or BUSY, and that only where the table's reply has bytes
+-- the reply of a program, whose allocations may fail: the model's (`table`), or BUSY where the model's reply has data
 pub record IsGiven (table reply : Reply) : Type 0 where
   pub answered : reply.status ≢ Busy → reply ≡ table
   pub refused : reply.status ≡ Busy → reply ≡ busy
   pub memory : reply.status ≡ Busy → table.payload ≢ []
 
--- such a program has answered a command: with the reply go the table's sectors and mark, with BUSY those of before
+-- such a program has executed a command: it leaves the model's unit, or with BUSY the unit of before
 pub record IsServed (old : UnitState) (table : Answered) (reply : Reply) (new : UnitState) : Type 0 where
   pub given : IsGiven table.reply reply
   pub left : reply.status ≢ Busy → new ≡ table.state
   pub unchanged : reply.status ≡ Busy → new ≡ old
 
--- which replies have no bytes
+-- which replies have no data, so that they need no allocation
 pub record TakesNoMemory (cdb : List ℕ) (reply : Reply) : Type 0 where
   pub checks : reply.status ≡ CheckCondition → reply.payload ≡ []
   pub ready : reading cdb ≡ Ok TestReady → reply.payload ≡ []
   pub writes : (lba count : ℕ) (fua : Bool) → reading cdb ≡ Ok (Write lba count fua) → reply.payload ≡ []
 
--- each sector has its 512 bytes
+-- each sector has 512 bytes
 abbrev pub IsWhole : UnitState → Type 0
 IsWhole Absent = Unit {0}
 IsWhole (Present sectors attention) = All (λ sector. length sector ≡ 512) sectors
 
--- what happens to a unit: it is made or grows to n sectors, is removed, or gets a command
+-- a unit's create, resize, delete or command
 pub data Entry : Type 0 where
   Make : (sectors : ℕ) → Entry
   Grow : (sectors : ℕ) → Entry
   Remove : Entry
   Cmd : (cdb bytes : List ℕ) → Entry
 
--- the unit after it
+-- the unit after an entry
 abbrev pub after : UnitState → Entry → UnitState
 after state (Make n) = Present (zero_sectors n) false
 after Absent (Grow n) = Absent
@@ -106,7 +108,7 @@ after (Present sectors attention) (Grow n) = Present (sectors ++ zero_sectors (n
 after state Remove = Absent
 after state (Cmd cdb bytes) = (answer state cdb bytes).state
 
--- the unit after all of these, in their order
+-- the unit after these entries, in order
 abbrev pub unit_run : UnitState → List Entry → UnitState
 unit_run state [] = state
 unit_run state (entry ∷ entries) = unit_run (after state entry) entries

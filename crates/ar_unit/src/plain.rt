@@ -1,4 +1,4 @@
-// The plain program: a unit as a list of sectors.
+// The model as a program: a unit is a vector of sectors. A call that is out of memory leaves it unchanged.
 ghost use Rattle.std.specs.Prelude.{◌≡◌, ◌+◌, ◌-◌, ◌++◌, ◌*◌, ◌<◌, ◌≤◌, ◌^◌, Bool, true, if◌then◌else◌, length, OnOk, OnErr, IfOk, vec_len};
 ghost use Rattle.std.specs.List.{concat};
 ghost use Rattle.ar_scsi.specs.Data as table;
@@ -16,7 +16,7 @@ use std::marker::Model;
 
 const ZERO_SECTOR: [u8; 512] = [0; 512];
 
-/// A logical unit, kept as a plain list of sectors. Contracts see it as the definition's state.
+/// A logical unit as a plain list of sectors. Contracts see it as a `UnitState`.
 #[derive(Drop)]
 pub struct PlainUnit {
     present: bool,
@@ -37,7 +37,7 @@ impl Model for PlainUnit {
 }
 
 impl PlainUnit {
-    /// No unit. It takes no memory.
+    /// An absent unit. Allocates nothing.
     pub fn new(alloc: Global) -> PlainUnit
         ensures { result ≡ Absent }
     {
@@ -48,7 +48,7 @@ impl PlainUnit {
         }
     }
 
-    /// Makes the unit, of so many zero sectors, in place of what was there. `Err` leaves it as it was.
+    /// Creates the unit with `sectors` zero sectors, at least 1, in place of what was there. `Err` leaves it unchanged.
     pub fn make(&mut self, sectors: u32) -> Result<(), AllocError>
         requires { 1 ≤ sectors }
         ensures ok { OnOk result (self.new ≡ after self.old (Make sectors)) }
@@ -62,8 +62,8 @@ impl PlainUnit {
         Ok(())
     }
 
-    /// Adds zero sectors to a unit that is there, up to this number of them, and has the next command but
-    /// INQUIRY told. Where no unit is, nothing happens. `Err` leaves it as it was, and comes only where sectors are to be
+    /// Grows a present unit with zero sectors up to `sectors` in all, if it has fewer, and leaves a UNIT ATTENTION
+    /// pending. An absent unit stays absent. `Err` leaves the unit unchanged, and is returned only if sectors are to be
     /// added.
     pub fn grow(&mut self, sectors: u32) -> Result<(), AllocError>
         ensures ok { OnOk result (self.new ≡ after self.old (Grow sectors)) }
@@ -86,8 +86,8 @@ impl PlainUnit {
         self.sectors.clear();
     }
 
-    /// Answers a command that came with these bytes. BUSY stands only where the reply has bytes, for which memory may be refused, and
-    /// leaves the unit as it was.
+    /// Executes the command block `cdb` with the data `bytes`, and returns the reply. BUSY leaves the unit unchanged,
+    /// and is returned only in place of a reply with data, whose allocation may fail.
     pub fn answer(&mut self, alloc: Global, cdb: &[u8; 16], bytes: &[u8]) -> Reply
         ensures { IsServed self.old (answer self.old cdb.now bytes.now) result self.new }
     {
@@ -105,7 +105,7 @@ impl PlainUnit {
     }
 }
 
-// Does what a valid block asks of a unit that is there.
+// Executes a valid command on a present unit.
 #[tactic(auto, unfolding(crate::specs::Unit::obeyed))]
 fn obey(alloc: Global, sectors: &mut Vec<[u8; 512]>, command: Command, bytes: &[u8]) -> Reply
     requires some { 1 ≤ vec_len sectors.old }
@@ -142,7 +142,7 @@ fn read(alloc: Global, sectors: &Vec<[u8; 512]>, lba: u64, count: u16) -> Reply
     }
 }
 
-// How many bytes sectors have.
+// The size of the sectors, in bytes.
 fn byte_count(sectors: &[[u8; 512]]) -> usize
     requires { length sectors.now < 2 ^ 16 }
     ensures { result ≡ length (concat sectors.now) }
@@ -150,7 +150,7 @@ fn byte_count(sectors: &[[u8; 512]]) -> usize
     512 * sectors.len()
 }
 
-// The bytes of sectors, one after another.
+// The bytes of the sectors, concatenated. Fails if out of memory.
 fn joined(alloc: Global, sectors: &[[u8; 512]]) -> Result<Bytes, AllocError>
     requires { length sectors.now < 2 ^ 16 }
     ensures { IfOk result (λ bytes. bytes ≡ concat sectors.now) }
@@ -162,7 +162,7 @@ fn joined(alloc: Global, sectors: &[[u8; 512]]) -> Result<Bytes, AllocError>
     Ok(Bytes::from_vec(bytes)?)
 }
 
-// Says what it did by the table's reply and the sectors, at any mark.
+// The contract holds with and without a pending UNIT ATTENTION, which this leaves unchanged.
 fn write(sectors: &mut Vec<[u8; 512]>, lba: u64, count: u16, bytes: &[u8]) -> Reply
     requires few { vec_len sectors.old < 2 ^ 32 }
     ensures served { (attention : Bool) → leaving (Present sectors.new.items attention) result
@@ -181,7 +181,7 @@ fn write(sectors: &mut Vec<[u8; 512]>, lba: u64, count: u16, bytes: &[u8]) -> Re
     Reply::good(Bytes::new())
 }
 
-// Writes bytes over sectors.
+// Overwrites the sectors with `bytes`.
 fn overwrite(sectors: &mut [[u8; 512]], bytes: &[u8])
     requires { length bytes.now ≡ length sectors.old * 512 }
     ensures { sectors.new ≡ cut 512 (length sectors.old) bytes.now }
@@ -192,7 +192,7 @@ fn overwrite(sectors: &mut [[u8; 512]], bytes: &[u8])
     }
 }
 
-// Adds zero sectors up to `count` of them, where there are fewer. `Err` adds none.
+// Appends zero sectors up to `count` in all, if there are fewer. `Err` appends none.
 #[tactic(auto, unfolding(crate::specs::Sectors::zero_sector))]
 fn lengthen(sectors: &mut Vec<[u8; 512]>, count: u32) -> Result<(), AllocError>
     ensures ok { OnOk result (sectors.new.items

@@ -1,4 +1,4 @@
-// Replies that need no sector of a unit.
+// Replies that read no sector. One with data is BUSY if its allocation fails; one without data never is.
 ghost use Rattle.std.specs.Prelude.{◌≡◌, ◌+◌, ◌≤◌, nat_lt, take, length};
 ghost use Rattle.ar_scsi.specs.Data as table;
 ghost use Rattle.ar_scsi.specs.Reply as shape;
@@ -8,7 +8,7 @@ use ar_scsi::{Reply, Sense, allocation_length, capacity_data, inquiry_data, is_i
 use bytes::Bytes;
 use std::alloc::Global;
 
-/// GOOD with a copy of these bytes, or BUSY where memory is refused. No bytes take none.
+/// GOOD with a copy of `bytes`, or BUSY if out of memory. Empty `bytes` allocate nothing.
 pub fn with_bytes(alloc: Global, bytes: &[u8]) -> Reply
     ensures { IsGiven (shape.good bytes.now) result }
 {
@@ -21,7 +21,7 @@ pub fn with_bytes(alloc: Global, bytes: &[u8]) -> Reply
     }
 }
 
-/// INQUIRY: the data, cut to the allocation length.
+/// The reply to INQUIRY: the standard data, cut to `allocation_length` bytes (SPC-3, INQUIRY command).
 pub fn inquiry(alloc: Global, present: bool, allocation_length: u16) -> Reply
     ensures { IsGiven (shape.good (take allocation_length (table.inquiry_data present))) result }
 {
@@ -30,7 +30,8 @@ pub fn inquiry(alloc: Global, present: bool, allocation_length: u16) -> Reply
     with_bytes(alloc, &bytes[..shown])
 }
 
-/// The reply to any command where no unit is (SPC-3, INQUIRY: the qualifier says so; any other command is refused).
+/// The reply of an absent unit: INQUIRY reports its absence by the peripheral qualifier (SPC-3, Standard INQUIRY data),
+/// and any other command is terminated with LOGICAL UNIT NOT SUPPORTED (SAM-3, Incorrect logical unit selection).
 pub fn absent(alloc: Global, cdb: &[u8; 16]) -> Reply
     ensures { IsGiven (absent_reply cdb.now) result }
 {
@@ -41,7 +42,7 @@ pub fn absent(alloc: Global, cdb: &[u8; 16]) -> Reply
     }
 }
 
-/// READ CAPACITY of a unit of so many sectors.
+/// The reply to READ CAPACITY (10) of a unit of `sectors` sectors, at least 1 (SBC-2, READ CAPACITY (10) command).
 pub fn capacity(alloc: Global, sectors: u32) -> Reply
     requires { 1 ≤ sectors }
     ensures { IsGiven (shape.good (table.capacity_data sectors)) result }
@@ -49,7 +50,8 @@ pub fn capacity(alloc: Global, sectors: u32) -> Reply
     with_bytes(alloc, &capacity_data(sectors))
 }
 
-/// Whether a range of `count` sectors from `lba` on ends past a unit of so many sectors. 128 bits hold each sum.
+/// Whether the range of `count` sectors from `lba` on ends past a unit of `sectors` sectors. The sum, in 128 bits,
+/// doesn't overflow.
 pub fn is_past_end(sectors: u32, lba: u64, count: u16) -> bool
     ensures { result ≡ nat_lt sectors (lba + count) }
 {

@@ -1,4 +1,4 @@
-// Reads and writes of rows.
+// Row accesses. A lost extent isn't accessed, a read changes no row, and a write changes its own row alone.
 ghost use Rattle.std.specs.Prelude.{◌≡◌, ◌<◌, map, length, vec_len};
 ghost use Rattle.ar_disks.specs.Geometry.{rows_of, block_len_of};
 ghost use Rattle.ar_disks.specs.Disk.{HasPlace, Reads, Writes};
@@ -12,8 +12,8 @@ use crate::{Got, Health, Put, PutNew};
 use ar_disks::{Block, Disk, Place};
 
 impl<D: Disk> DiskSet<D> {
-    /// Reads a row of an extent into `into`, a block of the set's length; after another answer than `Read` any bytes may
-    /// stand in it. A missing extent isn't accessed.
+    /// Reads row `row` of extent `place` into `into`, a block of the set's length. Unless it returns `Read`, `into` has
+    /// unspecified bytes. A lost extent isn't accessed.
     pub fn get(&mut self, place: Place, row: u16, into: &mut Block) -> Got
         requires place { HasExtent self.old place }
         requires row { row < rows_of self.old.geometry }
@@ -33,8 +33,8 @@ impl<D: Disk> DiskSet<D> {
         Got::lost(self.health)
     }
 
-    /// Writes a row of an extent, from a block of the set's length; after another answer than `Written` any bytes may
-    /// stand in that row. A missing extent isn't accessed.
+    /// Writes `from`, a block of the set's length, to row `row` of extent `place`. Unless it returns `Written`, the row
+    /// has unspecified bytes. A lost extent isn't accessed.
     pub fn put(&mut self, place: Place, row: u16, from: &[u8]) -> Put
         requires place { HasExtent self.old place }
         requires row { row < rows_of self.old.geometry }
@@ -53,8 +53,8 @@ impl<D: Disk> DiskSet<D> {
         Put::lost(self.health)
     }
 
-    /// Writes a row of the lowest extent that isn't done of the disk that is rebuilt, from a block of the set's length.
-    /// `GivenUp` says that this disk faulted: it is out then.
+    /// Writes `from`, a block of the set's length, to row `row` of the extent that is rebuilt next. `GivenUp` reports
+    /// that the new disk faulted and is `Out`; the row then has unspecified bytes.
     pub fn put_new(&mut self, row: u16, from: &[u8]) -> PutNew
         requires rebuilding { IsRebuilding self.old.health }
         requires row { row < rows_of self.old.geometry }
@@ -75,7 +75,7 @@ impl<D: Disk> DiskSet<D> {
     }
 }
 
-// Reads a row of one of the disks.
+// Reads a row of one disk; the others stay.
 fn read_disk<D: Disk>(disks: &mut Vec<D>, place: Place, row: u16, into: &mut Block) -> bool
     requires exists { place.disk < vec_len disks.old }
     requires place { HasPlace (disk_in (map D.state disks.old.items) place.disk) place.extent row }
@@ -89,7 +89,7 @@ fn read_disk<D: Disk>(disks: &mut Vec<D>, place: Place, row: u16, into: &mut Blo
     disk.read(place.extent, row, into)
 }
 
-// Writes a row of one of the disks.
+// Writes a row of one disk; the others stay.
 fn write_disk<D: Disk>(disks: &mut Vec<D>, place: Place, row: u16, from: &[u8]) -> bool
     requires exists { place.disk < vec_len disks.old }
     requires place { HasPlace (disk_in (map D.state disks.old.items) place.disk) place.extent row }

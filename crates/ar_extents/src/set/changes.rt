@@ -1,4 +1,4 @@
-// Disks that are taken out, replaced, rebuilt and added.
+// Disks are added, replaced and taken out. The first reason that applies refuses a disk, and a refusal changes nothing.
 ghost use Rattle.std.specs.Prelude.{◌≡◌, ◌∷◌, ◌++◌, [], Some, None, unwrap_or, IfErr, OnOk, OnErr};
 ghost use Rattle.ar_extents.specs.declared.refusal.DiskRefusal.TheVariants.{NoMemory};
 ghost use Rattle.ar_extents.specs.Health.{IsRebuilding};
@@ -12,8 +12,8 @@ use crate::{DiskRefusal, Health};
 use ar_disks::Disk;
 
 impl<D: Disk> DiskSet<D> {
-    /// Takes a disk out, as if it had faulted; one that is out already stays so, and a broken set stays broken. It is
-    /// refused where there is no such disk.
+    /// Takes disk `disk` out, as if it had faulted; a failed disk stays failed, and a failed set too. Returns
+    /// `NoSuchDisk`, and changes nothing, if the set has no such disk.
     pub fn fail(&mut self, disk: u8) -> Result<(), DiskRefusal>
         ensures taken { OnOk result (fail_refusal self.old disk ≡ None) }
         ensures failed { OnOk result (self.new ≡ failed self.old disk) }
@@ -27,7 +27,7 @@ impl<D: Disk> DiskSet<D> {
         Ok(())
     }
 
-    /// Counts the next extent of the disk that is rebuilt as done; after the last one all disks are sound.
+    /// Counts the extent that is rebuilt next as done; after the last one the set is `Whole`.
     pub fn mark_done(&mut self)
         requires { IsRebuilding self.old.health }
         ensures { self.new ≡ with_done self.old }
@@ -42,7 +42,8 @@ impl<D: Disk> DiskSet<D> {
         };
     }
 
-    /// Adds a disk, every extent of which is loose. A refused disk is handed back.
+    /// Adds `disk`, all of its extents unassigned. `Broken`, `TooManyDisks`, `WrongSize` or `NoMemory` changes nothing
+    /// and gives the disk back.
     pub fn add(&mut self, disk: D) -> Result<(), (DiskRefusal, D)>
         requires { CanCount (D.state disk) }
         ensures taken { OnOk result (add_refusal self.old (D.state disk) ≡ None) }
@@ -64,7 +65,7 @@ impl<D: Disk> DiskSet<D> {
         }
     }
 
-    // Why a disk isn't added.
+    // Why the disk isn't added, if it isn't.
     fn add_refusal(&self, disk: &D) -> Option<DiskRefusal>
         ensures { result ≡ add_refusal self.now (D.state disk.now) }
     {
@@ -80,7 +81,7 @@ impl<D: Disk> DiskSet<D> {
         Some(DiskRefusal::WrongSize)
     }
 
-    // Why a disk isn't taken in the place of another.
+    // Why the disk doesn't replace disk `number`, if it doesn't.
     fn replace_refusal(&self, number: u8, disk: &D) -> Option<DiskRefusal>
         ensures { result ≡ replace_refusal self.now number (D.state disk.now) }
     {
@@ -102,8 +103,8 @@ impl<D: Disk> DiskSet<D> {
 }
 
 impl<D: Disk + Drop> DiskSet<D> {
-    /// Takes a disk in the place of one that is out, which is let go, and begins to rebuild it. A refused disk is handed
-    /// back.
+    /// Replaces the failed disk `number`, which is dropped, by `disk` and starts its rebuild. `Broken`, `NoSuchDisk`,
+    /// `NotOut` or `WrongSize` changes nothing and gives the disk back.
     pub fn replace(&mut self, number: u8, disk: D) -> Result<(), (DiskRefusal, D)>
         requires { CanCount (D.state disk) }
         ensures taken { OnOk result (replace_refusal self.old number (D.state disk) ≡ None) }
@@ -121,8 +122,8 @@ impl<D: Disk + Drop> DiskSet<D> {
     }
 }
 
-// Appends a disk and its marks, or hands the disk back. The marks' room is reserved first, so that a refusal leaves both
-// lists as they were and the last push succeeds.
+// Appends a disk and its flags, or gives the disk back. Room for the flags is reserved first, so that a failed
+// allocation leaves both lists unchanged and the last push succeeds.
 fn push_both<D: Disk>(
     disks: &mut Vec<D>,
     loose: &mut Vec<Marks>,

@@ -1,4 +1,4 @@
-// Loose extents.
+// The allocation of unassigned (`loose`) extents, lowest first. An extent is assigned from `take` to `give`.
 ghost use Rattle.std.specs.Prelude.{◌≡◌, ◌<◌, length, true, false, IfSome};
 ghost use Rattle.ar_extents.specs.Set.{HasExtent};
 ghost use Rattle.ar_extents.specs.Loose.{is_loose, loose_count, lowest_loose, taken, given};
@@ -7,7 +7,7 @@ use super::DiskSet;
 use ar_disks::{Disk, Place};
 
 impl<D: Disk> DiskSet<D> {
-    /// How many extents of a disk are loose.
+    /// The number of unassigned extents of a disk.
     pub fn loose(&self, disk: u8) -> u16
         requires { disk < length self.now.disks }
         ensures { result ≡ loose_count self.now disk }
@@ -15,7 +15,7 @@ impl<D: Disk> DiskSet<D> {
         self.loose[disk as usize].count()
     }
 
-    /// The extent that `take` would take: the lowest loose one of a disk, or None.
+    /// The extent that `take` would take: the lowest unassigned one of the disk, or None.
     pub fn lowest_loose(&self, disk: u8) -> Option<u16>
         requires { disk < length self.now.disks }
         ensures lowest { result ≡ lowest_loose self.now disk }
@@ -24,7 +24,7 @@ impl<D: Disk> DiskSet<D> {
         self.loose[disk as usize].lowest()
     }
 
-    /// Takes the lowest loose extent of a disk, which isn't loose from then on. None where there is none.
+    /// Takes the lowest unassigned extent of the disk; it is assigned from then on. None if there is none.
     pub fn take(&mut self, disk: u8) -> Option<u16>
         requires { disk < length self.old.disks }
         ensures lowest { result ≡ lowest_loose self.old disk }
@@ -37,7 +37,7 @@ impl<D: Disk> DiskSet<D> {
         Some(extent)
     }
 
-    /// Makes an extent loose that wasn't.
+    /// Makes an assigned extent unassigned.
     pub fn give(&mut self, place: Place)
         requires exists { HasExtent self.old place }
         requires used { is_loose self.old place ≡ false }

@@ -1,4 +1,4 @@
-// How a set begins.
+// The start of a set: 4 to 12 disks of one shape, with 1 to 1,024 extents each.
 ghost use Rattle.std.specs.Prelude.{◌≡◌, ◌<◌, All, map, true, None, length, replicate, unwrap_or, IfOk, IfErr, OnOk};
 ghost use Rattle.ar_extents.specs.declared.refusal.StartFault.TheVariants.{NoMemory};
 ghost use Rattle.ar_extents.specs.Set.{CanCount};
@@ -13,7 +13,7 @@ use ar_disks::{Disk, Geometry};
 use std::alloc::{AllocError, Global};
 
 impl<D: Disk> DiskSet<D> {
-    /// A set of these disks: whole, and with every extent loose. Refused disks are handed back.
+    /// A healthy set of these disks, every extent unassigned. Each `StartFault` gives the disks back.
     pub fn start(alloc: Global, disks: Vec<D>) -> Result<DiskSet<D>, (StartFault, Vec<D>)>
         requires { All CanCount (map D.state disks.items) }
         ensures taken { OnOk result (start_fault (map D.state disks.items) ≡ None) }
@@ -39,7 +39,7 @@ impl<D: Disk> DiskSet<D> {
     }
 }
 
-/// What is wrong with disks that a set is to begin with: their number, or their shapes. Any of them may be gone already.
+/// Why a set doesn't start with these disks: their number, or their shapes. A failed disk is no reason.
 pub fn fault_of<D: Disk>(disks: &[D]) -> Option<StartFault>
     ensures { result ≡ start_fault (map D.state disks.now) }
 {
@@ -71,7 +71,7 @@ fn all_have_shape<D: Disk>(disks: &[D], geometry: Geometry, extents: u16) -> boo
     disks.iter().all(|disk| has_shape(disk, geometry, extents))
 }
 
-// Marks for so many disks, all loose.
+// The flags of `count` disks of `extents` extents, all unassigned. Fails if out of memory.
 fn all_loose(alloc: Global, count: usize, extents: u16) -> Result<Vec<Marks>, AllocError>
     ensures { IfOk result (λ loose. loose.items ≡ replicate count (replicate extents true)) }
 {
