@@ -1,4 +1,4 @@
--- What balancing answers, and what it leaves.
+-- What balancing returns, and what it leaves as it was.
 use Rattle.std.specs.Prelude.{◌≡◌, ◌≢◌, ℕ, ◌*◌, length, Some}
 use Rattle.ar_disks.specs.declared.address.Members.{Members}
 use Rattle.ar_disks.specs.declared.address.Place.{Place}
@@ -19,25 +19,25 @@ use Rattle.ar_balance.specs.declared.step.Balance.TheVariants.{Formed, Shifted, 
 use Rattle.ar_balance.specs.Rule.{NamesForming, NamesShift, NothingToBalance}
 use Rattle.ar_balance.specs.Copies.{IsCutShort, IsStopped, IsFilled}
 
--- the group that the rule names was formed, with the next number
+-- the group that the rule chooses was formed, with the next number
 pub record IsGroupFormed (old new : StoreState) (group : ℕ) : Type 0 where
   pub members : Members
   pub names : NamesForming old members
   pub number : group ≡ length old.book.groups
   pub formed : new ≡ with_group old members
 
--- the rule names a group, for which there was no memory: the whole store is as it was
+-- the rule chooses a group, for which an allocation failed: the whole store is as it was
 pub record HasNoMemory (old new : StoreState) : Type 0 where
   pub members : Members
   pub names : NamesForming old members
   pub same : new ≡ old
 
--- the set once one extent is in a group and another is loose
+-- the set with one extent assigned to a group and another unassigned
 abbrev pub switched : SetState → Place → Place → SetState
 switched s from to = given (taken s to.disk (Some to.extent)) from
 
--- The extent that the rule names was copied to another disk's lowest loose one, whose marks and place in the group were changed
--- only then: no disk faulted, and no other extent has other content.
+-- The extent that the rule chooses was copied to another disk's lowest unassigned one, and only then replaced by it in
+-- the group: no disk faulted, and no other extent has other content.
 pub record IsExtentShifted (old new : StoreState) (group on off : ℕ) : Type 0 where
   pub position : ℕ
   pub from : Place
@@ -45,12 +45,13 @@ pub record IsExtentShifted (old new : StoreState) (group on off : ℕ) : Type 0 
   pub names : NamesShift old group position from to
   pub from_disk : from.disk ≡ on
   pub to_disk : to.disk ≡ off
-  -- the disks when all was copied
+  -- the disks once all rows are copied
   pub copied : SetState
   pub filled : IsFilled (class_in old group) old.disks copied from to
   pub tables : new ≡ store_of (switched copied from to) (shifted old.book group position to)
 
--- one of the two disks of the shift that the rule names faulted: the tables are as they were, and so is which extents are loose
+-- one of the two disks of the shift that the rule chooses faulted: the tables are as they were, and so is which extents
+-- are unassigned
 pub record IsGivenUp (old new : StoreState) : Type 0 where
   pub group : ℕ
   pub position : ℕ
@@ -63,17 +64,17 @@ pub record IsGivenUp (old new : StoreState) : Type 0 where
   pub stopped : IsStopped old.disks new.disks from to
   pub book : new.book ≡ old.book
 
--- the rule names nothing, and the whole store is as it was
+-- the rule chooses nothing, and the whole store is as it was
 pub record IsLeft (old new : StoreState) : Type 0 where
   pub nothing : NothingToBalance old
   pub same : new ≡ old
 
--- the store was broken, and is as it was
+-- the array had failed before, and the store is as it was
 pub record IsRefused (old new : StoreState) : Type 0 where
   pub broken : old.disks.health ≡ AllBroken
   pub same : new ≡ old
 
--- what balancing answers
+-- what each return value says
 abbrev pub Balances : StoreState → StoreState → Balance → Type 0
 Balances old new (Formed group) = IsGroupFormed old new group
 Balances old new (Shifted group from to) = IsExtentShifted old new group from to
@@ -82,19 +83,20 @@ Balances old new NoMemory = HasNoMemory old new
 Balances old new Idle = IsLeft old new
 Balances old new Broken = IsRefused old new
 
--- Units, homes and stamps are as they were; groups may not be.
+-- Units, homes and stamps are as they were; groups may differ.
 pub record KeepsUnits (t new : Tables) : Type 0 where
   pub geometry : new.geometry ≡ t.geometry
   pub units : new.units ≡ t.units
   pub puts : new.puts ≡ t.puts
 
--- Every block stands as it did, units are as they were, and no disk was lost without a cause.
+-- Every block reads as before, unless the array has failed; units are as they were, and no disk is lost without a
+-- fault.
 pub record LeavesAll (old new : StoreState) : Type 0 where
   pub stands : AllStand old new
   pub units : KeepsUnits old.book new.book
   pub follows : Follows old.disks new.disks
 
--- how much more room there is: a group with parity's worth for a group that was formed
+-- how much more room there is: the slots of a parity group, for a group that was formed
 abbrev pub gained : Geometry → Balance → ℕ
 gained g (Formed group) = 3 * rows_of g
 gained g (Shifted group from to) = 0
@@ -103,7 +105,7 @@ gained g NoMemory = 0
 gained g Idle = 0
 gained g Broken = 0
 
--- what is said where the tables changed
+-- if the tables changed, P holds
 abbrev pub IfChanged : Balance → Type 0 → Type 0
 IfChanged (Formed group) P = P
 IfChanged (Shifted group from to) P = P

@@ -1,4 +1,4 @@
--- What the copying of an extent leaves.
+-- What a copy of an extent leaves, complete or stopped by a fault.
 use Rattle.std.specs.Prelude.{◌≡◌, ◌≢◌, ◌⊎◌, ℕ, zero, suc, ◌<◌}
 use Rattle.ar_disks.specs.declared.address.Place.{Place}
 use Rattle.ar_disks.specs.Geometry.{rows_of}
@@ -8,11 +8,11 @@ use Rattle.ar_extents.specs.Follows.{Follows, Faulted, Keeps, Spares}
 use Rattle.ar_book.specs.declared.class.Class.{Class}
 use Rattle.ar_book.specs.declared.class.Class.TheVariants.{Free, Mirrored, Parity}
 
--- the disk is neither of these extents'
+-- the disk has neither of these extents
 abbrev pub IsAside : Place → Place → ℕ → Type 0
 IsAside from to d = (d ≢ from.disk) × (d ≢ to.disk)
 
--- accesses in which no disk faulted, and of which none but those of one extent wrote
+-- accesses in which no disk faulted, and which wrote to one extent only
 pub record HasWritten (old new : SetState) (to : Place) : Type 0 where
   pub follows : Follows old new
   pub loose : new.loose ≡ old.loose
@@ -20,20 +20,20 @@ pub record HasWritten (old new : SetState) (to : Place) : Type 0 where
   pub health : new.health ≡ Whole
   pub faults : (d : ℕ) → faults_of new d ≡ faults_of old d
 
--- the rows of an extent, below a number, stand in another, and no disk was asked but those of the two
+-- the rows of an extent below a number are copied to another, and only the disks of the two were accessed
 pub record AreCopied (old new : SetState) (from to : Place) (end : ℕ) : Type 0 where
   pub written : HasWritten old new to
   pub asks : Spares (IsAside from to) old new
   pub rows : (row : ℕ) → row < end → content new to row ≡ content old from row
 
--- one row does, and the others are as before
+-- one row is copied, and the other rows are as before
 pub record IsRowCopied (old new : SetState) (from to : Place) (row : ℕ) : Type 0 where
   pub written : HasWritten old new to
   pub asks : Spares (IsAside from to) old new
   pub here : content new to row ≡ content old from row
   pub others : (r : ℕ) → r ≢ row → content new to r ≡ content old to r
 
--- one of the two disks faulted, and is out: what stands in the new extent, `IsStopped` says. No other disk was asked.
+-- one of the two disks faulted, and has failed; no other disk was accessed (`IsStopped` says which rows are copied)
 pub record IsCutShort (old new : SetState) (from to : Place) : Type 0 where
   pub follows : Follows old new
   pub loose : new.loose ≡ old.loose
@@ -44,41 +44,42 @@ pub record IsCutShort (old new : SetState) (from to : Place) : Type 0 where
   pub faulted : Faulted old new disk
   pub out : new.health ≡ Out disk
 
--- the one extent's disk was asked, and only then the other's
+-- the disk of the one extent was accessed, and only then that of the other
 pub record AsksInTurn (from to : Place) (old new : SetState) : Type 0 where
   pub between : SetState
   pub reads : Spares (λ d. d ≢ from.disk) old between
   pub writes : Spares (λ d. d ≢ to.disk) between new
 
--- one row was copied so: at first no disk was asked but that of the old extent, and then none but that of the new one
+-- one row was copied in that order: the old extent's disk was accessed first, and then the new one's
 pub record CopiesRow (from to : Place) (row : ℕ) (old new : SetState) : Type 0 where
   pub copied : IsRowCopied old new from to row
   pub turn : AsksInTurn from to old new
 
--- so many rows, one after another
+-- the first n rows were copied so, one after another
 abbrev pub CopiesRows : Place → Place → ℕ → SetState → SetState → Type 0
 CopiesRows from to zero old new = new ≡ old
 CopiesRows from to (suc n) old new = (next : SetState) × CopiesRows from to n old next × CopiesRow from to n next new
 
--- all rows of an extent were, and stand in the other
+-- all rows of an extent were copied so
 pub record IsExtentCopied (old new : SetState) (from to : Place) : Type 0 where
   pub copied : AreCopied old new from to (rows_of old.geometry)
   pub turns : CopiesRows from to (rows_of old.geometry) old new
 
--- The copy stopped at a row: those below it are copied, and those past it are as they were. So is the row itself, unless the disk
--- of the new extent is the one that is out: nothing is written but what was read.
+-- The copy stopped at a row: those below it are copied, and those past it are as they were. So is the row itself,
+-- unless it is the new extent's disk that has failed: a row is written only once it was read.
 pub record IsStopped (old new : SetState) (from to : Place) : Type 0 where
   pub row : ℕ
   pub there : row < rows_of old.geometry
   pub below : (r : ℕ) → r < row → content new to r ≡ content old from r
   pub past : (r : ℕ) → row < r → content new to r ≡ content old to r
   pub unread : new.health ≢ Out to.disk → content new to row ≡ content old to row
-  -- the rows below it were copied one after another, and where the row itself couldn't be read the new extent wasn't asked
+  -- the rows below it were copied one after another; if the row itself couldn't be read, the new extent's disk wasn't
+  -- accessed
   pub before : SetState
   pub turns : CopiesRows from to row old before
   pub untouched : new.health ≢ Out to.disk → Spares (λ d. d ≢ from.disk) before new
 
--- what is copied of a group's extent: all rows, and of a free group none, so that no disk is accessed
+-- what is copied of a group's extent: all rows; of a free group nothing, so that no disk is accessed
 abbrev pub IsFilled : Class → SetState → SetState → Place → Place → Type 0
 IsFilled Free old new from to = new ≡ old
 IsFilled Mirrored old new from to = IsExtentCopied old new from to

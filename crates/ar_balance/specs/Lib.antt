@@ -2,7 +2,7 @@ pub mod Rule
 pub mod Copies
 pub mod Balance
 pub mod Measure
--- the words of lower crates that clauses of this crate cite
+-- definitions of lower crates that contracts of this crate use
 pub use Rattle.ar_store.specs.Store
 pub use Rattle.ar_store.specs.Slots
 pub use Rattle.ar_store.specs.Forming

@@ -1,4 +1,4 @@
--- The rule of balancing: of which extents a group is formed, or which group's extent moves to which disk.
+-- The rule of balancing: of which extents a group is formed, or which extent of a group moves to which disk.
 use Rattle.std.specs.Prelude.{◌≡◌, ◌≢◌, ◌⊎◌, ℕ, ◌+◌, ◌<◌, ◌≤◌, length, Some}
 use Rattle.ar_disks.specs.declared.address.Members.{Members}
 use Rattle.ar_disks.specs.declared.address.Place.{Place}
@@ -10,22 +10,22 @@ use Rattle.ar_book.specs.Tables.{Tables, group_in}
 use Rattle.ar_store.specs.Store.{StoreState, members_of}
 use Rattle.ar_store.specs.Forming.{AreFullest, HasFewLoose}
 
--- the rule names the four extents of a group that is to be formed
+-- the rule chooses these four extents for a new group
 pub record NamesForming (s : StoreState) (m : Members) : Type 0 where
   pub whole : s.disks.health ≡ Whole
   pub fullest : AreFullest s.disks m
 
--- of the disks below a number, this one has fewest loose extents, the lowest on ties
+-- of the disks below a number, this one has the fewest unassigned extents, the lowest on ties
 pub record HasFewestBelow (s : SetState) (end d : ℕ) : Type 0 where
   pub below : d < end
   pub fewest : (x : ℕ) → x < end → x ≢ d → (loose_count s d < loose_count s x) ⊎ ((loose_count s d ≡ loose_count s x) × (d < x))
 
--- and this one has most
+-- the same with the most
 pub record HasMostBelow (s : SetState) (end d : ℕ) : Type 0 where
   pub below : d < end
   pub most : (x : ℕ) → x < end → x ≢ d → (loose_count s x < loose_count s d) ⊎ ((loose_count s x ≡ loose_count s d) × (d < x))
 
--- of all disks
+-- the same of all disks
 abbrev pub HasFewest : SetState → ℕ → Type 0
 HasFewest s d = HasFewestBelow s (length s.disks) d
 
@@ -37,18 +37,18 @@ pub record StandsAt (m : Members) (position d : ℕ) : Type 0 where
   pub range : position < 4
   pub disk : (member m position).disk ≡ d
 
--- no extent of the four is on the disk
+-- none of the four extents is on the disk
 abbrev pub IsOff : Members → ℕ → Type 0
 IsOff m d = (i : ℕ) → i < 4 → (member m i).disk ≢ d
 
--- a group stands on one disk, with the member at a position, and not on another
+-- a group has the member at a position on one disk, and none on another
 pub record CanShift (t : Tables) (on off group position : ℕ) : Type 0 where
   pub there : group < length t.groups
   pub stands : StandsAt (group_in t.groups group).members position on
   pub apart : IsOff (group_in t.groups group).members off
 
--- The rule names the extent of a group that is to move to another disk. Fewer than four disks have loose extents; the extent's
--- disk has fewest of them and the other one most, at least two more; and the group is the lowest that can move so.
+-- The rule chooses this extent of a group to move to another disk. Fewer than four disks have unassigned extents; the
+-- extent's disk has the fewest and the other one the most, at least two more; the group is the lowest that can move so.
 pub record NamesShift (s : StoreState) (group position : ℕ) (from to : Place) : Type 0 where
   pub whole : s.disks.health ≡ Whole
   pub few : HasFewLoose s.disks
@@ -60,18 +60,18 @@ pub record NamesShift (s : StoreState) (group position : ℕ) (from to : Place) 
   pub from_is : member (members_of s group) position ≡ from
   pub to_is : lowest_loose s.disks to.disk ≡ Some to.extent
 
--- No group is to be formed, and none is to move. No two disks differ by two loose extents or more of which a group stands on the
--- one with fewest and not on the one with most.
+-- No group can be formed, and none is to move: the disks with the fewest and the most unassigned extents differ by less
+-- than two, or no group is on the one and not on the other.
 pub record IsEven (s : StoreState) : Type 0 where
   pub few : HasFewLoose s.disks
   pub even : (a b group position : ℕ) → HasFewest s.disks a → HasMost s.disks b → loose_count s.disks a + 2 ≤ loose_count s.disks b
       → CanShift s.book a b group position → ⊥
 
--- the rule names nothing, as it never does while a disk is down
+-- the rule chooses nothing, as always unless all disks are healthy
 pub record NothingToBalance (s : StoreState) : Type 0 where
   pub even : s.disks.health ≡ Whole → IsEven s
 
--- two shifts are one
+-- the two shifts are the same
 pub record IsOneShift (g h p q : ℕ) (from leaves to goes : Place) : Type 0 where
   pub groups : g ≡ h
   pub positions : p ≡ q

@@ -1,4 +1,4 @@
-// Which extents the rule names.
+// The rule's choice. Ties go to the lowest disk and group, so that the choice is unique.
 ghost use Rattle.std.specs.Prelude.{◌≡◌, ◌≢◌, ◌↔◌, ℕ, ◌+◌, ◌<◌, ◌≤◌, length, slice_index, Some, IfSome, IfNone, IsTrue};
 ghost use Rattle.ar_extents.specs.declared.health.Health.TheVariants.{Whole};
 ghost use Rattle.ar_extents.specs.Loose.{loose_count, lowest_loose};
@@ -12,7 +12,7 @@ use ar_disks::{Disk, Members, Place};
 use ar_extents::DiskSet;
 use ar_store::{Space, four_fullest};
 
-// An extent that moves, with its group and its member position there.
+// A move of a group's extent `from`, at a member position, to the unassigned extent `to`.
 #[derive(Clone, Copy)]
 pub(crate) struct Shift {
     pub(crate) group: u32,
@@ -21,14 +21,14 @@ pub(crate) struct Shift {
     pub(crate) to: Place,
 }
 
-// A group's member.
+// A member position of a group.
 #[derive(Clone, Copy)]
 struct Seat {
     group: u32,
     position: u8,
 }
 
-// The extents of the group that is to be formed; None where fewer than four disks have loose ones.
+// The extents of the next group; None if fewer than four disks have unassigned ones.
 pub(crate) fn next_members<D: Disk>(set: &DiskSet<D>) -> Option<Members>
     ensures found { IfSome result (AreFullest set.now) }
     ensures none { IfNone result (HasFewLoose set.now) }
@@ -43,7 +43,7 @@ pub(crate) fn next_members<D: Disk>(set: &DiskSet<D>) -> Option<Members>
     })
 }
 
-// How many extents of each disk are loose, and none of a disk that there isn't.
+// The number of unassigned extents of each disk; 0 past the last disk.
 fn loose_counts<D: Disk>(set: &DiskSet<D>) -> [u16; 12]
     ensures len { length result ≡ 12 }
     ensures counts { (d : ℕ) → d < length set.now.disks → slice_index result d ≡ loose_count set.now d }
@@ -56,7 +56,7 @@ fn loose_counts<D: Disk>(set: &DiskSet<D>) -> [u16; 12]
     counts
 }
 
-// The lowest loose extent of a disk that has any.
+// The lowest unassigned extent of a disk that has any.
 fn lowest_place<D: Disk>(set: &DiskSet<D>, disk: u8) -> Place
     requires there { disk < length set.now.disks }
     requires some { 0 < loose_count set.now disk }
@@ -69,7 +69,7 @@ fn lowest_place<D: Disk>(set: &DiskSet<D>, disk: u8) -> Place
     }
 }
 
-// The shift that the rule names while the disks are whole and fewer than four have loose extents.
+// The shift that the rule chooses for healthy disks, fewer than four of which have unassigned extents.
 pub(crate) fn next_shift<D: Disk>(space: &Space<D>) -> Option<Shift>
     requires whole { space.now.disks.health ≡ Whole }
     requires few { HasFewLoose space.now.disks }
@@ -90,7 +90,7 @@ pub(crate) fn next_shift<D: Disk>(space: &Space<D>) -> Option<Shift>
     })
 }
 
-// The disk with fewest loose extents, the lowest on ties.
+// The disk with the fewest unassigned extents, the lowest on ties.
 fn emptiest<D: Disk>(set: &DiskSet<D>) -> u8
     ensures { HasFewest set.now result }
 {
@@ -101,7 +101,7 @@ fn emptiest<D: Disk>(set: &DiskSet<D>) -> u8
     best
 }
 
-// The next disk, where it has fewer loose extents than the best of those before it.
+// Disk `number` if it has fewer unassigned extents than `best`, the best below it; else `best`.
 fn emptier<D: Disk>(set: &DiskSet<D>, best: u8, number: u8) -> u8
     requires best { HasFewestBelow set.now number best }
     requires there { number < length set.now.disks }
@@ -114,7 +114,7 @@ fn emptier<D: Disk>(set: &DiskSet<D>, best: u8, number: u8) -> u8
     }
 }
 
-// The disk with most loose extents, the lowest on ties.
+// The disk with the most unassigned extents, the lowest on ties.
 fn fullest<D: Disk>(set: &DiskSet<D>) -> u8
     ensures { HasMost set.now result }
 {
@@ -125,7 +125,7 @@ fn fullest<D: Disk>(set: &DiskSet<D>) -> u8
     best
 }
 
-// The next disk, where it has more loose extents than the best of those before it.
+// Disk `number` if it has more unassigned extents than `best`, the best below it; else `best`.
 fn fuller<D: Disk>(set: &DiskSet<D>, best: u8, number: u8) -> u8
     requires best { HasMostBelow set.now number best }
     requires there { number < length set.now.disks }
@@ -138,7 +138,7 @@ fn fuller<D: Disk>(set: &DiskSet<D>, best: u8, number: u8) -> u8
     }
 }
 
-// Whether the one disk has at least two loose extents fewer than the other.
+// Whether disk `few` has at least two unassigned extents fewer than disk `many`.
 fn is_uneven<D: Disk>(set: &DiskSet<D>, few: u8, many: u8) -> bool
     requires few { few < length set.now.disks }
     requires many { many < length set.now.disks }
@@ -147,7 +147,7 @@ fn is_uneven<D: Disk>(set: &DiskSet<D>, few: u8, many: u8) -> bool
     set.loose(many).saturating_sub(set.loose(few)) >= 2
 }
 
-// The lowest group that stands on one disk and not on another, and its member there.
+// The lowest group with a member on disk `on` and none on disk `off`, and that member.
 fn lowest_seat(book: &Book, on: u8, off: u8) -> Option<Seat>
     ensures can { IfSome result (λ seat. CanShift book.now on off seat.group seat.position) }
     ensures least { IfSome result (λ seat. (h p : ℕ) → h < seat.group → CanShift book.now on off h p → ⊥) }
@@ -161,7 +161,7 @@ fn lowest_seat(book: &Book, on: u8, off: u8) -> Option<Seat>
     None
 }
 
-// The member position on one disk, where no member stands on the other.
+// The position of the member on disk `on`, if no member is on disk `off`.
 fn position_beside(members: Members, on: u8, off: u8) -> Option<u8>
     ensures on { IfSome result (λ position. StandsAt members position on) }
     ensures off { IfSome result (λ _. IsOff members off) }
@@ -173,7 +173,7 @@ fn position_beside(members: Members, on: u8, off: u8) -> Option<u8>
     }
 }
 
-// The member position on a disk.
+// The position of the member on a disk.
 fn position_on(members: Members, disk: u8) -> Option<u8>
     ensures found { IfSome result (λ position. StandsAt members position disk) }
     ensures none { IfNone result (IsOff members disk) }

@@ -1,4 +1,4 @@
-// The rows of an extent are copied to another.
+// An extent is copied row by row, each read before it is written: a copy that a fault stops writes no row past it.
 ghost use Rattle.std.specs.Prelude.{◌≡◌, ◌≢◌, ◌<◌, ℕ, length, IsTrue, false};
 ghost use Rattle.ar_disks.specs.Geometry.{rows_of, block_len_of};
 ghost use Rattle.ar_extents.specs.declared.health.Health.TheVariants.{Whole, Out};
@@ -9,7 +9,7 @@ ghost use Rattle.ar_balance.specs.Copies.{IsExtentCopied, IsRowCopied, IsCutShor
 use ar_disks::{Block, Disk, Place};
 use ar_extents::{DiskSet, Got, Put};
 
-// Copies all rows of an extent of whole disks to another extent, by way of a block. False says that one of the two disks faulted.
+// Copies all rows of an extent to another on healthy disks, by way of `block`. False if one of the two disks faulted.
 pub(crate) fn copy_extent<D: Disk>(
     set: &mut DiskSet<D>,
     from: Place,
@@ -34,7 +34,7 @@ pub(crate) fn copy_extent<D: Disk>(
     true
 }
 
-// Copies one row.
+// Copies one row. False if one of the two disks faulted.
 fn copy_row<D: Disk>(
     set: &mut DiskSet<D>,
     from: Place,
@@ -50,7 +50,7 @@ fn copy_row<D: Disk>(
     ensures copied { IsTrue result → IsRowCopied set.old set.new from to row }
     ensures cut { result ≡ false → IsCutShort set.old set.new from to }
     ensures others { result ≡ false → (r : ℕ) → r ≢ row → content set.new to r ≡ content set.old to r }
-    // Nothing is written where nothing was read.
+    // Nothing is written unless the row was read.
     ensures unread { result ≡ false → set.new.health ≢ Out to.disk → content set.new to row ≡ content set.old to row }
     ensures turn { IsTrue result → AsksInTurn from to set.old set.new }
     ensures untouched { result ≡ false → set.new.health ≢ Out to.disk → Spares (λ d. d ≢ from.disk) set.old set.new }

@@ -1,4 +1,4 @@
-// A group is formed.
+// A group is formed in the tables alone: no disk is accessed.
 ghost use Rattle.std.specs.Prelude.{◌≡◌, ◌≢◌, ◌+◌, ◌<◌, ◌≤◌};
 ghost use Rattle.ar_extents.specs.declared.health.Health.TheVariants.{Whole, Broken};
 ghost use Rattle.ar_book.specs.Tables.{room, free_groups};
@@ -13,7 +13,7 @@ use ar_disks::{Disk, Members};
 use ar_extents::DiskSet;
 use ar_store::Space;
 
-// Forms the group that the rule names.
+// Forms the group that the rule chooses.
 pub(crate) fn form<D: Disk>(space: &mut Space<D>, members: Members) -> Balance
     requires space { IsSpace (store_in space.old) }
     requires whole { space.old.disks.health ≡ Whole }
@@ -31,7 +31,7 @@ pub(crate) fn form<D: Disk>(space: &mut Space<D>, members: Members) -> Balance
     ensures free { free_groups space.old.book ≤ free_groups space.new.book }
     ensures scratch { space.new.scratch.geometry ≡ space.old.scratch.geometry }
 {
-    // Asked for what it tells: there are marks for each extent.
+    // Called for its contract: the set has a mark for each extent.
     let _health = space.disks.health();
     match space.book.form_group(members) {
         Ok(group) => {
@@ -42,7 +42,7 @@ pub(crate) fn form<D: Disk>(space: &mut Space<D>, members: Members) -> Balance
     }
 }
 
-// Takes the lowest loose extents of four disks.
+// Assigns the lowest unassigned extents of four disks.
 fn take_members<D: Disk>(set: &mut DiskSet<D>, members: Members)
     requires { AreFullest set.old members }
     ensures { set.new ≡ without set.old members }

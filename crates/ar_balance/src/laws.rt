@@ -1,4 +1,4 @@
-// What crates above cite of balancing.
+// Theorems about balancing that other crates use: its choice is unique, it ends, and it idles only on even disks.
 ghost use Rattle.std.specs.Prelude.{◌≡◌, ◌<◌, ◌≤◌, ◌+◌, ℕ};
 ghost use Rattle.ar_disks.specs.declared.address.Members.{Members};
 ghost use Rattle.ar_disks.specs.declared.address.Place.{Place};
@@ -13,8 +13,8 @@ ghost use Rattle.ar_balance.specs.Rule.{NamesForming, NamesShift, HasFewest, Has
 ghost use Rattle.ar_balance.specs.Balance.{Balances, IsLeft, IfChanged};
 ghost use Rattle.ar_balance.specs.Measure.{balance_left};
 
-/// The rule names at most one group, or one extent and where it goes, and never both. So what balancing answers is what the rule
-/// names. It does nothing when it is called.
+/// The rule chooses at most one group, or one shift of an extent, and never both: so what balancing returns is what the
+/// rule chooses. A call does nothing.
 pub fn rule_names_one_action()
     ensures forming { (s : StoreState) (m other : Members) → NamesForming s m → NamesForming s other → m ≡ other }
     ensures shift { (s : StoreState) (g h p q : ℕ) (from leaves to goes : Place) → TablesAgree s.book → NamesShift s g p from to
@@ -22,15 +22,15 @@ pub fn rule_names_one_action()
     ensures not_both { (s : StoreState) (m : Members) (g p : ℕ) (from to : Place) → NamesForming s m → NamesShift s g p from to → ⊥ }
 {}
 
-/// Balancing ends: whenever it changes a table, less is left to be balanced, and below 0 there is nothing less. It does nothing
-/// when it is called.
+/// Balancing ends: each change of a table lowers `balance_left`, a natural number. A call does nothing.
 pub fn balancing_ends()
     ensures { (old new : StoreState) (answer : Balance) → IsSpace old → IsKeptSet old.disks → Balances old new answer
         → IfChanged answer (balance_left new.disks < balance_left old.disks) }
 {}
 
-/// Where balancing is idle, the rule names nothing. And if the disks are whole no two differ by two loose extents or more of
-/// which a group stands on the one with fewest and not on the one with most. It does nothing when it is called.
+/// If balancing is idle, the rule chooses nothing. On healthy disks the one with the most unassigned extents has then
+/// at most one more than the one with the fewest, if a group is on the latter and not on the former. A call does
+/// nothing.
 pub fn idle_is_even()
     ensures forming { (old new : StoreState) (m : Members) → IsLeft old new → NamesForming old m → ⊥ }
     ensures shift { (old new : StoreState) (g p : ℕ) (from to : Place) → IsLeft old new → NamesShift old g p from to → ⊥ }

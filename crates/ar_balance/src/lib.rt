@@ -1,4 +1,5 @@
-//! Balancing in the background: groups are formed of loose extents, and extents move to disks on which more are loose.
+//! Background balancing of space: groups are formed of unassigned extents (`loose` in the API), and a group's extent
+//! moves to a disk with more of them. A group in use gets its new extent only once all rows are copied.
 #![tactic(auto)]
 
 mod choose;

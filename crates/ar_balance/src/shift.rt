@@ -1,4 +1,5 @@
-// A group's extent moves to another disk.
+// A group's extent moves to another disk. Its rows are copied before the tables change, so that a fault in the copy
+// leaves the tables as they were.
 ghost use Rattle.std.specs.Prelude.{◌≡◌, ◌≢◌, ℕ, ◌+◌, ◌<◌, ◌≤◌, length, IsTrue, false, Some};
 ghost use Rattle.ar_disks.specs.Members.{member};
 ghost use Rattle.ar_disks.specs.Geometry.{block_len_of};
@@ -23,7 +24,7 @@ use ar_book::Class;
 use ar_disks::{Block, Disk};
 use ar_store::Space;
 
-// Does the shift that the rule names.
+// Does the shift that the rule chooses.
 pub(crate) fn shift_extent<D: Disk>(
     space: &mut Space<D>,
     shift: Shift,
@@ -45,7 +46,7 @@ pub(crate) fn shift_extent<D: Disk>(
     ensures scratch { space.new.scratch.geometry ≡ space.old.scratch.geometry }
     ensures len { length block.new ≡ length block.old }
 {
-    // Asked for what it tells: there are marks for each extent.
+    // Called for its contract: the set has a mark for each extent.
     let _health = space.disks.health();
     if !fill(space, shift, block) {
         return Balance::GivenUp;
@@ -58,7 +59,7 @@ pub(crate) fn shift_extent<D: Disk>(
     }
 }
 
-// Copies what the extent holds, which of a free group is nothing. False says that one of the two disks faulted.
+// Copies the extent, unless its group is free. False if one of the two disks faulted.
 fn fill<D: Disk>(space: &mut Space<D>, shift: Shift, block: &mut Block) -> bool
     requires space { IsSpace (store_in space.old) }
     requires names { NamesShift (store_in space.old) shift.group shift.position shift.from shift.to }
@@ -82,7 +83,7 @@ fn fill<D: Disk>(space: &mut Space<D>, shift: Shift, block: &mut Block) -> bool
     }
 }
 
-// Puts the new extent in the place of the old one, which is loose from then on.
+// Replaces the old extent by the new one in the group; the old one is unassigned then.
 fn switch<D: Disk>(space: &mut Space<D>, shift: Shift)
     requires there { shift.group < length space.old.book.groups }
     requires range { shift.position < 4 }

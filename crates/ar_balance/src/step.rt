@@ -1,4 +1,4 @@
-// One step of balancing, and what it answers.
+// One step of balancing, done only while all disks are healthy.
 ghost use Rattle.std.specs.Prelude.{◌≡◌, ◌≢◌, ◌↔◌, ◌+◌, ◌<◌, ◌≤◌, length};
 ghost use Rattle.ar_disks.specs.Geometry.{block_len_of};
 ghost use Rattle.ar_book.specs.Tables.{room, free_groups};
@@ -19,26 +19,26 @@ use ar_store::{Space, Store};
 pub enum Balance {
     /// It formed a free group, with this number.
     Formed(u32),
-    /// It moved a group's extent from one disk to another.
+    /// It moved an extent of a group from disk `from` to disk `to`.
     Shifted { group: u32, from: u8, to: u8 },
-    /// Nothing: a disk faulted while an extent was copied, and is out.
+    /// No table changed: a disk faulted while an extent was copied, and has failed.
     GivenUp,
-    /// Nothing: there was no memory for a group.
+    /// Nothing: the allocation for a group fails.
     NoMemory,
-    /// Nothing: the rule names nothing, or a disk is down.
+    /// Nothing: the rule chooses nothing, or a disk has failed or is being rebuilt.
     Idle,
-    /// The disks are broken.
+    /// Nothing: the array has failed.
     Broken,
 }
 
-/// Balances a store, in one step, while all disks are whole. As long as four disks have loose extents it forms a free group of
-/// four: the lowest of each of the disks with most of them, in order of disk. Else, where the disk with fewest loose extents and
-/// the one with most differ by two or more, it moves an extent from the one to the other: that of the lowest group that stands on
-/// the one and not on the other, to the lowest loose extent, at the same member position. Of disks that tie the lowest is meant.
+/// Balances a store in one step, if all disks are healthy. While four disks have unassigned extents it forms a free
+/// group: of the lowest of each of the four disks with the most, in order of disk. Else, if the disk with the fewest
+/// and the one with the most differ by two or more, it moves the extent of the lowest group that is on the former and
+/// not on the latter to the latter's lowest unassigned extent, at the same member position. Ties go to the lowest disk.
 ///
-/// Every row of a group that isn't free is copied, and the new extent stays loose until all are. Where a disk faults then the
-/// answer is `GivenUp`, and health has changed but no table; no row is written past the one where it faulted. No disk is asked but
-/// the two, and of a free group none. No block changes. Memory is taken for a group alone.
+/// All rows of a group that isn't free are copied before its new extent is assigned. `GivenUp` says that a disk faulted
+/// in that: health has changed but no table, and no row past the one that faulted is written. Only the two disks are
+/// accessed, none for a free group. No block changes. Only a group that is formed needs memory.
 pub fn balance_one<D: Disk>(store: &mut Store<D>) -> Balance
     ensures does { Balances store.old store.new result }
     ensures broken { (result ≡ Balance.Broken) ↔ (store.new.disks.health ≡ Health.Broken) }
@@ -53,7 +53,7 @@ pub fn balance_one<D: Disk>(store: &mut Store<D>) -> Balance
     }
 }
 
-// The same while all disks are whole.
+// The same for healthy disks.
 fn balance_whole<D: Disk>(space: &mut Space<D>, block: &mut Block) -> Balance
     requires space { IsSpace (store_in space.old) }
     requires whole { space.old.disks.health ≡ Health.Whole }

@@ -1,4 +1,4 @@
--- What each call makes of the tables.
+-- Each call as a function of the tables.
 use Rattle.std.specs.Prelude.{◌≡◌, ℕ, ◌+◌, ◌-◌, ◌*◌, ◌==◌, min, true, false, if◌then◌else◌, List, [], ◌∷◌, ◌++◌, length, slice_set, replicate, fold, Option, None, Some}
 use Rattle.std.specs.Map.{set_value, remove_entry}
 use Rattle.ar_disks.specs.Geometry.{rows_of}
@@ -14,104 +14,104 @@ use Rattle.ar_book.specs.declared.class.Slot.{Slot}
 use Rattle.ar_disks.specs.Addresses.{same_addr}
 use Rattle.ar_book.specs.Tables.{GroupState, UnitState, Tables, group_in, unit_in, home, used, blocks_of}
 
--- a group of which a slot names a block
+-- the group with a block in a slot
 abbrev pub with_key : GroupState → ℕ → Key → GroupState
 with_key g i k = record g { slots = slice_set g.slots i (Some k) }
 
--- the group is free where no slot names a block
+-- the group, free if no slot is occupied
 abbrev pub freed : GroupState → GroupState
 freed g = if used g == 0 then record g { class = Free } else g
 
--- a group of which a slot names nothing; free at once where it was the last
+-- the group with a slot emptied; it is free if no slot is occupied then
 abbrev pub without_key : GroupState → ℕ → GroupState
 without_key g i = freed (record g { slots = slice_set g.slots i None })
 
--- the slot names the block
+-- the groups with the block in the slot
 abbrev pub named : List GroupState → Slot → Key → List GroupState
 named groups s k = slice_set groups s.group (with_key (group_in groups s.group) s.slot k)
 
--- the slot, where there is one, names nothing
+-- the groups with the slot, if there is one, emptied
 abbrev pub vacated : List GroupState → Option Slot → List GroupState
 vacated groups None = groups
 vacated groups (Some s) = slice_set groups s.group (without_key (group_in groups s.group) s.slot)
 
--- the block has this home
+-- the units with this home, or none, for the block
 abbrev pub homed : List (Addr × UnitState) → Key → Option Slot → List (Addr × UnitState)
 homed units k o =
     let u = unit_in units k.addr in
     set_value (same_addr k.addr) units (record u { homes = slice_set u.homes k.rb o })
 
--- the block moves to the slot, and leaves the one that it had
+-- the block gets the slot as its home, and the home that it had is emptied
 abbrev pub assigned : Tables → Key → Slot → Tables
 assigned t k s = record t { groups = vacated (named t.groups s k) (home t k); units = homed t.units k (Some s) }
 
--- the second tables are the first after a block moved: its former slot names nothing, the new one names it, the group that it
--- left is free where none of its slots names a block; nothing else differs, stamps neither
+-- a block moved: its former slot is empty, the new one has it, and the group that it left is free if no slot of it is
+-- occupied; nothing else differs, its stamp neither
 pub record Moved (t : Tables) (key : Key) (to : Slot) (new : Tables) : Type 0 where
   pub tables : new ≡ assigned t key to
 
--- the block leaves its slot
+-- the block has no home, and the one that it had is emptied
 abbrev pub released : Tables → Key → Tables
 released t k = record t { groups = vacated t.groups (home t k); units = homed t.units k None }
 
--- the next stamp: a count that stops at its greatest value
+-- the next write sequence number, which saturates at 2^64 - 1
 abbrev pub next_stamp : ℕ → ℕ
 next_stamp puts = min (puts + 1) 18446744073709551615
 
--- the block has this stamp
+-- the units with this stamp for the block
 abbrev pub restamped : List (Addr × UnitState) → Key → ℕ → List (Addr × UnitState)
 restamped units k n =
     let u = unit_in units k.addr in
     set_value (same_addr k.addr) units (record u { stamps = slice_set u.stamps k.rb n })
 
--- the block has the next stamp
+-- the block gets the next stamp
 abbrev pub stamped : Tables → Key → Tables
 stamped t k = record t { puts = next_stamp t.puts; units = restamped t.units k (next_stamp t.puts) }
 
--- a unit of so many sectors, without a home, a stamp or a mark
+-- a unit of n sectors, without a home or a stamp and without a pending UNIT ATTENTION
 abbrev pub new_unit : Geometry → ℕ → UnitState
 new_unit g n = record { sectors = n; homes = replicate (blocks_of g n) None; stamps = replicate (blocks_of g n) 0; attention = false }
 
--- there is a new unit, the last in order of making
+-- a new unit of n sectors, the last in order of creation
 abbrev pub made : Tables → Addr → ℕ → Tables
 made t a n = record t { units = t.units ++ (a, new_unit t.geometry n) ∷ [] }
 
--- a unit with this length, the blocks behind its former end without a home or a stamp, and marked
+-- the unit resized to n sectors: the blocks past its former end have no home or stamp, and a UNIT ATTENTION is pending
 abbrev pub longer : Geometry → UnitState → ℕ → UnitState
 longer g u n =
     let more = blocks_of g n - length u.homes in
     record { sectors = n; homes = u.homes ++ replicate more None; stamps = u.stamps ++ replicate more 0; attention = true }
 
--- the unit has grown to this length
+-- the unit is resized to n sectors
 abbrev pub grown : Tables → Addr → ℕ → Tables
 grown t a n = record t { units = set_value (same_addr a) t.units (longer t.geometry (unit_in t.units a) n) }
 
--- the unit's mark is cleared
+-- the unit's pending UNIT ATTENTION is cleared
 abbrev pub unmarked : Tables → Addr → Tables
 unmarked t a = record t { units = set_value (same_addr a) t.units (record (unit_in t.units a) { attention = false }) }
 
--- the unit is gone: each slot that was a home of it names nothing
+-- the unit is deleted, and the slots of its blocks are emptied
 abbrev pub dropped : Tables → Addr → Tables
 dropped t a = record t { groups = fold vacated t.groups (unit_in t.units a).homes; units = remove_entry (same_addr a) t.units }
 
--- the group has this class
+-- the group gets this class
 abbrev pub opened : Tables → ℕ → Class → Tables
 opened t g c = record t { groups = slice_set t.groups g (record (group_in t.groups g) { class = c }) }
 
--- a free group with so many slots
+-- a free group with n empty slots
 abbrev pub free_group : Members → ℕ → GroupState
 free_group m n = record { class = Free; members = m; slots = replicate n None }
 
--- there is a new group, free, with the next number
+-- a new group, free, with the next number
 abbrev pub formed : Tables → Members → Tables
 formed t m = record t { groups = t.groups ++ free_group m (3 * rows_of t.geometry) ∷ [] }
 
--- the groups, where one has another extent at a member position
+-- the groups with another extent at a member position of one
 abbrev pub with_place_at : List GroupState → ℕ → ℕ → Place → List GroupState
 with_place_at groups g position place =
     let x = group_in groups g in
     slice_set groups g (record x { members = with_member x.members position place })
 
--- the group has another extent at a member position
+-- the group gets another extent at a member position
 abbrev pub shifted : Tables → ℕ → ℕ → Place → Tables
 shifted t g position place = record t { groups = with_place_at t.groups g position place }

@@ -1,4 +1,4 @@
--- What the searches choose: by slot order, by the lowest number, or the oldest.
+-- What each search finds: the first in slot order, the lowest number, or the oldest.
 use Rattle.std.specs.Prelude.{◌≡◌, ℕ, ◌<◌, ◌≤◌, ◌⊎◌, Bool, false, ◌&&◌, ◌||◌, ◌==◌, length, slice_index_or, None, IsSome}
 use Rattle.std.specs.List.{position_or_len}
 use Rattle.std.specs.Map.{keys_of}
@@ -14,42 +14,43 @@ use Rattle.ar_book.specs.declared.class.Slot.{Slot}
 use Rattle.ar_disks.specs.Addresses.{same_addr}
 use Rattle.ar_book.specs.Tables.{Tables, group_in, key_at, home, stamp_of, class_of, level, slots_of, HasBlock}
 
--- slots are ordered by group, then by number in the group
+-- slot order: by group, then by number in the group
 abbrev pub IsUpTo : Slot → Slot → Type 0
 IsUpTo s r = (s.group < r.group) ⊎ ((s.group ≡ r.group) × (s.slot ≤ r.slot))
 
--- the slot is there, in a group of that class, and names nothing
+-- a hole: an empty slot in a group of that class
 pub record IsHole (t : Tables) (c : Class) (s : Slot) : Type 0 where
   pub group : s.group < length t.groups
   pub class : class_of t s.group ≡ c
   pub slot : s.slot < slots_of t.geometry c
   pub empty : key_at t s ≡ None
 
--- the group has a slot of that number, which names nothing
+-- the group has a slot of that number, which is empty
 pub record IsHoleOf (t : Tables) (g i : ℕ) : Type 0 where
   pub slot : i < slots_of t.geometry (class_of t g)
   pub empty : slice_index_or (group_in t.groups g).slots i None ≡ None
 
--- no slot of the group names a block
+-- no slot of the group is occupied
 abbrev pub IsEmpty : Tables → ℕ → Type 0
 IsEmpty t g = (i : ℕ) → key_at t (record { group = g; slot = i }) ≡ None
 
--- the group is free, and none with a lower number is
+-- the lowest free group
 pub record IsLowestFree (t : Tables) (g : ℕ) : Type 0 where
   pub there : g < length t.groups
   pub free : class_of t g ≡ Free
   pub least : (h : ℕ) → h < g → class_of t h ≡ Free → ⊥
 
--- the block of a unit stands in a mirrored group
+-- the key is a block of a unit, at the mirrored level
 pub record IsMirrored (t : Tables) (k : Key) : Type 0 where
   pub block : HasBlock t k
   pub level : level t k ≡ MirroredLevel
 
--- a unit's place in order of making
+-- a unit's place in order of creation
 abbrev pub place_of : Tables → Addr → ℕ
 place_of t a = position_or_len (same_addr a) (keys_of t.units)
 
--- the first block was written longer ago; where the stamps are equal its unit was made earlier, or it is the lower one of a unit
+-- the first block was written no later than the second, by stamp; ties go to the unit created earlier, then to the
+-- lower block
 abbrev pub IsNoNewer : Tables → Key → Key → Type 0
 IsNoNewer t k j =
     (stamp_of t k < stamp_of t j)
@@ -61,14 +62,14 @@ pub record IsWaiting (t : Tables) : Type 0 where
   pub block : HasBlock t key
   pub unplaced : home t key ≡ None
 
--- the group is mirrored, each of its slots names a block, and no group with a lower number is mirrored
+-- the lowest mirrored group, all of whose slots are occupied
 pub record IsFullMirrored (t : Tables) (g : ℕ) : Type 0 where
   pub there : g < length t.groups
   pub mirrored : class_of t g ≡ Mirrored
   pub full : (i : ℕ) → i < slots_of t.geometry Mirrored → IsSome (slice_index_or (group_in t.groups g).slots i None)
   pub least : (h : ℕ) → h < g → class_of t h ≡ Mirrored → ⊥
 
--- whether the two are one extent
+-- whether the two are the same extent
 abbrev pub same_place : Place → Place → Bool
 same_place p q = (p.disk == q.disk) && (p.extent == q.extent)
 

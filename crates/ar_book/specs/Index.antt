@@ -1,4 +1,4 @@
--- What the tree over the groups keeps: the choices of each group, by a plain reading of its slots.
+-- The leaves of the search tree, as a plain function of the tables: what a search may choose in each group.
 use Rattle.std.specs.Prelude.{◌≡◌, ◌≢◌, ℕ, suc, ◌*◌, ◌<◌, ◌≤◌, ◌⊎◌, true, false, length, count_by, nat_lt, if◌then◌else◌, List, [], ◌∷◌, map, slice_index_or, Option, None, Some}
 use Rattle.std.specs.Option.{option_map}
 use Rattle.ar_disks.specs.declared.address.Addr.{Addr}
@@ -15,15 +15,15 @@ use Rattle.ar_book.specs.declared.class.Slot.{Slot}
 use Rattle.ar_book.specs.Tables.{GroupState, UnitState, Tables, group_in, unit_in, used, slots_of}
 use Rattle.ar_book.specs.Book.{IsKept}
 
--- how old a block is: its stamp, and which it is
+-- a block's age: its stamp, with its key for ties
 abbrev pub age_of : List (Addr × UnitState) → Key → Age
 age_of units k = record { stamp = slice_index_or (unit_in units k.addr).stamps k.rb 0; key = k }
 
--- the oldest of the blocks that these slots name, where units have these places
+-- the oldest block in these slots, where units have these places in order of creation
 abbrev pub oldest_named : (Addr → ℕ) → (Key → Age) → List (Option Key) → Option Age
 oldest_named place age slots = oldest place (map (option_map age) slots)
 
--- the group's number, where fewer of its slots name a block than its class has
+-- the group's number, if it has fewer blocks than its class has slots
 abbrev pub if_open : Geometry → ℕ → GroupState → Option ℕ
 if_open g number x = if nat_lt (used x) (slots_of g x.class) then Some number else None
 
@@ -45,7 +45,7 @@ choices_in g place age number x = choices_by x.class g place age number x
 abbrev pub choices_of : Geometry → List (Addr × UnitState) → ℕ → GroupState → Choices
 choices_of g units number x = choices_in g (place_in units) (age_of units) number x
 
--- the choices of these groups, of which the first has this number
+-- the choices of these groups, numbered from this one on
 abbrev pub leaves_from : Geometry → (Addr → ℕ) → (Key → Age) → ℕ → List GroupState → List Choices
 leaves_from g place age number [] = []
 leaves_from g place age number (x ∷ xs) = choices_in g place age number x ∷ leaves_from g place age (suc number) xs
@@ -54,23 +54,24 @@ leaves_from g place age number (x ∷ xs) = choices_in g place age number x ∷ 
 abbrev pub leaves_of : Geometry → List (Addr × UnitState) → List GroupState → List Choices
 leaves_of g units groups = leaves_from g (place_in units) (age_of units) 0 groups
 
--- the lowest group of a class that has a hole, among the choices of all
+-- the lowest group of a class that has a hole, by the root of the tree
 abbrev pub open_in : Class → Choices → Option ℕ
 open_in Free best = None
 open_in Mirrored best = best.mirrored
 open_in Parity best = best.parity
 
--- the oldest block of a group, where it is mirrored
+-- the oldest block of a group, if that is mirrored
 abbrev pub oldest_by : Class → (Addr → ℕ) → (Key → Age) → GroupState → Option Age
 oldest_by Free place age x = None
 oldest_by Mirrored place age x = oldest_named place age x.slots
 oldest_by Parity place age x = None
 
--- the oldest block of the group with a number, where it is mirrored
+-- the oldest block of the group with a number, if that is mirrored
 abbrev pub oldest_in : Tables → ℕ → Option Age
 oldest_in t g = oldest_by (group_in t.groups g).class (place_in t.units) (age_of t.units) (group_in t.groups g)
 
--- the tables agree, and the tree has the choices of each group as its slots have them, joined in the units' order
+-- the whole invariant of the book: that of its tables, and the tree has the choices of each group for its leaves,
+-- joined in the units' order
 pub record IsIndexed (t : Tables) (total : ℕ) (index : TreeState) : Type 0 where
   pub kept : IsKept t total
   pub leaves : leaves index ≡ leaves_of t.geometry t.units t.groups
@@ -80,23 +81,23 @@ pub record IsIndexed (t : Tables) (total : ℕ) (index : TreeState) : Type 0 whe
 abbrev pub leaf : TreeState → ℕ → Choices
 leaf index i = slice_index_or (leaves index) i nothing
 
--- another block than this is the oldest, and older than this stamp
+-- another block than `key` is the oldest, and older than `stamp`
 pub record KeepsOldest (chosen : Option Age) (key : Key) (stamp : ℕ) : Type 0 where
   pub oldest : Age
   pub is : chosen ≡ Some oldest
   pub other : oldest.key ≢ key
   pub older : oldest.stamp < stamp
 
--- the group isn't mirrored, so that its choices are read off its counts, and the leaf has them
+-- the group isn't mirrored, so no slot is scanned for its choices, and its leaf has them already
 pub record NeedsNoScan (g : Geometry) (units : List (Addr × UnitState)) (groups : List GroupState) (index : TreeState) (i : ℕ) : Type 0 where
   pub class : (group_in groups i).class ≢ Mirrored
   pub same : leaf index i ≡ choices_of g units i (group_in groups i)
 
--- none of the first of these homes is in the group
+-- none of the first n of these homes is in the group
 abbrev pub IsOutside : List (Option Slot) → ℕ → ℕ → Type 0
 IsOutside homes n group = (j : ℕ) (s : Slot) → j < n → slice_index_or homes j None ≡ Some s → s.group ≢ group
 
--- one of these homes, at a place or behind it, is in the group
+-- one of these homes, from a place on, is in the group
 pub record IsAmong (homes : List (Option Slot)) (from group : ℕ) : Type 0 where
   pub place : ℕ
   pub slot : Slot
@@ -104,25 +105,27 @@ pub record IsAmong (homes : List (Option Slot)) (from group : ℕ) : Type 0 wher
   pub is : slice_index_or homes place None ≡ Some slot
   pub here : slot.group ≡ group
 
--- each of these homes is in one of so many groups
+-- each of these homes is in one of the first n groups
 abbrev pub AreInside : List (Option Slot) → ℕ → Type 0
 AreInside homes n = (j : ℕ) (s : Slot) → slice_index_or homes j None ≡ Some s → s.group < n
 
--- the leaf is as it was, and none of the first homes is in its group; or it is blank, and one of all homes is in its group
+-- the leaf is as it was, and none of the first n homes is in its group; or it is blank, and one of all homes is in its
+-- group
 abbrev pub IsBlanked : List (Option Slot) → ℕ → TreeState → TreeState → ℕ → Type 0
 IsBlanked homes n old new i =
     ((leaf new i ≡ leaf old i) × IsOutside homes n i) ⊎ ((is_nothing (leaf new i) ≡ true) × IsAmong homes 0 i)
 
--- the leaf has the choices of its group, or it is blank, and one of the homes from a place on is in its group
+-- the leaf has the choices of its group; or it is blank, and one of the homes from a place on is in its group
 abbrev pub IsLeafOrBlank : Geometry → List (Addr × UnitState) → List GroupState → List (Option Slot) → ℕ → TreeState → ℕ → Type 0
 IsLeafOrBlank g units groups homes from index i =
     (leaf index i ≡ choices_of g units i (group_in groups i)) ⊎ ((is_nothing (leaf index i) ≡ true) × IsAmong homes from i)
 
--- how many leaves have no choice
+-- the number of blank leaves: those without a choice
 abbrev pub blanks : TreeState → ℕ
 blanks index = count_by is_nothing (leaves index)
 
--- each group has its slots, and the group of each of these homes has a choice, as one from which a block went has
+-- each group has the slots of a parity group, and the group of each of these homes has a choice, as a group does that a
+-- block has left
 pub record HaveChoices (g : Geometry) (units : List (Addr × UnitState)) (groups : List GroupState) (homes : List (Option Slot)) : Type 0 where
   pub long : (i : ℕ) → i < length groups → length (group_in groups i).slots ≡ 3 * rows_of g
   pub some : (j : ℕ) (s : Slot) → slice_index_or homes j None ≡ Some s → is_nothing (choices_of g units s.group (group_in groups s.group)) ≡ false

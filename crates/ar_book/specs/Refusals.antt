@@ -1,11 +1,11 @@
--- When a unit is not made, or not made longer. Want of memory aside, which no clause decides.
+-- When a create or a resize is refused, and why. When an allocation fails is not specified.
 use Rattle.std.specs.Prelude.{ℕ, ◌-◌, ◌||◌, ◌==◌, nat_lt, nat_le, not, if◌then◌else◌, length, Option, None, Some}
 use Rattle.ar_disks.specs.declared.address.Addr.{Addr}
 use Rattle.ar_book.specs.declared.refusal.Refusal.{Refusal}
 use Rattle.ar_book.specs.declared.refusal.Refusal.TheVariants.{BadLun, Exists, Size, NoRoom, Absent}
 use Rattle.ar_book.specs.Tables.{Tables, has_unit, unit_in, blocks_of, room}
 
--- LUNs 0 to 7 can be made, one unit at an address, of 1 to 1,048,576 sectors, while its blocks fit the room
+-- a create needs a LUN of 0 to 7, an address without a unit, 1 to 1,048,576 sectors, and room for the blocks
 abbrev pub make_refusal : Tables → Addr → ℕ → Option Refusal
 make_refusal t a n =
     if nat_lt 7 a.lun then Some BadLun else
@@ -13,7 +13,7 @@ make_refusal t a n =
     if (n == 0) || nat_lt 1048576 n then Some Size else
     if nat_lt (room t) (blocks_of t.geometry n) then Some (NoRoom (room t)) else None
 
--- a unit that is there becomes longer, up to 1,048,576 sectors, while the added blocks fit the room
+-- a resize needs a unit, more sectors than it has, 1,048,576 at most, and room for the added blocks
 abbrev pub grow_refusal : Tables → Addr → ℕ → Option Refusal
 grow_refusal t a n =
     if not (has_unit t a) then Some Absent else

@@ -1,4 +1,4 @@
--- The tables of the book as plain data, and how they are read.
+-- The book's tables as plain data, and how they are read. A number that isn't in them reads as an empty entry.
 use Rattle.std.specs.Prelude.{ℕ, ◌+◌, ◌-◌, ◌*◌, ◌/◌, ◌<◌, Bool, true, false, List, [], length, slice_index_or, sum_by, count_by, Option, None, Some, is_some}
 use Rattle.std.specs.Option.{unwrap_or}
 use Rattle.std.specs.Map.{lookup, values_of}
@@ -15,33 +15,34 @@ use Rattle.ar_book.specs.declared.class.Level.{Level}
 use Rattle.ar_book.specs.declared.class.Level.TheVariants.{Unplaced, Mirrored as MirroredLevel, Parity as ParityLevel}
 use Rattle.ar_book.specs.declared.class.Slot.{Slot}
 
--- a group: what it is used for, its extents, and what each of its slots names
+-- a group: its class, its extents, and the block of each slot
 pub record GroupState : Type 0 where
   pub class : Class
   pub members : Members
   pub slots : List (Option Key)
 
--- a unit: its length, for each of its blocks the home and the stamp, and the mark that says that it grew
+-- a unit: its length in sectors, for each block its home and its write sequence number (stamp), and whether a UNIT
+-- ATTENTION is pending since it was extended
 pub record UnitState : Type 0 where
   pub sectors : ℕ
   pub homes : List (Option Slot)
   pub stamps : List ℕ
   pub attention : Bool
 
--- the whole book: groups by number, units in order of making, and how many stamps were given
+-- the whole book: groups by number, units in order of creation, and the last stamp that was given
 pub record Tables : Type 0 where
   pub geometry : Geometry
   pub groups : List GroupState
   pub units : List (Addr × UnitState)
   pub puts : ℕ
 
--- what stands at a number that no group has: a free group without a slot
+-- what a number that no group has reads as: a free group without a slot
 abbrev pub no_group : GroupState
 no_group =
     let nowhere : Place = record { disk = 0; extent = 0 } in
     record { class = Free; members = record { first = nowhere; second = nowhere; third = nowhere; fourth = nowhere }; slots = [] }
 
--- what stands at an address that no unit has: a unit without a block
+-- what an address that no unit has reads as: a unit without a block
 abbrev pub no_unit : UnitState
 no_unit = record { sectors = 0; homes = []; stamps = []; attention = false }
 
@@ -49,7 +50,7 @@ no_unit = record { sectors = 0; homes = []; stamps = []; attention = false }
 abbrev pub group_in : List GroupState → ℕ → GroupState
 group_in groups g = slice_index_or groups g no_group
 
--- the block that a slot names
+-- the block of a slot
 abbrev pub key_in : List GroupState → Slot → Option Key
 key_in groups s = slice_index_or (group_in groups s.group).slots s.slot None
 
@@ -61,19 +62,19 @@ has_unit_in units a = is_some (lookup (same_addr a) units)
 abbrev pub unit_in : List (Addr × UnitState) → Addr → UnitState
 unit_in units a = unwrap_or (lookup (same_addr a) units) no_unit
 
--- the slot that a block has for its home
+-- the home of a block
 abbrev pub home_in : List (Addr × UnitState) → Key → Option Slot
 home_in units k = slice_index_or (unit_in units k.addr).homes k.rb None
 
--- the block that a slot names, or none
+-- the block of a slot, or none
 abbrev pub key_at : Tables → Slot → Option Key
 key_at t s = key_in t.groups s
 
--- the slot that a block has for its home, or none
+-- the home of a block, or none
 abbrev pub home : Tables → Key → Option Slot
 home t k = home_in t.units k
 
--- the stamp of a block
+-- the stamp of a block, or 0
 abbrev pub stamp_of : Tables → Key → ℕ
 stamp_of t k = slice_index_or (unit_in t.units k.addr).stamps k.rb 0
 
@@ -85,7 +86,7 @@ has_unit t a = has_unit_in t.units a
 abbrev pub HasBlock : Tables → Key → Type 0
 HasBlock t k = k.rb < length (unit_in t.units k.addr).homes
 
--- how many slots a group of a class has: one for each pair of a mirrored row, three for each row with parity
+-- the number of slots of a group of a class: two a row if mirrored, three a row with parity
 abbrev pub slots_of : Geometry → Class → ℕ
 slots_of g Free = 0
 slots_of g Mirrored = 2 * rows_of g
@@ -95,7 +96,7 @@ slots_of g Parity = 3 * rows_of g
 abbrev pub class_of : Tables → ℕ → Class
 class_of t g = (group_in t.groups g).class
 
--- there is such a slot: its group has more slots than its number
+-- the slot exists: its group does, and its class has more slots than its number
 abbrev pub HasSlot : Tables → Slot → Type 0
 HasSlot t s = (s.group < length t.groups) × (s.slot < slots_of t.geometry (class_of t s.group))
 
@@ -105,41 +106,41 @@ level_of Free = Unplaced
 level_of Mirrored = MirroredLevel
 level_of Parity = ParityLevel
 
--- the level at which a home stands
+-- the level of a home
 abbrev pub level_in : List GroupState → Option Slot → Level
 level_in groups None = Unplaced
 level_in groups (Some s) = level_of (group_in groups s.group).class
 
--- the level of a block: that of its home's class
+-- the level of a block: that of its home's group
 abbrev pub level : Tables → Key → Level
 level t k = level_in t.groups (home t k)
 
--- whether the class is Free
+-- whether a group of the class is free
 abbrev pub is_free : Class → Bool
 is_free Free = true
 is_free Mirrored = false
 is_free Parity = false
 
--- how many groups are free
+-- the number of free groups
 abbrev pub free_groups : Tables → ℕ
 free_groups t = count_by (λ g. is_free g.class) t.groups
 
--- how many slots of a group name a block
+-- the number of occupied slots of a group
 abbrev pub used : GroupState → ℕ
 used g = count_by is_some g.slots
 
--- how many blocks of a unit have a home
+-- the number of a unit's blocks that have a home
 abbrev pub placed : UnitState → ℕ
 placed u = count_by is_some u.homes
 
--- how many blocks so many sectors fill
+-- the number of blocks that these sectors fill, the last perhaps in part
 abbrev pub blocks_of : Geometry → ℕ → ℕ
 blocks_of g sectors = (sectors + (sectors_of g - 1)) / sectors_of g
 
--- the blocks of all units, placed or not
+-- the number of blocks of all units, with a home or without
 abbrev pub reserved : Tables → ℕ
 reserved t = sum_by (λ u. length u.homes) (values_of t.units)
 
--- how many more blocks units may have: one group's worth stays back for the squeeze
+-- how many more blocks units may have: all groups but one count as parity groups, as a squeeze needs a free one
 abbrev pub room : Tables → ℕ
 room t = 3 * rows_of t.geometry * (length t.groups - 1) - reserved t

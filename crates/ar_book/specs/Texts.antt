@@ -1,10 +1,10 @@
--- How refusals are written.
+-- The text of a refusal.
 use Rattle.std.specs.Prelude.{ℕ, List, ◌++◌, codes}
 use Rattle.std.specs.Fmt.{decimal}
 use Rattle.ar_book.specs.declared.refusal.Refusal.{Refusal}
 use Rattle.ar_book.specs.declared.refusal.Refusal.TheVariants.{Exists, Size, NoRoom, NoMemory, Absent, BadLun}
 
--- a unit's refusal, with its number; for want of room the room is written behind it
+-- a code and a word; `NoRoom` is followed by the room, in blocks
 abbrev pub refusal_text : Refusal → List ℕ
 refusal_text Exists = codes "M1 Exists"
 refusal_text Size = codes "M2 Size"

@@ -1,4 +1,10 @@
-// The book itself, and what it answers of its groups and units.
+// The book's tables. Homes and slots are inverse to each other; the search tree and `reserved` are derived from them.
+//
+//     unit 1:0   homes  [ 0.1 | -     | 2.4 ]               the home of each block: group.slot, or none
+//                stamps [ 17  | 0     | 9   ]               its write sequence number, 0 if it has none
+//     group 0    slots  [ -   | 1:0/0 | -   | - | . | . ]   the block of each slot: unit/block, or none
+//
+// Group 0 is mirrored and has extents of two rows: 4 slots, and room for the 2 more that a parity group has.
 ghost use Rattle.std.specs.Prelude.{◌≡◌, ◌<◌, length, [], slice_get, Some, None};
 ghost use Rattle.std.specs.Option.{option_map};
 ghost use Rattle.std.specs.Map.{lookup};
@@ -15,10 +21,10 @@ use indexmap::IndexMap;
 use std::alloc::Global;
 use std::marker::Model;
 
-/// The book of a disk array's space: groups of four extents, units in order of making, and which slot of which group is the home
-/// of each block.
+/// The tables of a disk array's space: groups of four extents, units in order of creation, and the home of each block,
+/// a slot of a group.
 ///
-/// Memory is taken by `form_group`, `make` and `grow` alone.
+/// Only `form_group`, `make` and `grow` allocate memory.
 #[derive(Drop)]
 pub struct Book {
     pub(crate) alloc: Global,
@@ -42,7 +48,7 @@ impl Model for Book {
 }
 
 impl Book {
-    /// An empty book, for blocks of this geometry.
+    /// A book without groups or units, for blocks of this geometry.
     pub fn new(alloc: Global, geometry: Geometry) -> Book
         ensures { result ≡ record { geometry = geometry; groups = []; units = []; puts = 0 } }
     {
@@ -64,7 +70,7 @@ impl Book {
         self.geometry
     }
 
-    /// How many groups there are. They are numbered from 0.
+    /// The number of groups. They are numbered from 0.
     pub fn groups(&self) -> u32
         ensures count { result ≡ length self.now.groups }
         ensures sound { TablesAgree self.now }
@@ -72,7 +78,7 @@ impl Book {
         self.groups.len() as u32
     }
 
-    /// What a group is used for.
+    /// The class of a group.
     pub fn class(&self, group: u32) -> Class
         requires { group < length self.now.groups }
         ensures { result ≡ class_of self.now group }
@@ -88,7 +94,7 @@ impl Book {
         self.groups[group as usize].members()
     }
 
-    /// How many slots of a group name a block.
+    /// The number of occupied slots of a group.
     pub fn used(&self, group: u32) -> u16
         requires { group < length self.now.groups }
         ensures { result ≡ used (group_in self.now.groups group) }
@@ -96,14 +102,14 @@ impl Book {
         self.groups[group as usize].used() as u16
     }
 
-    /// How many groups are free.
+    /// The number of free groups.
     pub fn free_groups(&self) -> u32
         ensures { result ≡ free_groups self.now }
     {
         self.index.free() as u32
     }
 
-    /// How many more blocks units may have.
+    /// How many more blocks units may have: all groups but one count as parity groups.
     pub fn room(&self) -> u32
         ensures { result ≡ room self.now }
     {
@@ -111,14 +117,14 @@ impl Book {
         3 * self.geometry.rows() as u32 * held_back - self.reserved
     }
 
-    /// How many units there are.
+    /// The number of units.
     pub fn units(&self) -> usize
         ensures { result ≡ length self.now.units }
     {
         self.units.len()
     }
 
-    /// The address of the unit with a place in order of making, from 0; None past the last.
+    /// The address of the unit at `place` in order of creation, from 0; None past the last.
     pub fn unit_at(&self, place: usize) -> Option<Addr>
         ensures { result ≡ option_map (λ entry. entry.0) (slice_get self.now.units place) }
     {
@@ -126,14 +132,14 @@ impl Book {
         Some(*addr)
     }
 
-    /// A unit's length in sectors; None where there is no unit.
+    /// A unit's length in sectors; None if there is no such unit.
     pub fn sectors(&self, addr: Addr) -> Option<u32>
         ensures { result ≡ option_map (λ unit. unit.sectors) (lookup (same_addr addr) self.now.units) }
     {
         Some(self.units.get(&addr)?.sectors())
     }
 
-    /// How many blocks a unit has; 0 where there is no unit.
+    /// The number of a unit's blocks; 0 if there is no such unit.
     pub fn blocks(&self, addr: Addr) -> u32
         ensures { result ≡ length (unit_in self.now.units addr).homes }
     {
@@ -143,7 +149,7 @@ impl Book {
         }
     }
 
-    /// Whether a unit has grown since its mark was cleared; false where there is no unit.
+    /// Whether a UNIT ATTENTION is pending since the unit was extended; false if there is no such unit.
     pub fn attention(&self, addr: Addr) -> bool
         ensures { result ≡ (unit_in self.now.units addr).attention }
     {
@@ -153,28 +159,28 @@ impl Book {
         }
     }
 
-    /// Clears a unit's mark. Where there is no unit nothing changes.
+    /// Clears a unit's pending UNIT ATTENTION. Without such a unit nothing changes.
     pub fn clear_attention(&mut self, addr: Addr)
         ensures { self.new ≡ unmarked self.old addr }
     {
         clear_attention(&mut self.units, addr);
     }
 
-    /// The slot that is a block's home; None where it has none, or is no block of a unit.
+    /// The slot that is a block's home; None if it has none, or is no block of a unit.
     pub fn home(&self, key: Key) -> Option<Slot>
         ensures { result ≡ home self.now key }
     {
         home_in(&self.units, key)
     }
 
-    /// At which level a block stands.
+    /// The level of a block; Unplaced if it has no home, or is no block of a unit.
     pub fn level(&self, key: Key) -> Level
         ensures { result ≡ level self.now key }
     {
         level_in(&self.groups, home_in(&self.units, key))
     }
 
-    /// A block's stamp; 0 where it has none yet, or is no block of a unit.
+    /// A block's write sequence number; 0 if it has none yet, or is no block of a unit.
     pub fn stamp_of(&self, key: Key) -> u64
         ensures { result ≡ stamp_of self.now key }
     {
@@ -184,7 +190,7 @@ impl Book {
         }
     }
 
-    /// The block that a slot names; None where it names none, or is no slot of a group.
+    /// The block of a slot; None if it is empty, or is no slot of a group.
     pub fn key_at(&self, slot: Slot) -> Option<Key>
         ensures { result ≡ key_at self.now slot }
     {

@@ -1,28 +1,28 @@
-// What a group is used for, and the places that it has for blocks.
+// The storage classes of a group, and the slots that store its blocks.
 
-/// What a group is used for.
+/// The storage class of a group (a PEG of AutoRAID).
 #[derive(Clone, Copy, Debug, PartialEq, Eq)]
 pub enum Class {
-    /// For nothing: it holds no block.
+    /// Unused: it stores no block.
     Free,
-    /// For two copies of each block.
+    /// Two copies of each block.
     Mirrored,
-    /// For blocks with rotating parity.
+    /// Stripes of three blocks and their rotating parity (RAID 5 layout).
     Parity,
 }
 
-/// Where a block stands, by the class of the group that holds it.
+/// The level at which a block is stored: the class of its home's group.
 #[derive(Clone, Copy, Debug, PartialEq, Eq)]
 pub enum Level {
-    /// Nowhere: it has no home.
+    /// Not stored: it has no home.
     Unplaced,
     /// In a mirrored group.
     Mirrored,
-    /// In a group with rotating parity.
+    /// In a parity group.
     Parity,
 }
 
-/// A place for one block: the number of a group, and of a slot in it, each from 0.
+/// The place of one block: the number of a group, and of a slot in it, each from 0.
 #[derive(Clone, Copy, Debug, PartialEq, Eq)]
 pub struct Slot {
     pub group: u32,
@@ -33,7 +33,7 @@ impl Class {
     ghost use Rattle.std.specs.Prelude.{◌≡◌};
     ghost use Rattle.ar_book.specs.Tables.{level_of};
 
-    /// The level at which blocks stand in groups of the class.
+    /// The level of the blocks in groups of the class.
     pub(crate) fn level(self) -> Level
         ensures { result ≡ level_of self }
     {

@@ -1,4 +1,4 @@
-// The searches of cleaning: the group that is emptied, the block that leaves it first, and where that goes.
+// Cleaning's choice: the group with the fewest blocks is emptied, if they fit in the holes of its class's other groups.
 ghost use Rattle.std.specs.Prelude.{◌≡◌, ◌+◌, ◌<◌, ◌≤◌, ℕ, true, false, length, IfSome, IfNone};
 ghost use Rattle.ar_book.specs.declared.class.Slot.{Slot};
 ghost use Rattle.ar_book.specs.Choices.{IsHole, IsUpTo};
@@ -10,14 +10,14 @@ use crate::{Book, Class, Slot};
 use ar_disks::Key;
 
 impl Book {
-    /// The group of a class that cleaning empties: among those that have blocks, and whose blocks all fit in the holes of the
-    /// other groups of the class, the one with the fewest, and of those the lowest. None where there is no such group.
+    /// The group of a class that cleaning empties: of those that have blocks, all of which fit in the holes of the
+    /// other groups of the class, the one with the fewest, the lowest on ties. None if there is none.
     pub fn emptiest(&self, class: Class) -> Option<u32>
         ensures found { IfSome result (IsEmptiest self.now class) }
         ensures none { IfNone result ((group : ℕ) → CanBeEmptied self.now class group → ⊥) }
     {
-        // A group's own holes and blocks are its slots: so the blocks fit in the others' holes exactly where all the holes of the
-        // class are no fewer than a group's slots.
+        // A group's holes and blocks are its slots: so its blocks fit in the others' holes exactly if the class has at
+        // least as many holes as a group has slots.
         if self.holes(class) < u32::from(slots_of(self.geometry, class)) {
             return None;
         }
@@ -28,7 +28,8 @@ impl Book {
         emptiest
     }
 
-    // The emptier of the one found among the groups before a number, and that one, if it is of the class and has blocks.
+    // The emptier of `emptiest`, found among the groups before `number`, and `number`, if it is of the class and has
+    // blocks.
     fn emptier(&self, class: Class, number: u32, emptiest: Option<u32>) -> Option<u32>
         requires there { number < length self.now.groups }
         requires before { IsEmptiestBelow self.now class number emptiest }
@@ -43,7 +44,7 @@ impl Book {
         }
     }
 
-    // Whether a group is of a class and has blocks.
+    // Whether a group is of `class` and has blocks.
     fn is_in_use(&self, class: Class, group: u32) -> bool
         requires { group < length self.now.groups }
         ensures yes { result ≡ true → IsInUse self.now class group }
@@ -52,7 +53,7 @@ impl Book {
         self.class(group) == class && self.used(group) > 0
     }
 
-    // How many slots of the groups of a class name no block.
+    // The number of holes in the groups of a class.
     fn holes(&self, class: Class) -> u32
         ensures { result ≡ holes_of self.now class }
     {
@@ -63,7 +64,7 @@ impl Book {
         holes
     }
 
-    // How many slots of a group name no block; 0 where the group is of another class.
+    // The number of holes in a group; 0 if it is of another class.
     fn holes_at(&self, class: Class, group: u32) -> u16
         requires { group < length self.now.groups }
         ensures holes { result ≡ holes_in self.now.geometry class (group_in self.now.groups group) }
@@ -76,7 +77,7 @@ impl Book {
         slots_of(self.geometry, own) - self.used(group)
     }
 
-    /// The block that the lowest slot of a group names that names one.
+    /// The block in the lowest occupied slot of a group that has blocks.
     pub fn first_block(&self, group: u32) -> Key
         requires there { group < length self.now.groups }
         requires some { 0 < used (group_in self.now.groups group) }
@@ -90,7 +91,7 @@ impl Book {
         unreachable!()
     }
 
-    /// The lowest hole of the other groups of a class, where one of its groups can be emptied into them.
+    /// The lowest hole of a class outside `group`, which can be emptied into such holes.
     pub fn hole_beside(&self, class: Class, group: u32) -> Slot
         requires { CanBeEmptied self.now class group }
         ensures { IsLowestHoleBeside self.now class group result }
@@ -105,7 +106,7 @@ impl Book {
         unreachable!()
     }
 
-    // The lowest hole of a group, where it is of a class.
+    // The lowest hole of a group, if it is of `class`.
     fn hole_in(&self, class: Class, group: u32) -> Option<Slot>
         requires { group < length self.now.groups }
         ensures found { IfSome result (IsHole self.now class) }

@@ -1,4 +1,4 @@
-// A group of the book.
+// A group counts its occupied slots, and is free as soon as its last block leaves.
 ghost use Rattle.std.specs.Prelude.{◌≡◌, ℕ, ◌+◌, ◌<◌, ◌≤◌, ◌*◌, is_some, count_by, slice_set, length, slice_index_or, Some, None, IfSome, IfNone, IfOk, IsSome};
 ghost use Rattle.ar_disks.specs.Members.{with_member};
 ghost use Rattle.ar_book.specs.Tables.{used, slots_of, is_free};
@@ -11,7 +11,7 @@ use ar_index::Steps;
 use std::alloc::{AllocError, Global};
 use std::marker::Model;
 
-/// How many slots a group of a class has: 2E, 3E or, where it is free, none.
+/// The number of slots of a group of `class`: 2 a row if mirrored, 3 a row with parity, none if free.
 pub(crate) fn slots_of(geometry: Geometry, class: Class) -> u16
     ensures { result ≡ slots_of geometry class }
 {
@@ -22,7 +22,7 @@ pub(crate) fn slots_of(geometry: Geometry, class: Class) -> u16
     }
 }
 
-/// A group: its class, its members, and as many slots as a group with parity has.
+/// A group. Whatever its class, it has entries for the slots of a parity group, the most.
 #[derive(Drop)]
 pub struct Group {
     class: Class,
@@ -42,7 +42,7 @@ impl Model for Group {
     ghost invariant = { λ g. g.used ≡ count_by is_some g.slots.items };
 }
 
-// Changes what a slot names. So many named a block before; answers how many do then.
+// Sets the block of a slot. Of `used` occupied slots before, returns how many are occupied then.
 fn put(slots: &mut Vec<Option<Key>>, used: usize, slot: u16, key: Option<Key>) -> usize
     requires there { slot < length slots.old.items }
     requires used { used ≡ count_by is_some slots.old.items }
@@ -59,7 +59,7 @@ fn put(slots: &mut Vec<Option<Key>>, used: usize, slot: u16, key: Option<Key>) -
 }
 
 impl Group {
-    /// A free group with so many slots.
+    /// A free group of `members`, with `slots` empty slots.
     pub(crate) fn new(alloc: Global, members: Members, slots: u16) -> Result<Group, AllocError>
         ensures { IfOk result (λ g. g ≡ free_group members slots) }
     {
@@ -71,7 +71,7 @@ impl Group {
         })
     }
 
-    /// What the group is used for.
+    /// The group's class.
     pub(crate) fn class(&self) -> Class
         ensures { result ≡ self.now.class }
     {
@@ -92,7 +92,7 @@ impl Group {
         matches!(self.class, Class::Free)
     }
 
-    /// Whether an extent is one of the group's.
+    /// Whether `place` is one of the group's extents.
     pub(crate) fn stands_on(&self, place: Place) -> bool
         ensures { result ≡ stands_on self.now.members place }
     {
@@ -103,28 +103,28 @@ impl Group {
             || members.fourth == place
     }
 
-    /// The block that a slot names; None past the last slot.
+    /// The block of a slot; None if it is empty or past the last slot.
     pub(crate) fn key(&self, slot: u16) -> Option<Key>
         ensures { result ≡ slice_index_or self.now.slots slot None }
     {
         self.slots.get(slot as usize).copied().flatten()
     }
 
-    /// How many slots name a block.
+    /// The number of occupied slots.
     pub(crate) fn used(&self) -> usize
         ensures { result ≡ used self.now }
     {
         self.used
     }
 
-    /// What each slot names.
+    /// The block of each slot.
     pub(crate) fn slots(&self) -> &[Option<Key>]
         ensures { result.now ≡ self.now.slots }
     {
         &self.slots
     }
 
-    /// The lowest slot below `end` that names no block. A step is a slot.
+    /// The lowest empty slot below `end`. Counts a step for each slot up to it.
     pub(crate) fn lowest_hole(&self, end: u16, steps: &mut Steps) -> Option<u16>
         ensures found { IfSome result (λ i. (i < end) × (slice_index_or self.now.slots i None ≡ None)) }
         ensures least { IfSome result (λ i. (j : ℕ) → j < i → IsSome (slice_index_or self.now.slots j None)) }
@@ -142,7 +142,7 @@ impl Group {
         None
     }
 
-    /// Lets a slot name a block.
+    /// Puts the block `key` into a slot.
     pub(crate) fn name(&mut self, slot: u16, key: Key)
         requires { slot < length self.old.slots }
         ensures { self.new ≡ with_key self.old slot key }
@@ -150,7 +150,7 @@ impl Group {
         self.used = put(&mut self.slots, self.used, slot, Some(key));
     }
 
-    /// Lets a slot name nothing. The group is free where it was the last that did.
+    /// Empties a slot. The group is free if no slot is occupied then.
     pub(crate) fn vacate(&mut self, slot: u16)
         requires { slot < length self.old.slots }
         ensures { self.new ≡ without_key self.old slot }
@@ -161,14 +161,14 @@ impl Group {
         }
     }
 
-    /// Gives the group another class.
+    /// Sets the group's class.
     pub(crate) fn open(&mut self, class: Class)
         ensures { self.new ≡ record self.old { class = class } }
     {
         self.class = class;
     }
 
-    /// Puts another extent at a member position, 0 to 3.
+    /// Replaces the extent at member `position`, 0 to 3.
     pub(crate) fn set_member(&mut self, position: u8, place: Place)
         requires { position < 4 }
         ensures { self.new ≡ record self.old { members = with_member self.old.members position place } }

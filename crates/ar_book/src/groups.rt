@@ -1,4 +1,5 @@
-// The forming and opening of groups, and a change of one extent.
+// Groups are formed of extents that no group uses. All but one can be opened for a class: the last free group is kept
+// for a squeeze, which moves a full mirrored group to parity.
 ghost use Rattle.std.specs.Prelude.{◌≡◌, ◌≢◌, ℕ, ◌+◌, ◌*◌, ◌<◌, ◌≤◌, ◌↔◌, length, IsTrue, IfSome, IfOk, OnErr, IsSome, IfNone};
 ghost use Rattle.ar_disks.specs.Geometry.{rows_of};
 ghost use Rattle.ar_disks.specs.Members.{member, AreApart};
@@ -14,8 +15,8 @@ use ar_index::Steps;
 use std::alloc::AllocError;
 
 impl Book {
-    /// Forms a free group of four extents that are in no group, with the next number, which it answers. Without memory nothing
-    /// changes.
+    /// Forms a free group of four extents on different disks that are in no group, and returns its number, the next
+    /// one. On `AllocError` nothing changes.
     pub fn form_group(&mut self, members: Members) -> Result<u32, AllocError>
         requires apart { AreApart members }
         requires unused { AreUnused self.old members }
@@ -23,7 +24,7 @@ impl Book {
         ensures formed { IfOk result (λ _. self.new ≡ formed self.old members) }
         ensures unchanged { OnErr result (self.new ≡ self.old) }
     {
-        // Read, so that their ranges are known: there are no more groups than places.
+        // Read for their types' ranges, which bound the number of groups.
         let (_disk, _extent) = (members.first.disk, members.first.extent);
         let number = self.groups();
         let group = Group::new(self.alloc, members, 3 * self.geometry.rows())?;
@@ -35,8 +36,8 @@ impl Book {
         Ok(number)
     }
 
-    /// Opens the lowest free group for mirrored blocks or for parity, and answers its number; its slots are all empty. Only while
-    /// at least two groups are free: else None, and nothing changes.
+    /// Opens the lowest free group for `class`, Mirrored or Parity, and returns its number; its slots are empty. None,
+    /// and nothing changes, if fewer than two groups are free.
     pub fn open_group(&mut self, class: Class, steps: &mut Steps) -> Option<u32>
         requires { class ≢ Class.Free }
         ensures when { IsSome result ↔ (2 ≤ free_groups self.old) }
@@ -64,8 +65,8 @@ impl Book {
         Some(group)
     }
 
-    /// Opens the one free group for mirrored blocks or for parity, and answers its number; its slots are all empty. The caller
-    /// empties another group at once.
+    /// Opens the only free group for `class`, Mirrored or Parity, and returns its number; its slots are empty. For a
+    /// squeeze, which empties another group at once.
     pub fn open_last(&mut self, class: Class) -> u32
         requires class { class ≢ Class.Free }
         requires last { free_groups self.old ≡ 1 }
@@ -97,7 +98,7 @@ impl Book {
         }
     }
 
-    /// The group that an extent is in, or None. There is at most one.
+    /// The group that contains the extent `place`, or None. At most one does.
     pub fn group_at(&self, place: Place) -> Option<u32>
         ensures there { IfSome result (λ group. group < length self.now.groups) }
         ensures found { IfSome result (λ group. IsTrue (stands_on (group_in self.now.groups group).members place)) }
@@ -111,7 +112,8 @@ impl Book {
         None
     }
 
-    /// Puts an extent that is in no group at a member position, 0 to 3, of a group; the others stay.
+    /// Replaces the extent at member `position` (0 to 3) of a group by `place`, which is in no group and on none of the
+    /// other members' disks.
     pub fn set_member(&mut self, group: u32, position: u8, place: Place)
         requires there { group < length self.old.groups }
         requires range { position < 4 }
@@ -119,7 +121,7 @@ impl Book {
         requires apart { (i : ℕ) → i < 4 → i ≢ position → (member (group_in self.old.groups group).members i).disk ≢ place.disk }
         ensures { self.new ≡ shifted self.old group position place }
     {
-        // Read, so that their ranges are known: there are no more groups than places.
+        // Read for their types' ranges, which bound the number of groups.
         let (_disk, _extent) = (place.disk, place.extent);
         replace_member(&mut self.groups, group, position, place);
     }

@@ -1,4 +1,5 @@
-// The tree over the groups, kept right: the choices of a group, by one scan of its slots, and one climb.
+// Keeps the search tree in step with the tables: the leaf of a group is what one scan of its slots finds. A change of a
+// group costs at most one scan and one climb.
 ghost use Rattle.std.specs.Prelude.{◌≡◌, ◌≢◌, ℕ, ◌+◌, ◌*◌, ◌<◌, ◌≤◌, length, slice_index_or, slice_set, true, false, Some, None, IfSome, IfNone};
 ghost use Rattle.std.specs.Option.{ForSome, MatchOption};
 ghost use Rattle.std.specs.Map.{lookup};
@@ -24,7 +25,7 @@ fn is_same_unit(held: Addr, addr: Addr) -> bool
     held == addr
 }
 
-// The unit at an address: the one that was looked up last, or by another look-up. Most blocks of a group are of one unit.
+// Looks up the unit at `addr`, with the last one found as a cache: most blocks of a group are of one unit.
 fn look_up<'a>(
     last: Option<HeldUnit<'a>>,
     units: &'a IndexMap<Addr, UnitTable>,
@@ -43,7 +44,7 @@ fn look_up<'a>(
     Some((addr, units.get(&addr)?))
 }
 
-// A block's stamp; 0 where there is no unit.
+// The stamp of block `rb`; 0 without a unit.
 fn stamp_in(unit: Option<HeldUnit>, rb: u32) -> u64
     ensures { MatchOption unit.entry (result ≡ 0) (λ held. result ≡ slice_index_or held.1.now.stamps rb 0) }
 {
@@ -53,7 +54,7 @@ fn stamp_in(unit: Option<HeldUnit>, rb: u32) -> u64
     }
 }
 
-// The oldest of the blocks that these slots name. A step is a slot.
+// The oldest block in `slots`. Counts a step for each slot.
 fn oldest_in(
     slots: &[Option<Key>],
     units: &IndexMap<Addr, UnitTable>,
@@ -75,7 +76,7 @@ fn oldest_in(
     oldest
 }
 
-// The group's number, where it has a hole.
+// The group's number, if it has an empty slot (a hole).
 fn if_open(group: &Group, number: u32, geometry: Geometry) -> Option<u32>
     ensures { result ≡ spec.if_open geometry number group.now }
 {
@@ -86,7 +87,7 @@ fn if_open(group: &Group, number: u32, geometry: Geometry) -> Option<u32>
     }
 }
 
-/// The choices of a free group.
+/// The leaf of a free group.
 pub(crate) fn free_leaf(number: u32) -> Choices
     ensures { result ≡ spec.free_leaf number }
 {
@@ -98,7 +99,8 @@ pub(crate) fn free_leaf(number: u32) -> Choices
     }
 }
 
-/// The choices of a group. A step is a slot.
+/// The leaf of a group: its number where a search may choose it, and its oldest block if it is mirrored. Counts at most
+/// a step for each slot.
 pub(crate) fn choices_of(
     group: &Group,
     number: u32,
@@ -107,7 +109,7 @@ pub(crate) fn choices_of(
     steps: &mut Steps,
 ) -> Choices
     ensures choices { result ≡ spec.choices_of geometry units.now.entries number group.now }
-    // Of a group that isn't mirrored no slot is looked at.
+    // Only a mirrored group is scanned.
     ensures still { group.now.class ≢ Class.Mirrored → steps.new.count ≡ steps.old.count }
     ensures few { steps.new.count ≤ steps.old.count + length group.now.slots }
     ensures on { steps.old.count ≤ steps.new.count }
@@ -129,7 +131,7 @@ pub(crate) fn choices_of(
     }
 }
 
-/// Keeps the tree right after a change of a group: scans its slots once, and climbs once. A step is a slot or a node.
+/// Updates the tree after a change of group `number`: one scan of its slots and one climb. A step is a slot or a node.
 pub(crate) fn refresh(
     index: &mut Tree,
     groups: &Vec<Group>,
@@ -153,7 +155,7 @@ pub(crate) fn refresh(
     index.set(number as usize, choices, units, steps);
 }
 
-/// Keeps the tree right after a change of the group of a home, where there is one.
+/// Updates the tree after a change of the group of `home`, if there is one.
 pub(crate) fn refresh_home(
     index: &mut Tree,
     groups: &Vec<Group>,
@@ -182,7 +184,7 @@ pub(crate) fn refresh_home(
     }
 }
 
-// Whether another block is the oldest and older than this stamp.
+// Whether another block than `key` is the oldest, and older than `stamp`.
 fn keeps_oldest(oldest: Option<Age>, key: Key, stamp: u64) -> bool
     ensures keeps { result ≡ true → KeepsOldest oldest key stamp }
     ensures changes { result ≡ false → KeepsOldest oldest key stamp → ⊥ }
@@ -193,8 +195,8 @@ fn keeps_oldest(oldest: Option<Age>, key: Key, stamp: u64) -> bool
     }
 }
 
-/// The home of a block that gets a stamp, where the choices of its group may change by that. None where there is no home, or where
-/// another block is the oldest of the group and older than the stamp: it stays the oldest then.
+/// The home of a block that gets `stamp`, if its group's leaf may change by that. None without a home, or if another
+/// block is the oldest of the group and older than `stamp`: it stays the oldest then.
 pub(crate) fn home_to_refresh(
     index: &Tree,
     home: Option<Slot>,
@@ -214,7 +216,7 @@ pub(crate) fn home_to_refresh(
     }
 }
 
-/// Leaves no choice in the groups of these homes, so that no node knows of a block that stands in them.
+/// Blanks the leaves of the groups of these homes, so that no node refers to a block in them.
 pub(crate) fn blank_all(index: &mut Tree, homes: &[Option<Slot>], units: &IndexMap<Addr, UnitTable>)
     requires there { AreInside homes.now (length (leaves index.old)) }
     requires right { IsRight (place_in units.now.entries) index.old }
@@ -233,7 +235,7 @@ pub(crate) fn blank_all(index: &mut Tree, homes: &[Option<Slot>], units: &IndexM
     }
 }
 
-/// Makes the tree right where groups of these homes are blank, by a refresh of each of them.
+/// Refreshes the groups of these homes whose leaves are blank; the tree is in step with the tables then.
 pub(crate) fn refresh_blank(
     index: &mut Tree,
     groups: &Vec<Group>,
@@ -247,7 +249,7 @@ pub(crate) fn refresh_blank(
     requires right { IsRight (place_in units.now.entries) index.old }
     requires each { (i : ℕ) → i < length groups.now.items
         → IsLeafOrBlank geometry units.now.entries groups.now.items homes.now 0 index.old i }
-    // There are no more refreshes than leaves that are blank, and one scan and one climb are 60 steps at most.
+    // One refresh for each blank leaf at most: a scan of 48 slots and a climb of 12 nodes.
     ensures few { length groups.now.items ≤ 4096 → HaveChoices geometry units.now.entries groups.now.items homes.now
         → steps.new.count ≤ steps.old.count + 60 * blanks index.old }
     ensures leaves { leaves index.new ≡ leaves_of geometry units.now.entries groups.now.items }

@@ -1,4 +1,5 @@
-//! The space book: which extents form groups, which blocks the groups' slots hold, and which units there are.
+//! The space book: tables that map each block of a unit to a slot of a group, and back. Homes and slots are inverse to
+//! each other, no extent is in two groups, and the units' blocks fit all groups but one as parity groups.
 #![tactic(auto)]
 
 mod book;

@@ -1,4 +1,4 @@
-// The search for the mirrored block that was written longest ago.
+// The least recently written mirrored block is read off the root of the search tree, without a scan.
 ghost use Rattle.std.specs.Prelude.{◌≡◌, IfSome, IfNone};
 ghost use Rattle.ar_disks.specs.declared.address.Key.{Key};
 ghost use Rattle.ar_book.specs.Choices.{IsMirrored, IsNoNewer};
@@ -8,8 +8,8 @@ use ar_disks::Key;
 use ar_index::Steps;
 
 impl Book {
-    /// The mirrored block with the least stamp; where stamps are equal, that of the unit made first, and in a unit the lowest.
-    /// None where no block stands in a mirrored group. It takes no step: the tree has it.
+    /// The mirrored block with the least write sequence number (`stamp`). Ties go to the unit created first, and in a
+    /// unit to the lowest block. None if no block is at the mirrored level. Counts no step.
     pub fn oldest_mirrored(&self, steps: &mut Steps) -> Option<Key>
         ensures found { IfSome result (IsMirrored self.now) }
         ensures oldest { IfSome result (λ key. (other : Key) → IsMirrored self.now other → IsNoNewer self.now key other) }

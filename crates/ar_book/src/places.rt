@@ -1,4 +1,4 @@
-// Changes of homes and stamps.
+// A change of a home updates both tables, that of the unit and that of the group, and the search tree.
 ghost use Rattle.std.specs.Prelude.{◌≡◌, ◌≢◌, ◌+◌, ◌*◌, ◌≤◌, length, None};
 ghost use Rattle.std.specs.Option.{ForSome};
 ghost use Rattle.ar_disks.specs.Geometry.{rows_of};
@@ -14,14 +14,14 @@ use ar_disks::Key;
 use ar_index::Steps;
 
 impl Book {
-    /// Makes an empty slot the home of a unit's block, which leaves the one that it had.
+    /// Makes an empty slot the home of a unit's block, and empties the home that it had.
     pub fn assign(&mut self, key: Key, slot: Slot, steps: &mut Steps)
         requires block { HasBlock self.old key }
         requires slot { HasSlot self.old slot }
         requires empty { key_at self.old slot ≡ None }
         ensures assigned { self.new ≡ assigned self.old key slot }
         ensures few { length self.old.groups ≤ 4096 → steps.new.count ≤ steps.old.count + (6 * rows_of self.old.geometry + 24) }
-        // Where the block had no home, half of that.
+        // Half of that if the block had no home.
         ensures first { home self.old key ≡ None → length self.old.groups ≤ 4096
             → steps.new.count ≤ steps.old.count + (3 * rows_of self.old.geometry + 12) }
         ensures on { steps.old.count ≤ steps.new.count }
@@ -48,7 +48,7 @@ impl Book {
         set_home(&mut self.units, key, Some(slot));
     }
 
-    /// Takes a unit's block out of its home, if it has one; else it takes no step.
+    /// Empties the home of a unit's block. Counts no step if it has none.
     pub fn release(&mut self, key: Key, steps: &mut Steps)
         requires { HasBlock self.old key }
         ensures released { self.new ≡ released self.old key }
@@ -69,8 +69,8 @@ impl Book {
         set_home(&mut self.units, key, None);
     }
 
-    /// Gives a unit's block the next stamp. It takes no step where the block isn't at the mirrored level, or another block is the
-    /// oldest of its home's group and older than the stamp.
+    /// Gives a unit's block the next write sequence number. Counts no step if the block isn't at the mirrored level, or
+    /// if another block is the oldest of its group and older than that number.
     pub fn stamp(&mut self, key: Key, steps: &mut Steps)
         requires { HasBlock self.old key }
         ensures stamped { self.new ≡ stamped self.old key }

@@ -1,26 +1,26 @@
-// Why a unit is not made, grown or dropped.
+// Why a unit isn't created, resized or deleted.
 use std::fmt;
 use std::fmt::{Display, Formatter};
 use thiserror::Error;
 
-/// Why a unit was not made, grown or dropped. Nothing has changed then.
+/// Why a create (`make`), resize (`grow`) or delete (`drop`) failed. It has changed nothing.
 #[derive(Clone, Copy, Debug, PartialEq, Eq, Error)]
 pub enum Refusal {
-    /// The unit is there already.
+    /// A unit has this address.
     Exists,
-    /// No unit may have this length, or the unit that is there isn't shorter.
+    /// The length is 0 or above 1,048,576 sectors, or a resize doesn't extend the unit.
     Size,
-    /// The new blocks exceed the room, which it carries.
+    /// The new blocks exceed the room, which it carries, in blocks.
     NoRoom(u32),
-    /// There was no memory for the tables.
+    /// The allocation of the tables fails.
     NoMemory,
-    /// There is no such unit.
+    /// No unit has this address.
     Absent,
-    /// No host can have a unit with this LUN.
+    /// The LUN is above 7.
     BadLun,
 }
 
-// (By hand, as the text that a derived one writes is stated by no clause.)
+// Written by hand: no contract states the text that a derived one writes.
 impl Display for Refusal {
     ghost use Rattle.std.specs.Prelude.{Some};
     ghost use Rattle.ar_book.specs.Texts.{refusal_text};

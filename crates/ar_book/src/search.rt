@@ -1,4 +1,5 @@
-// The searches for a hole, a summary, and the search for a full mirrored group.
+// A hole is an empty slot of a group in use. The search tree names the lowest group that has one, so that only its
+// slots are scanned, however many groups there are.
 ghost use Rattle.std.specs.Prelude.{◌≡◌, ◌+◌, ◌*◌, ◌<◌, ◌≤◌, ℕ, length, IfSome, IfNone};
 ghost use Rattle.std.specs.Option.{option_map};
 ghost use Rattle.ar_disks.specs.Geometry.{rows_of};
@@ -24,8 +25,8 @@ fn open_of(best: &Choices, class: Class) -> Option<u32>
 }
 
 impl Book {
-    /// What a group holds: how many of its slots name a block, the lowest that names none, and the oldest block in it, where it
-    /// is mirrored.
+    /// What a group stores: the number of its occupied slots, the lowest empty one, and its oldest block if it is
+    /// mirrored.
     pub fn summary(&self, group: u32) -> Summary
         requires { group < length self.now.groups }
         ensures used { result.used ≡ used (group_in self.now.groups group) }
@@ -51,7 +52,7 @@ impl Book {
         }
     }
 
-    /// The lowest slot of a group that names no block, or None where each of its class's slots names one.
+    /// The lowest empty slot of a group, or None if each slot of its class is occupied.
     pub fn lowest_hole(&self, group: u32) -> Option<u16>
         requires { group < length self.now.groups }
         ensures found { IfSome result (IsHoleOf self.now group) }
@@ -61,7 +62,7 @@ impl Book {
         self.scan(group, &mut Steps::new())
     }
 
-    // The lowest slot of a group that names no block. A step is a slot.
+    // The same, with a step counted for each slot up to it.
     fn scan(&self, group: u32, steps: &mut Steps) -> Option<u16>
         requires { group < length self.now.groups }
         ensures found { IfSome result (IsHoleOf self.now group) }
@@ -75,8 +76,8 @@ impl Book {
         group.lowest_hole(slots_of(self.geometry, group.class()), steps)
     }
 
-    /// The lowest hole of a class: in the lowest group of the class that has one, its lowest. A step is a slot of that group, from
-    /// the first to the hole.
+    /// The lowest hole of a class: the lowest empty slot of the lowest group of the class that has one. Counts a step
+    /// for each slot of that group up to the hole, and none if there is no hole.
     pub fn hole(&self, class: Class, steps: &mut Steps) -> Option<Slot>
         ensures found { IfSome result (IsHole self.now class) }
         ensures least { IfSome result (λ slot. (other : Slot) → IsHole self.now class other → IsUpTo slot other) }
@@ -102,8 +103,8 @@ impl Book {
         open_of(&self.index.best(), class)
     }
 
-    /// The lowest mirrored group, where a block waits for a home, no group has a hole, and one group is free: then there is one,
-    /// and each of its slots names a block.
+    /// The lowest mirrored group, which is full. It exists if a block has no home, no group has a hole, and one group
+    /// is free, as the preconditions say.
     pub fn full_mirrored(&self) -> u32
         requires waiting { IsWaiting self.now }
         requires mirrored { (slot : Slot) → IsHole self.now Class.Mirrored slot → ⊥ }

@@ -1,8 +1,7 @@
-// What a group holds.
+// What a scan of one group finds.
 use ar_disks::Key;
 
-/// What a group holds: how many of its slots name a block, the lowest that names none, and its oldest block, where it is
-/// mirrored.
+/// What a group stores: the number of its occupied slots, the lowest empty one, and its oldest block if it is mirrored.
 #[derive(Clone, Copy, Debug, PartialEq, Eq)]
 pub struct Summary {
     pub used: u16,

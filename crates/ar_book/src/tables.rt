@@ -1,4 +1,4 @@
-// Reads and writes of one slot or one home in the lists that the book keeps.
+// Accesses to one table. That homes and slots stay inverse to each other is up to the calls of `Book`, which pair them.
 ghost use Rattle.std.specs.Prelude.{◌≡◌, ◌<◌, ◌≤◌, length, fold, ◌++◌, [], ◌∷◌, slice_set, false, None, OnOk, OnErr, IfNone, IsSome};
 ghost use Rattle.std.specs.Map.{lookup, keys_of, set_value, remove_entry};
 ghost use Rattle.std.specs.List.{IsDistinct};
@@ -13,14 +13,14 @@ use ar_disks::{Addr, Geometry, Key, Place};
 use indexmap::IndexMap;
 use std::alloc::{AllocError, Global};
 
-/// The block that a slot names; None where there is no such slot.
+/// The block of a slot; None if it is empty or there is no such slot.
 pub(crate) fn key_in(groups: &[Group], slot: Slot) -> Option<Key>
     ensures { result ≡ key_in groups.now slot }
 {
     groups.get(slot.group as usize)?.key(slot.slot)
 }
 
-/// The level at which a home stands.
+/// The level of a home; Unplaced without one.
 pub(crate) fn level_in(groups: &[Group], home: Option<Slot>) -> Level
     ensures { result ≡ level_in groups.now home }
 {
@@ -30,7 +30,7 @@ pub(crate) fn level_in(groups: &[Group], home: Option<Slot>) -> Level
     }
 }
 
-// The class of a group; Free where there is no such group.
+// The class of a group; Free if there is no such group.
 fn class_in(groups: &[Group], number: u32) -> Class
     ensures { result ≡ (group_in groups.now number).class }
 {
@@ -40,7 +40,7 @@ fn class_in(groups: &[Group], number: u32) -> Class
     }
 }
 
-/// Lets a slot name a block.
+/// Puts the block `key` into a slot.
 pub(crate) fn name_slot(groups: &mut Vec<Group>, slot: Slot, key: Key)
     requires group { slot.group < length groups.old.items }
     requires slot { slot.slot < length (group_in groups.old.items slot.group).slots }
@@ -50,7 +50,7 @@ pub(crate) fn name_slot(groups: &mut Vec<Group>, slot: Slot, key: Key)
     group.name(slot.slot, key);
 }
 
-/// Lets a slot that names a block, where one is given, name nothing.
+/// Empties the slot, if one is given.
 pub(crate) fn vacate_slot(groups: &mut Vec<Group>, slot: Option<Slot>)
     requires group { ForSome slot (λ s. s.group < length groups.old.items) }
     requires slot { ForSome slot (λ s. s.slot < length (group_in groups.old.items s.group).slots) }
@@ -62,7 +62,7 @@ pub(crate) fn vacate_slot(groups: &mut Vec<Group>, slot: Option<Slot>)
     }
 }
 
-/// Lets each slot that is one of these homes name nothing, in order.
+/// Empties the slots of these homes, in order.
 pub(crate) fn vacate_all(groups: &mut Vec<Group>, homes: &[Option<Slot>])
     requires { AreHomes groups.old.items homes.now }
     ensures { groups.new.items ≡ fold vacated groups.old.items homes.now }
@@ -72,14 +72,14 @@ pub(crate) fn vacate_all(groups: &mut Vec<Group>, homes: &[Option<Slot>])
     }
 }
 
-/// The slot that a block has for its home, or none.
+/// The home of a block; None if it has none or is no block of a unit.
 pub(crate) fn home_in(units: &IndexMap<Addr, UnitTable>, key: Key) -> Option<Slot>
     ensures { result ≡ home_in units.now.entries key }
 {
     units.get(&key.addr)?.home(key.rb)
 }
 
-/// Gives a block of a unit another home, or none.
+/// Sets the home of a unit's block.
 pub(crate) fn set_home(units: &mut IndexMap<Addr, UnitTable>, key: Key, home: Option<Slot>)
     requires { key.rb < length (unit_in units.old.entries key.addr).homes }
     ensures { units.new.entries ≡ homed units.old.entries key home }
@@ -89,7 +89,7 @@ pub(crate) fn set_home(units: &mut IndexMap<Addr, UnitTable>, key: Key, home: Op
     }
 }
 
-/// Gives a block of a unit another stamp, and answers its home: one look-up serves both.
+/// Sets the stamp of a unit's block and returns its home: one look-up serves both.
 pub(crate) fn restamp(units: &mut IndexMap<Addr, UnitTable>, key: Key, stamp: u64) -> Option<Slot>
     requires { key.rb < length (unit_in units.old.entries key.addr).stamps }
     ensures home { result ≡ home_in units.old.entries key }
@@ -100,7 +100,7 @@ pub(crate) fn restamp(units: &mut IndexMap<Addr, UnitTable>, key: Key, stamp: u6
     unit.home(key.rb)
 }
 
-/// Makes a unit that is there longer and marks it. Without memory it stays as it was.
+/// Extends an existing unit to `sectors` sectors, and a UNIT ATTENTION is pending. On `AllocError` nothing changes.
 #[tactic(auto, using(std::proofs::lemmas::Map::Steps::set_value_same))]
 pub(crate) fn grow_unit(
     units: &mut IndexMap<Addr, UnitTable>,
@@ -121,7 +121,7 @@ pub(crate) fn grow_unit(
     }
 }
 
-/// Adds a unit of so many sectors behind the others. Without memory they stay as they were.
+/// Adds a unit of `sectors` sectors after the others. On `AllocError` nothing changes.
 pub(crate) fn add_unit(
     alloc: Global,
     units: &mut IndexMap<Addr, UnitTable>,
@@ -142,7 +142,7 @@ pub(crate) fn add_unit(
     }
 }
 
-/// Takes a unit out; None where there is none.
+/// Removes a unit and returns its table; None if there is no such unit.
 pub(crate) fn take_unit(units: &mut IndexMap<Addr, UnitTable>, addr: Addr) -> Option<UnitTable>
     ensures taken { result ≡ lookup (same_addr addr) units.old.entries }
     ensures left { units.new.entries ≡ remove_entry (same_addr addr) units.old.entries }
@@ -152,7 +152,7 @@ pub(crate) fn take_unit(units: &mut IndexMap<Addr, UnitTable>, addr: Addr) -> Op
     units.shift_remove(&addr)
 }
 
-/// Clears a unit's mark, if the unit is there.
+/// Clears a unit's pending UNIT ATTENTION, if there is such a unit.
 #[tactic(auto, using(crate::proofs::UnitLemmas::put_absent))]
 pub(crate) fn clear_attention(units: &mut IndexMap<Addr, UnitTable>, addr: Addr)
     ensures { units.new.entries ≡ set_value (same_addr addr) units.old.entries (record (unit_in units.old.entries addr) { attention = false }) }
@@ -162,7 +162,7 @@ pub(crate) fn clear_attention(units: &mut IndexMap<Addr, UnitTable>, addr: Addr)
     }
 }
 
-/// Gives a group another class.
+/// Sets the class of a group.
 pub(crate) fn open_class(groups: &mut Vec<Group>, number: u32, class: Class)
     requires { number < length groups.old.items }
     ensures { groups.new.items ≡ slice_set groups.old.items number (record (group_in groups.old.items number) { class = class }) }
@@ -171,7 +171,7 @@ pub(crate) fn open_class(groups: &mut Vec<Group>, number: u32, class: Class)
     group.open(class);
 }
 
-/// Puts another extent at a member position, 0 to 3, of a group.
+/// Replaces the extent at member `position` (0 to 3) of a group.
 pub(crate) fn replace_member(groups: &mut Vec<Group>, number: u32, position: u8, place: Place)
     requires there { number < length groups.old.items }
     requires range { position < 4 }

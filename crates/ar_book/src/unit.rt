@@ -1,4 +1,4 @@
-// A unit's table.
+// A unit's table (a virtual device table of AutoRAID): for each block its home and its write sequence number.
 ghost use Rattle.std.specs.Prelude.{◌≡◌, ◌<◌, ◌≤◌, length, slice_index_or, slice_set, None, false, IfOk, OnOk, OnErr};
 ghost use Rattle.ar_book.specs.Tables.{blocks_of};
 ghost use Rattle.ar_book.specs.Changes.{new_unit, longer};
@@ -8,7 +8,7 @@ use ar_disks::Geometry;
 use std::alloc::{AllocError, Global};
 use std::marker::Model;
 
-/// How many blocks so many sectors fill; the last may be filled in part.
+/// The number of blocks that `sectors` sectors (up to 1,048,576) fill, the last perhaps in part.
 #[tactic(auto, using(crate::proofs::RefusalLemmas::blocks_up))]
 pub(crate) fn blocks_of(geometry: Geometry, sectors: u32) -> u32
     requires { sectors ≤ 1048576 }
@@ -17,7 +17,7 @@ pub(crate) fn blocks_of(geometry: Geometry, sectors: u32) -> u32
     sectors.div_ceil(geometry.sectors())
 }
 
-/// A unit's table: its length, its blocks' homes and stamps, and the mark that says that it grew.
+/// A unit's table. `stamps` are write sequence numbers; `attention` is a pending UNIT ATTENTION, since an extension.
 #[derive(Drop)]
 pub struct UnitTable {
     sectors: u32,
@@ -35,7 +35,7 @@ impl Model for UnitTable {
 }
 
 impl UnitTable {
-    /// A unit of so many sectors, none of whose blocks has a home.
+    /// A unit of `sectors` sectors, up to 1,048,576, without homes.
     pub(crate) fn new(
         alloc: Global,
         geometry: Geometry,
@@ -60,7 +60,7 @@ impl UnitTable {
         self.sectors
     }
 
-    /// How many blocks the unit has.
+    /// The number of the unit's blocks.
     pub(crate) fn blocks(&self) -> usize
         ensures { result ≡ length self.now.homes }
     {
@@ -74,35 +74,35 @@ impl UnitTable {
         &self.homes
     }
 
-    /// Whether the unit has grown since the mark was cleared.
+    /// Whether a UNIT ATTENTION is pending.
     pub(crate) fn attention(&self) -> bool
         ensures { result ≡ self.now.attention }
     {
         self.attention
     }
 
-    /// Clears the mark.
+    /// Clears the pending UNIT ATTENTION.
     pub(crate) fn clear_attention(&mut self)
         ensures { self.new ≡ record self.old { attention = false } }
     {
         self.attention = false;
     }
 
-    /// A block's home; None past the last block.
+    /// The home of block `rb`; None without one, or past the last block.
     pub(crate) fn home(&self, rb: u32) -> Option<Slot>
         ensures { result ≡ slice_index_or self.now.homes rb None }
     {
         self.homes.get(rb as usize).copied().flatten()
     }
 
-    /// A block's stamp; 0 past the last block.
+    /// The stamp of block `rb`; 0 without one, or past the last block.
     pub(crate) fn stamp(&self, rb: u32) -> u64
         ensures { result ≡ slice_index_or self.now.stamps rb 0 }
     {
         self.stamps.get(rb as usize).copied().unwrap_or(0)
     }
 
-    /// Gives a block another home, or none.
+    /// Sets the home of block `rb`.
     pub(crate) fn set_home(&mut self, rb: u32, home: Option<Slot>)
         requires { rb < length self.old.homes }
         ensures { self.new ≡ record self.old { homes = slice_set self.old.homes rb home } }
@@ -110,7 +110,7 @@ impl UnitTable {
         self.homes[rb as usize] = home;
     }
 
-    /// Gives a block another stamp.
+    /// Sets the stamp of block `rb`.
     pub(crate) fn set_stamp(&mut self, rb: u32, stamp: u64)
         requires { rb < length self.old.stamps }
         ensures { self.new ≡ record self.old { stamps = slice_set self.old.stamps rb stamp } }
@@ -118,7 +118,7 @@ impl UnitTable {
         self.stamps[rb as usize] = stamp;
     }
 
-    /// Makes the unit longer and marks it. Without memory it stays as it was.
+    /// Extends the unit to `sectors` sectors, and a UNIT ATTENTION is pending. On `AllocError` nothing changes.
     pub(crate) fn grow(&mut self, geometry: Geometry, sectors: u32) -> Result<(), AllocError>
         requires most { sectors ≤ 1048576 }
         requires homes { length self.old.homes ≤ blocks_of geometry sectors }

@@ -1,4 +1,5 @@
-// The making, growth and removal of units.
+// Units are created, resized and deleted. All blocks of a unit are reserved from the start, written or not, and what is
+// reserved fits all groups but one as parity groups.
 ghost use Rattle.std.specs.Prelude.{◌≡◌, ◌≢◌, ◌-◌, ◌≤◌, ◌↔◌, length, nat_lt, IsOk, IsTrue, Some, None, IfErr, OnOk, OnErr, if◌then◌else◌};
 ghost use Rattle.std.specs.Option.{unwrap_or};
 ghost use Rattle.std.specs.Map.{keys_of};
@@ -17,16 +18,16 @@ use crate::{Book, Refusal};
 use ar_disks::Addr;
 use ar_index::Steps;
 
-/// The greatest LUN that can be made.
+/// The greatest LUN of a unit.
 const MAX_LUN: u8 = 7;
 
 /// The greatest length of a unit, in sectors.
 const MAX_SECTORS: u32 = 1_048_576;
 
 impl Book {
-    /// Makes a unit of so many sectors, 1 to 1,048,576, without a home. Refused in this order: `BadLun` for a LUN over 7,
-    /// `Exists`, `Size`, `NoRoom` where its blocks exceed the room, which it carries, and `NoMemory`. A refused making changes
-    /// nothing.
+    /// Creates a unit of `sectors` sectors, 1 to 1,048,576, none of whose blocks has a home. Errors, checked in this
+    /// order, change nothing: `BadLun` for a LUN above 7, `Exists`, `Size`, `NoRoom(room)` if its blocks exceed the
+    /// room, and `NoMemory`.
     pub fn make(&mut self, addr: Addr, sectors: u32) -> Result<(), Refusal>
         ensures granted { OnOk result (make_refusal self.old addr sectors ≡ None) }
         ensures refused { IfErr result (λ refusal. refusal ≡ unwrap_or (make_refusal self.old addr sectors) Refusal.NoMemory) }
@@ -59,7 +60,7 @@ impl Book {
         self.room_refusal(blocks_of(self.geometry, sectors))
     }
 
-    // `NoRoom` where so many more blocks exceed the room.
+    // `NoRoom` if `blocks` more blocks exceed the room.
     fn room_refusal(&self, blocks: u32) -> Option<Refusal>
         ensures { result ≡ (if nat_lt (room self.now) blocks then Some (Refusal.NoRoom (room self.now)) else None) }
     {
@@ -71,9 +72,9 @@ impl Book {
         }
     }
 
-    /// Makes a unit longer, up to 1,048,576 sectors, and sets its mark; the new blocks have no home. Refused in this order:
-    /// `Absent`, `Size` where the length isn't above the present one or too great, `NoRoom` where the added blocks exceed the
-    /// room, which it carries, and `NoMemory`. A refused growth changes nothing.
+    /// Extends a unit to `sectors` sectors, up to 1,048,576: new blocks have no home, and a UNIT ATTENTION is pending.
+    /// Errors, checked in this order, change nothing: `Absent`, `Size` if `sectors` isn't above the present length or
+    /// is too great, `NoRoom(room)` if the added blocks exceed the room, and `NoMemory`.
     pub fn grow(&mut self, addr: Addr, sectors: u32) -> Result<(), Refusal>
         ensures granted { OnOk result (grow_refusal self.old addr sectors ≡ None) }
         ensures refused { IfErr result (λ refusal. refusal ≡ unwrap_or (grow_refusal self.old addr sectors) Refusal.NoMemory) }
@@ -103,7 +104,7 @@ impl Book {
         self.room_refusal(self.added_blocks(addr, sectors))
     }
 
-    // How many more blocks a unit has at another length.
+    // How many more blocks a unit has at `sectors` sectors.
     fn added_blocks(&self, addr: Addr, sectors: u32) -> u32
         requires { sectors ≤ 1048576 }
         ensures { result ≡ blocks_of self.now.geometry sectors - length (unit_in self.now.units addr).homes }
@@ -111,8 +112,8 @@ impl Book {
         blocks_of(self.geometry, sectors).saturating_sub(self.blocks(addr))
     }
 
-    /// Drops a unit: each slot that was a home of it names nothing, and its blocks are no longer reserved. The other units keep
-    /// their homes, stamps and order. `Absent` exactly where there is no unit; nothing changes then.
+    /// Deletes a unit: empties the slots of its blocks, which are no longer reserved. The other units keep their homes,
+    /// write sequence numbers and order. `Absent`, which changes nothing, exactly if no unit has this address.
     pub fn drop_unit(&mut self, addr: Addr) -> Result<(), Refusal>
         ensures absent { IfErr result (λ refusal. refusal ≡ Refusal.Absent) }
         ensures there { IsOk result ↔ IsTrue (has_unit self.old addr) }
@@ -129,7 +130,8 @@ impl Book {
             return Err(Refusal::Absent);
         };
         let mut steps = Steps::new();
-        // The tree forgets the unit's blocks before the unit goes: it is right for the order of the others then, as theirs stays.
+        // Blanked before the unit goes: the tree stays right without it, as the order of the others, which decides
+        // ties, stays.
         blank_all(&mut self.index, unit.homes(), &self.units);
         let Some(unit) = take_unit(&mut self.units, addr) else {
             unreachable!()

@@ -1,4 +1,4 @@
--- What the searches choose among groups, and how the choices of two neighbours are joined.
+-- What a search finds in some groups, and how the choices of two adjacent ranges are joined.
 use Rattle.std.specs.Prelude.{◌≡◌, ◌≢◌, ℕ, Bool, not, is_some, ◌&&◌, ◌||◌, ◌==◌, nat_lt, nat_le, if◌then◌else◌, List, [], ◌∷◌, Option, None, Some}
 use Rattle.std.specs.List.{position_or_len}
 use Rattle.std.specs.Map.{keys_of}
@@ -11,19 +11,19 @@ use Rattle.ar_index.specs.declared.choices.Change.{Change}
 use Rattle.ar_index.specs.declared.choices.Change.TheVariants.{Nothing, Oldest, Anything}
 use Rattle.ar_index.specs.declared.choices.Choices.{Choices}
 
--- a unit's place among these, in order of making; past the last where it is none of them
+-- a unit's place among these, in order of creation; past the last if it isn't one of them
 abbrev pub place_in : {V : Type 0} → List (Addr × V) → Addr → ℕ
 place_in units a = position_or_len (same_addr a) (keys_of units)
 
--- whether the first block's unit was made earlier, or it is the lower one of a unit, or the same
+-- whether the first block's unit was created earlier, or it is the lower block of one unit, or both are the same
 abbrev pub comes_no_later : (Addr → ℕ) → Key → Key → Bool
 comes_no_later place k j = nat_lt (place k.addr) (place j.addr) || ((place k.addr == place j.addr) && nat_le k.rb j.rb)
 
--- whether the first block was written longer ago; where the stamps are equal it comes no later
+-- whether the first block has the lower stamp, or on ties comes no later
 abbrev pub is_no_newer : (Addr → ℕ) → Age → Age → Bool
 is_no_newer place a b = nat_lt a.stamp b.stamp || ((a.stamp == b.stamp) && comes_no_later place a.key b.key)
 
--- the older of two blocks, where there are two
+-- the older of two blocks, or the one that there is
 abbrev pub older : (Addr → ℕ) → Option Age → Option Age → Option Age
 older place None o = o
 older place (Some a) None = Some a
@@ -34,31 +34,32 @@ abbrev pub oldest : (Addr → ℕ) → List (Option Age) → Option Age
 oldest place [] = None
 oldest place (o ∷ os) = older place o (oldest place os)
 
--- no group at all
+-- the choices among no groups
 abbrev pub nothing : Choices
 nothing = record { mirrored = None; parity = None; free = None; oldest = None }
 
--- the choices are the others but for the oldest block
+-- the choices differ in nothing but the oldest block
 abbrev pub HaveSameNumbers : Choices → Choices → Type 0
 HaveSameNumbers c d = c ≡ record d { oldest = c.oldest }
 
--- this is the change from the first oldest block to the second
+-- the change says whether the two oldest blocks differ
 abbrev pub IsOldestChangedTo : Option Age → Option Age → Change → Type 0
 IsOldestChangedTo old new Nothing = new ≡ old
 IsOldestChangedTo old new Oldest = new ≢ old
 IsOldestChangedTo old new Anything = ⊥
 
--- this is the change from the first choices to the second: they differ in just what it says
+-- the two choices differ in exactly what the change says
 abbrev pub IsChangedTo : Choices → Choices → Change → Type 0
 IsChangedTo old new Nothing = new ≡ old
 IsChangedTo old new Oldest = HaveSameNumbers new old × (new ≢ old)
 IsChangedTo old new Anything = HaveSameNumbers new old → ⊥
 
--- whether there is no choice, as of no group
+-- whether there is no choice: a blank leaf
 abbrev pub is_nothing : Choices → Bool
 is_nothing c = not (is_some c.mirrored) && not (is_some c.parity) && not (is_some c.free) && not (is_some c.oldest)
 
--- the choices of two neighbours: the lower group of each kind is the left one's, and the oldest block the older of both
+-- the choices of two adjacent ranges: of each kind the left one's group, if it has one, and the older of the oldest
+-- blocks
 abbrev pub join : (Addr → ℕ) → Choices → Choices → Choices
 join place l r = record {
   mirrored = option_or l.mirrored r.mirrored;
@@ -67,7 +68,7 @@ join place l r = record {
   oldest = older place l.oldest r.oldest;
 }
 
--- the plain search: from the first to the last
+-- a plain scan from the first to the last
 abbrev pub search_all : (Addr → ℕ) → List Choices → Choices
 search_all place [] = nothing
 search_all place (c ∷ cs) = join place c (search_all place cs)

@@ -1,22 +1,22 @@
-// The choices of a group, and of two neighbours together.
+// What a search may choose in a range of groups, and the join of two adjacent ranges.
 ghost use Rattle.std.specs.Prelude.{◌≡◌, ◌≢◌, true, false};
 ghost use Rattle.ar_index.specs.Choices.{place_in, comes_no_later};
 
 use ar_disks::{Addr, Key};
 use indexmap::IndexMap;
 
-/// How old a mirrored block is: by its stamp; where stamps are equal by its unit's place in order of making, and in a unit by its
-/// number.
+/// The age of a mirrored block: its write sequence number (`stamp`). Ties go by its unit's place in order of creation,
+/// then by its number in the unit.
 ///
-/// The place isn't kept, as it changes when an earlier unit goes: it is asked of the units where two stamps are equal.
+/// The place isn't stored, as it changes when an earlier unit is deleted: it is looked up when two stamps are equal.
 #[derive(Clone, Copy, Debug, PartialEq, Eq)]
 pub struct Age {
     pub stamp: u64,
     pub key: Key,
 }
 
-/// What is chosen among some groups: the lowest that is mirrored and has a hole, the lowest with parity that has one, the lowest
-/// that is free, and the oldest mirrored block.
+/// What a search finds in some groups: the lowest mirrored group with a hole (an empty slot), the lowest parity group
+/// with one, the lowest free group, and the oldest mirrored block.
 #[derive(Clone, Copy, Debug, PartialEq, Eq)]
 pub struct Choices {
     pub mirrored: Option<u32>,
@@ -25,7 +25,7 @@ pub struct Choices {
     pub oldest: Option<Age>,
 }
 
-// A unit's place in order of making; past the last where there is no unit.
+// A unit's place in order of creation; past the last if there is no such unit.
 fn place_of<V>(units: &IndexMap<Addr, V>, addr: Addr) -> usize
     ensures { result ≡ place_in units.now.entries addr }
 {
@@ -39,7 +39,7 @@ impl Age {
     ghost use Rattle.std.specs.Prelude.{◌≡◌};
     ghost use Rattle.ar_index.specs.Choices.{place_in, is_no_newer};
 
-    // Whether the block is older than another, or as old.
+    // Whether the block is older than `other`, or as old.
     fn is_no_newer<V>(&self, other: &Age, units: &IndexMap<Addr, V>) -> bool
         ensures { result ≡ is_no_newer (place_in units.now.entries) self.now other.now }
     {
@@ -50,8 +50,8 @@ impl Age {
     }
 }
 
-// Whether a block comes no later than another with the same stamp. There are few such: that this stays a call keeps the comparison
-// of stamps short.
+// Whether a block comes no later than another with the same stamp. Ties are rare: kept out of line, so that the
+// comparison of stamps is inlined.
 #[cold]
 fn is_no_later<V>(key: Key, other: Key, units: &IndexMap<Addr, V>) -> bool
     ensures { result ≡ comes_no_later (place_in units.now.entries) key other }
@@ -83,11 +83,11 @@ fn is_same_age(one: Option<Age>, other: Option<Age>) -> bool
     }
 }
 
-/// In what choices differ from those that stood there before.
+/// In what a node differs from its former value.
 #[derive(Clone, Copy)]
 pub(crate) enum Change {
     Nothing,
-    /// In the oldest block alone.
+    /// The oldest block alone.
     Oldest,
     Anything,
 }
@@ -96,7 +96,7 @@ impl Choices {
     ghost use Rattle.std.specs.Prelude.{◌≡◌};
     ghost use Rattle.ar_index.specs.Choices.{place_in, nothing, is_nothing, join, IsChangedTo};
 
-    /// The choices among no groups.
+    /// The choices among no groups: none.
     pub fn nothing() -> Choices
         ensures { result ≡ nothing }
     {
@@ -108,7 +108,7 @@ impl Choices {
         }
     }
 
-    /// Whether there is no choice, as among no groups.
+    /// Whether there is no choice.
     pub fn is_nothing(&self) -> bool
         ensures { result ≡ is_nothing self.now }
     {
@@ -118,7 +118,7 @@ impl Choices {
             && self.oldest.is_none()
     }
 
-    /// In what the choices differ from the former ones.
+    /// In what the choices differ from `former`.
     pub(crate) fn change(&self, former: &Choices) -> Change
         ensures { IsChangedTo former.now self.now result }
     {
@@ -132,7 +132,7 @@ impl Choices {
         }
     }
 
-    /// The choices among the groups of both, of which those of `left` have the lower numbers.
+    /// The choices among the groups of both; those of `left` have the lower numbers.
     pub fn join<V>(left: &Choices, right: &Choices, units: &IndexMap<Addr, V>) -> Choices
         ensures { result ≡ join (place_in units.now.entries) left.now right.now }
     {
@@ -150,7 +150,7 @@ impl Change {
     ghost use Rattle.ar_index.specs.declared.choices.Change.{Change};
     ghost use Rattle.ar_index.specs.Choices.{IsOldestChangedTo};
 
-    /// Whether there is one.
+    /// Whether anything differs.
     pub(crate) fn is_some(self) -> bool
         ensures some { result ≡ true → self ≢ Change.Nothing }
         ensures none { result ≡ false → self ≡ Change.Nothing }
@@ -158,7 +158,7 @@ impl Change {
         !matches!(self, Change::Nothing)
     }
 
-    /// The change of choices that differ in the oldest block, if in anything.
+    /// The change of a node of which nothing but the oldest block can differ.
     pub(crate) fn of_oldest(oldest: Option<Age>, former: Option<Age>) -> Change
         ensures { IsOldestChangedTo former oldest result }
     {
@@ -174,7 +174,7 @@ impl Age {
     ghost use Rattle.std.specs.Prelude.{◌≡◌};
     ghost use Rattle.ar_index.specs.Choices.{place_in, older};
 
-    /// The older of two blocks, or the one that there is. The first where they are of one age.
+    /// The older of two blocks, or the one that there is; the first on ties.
     pub fn older<V>(
         first: Option<Age>,
         second: Option<Age>,

@@ -1,4 +1,5 @@
-//! The book's searches, kept: a tree over the groups whose root has the choices among them all.
+//! A search tree over the groups: each inner node is the join of its children, so the root has what a scan of all
+//! groups would find: the lowest with a hole, by class, the lowest that is free, and the oldest mirrored block.
 #![tactic(auto)]
 
 mod choices;

@@ -1,5 +1,9 @@
-// The nodes of a tree in one list: the root is 1, the children of a node are twice it and the next, and the leaves stand behind
-// the inner nodes.
+// A complete binary tree in an array, as in a heap: node i has the children 2i and 2i + 1, and each inner node is the
+// join of its children. With four leaves (`size`):
+//
+//                1                  node 0 is unused
+//            2       3              1 is the root
+//          4   5   6   7            size to 2 * size - 1 are the leaves of groups 0, 1, ..
 ghost use Rattle.std.specs.Prelude.{◌≡◌, ℕ, ◌+◌, ◌-◌, ◌*◌, ◌/◌, ◌^◌, ◌<◌, ◌≤◌, length, drop, slice_set, IfOk, OnErr};
 ghost use Rattle.ar_index.specs.Choices.{place_in, nothing, IsChangedTo};
 ghost use Rattle.ar_index.specs.Tree as spec;
@@ -20,7 +24,8 @@ pub(crate) fn node_at(nodes: &[Choices], node: usize) -> Choices
     nodes[node]
 }
 
-// Joins the children of an inner node, one of which may have changed in no more than this, and says in what the node has.
+// Joins the children of an inner node, one of which has changed in no more than `below`. Returns in what the node
+// changes.
 fn join_at<V>(
     nodes: &mut Vec<Choices>,
     node: usize,
@@ -49,7 +54,7 @@ fn join_all_at<V>(nodes: &mut Vec<Choices>, node: usize, units: &IndexMap<Addr, 
     change
 }
 
-// The same where the node's numbers are those of its children already.
+// The same if the node's group numbers are those of its children already: half of the instructions.
 fn join_oldest_at<V>(nodes: &mut Vec<Choices>, node: usize, units: &IndexMap<Addr, V>) -> Change
     requires there { 2 * node + 1 < length nodes.old.items }
     requires numbers { HasJoinedNumbers (place_in units.now.entries) nodes.old.items node }
@@ -62,8 +67,8 @@ fn join_oldest_at<V>(nodes: &mut Vec<Choices>, node: usize, units: &IndexMap<Add
     change
 }
 
-// Joins the nodes above a leaf of a tree of so many leaves, which has changed in no more than this, from the lowest up to one that
-// stays as it was, or to the root. A step is a node.
+// Joins the nodes above a leaf that has changed in no more than `change`, upwards until one stays as it was, or to the
+// root. A step is a node.
 fn climb<V>(
     nodes: &mut Vec<Choices>,
     size: usize,
@@ -92,7 +97,8 @@ fn climb<V>(
     }
 }
 
-/// Puts the choices of a leaf into a tree of so many leaves, and climbs once: no step is taken above a node that stays as it was.
+/// Sets a leaf of a tree of `size` leaves, and joins the nodes above it, up to the first that stays as it was. A step
+/// is a node.
 pub(crate) fn put<V>(
     nodes: &mut Vec<Choices>,
     size: usize,
@@ -116,7 +122,7 @@ pub(crate) fn put<V>(
     climb(nodes, size, leaf, change, units, steps);
 }
 
-// A tree of more leaves, of which the first are those of this one, and the others have nothing.
+// A copy of the tree with `more` leaves: first the `size` ones of this tree, then blank ones.
 fn spread<V>(
     alloc: Global,
     nodes: &[Choices],
@@ -140,7 +146,7 @@ fn spread<V>(
     Ok(tree)
 }
 
-// Twice as many leaves, or one where there were none. The error is that the nodes would be too many to count.
+// Twice as many leaves, or one if there are none. The error is that the number of nodes overflows.
 fn twice(size: usize) -> Result<usize, AllocError>
     ensures first { IfOk result (λ more. size ≡ 0 → more ≡ 1) }
     ensures twice { IfOk result (λ more. 0 < size → more ≡ 2 * size) }
@@ -156,8 +162,8 @@ fn twice(size: usize) -> Result<usize, AllocError>
     }
 }
 
-/// Makes room for one leaf more in a tree of so many leaves, of which so many are in use, and answers how many leaves it has
-/// then: as many as before, unless all are in use. Without memory nothing changes.
+/// Makes room for one leaf more in a tree of `size` leaves, the first `count` of them in use, and returns its new size:
+/// it doubles if all are in use. Fails only then, and changes nothing.
 pub(crate) fn make_room<V>(
     alloc: Global,
     nodes: &mut Vec<Choices>,

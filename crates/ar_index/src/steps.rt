@@ -1,11 +1,11 @@
-// How many steps a search took, for contracts alone.
+// A step counter that only contracts see, by which they bound the running time of a search.
 ghost use Rattle.std.specs.Prelude.{◌≡◌, ℕ, ◌+◌};
 ghost use Rattle.std.specs.Borrow.{ftrue};
 
 use std::marker::Model;
 
-/// How many steps were taken: turns of loops, items of iterators and recursive calls. Contracts alone see the count, as `count`;
-/// it takes no bytes, and has no greatest value.
+/// A count of steps: loop iterations, items of iterators and recursive calls. `count` is ghost: only contracts see it,
+/// it occupies no bytes, and it can't overflow.
 #[derive(Drop)]
 pub struct Steps {
     pub ghost count: { ℕ },
@@ -16,7 +16,7 @@ impl Model for Steps {
 }
 
 impl Steps {
-    /// A count that begins at 0.
+    /// A count of 0.
     pub fn new() -> Steps
         ensures { result.count ≡ 0 }
     {

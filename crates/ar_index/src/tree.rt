@@ -1,4 +1,5 @@
-// The tree over the groups.
+// The search tree: its leaves are the choices of the groups, in order, and its root those among them all. There are
+// fewer than twice as many leaves as groups; those past the last group are blank.
 ghost use Rattle.std.specs.Prelude.{◌≡◌, ℕ, ◌+◌, ◌-◌, ◌^◌, ◌<◌, ◌≤◌, true, cond, length, [], ◌∷◌, ◌++◌, slice_index_or, slice_set, OnOk, OnErr};
 ghost use Rattle.ar_disks.specs.declared.address.Addr.{Addr};
 ghost use Rattle.ar_index.specs.Choices.{place_in, nothing, is_nothing, search_all};
@@ -11,13 +12,13 @@ use indexmap::IndexMap;
 use std::alloc::{AllocError, Global};
 use std::marker::Model;
 
-/// The choices of groups 0, 1, .. as the leaves of a tree, whose root has the choices among them all.
+/// A tree whose leaves are the choices of groups 0, 1, .., and whose root has the choices among them all.
 ///
-/// The tree is right for an order of units, which decides where stamps are equal: each call that joins nodes is handed the units,
-/// and asks that the tree is right for them. Where units come and go it stays right while the blocks that leaves name are in the
-/// same order as before.
+/// Its nodes are joined for one order of units, which decides ties: each call that joins nodes takes the units, and
+/// requires the tree to be right for them. It stays right when units are created or deleted, as long as the blocks in
+/// its leaves keep their order.
 ///
-/// Memory is taken by `push` alone.
+/// Only `push` allocates memory.
 #[derive(Drop)]
 pub struct Tree {
     alloc: Global,
@@ -37,7 +38,7 @@ impl Model for Tree {
     ghost invariant = { λ t. IsKept t.size t.count t.free t.nodes.items };
 }
 
-// How many are free, where one among them was or wasn't, and is or isn't now.
+// The number of free groups after one of them changes from `was` free, or not, to `is`.
 fn recount(free: usize, was: bool, is: bool) -> usize
     requires one { was ≡ true → 0 < free }
     requires fits { free + 1 < 2 ^ 64 }
@@ -51,7 +52,7 @@ fn recount(free: usize, was: bool, is: bool) -> usize
 }
 
 impl Tree {
-    /// A tree without a leaf, which is right for any order.
+    /// A tree without leaves, right for any order of units.
     pub fn new(alloc: Global) -> Tree
         ensures empty { leaves result ≡ [] }
         ensures right { (place : Addr → ℕ) → IsRight place result }
@@ -65,14 +66,14 @@ impl Tree {
         }
     }
 
-    /// How many leaves there are.
+    /// The number of leaves, one for each group.
     pub fn len(&self) -> usize
         ensures { result ≡ length (leaves self.now) }
     {
         self.count
     }
 
-    /// How many of the groups are free.
+    /// The number of free groups.
     pub fn free(&self) -> usize
         ensures { result ≡ free_in (leaves self.now) }
     {
@@ -87,7 +88,7 @@ impl Tree {
         node_at(&self.nodes, self.size + leaf)
     }
 
-    /// Whether there is no choice in a group.
+    /// Whether the group's leaf is blank: it has no choice.
     pub fn is_blank(&self, leaf: usize) -> bool
         requires { leaf < length (leaves self.now) }
         ensures { result ≡ is_nothing (slice_index_or (leaves self.now) leaf nothing) }
@@ -103,8 +104,8 @@ impl Tree {
         self.choices(leaf).oldest
     }
 
-    /// The choices among all groups: those of a plain search from the first to the last, where units have the places that the tree
-    /// is right for.
+    /// The choices among all groups: those of a plain scan from the first to the last, for the order of units that the
+    /// tree is right for.
     pub fn best(&self) -> Choices
         ensures { (place : Addr → ℕ) → IsRight place self.now → result ≡ search_all place (leaves self.now) }
     {
@@ -114,8 +115,8 @@ impl Tree {
         node_at(&self.nodes, 1)
     }
 
-    /// Changes the choices of one group. A step is a node that is joined: there is none above a node that stays as it was, each
-    /// is counted that changes a node, and there are at most 12 where there are at most 4,096 groups.
+    /// Sets the choices of one group. A step is a node that is joined: each that changes, and at most one that doesn't,
+    /// as nothing above it is joined. There are at most 12 for up to 4,096 groups.
     pub fn set<V>(
         &mut self,
         leaf: usize,
@@ -139,8 +140,7 @@ impl Tree {
         put(&mut self.nodes, self.size, leaf, choices, units, steps);
     }
 
-    /// Adds the choices of a group behind the others. Memory is asked for only where all leaves are in use; where it is refused
-    /// nothing changes.
+    /// Adds the choices of a group after the others. Fails only if all leaves are in use; nothing changes then.
     pub fn push<V>(&mut self, choices: Choices, units: &IndexMap<Addr, V>) -> Result<(), AllocError>
         requires { IsRight (place_in units.now.entries) self.old }
         ensures pushed { OnOk result (leaves self.new ≡ leaves self.old ++ choices ∷ []) }

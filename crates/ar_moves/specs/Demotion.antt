@@ -1,4 +1,4 @@
--- The rule of demotion: which block goes to which slot.
+-- The rule of demotion: which block moves to which slot, and what it leaves if the array fails.
 use Rattle.std.specs.Prelude.{◌≡◌, ◌≢◌, ◌⊎◌, ℕ, ◌*◌, ◌<◌, ◌≤◌, Some}
 use Rattle.ar_disks.specs.Block.{zeros}
 use Rattle.ar_disks.specs.Geometry.{rows_of, block_len_of}
@@ -14,69 +14,68 @@ use Rattle.ar_store.specs.Placing.{slot_at, IsLowestHole, HasNoHole}
 use Rattle.ar_store.specs.Calls.{IsOpened}
 use Rattle.ar_moves.specs.Moves.{AsksToMove, AsksToOpen}
 
--- the mirrored block that was written longest ago
+-- the least recently written mirrored block
 pub record IsOldestMirrored (t : Tables) (key : Key) : Type 0 where
   pub mirrored : IsMirrored t key
   pub oldest : (other : Key) → IsMirrored t other → IsNoNewer t key other
 
--- the lowest parity hole of the tables as they are
+-- the lowest parity hole, with the tables as they are
 pub record IsHoleThere (t ready : Tables) (to : Slot) : Type 0 where
   pub lowest : IsLowestHole t Parity to
   pub same : ready ≡ t
 
--- there is none, and the first slot of the lowest of two free groups or more, which was opened for parity
+-- there is none: the first slot of the lowest free group, of at least two, which was opened for parity
 pub record IsHoleMade (t ready : Tables) (to : Slot) : Type 0 where
   pub none : HasNoHole t Parity
   pub group : ℕ
   pub opened : IsOpened t ready Parity group
   pub first : to ≡ slot_at group 0
 
--- the slot that a block is demoted to, and the tables in which it is ready for that
+-- the slot that a block is demoted to, and the tables in which it is ready: with its group open
 abbrev pub IsSlotFor : Tables → Slot → Tables → Type 0
 IsSlotFor t to ready = IsHoleThere t ready to ⊎ IsHoleMade t ready to
 
--- there is none
+-- there is no slot for a demotion
 pub record NamesNoSlot (t : Tables) : Type 0 where
   pub none : (to : Slot) (ready : Tables) → IsSlotFor t to ready → ⊥
 
--- the rule names a block and a slot, which is ready in these tables
+-- the rule chooses this block and this slot, which is ready in these tables
 pub record NamesDemotion (t : Tables) (key : Key) (to : Slot) (ready : Tables) : Type 0 where
   pub oldest : IsOldestMirrored t key
   pub slot : IsSlotFor t to ready
 
--- the rule names nothing
+-- the rule chooses nothing
 pub record NamesNoDemotion (t : Tables) : Type 0 where
   pub none : (key : Key) (to : Slot) (ready : Tables) → NamesDemotion t key to ready → ⊥
 
--- what the rule names was done: the block moved to the slot, once that was ready
+-- the block that the rule chooses moved to the slot that it chooses, once that was ready
 pub record Demotes (t : Tables) (key : Key) (to : Slot) (new : Tables) : Type 0 where
   pub ready : Tables
   pub names : NamesDemotion t key to ready
   pub moved : Moved ready key to new
 
--- the same, of a block that was found to be the oldest
+-- the same of a block that is already known to be the oldest
 pub record DemotesTo (t : Tables) (key : Key) (new : Tables) (moved_key : Key) (to : Slot) : Type 0 where
   pub key_is : moved_key ≡ key
   pub ready : Tables
   pub slot : IsSlotFor t to ready
   pub moved : Moved ready key to new
 
--- the tables are as they were, or ready for what the rule names
+-- the tables are as they were, or ready for the rule's move
 abbrev pub MayHaveOpened : Tables → Tables → Type 0
 MayHaveOpened t new = (new ≡ t) ⊎ ((key : Key) × (to : Slot) × NamesDemotion t key to new)
 
--- Where the rule names a block and a slot, the slot is ready: a group that was opened for it stays open, also where the disks broke
--- then.
+-- If the rule chooses a block and a slot, the slot is ready: a group that was opened for it stays open, also if the
+-- array failed then.
 pub record LeavesReady (t new : Tables) : Type 0 where
   pub ready : (key : Key) (to : Slot) (tables : Tables) → NamesDemotion t key to tables → new ≡ tables
 
--- each other slot of the group holds the zero block
+-- each other slot of the parity group holds the zero block
 pub record HoldsZerosBeside (s : StoreState) (to : Slot) : Type 0 where
   pub slots : (i : ℕ) → i < 3 * rows_of s.disks.geometry → i ≢ to.slot → SlotHolds s (slot_at to.group i) (zeros (block_len_of s.disks.geometry))
 
--- No disk was asked but those that the block's move to the slot that the rule names asks, one slot's before the other's, and no
--- row was written but the slot's; or, where a group is opened for it, that group's disks were asked first, and no other group was
--- written.
+-- Only the disks that the rule's move needs were accessed, the old slot's before the new one's, and only the new slot's
+-- row was written. If a group is opened for it, that group's disks were accessed first, and no other group was written.
 pub record AsksToDemote (old new : StoreState) : Type 0 where
   pub there :
       (key : Key) (from to : Slot) → IsOldestMirrored old.book key → home old.book key ≡ Some from → IsLowestHole old.book Parity to

@@ -1,7 +1,7 @@
 pub mod Moves
 pub mod Demotion
 pub mod Cleaning
--- the words of lower crates that clauses of this crate cite
+-- definitions of lower crates that contracts of this crate use
 pub use Rattle.ar_store.specs.Store
 pub use Rattle.ar_store.specs.Slots
 pub use Rattle.ar_store.specs.Placing

@@ -1,4 +1,4 @@
--- What moves answer, and what each of them leaves.
+-- What a move returns, and what it leaves as it was.
 use Rattle.std.specs.Prelude.{◌≡◌, ◌⊎◌, ℕ}
 use Rattle.ar_disks.specs.declared.address.Key.{Key}
 use Rattle.ar_extents.specs.Set.{SetState}
@@ -15,38 +15,38 @@ use Rattle.ar_store.specs.Calls.{IsAccessed}
 use Rattle.ar_moves.specs.declared.step.Move.{Move}
 use Rattle.ar_moves.specs.declared.step.Move.TheVariants.{Moved, Idle, Broken}
 
--- what is said of the block that was moved, and of the slot that it went to
+-- if a block was moved, P holds of it and of its new slot
 abbrev pub IfMoved : Move → (Key → Slot → Type 0) → Type 0
 IfMoved (Moved key to) P = P key to
 IfMoved Idle P = Unit {0}
 IfMoved Broken P = Unit {0}
 
--- this block went to this slot
+-- the block that was moved is `key`, its new slot is `to`, and the tables changed by that move alone
 pub record IsMovedTo (t : Tables) (key : Key) (to : Slot) (new : Tables) (moved : Key) (slot : Slot) : Type 0 where
   pub key_is : moved ≡ key
   pub slot_is : slot ≡ to
   pub tables : TablesMoved t key to new
 
--- nothing was to be done, and the whole store is as it was
+-- there was nothing to do, for the given reason, and the whole store is as it was
 pub record IsLeft (old new : StoreState) (Nothing : Type 0) : Type 0 where
   pub why : Nothing
   pub same : new ≡ old
 
--- Every block stands as it did; the units are as they were but for homes, and no disk was lost without a cause. Of a store that
--- was broken before nothing has changed.
+-- Every block reads as before, unless the array has failed; the units keep their order, lengths and pending UNIT
+-- ATTENTIONs; no disk is lost without a fault, and a store that had failed before is unchanged.
 pub record LeavesBlocks (old new : StoreState) : Type 0 where
   pub stands : AllStand old new
   pub units : SameUnits old.book new.book
   pub accessed : IsAccessed old.disks new.disks
   pub broken : old.disks.health ≡ AllBroken → new ≡ old
 
--- What a block's move from one slot to another asked, which rows it wrote, and in what order.
+-- Which disks a block's move from one slot to another accessed, which row it wrote, and in what order.
 pub record AsksToMove (from to : Slot) (old new : StoreState) : Type 0 where
   pub asks : AsksSlots from to old new
   pub steps : ReadsThenWrites from to old new
 
--- The same where a group with parity was opened for the block: it was filled with zeros first, and only then the block was moved
--- to its first slot; where the disks broke before nothing was asked after it.
+-- The same if a parity group was opened for the block: it was filled with zeros first, and only then the block moved to
+-- its first slot. If the array failed while it was filled, nothing was accessed after that.
 pub record AsksToOpen (from : Slot) (group : ℕ) (old new : StoreState) : Type 0 where
   pub asks : AsksOpened from group old new
   pub filled : SetState

@@ -1,4 +1,5 @@
-// Cleaning: blocks of the emptiest group go to holes of the others, until it is free.
+// Cleaning compacts the groups of a class: block by block the emptiest group moves into the holes of the others, until
+// it is free. Each step leaves less to be done (`cleaning_left`), so cleaning ends.
 ghost use Rattle.std.specs.Prelude.{◌≡◌, ◌↔◌, ◌≤◌, ◌<◌, IfSome, IfNone};
 ghost use Rattle.ar_book.specs.Tables.{free_groups};
 ghost use Rattle.ar_store.specs.Slots.{BesideHold};
@@ -12,14 +13,15 @@ use ar_disks::{Disk, Key};
 use ar_extents::Health;
 use ar_store::Store;
 
-/// Cleans one slot: of the mirrored groups that have blocks, and whose blocks all fit in the holes of the other mirrored
-/// groups, the one with the fewest is taken, the lowest of several. Its block in the lowest slot goes to the lowest hole of
-/// the other mirrored groups. Where there is no such group the same is tried among the groups with parity; else nothing is
-/// done. The block keeps its stamp, and no block changes; the other slots of the group that it goes to hold what they held. A
-/// group is free once its last block has gone, and none is opened. No disk is asked but those that the block's move asks, and no
-/// row is written but the slot's. No memory is taken.
+/// Moves one block: of the mirrored groups that have blocks, all of which fit in the holes of the others, the one with
+/// the fewest is chosen, the lowest on ties, and its block in the lowest occupied slot moves to the lowest hole of the
+/// others. If there is no such group, the same is tried among the parity groups; else nothing changes (`Idle`).
 ///
-/// `Broken` says that the disks are: the tables are as they were, and of a store that was broken before nothing has changed.
+/// The block keeps its stamp; no block changes, and the other slots of its new group hold what they held. A group that
+/// its last block leaves is free, and none is opened. Disks are accessed only to read the old slot and then to write
+/// the new one; no other row is written. Nothing is allocated.
+///
+/// `Broken`: the array has failed, and the tables are as they were. A store that had failed before is unchanged.
 pub fn clean_one<D: Disk>(store: &mut Store<D>) -> Move
     ensures moved { IfMoved result (λ key to. Cleans store.old.book key to store.new.book) }
     ensures idle { result ≡ Move.Idle → IsLeft store.old store.new (NothingToClean store.old.book) }
@@ -41,7 +43,7 @@ pub fn clean_one<D: Disk>(store: &mut Store<D>) -> Move
     }
 }
 
-// The block that cleaning moves, and the slot that it goes to.
+// The block that cleaning moves, and its new slot.
 fn cleaning(book: &Book) -> Option<(Key, Slot)>
     ensures names { IfSome result (λ pair. NamesCleaning book.now pair.0 pair.1) }
     ensures none { IfNone result (NothingToClean book.now) }

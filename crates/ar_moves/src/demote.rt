@@ -1,4 +1,5 @@
-// Demotion: the mirrored block that was written longest ago goes to a group with parity.
+// Demotion: the least recently written mirrored block moves to the parity level. AutoRAID's choice of it is
+// approximate; this one is exact.
 ghost use Rattle.std.specs.Prelude.{◌≡◌, ◌≢◌, ◌↔◌};
 ghost use Rattle.ar_book.specs.declared.class.Class.TheVariants.{Parity};
 ghost use Rattle.ar_store.specs.Kept.{IsKept};
@@ -16,14 +17,16 @@ use ar_extents::Health;
 use ar_index::Steps;
 use ar_store::{Opening, Store};
 
-/// Demotes a block: the mirrored one with the least stamp goes to the lowest parity hole. Where there is none and two groups
-/// are free, the lowest is opened for parity with zeros, and the block goes to its first slot; else nothing is done. The block
-/// keeps its stamp, and no block changes; the other slots of the group that it goes to hold what they held. No disk is asked but
-/// those that the block's move asks, and those of the group that is opened; and no row is written but the slot's, or those of the
-/// group that is opened. No memory is taken.
+/// Demotes the mirrored block with the least write sequence number (`stamp`) to the lowest parity hole. If there is
+/// none and two groups are free, the lowest is opened for parity and filled with zeros, and the block moves to its
+/// first slot; else nothing changes (`Idle`).
 ///
-/// `Broken` says that the disks are. A group that the rule opens is open then, and every block has its old home; of a store that
-/// was broken before nothing has changed.
+/// The block keeps its stamp; no block changes, and the other slots of its new group hold what they held. Disks are
+/// accessed only to fill the group that is opened, to read the old slot and then to write the new one; no other row is
+/// written. Nothing is allocated.
+///
+/// `Broken`: the array has failed. A group that the rule opens is open then, and every block has its old home. A store
+/// that had failed before is unchanged.
 pub fn demote_one<D: Disk>(store: &mut Store<D>) -> Move
     ensures moved { IfMoved result (λ key to. Demotes store.old.book key to store.new.book) }
     ensures idle { result ≡ Move.Idle → IsLeft store.old store.new (NamesNoDemotion store.old.book) }
@@ -66,7 +69,7 @@ fn demote<D: Disk>(store: &mut Store<D>, key: Key) -> Move
     }
 }
 
-// Demotes a mirrored block to a group that is opened for it, as there is no parity hole.
+// Demotes the oldest mirrored block to a group that is opened for it, as there is no parity hole.
 fn demote_to_new<D: Disk>(store: &mut Store<D>, key: Key) -> Move
     requires kept { IsKept store.old }
     requires oldest { IsOldestMirrored store.old.book key }

@@ -1,4 +1,5 @@
-//! Moves in the background: demotion to groups with parity, and cleaning, which gathers blocks so that groups become free.
+//! Background moves of blocks between slots: demotion to the parity level, and cleaning, which frees groups. Unless
+//! the array fails, a move leaves the contents of every block as they were.
 #![tactic(auto)]
 
 mod clean;

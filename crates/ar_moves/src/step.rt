@@ -1,4 +1,4 @@
-// One block is moved, and what a move answers.
+// One block moves from its home to an empty slot, which is written before the tables change.
 ghost use Rattle.std.specs.Prelude.{◌≡◌, ◌≢◌, ◌↔◌, Some, IsSome};
 ghost use Rattle.ar_book.specs.declared.class.Slot.{Slot};
 ghost use Rattle.ar_book.specs.Tables.{home};
@@ -13,18 +13,18 @@ use ar_disks::{Completion, Disk, Key};
 use ar_extents::Health;
 use ar_store::Store;
 
-/// What a step in the background did.
+/// What a background move did.
 #[derive(Clone, Copy, Debug, PartialEq, Eq)]
 pub enum Move {
-    /// It moved the block of a key to a slot.
+    /// It moved the block `key` to the slot `to`.
     Moved { key: Key, to: Slot },
-    /// Nothing: its rule names no block, or no slot for it.
+    /// Nothing: there is no block to move, or no slot for it.
     Idle,
-    /// The disks are broken.
+    /// The array has failed: two disks are missing at once.
     Broken,
 }
 
-/// Moves a block to a slot that names none.
+/// Moves a block that has a home to an empty slot. If the array fails, the tables are as they were.
 pub(crate) fn move_to<D: Disk>(store: &mut Store<D>, key: Key, to: Slot) -> Move
     requires placed { IsSome (home store.old.book key) }
     requires hole { IsVacant store.old.book to }
