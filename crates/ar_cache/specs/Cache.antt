@@ -1,4 +1,4 @@
--- What a cache is: blocks under keys that the backing has not yet got.
+-- A cache as plain data: keys with blocks that the backing hasn't got yet.
 use Rattle.std.specs.Prelude.{◌≡◌, ◌≢◌, ◌⊎◌, ℕ, ◌-◌, ◌<◌, ◌≤◌, ◌==◌, ◌&&◌, not, Bool, IsTrue, IsSome, List, [], ◌∷◌, Option, Some, option_map, All, is_some, length, take, drop, reverse, filter, nat_lt, unwrap_or, if◌then◌else◌}
 use Rattle.std.specs.List.{IsDistinct}
 use Rattle.std.specs.Option.{option_map_or}
@@ -15,37 +15,37 @@ use Rattle.ar_cache.specs.declared.answers.Flush.TheVariants.{Flushed, Idle, Bro
 use Rattle.ar_disks.specs.declared.completion.Completion.{Completion}
 use Rattle.ar_disks.specs.declared.completion.Completion.TheVariants as stored
 
--- the two keys are one
+-- the two keys are equal
 abbrev pub same_key : Key → Key → Bool
 same_key a b = same_addr a.addr b.addr && (a.rb == b.rb)
 
--- a cache: the geometry of its blocks, how many it may hold, and those that it holds with their keys, the most recently
--- used first
+-- a cache: the geometry of its blocks, the number of entries that it may hold, and its entries by key, the most
+-- recently used first
 pub record CacheState : Type 0 where
   pub geometry : Geometry
   pub capacity : ℕ
   pub entries : List (Key × List ℕ)
 
--- what holds of every cache: no more entries than its capacity, blocks of its geometry's length, keys all different
+-- the invariant of a cache: at most `capacity` entries, blocks of full length, different keys
 pub record IsSound (cache : CacheState) : Type 0 where
   pub fits : length cache.entries ≤ cache.capacity
   pub whole : All (λ e. length e.1 ≡ block_len_of cache.geometry) cache.entries
   pub distinct : IsDistinct same_key (keys_of cache.entries)
 
--- the block that is cached under a key
+-- the cached block of a key
 abbrev pub cached : CacheState → Key → Option (List ℕ)
 cached cache key = lookup (same_key key) cache.entries
 
--- what a read of a key gives: its cached block where there is one, else the one that stands under it in the backing
+-- what a read of a key returns: its cached block if there is one, else the backing's
 abbrev pub seen : CacheState → (Key → List ℕ) → Key → List ℕ
 seen cache block_at key = unwrap_or (cached cache key) (block_at key)
 
--- every key is seen with the block that it had
+-- every key reads as before
 pub record SameSeen (old : CacheState) (old_block_at : Key → List ℕ)
     (new : CacheState) (new_block_at : Key → List ℕ) : Type 0 where
   pub same : (key : Key) → seen new new_block_at key ≡ seen old old_block_at key
 
--- the key is seen with this block, and every other key with the one that it had
+-- the key reads as this block, and every other key as before
 pub record Sees (old : CacheState) (old_block_at : Key → List ℕ)
     (new : CacheState) (new_block_at : Key → List ℕ) (key : Key) (block : List ℕ) : Type 0 where
   pub put : seen new new_block_at key ≡ block
@@ -59,19 +59,19 @@ pub record KnowsAll (knows : Key → Bool) (cache : CacheState) : Type 0 where
 abbrev pub with_entries : CacheState → List (Key × List ℕ) → CacheState
 with_entries cache es = record cache { entries = es }
 
--- the entries but a key's
+-- the entries without a key's
 abbrev pub without_key : List (Key × List ℕ) → Key → List (Key × List ℕ)
 without_key es key = remove_entry (same_key key) es
 
--- the entries but an address's
+-- the entries without those of an address
 abbrev pub without_addr : List (Key × List ℕ) → Addr → List (Key × List ℕ)
 without_addr es addr = filter (λ e. not (same_addr addr e.0.addr)) es
 
--- the entries but the least recently used
+-- the entries without the least recently used
 abbrev pub without_last : List (Key × List ℕ) → List (Key × List ℕ)
 without_last es = take (length es - 1) es
 
--- the entries with the least recently used gone where it is of an address, and else in front
+-- the entries with the least recently used discarded if it belongs to an address, and else moved to the front
 abbrev pub turned : List (Key × List ℕ) → Addr → List (Key × List ℕ)
 turned es addr =
     option_map_or (λ e. if same_addr addr e.0.addr then without_last es else (e ∷ without_last es)) (last_entry es) es
@@ -80,15 +80,15 @@ turned es addr =
 abbrev pub last_key : List (Key × List ℕ) → Option Key
 last_key es = option_map (λ e. e.0) (last_entry es)
 
--- the entries once there is room for one more: a full cache has let its least recently used go
+-- the entries with room for one more: a full cache has dropped its least recently used
 abbrev pub with_room : CacheState → List (Key × List ℕ)
 with_room cache = take (cache.capacity - 1) cache.entries
 
--- the key of the least recently used entry, where there is one
+-- the key of the least recently used entry, if there is one
 abbrev pub last_keys : List (Key × List ℕ) → List Key
 last_keys es = keys_of (drop (length es - 1) es)
 
--- the key that gives way to a new one: the least recently used of a full cache
+-- the key that a new one evicts: the least recently used of a full cache
 abbrev pub giving_way : CacheState → List Key
 giving_way cache = if nat_lt (length cache.entries) cache.capacity then [] else last_keys cache.entries
 
@@ -96,52 +96,52 @@ giving_way cache = if nat_lt (length cache.entries) cache.capacity then [] else 
 abbrev pub pushed_out : CacheState → Key → List Key
 pushed_out cache key = if is_some (cached cache key) then [] else giving_way cache
 
--- the key itself, where a put left no entry of it: its block went straight to the backing
+-- the key itself if a put left no entry of it: its block was written through to the backing
 abbrev pub put_through : CacheState → Key → List Key
 put_through cache key = if is_some (cached cache key) then [] else (key ∷ [])
 
--- A new key was put: its block is the most recently used entry, or, where memory for it was refused, it went to the
--- backing and no entry is there. A full cache has let its least recently used go in both cases.
+-- A new key was put: its block is the most recently used entry, or was written through and has no entry; which of the
+-- two, the contract leaves open. A full cache has dropped its least recently used entry in both cases.
 abbrev pub TakesIn : CacheState → CacheState → Key → List ℕ → Type 0
 TakesIn old new key block =
     (new ≡ with_entries old ((key, block) ∷ with_room old)) ⊎ (new ≡ with_entries old (with_room old))
 
--- A put changed the backing's blocks only where it may: under the least recently used key of a full cache, and under
--- its own key where that has no entry afterwards.
+-- A put changed the backing's blocks at most for the least recently used key of a full cache, and for its own key if
+-- that has no entry afterwards.
 pub record Spares (old : CacheState) (old_block_at : Key → List ℕ)
     (new : CacheState) (new_block_at : Key → List ℕ) (key : Key) : Type 0 where
   pub others : (other : Key) → other ≢ key → (old.capacity ≤ length old.entries → last_key old.entries ≢ Some other)
       → new_block_at other ≡ old_block_at other
   pub held : IsSome (cached new key) → new_block_at key ≡ old_block_at key
 
--- what one flush leaves of a cache, by its answer
+-- how one flush changes a cache, by its result
 abbrev pub Flushes : Flush → CacheState → CacheState → Type 0
 Flushes (Flushed key) old new = (last_key old.entries ≡ Some key) × (new ≡ with_entries old (without_last old.entries))
 Flushes Idle old new = new ≡ old
 Flushes Broken old new = new ≡ old
 
--- the least recently used block was given to the backing, which changed no other, by the answer
+-- the least recently used block was written to the backing, which changed no other, by the result
 abbrev pub Gives : Flush → List (Key × List ℕ) → (Key → List ℕ) → (Key → List ℕ) → Type 0
 Gives (Flushed key) es old new = (block : List ℕ) × (last_entry es ≡ Some (key, block)) × Writes old new key block
 Gives Idle es old new = es ≡ []
 Gives Broken es old new = 0 < length es
 
--- where a flush destaged an entry, the backing is what one put of that key makes of it
+-- if a flush destaged an entry, the backing changed as one put of that key specifies
 abbrev pub IsPut : {S : Type 0} → (S → Key → S → Type 0) → Flush → S → S → Type 0
 IsPut puts (Flushed key) old new = puts old key new
 IsPut puts Idle old new = Unit {0}
 IsPut puts Broken old new = Unit {0}
 
--- whether a flush ended broken
+-- whether the flush failed the backing
 abbrev pub answer_of : Flush → Completion
 answer_of (Flushed key) = stored.Done
 answer_of Idle = stored.Done
 answer_of Broken = stored.Broken
 
--- A backing broke while the cache was emptied: the most recently used of its entries stand, at least the one whose
--- destaging broke it. When that destaging began, the others had been put in turn, the least recently used first; the backing
--- was in a state that its own relation joins to the first and to the last, it was broken only if it was at first, and no key was
--- seen with another block. And then the put of the least recently used of those that stand ended broken.
+-- A backing failed while the cache was emptied: the most recently used `left` entries stay, at least the one whose
+-- destaging failed it. The others had been put in order, the least recently used first, up to the state `reached`: the
+-- backing's own relation holds to it and from it, it had failed only if it had at first, and every key read as before.
+-- Then the put of the least recently used entry that stays failed.
 pub record StopsAt {S : Type 0} (block_at : S → Key → List ℕ) (is_broken : S → Bool) (follows : S → S → Type 0)
     (puts breaks : S → Key → S → Type 0) (old new : CacheState) (backing ended : S) : Type 0 where
   pub left : ℕ

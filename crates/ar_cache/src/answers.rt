@@ -1,4 +1,4 @@
-// How the destaging of an entry ends.
+// The result of destaging an entry, that is, of writing its dirty block to the backing.
 use ar_disks::Key;
 
 /// How the destaging of one entry ended.
@@ -8,6 +8,6 @@ pub enum Flush {
     Flushed(Key),
     /// There was no entry.
     Idle,
-    /// The backing is broken, and the entry stays.
+    /// The backing has failed; the entry stays.
     Broken,
 }

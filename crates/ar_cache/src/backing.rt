@@ -1,4 +1,4 @@
-// What a cache asks of the store behind it.
+// What a cache needs of the store behind it.
 ghost use Rattle.std.specs.Prelude.{◌≡◌, IsTrue, List, ℕ, Bool, length};
 ghost use Rattle.ar_disks.specs.Geometry.{block_len_of};
 ghost use Rattle.ar_disks.specs.declared.address.Key.{Key};
@@ -7,36 +7,36 @@ ghost use Rattle.ar_cache.specs.Backing.{stored, Keeps, SameBlocks, Writes};
 
 use ar_disks::{Block, Completion, Key};
 
-/// A store of blocks by key, which a cache destages to.
+/// A store of blocks by key, to which a cache destages.
 ///
-/// It answers Broken exactly where it is broken after the call. A broken one stays broken, and then nothing is promised
-/// of its blocks. No call changes its geometry or which keys it knows.
+/// A call returns `Broken` exactly if the backing has failed after the call. A failed backing stays failed, and its
+/// blocks are then unspecified. No call changes its geometry or the keys that it knows.
 pub trait Backing {
-    /// The block that stands under a key.
+    /// The block that a key reads as.
     ghost block_at: { Self → Key → List ℕ };
 
-    /// Whether it knows a key.
+    /// Whether the backing accepts the key.
     ghost knows: { Self → Key → Bool };
 
     /// The geometry of its blocks.
     ghost geometry: { Self → Geometry };
 
-    /// Whether it is broken.
+    /// Whether the backing has failed.
     ghost is_broken: { Self → Bool };
 
-    /// What the backing says of any call, from the state before it to the one after.
+    /// What the backing specifies of any call, from the state before it to the one after.
     ghost follows: { Self → Self → Type 0 };
 
-    /// What it says beside that of a call of `get`, by the key, whatever the answer.
+    /// What it specifies in addition of a `get` of a key, whatever the result.
     ghost gets: { Self → Key → Self → Type 0 };
 
-    /// What it says beside that of a call of `put` that is done, by the key.
+    /// What it specifies in addition of a `put` of a key that returns `Done`.
     ghost puts: { Self → Key → Self → Type 0 };
 
-    /// What it says beside that of a call of `put` that ends broken, by the key.
+    /// What it specifies in addition of a `put` of a key that returns `Broken`.
     ghost breaks: { Self → Key → Self → Type 0 };
 
-    /// Reads the block under a key that it knows. On Broken any bytes may have come.
+    /// Reads the block of a key that the backing knows. After `Broken` the contents of `into` are unspecified.
     fn get(&mut self, key: Key, into: &mut Block) -> Completion
         requires known { IsTrue (knows self.old key) }
         requires whole { length into.old ≡ block_len_of (geometry self.old) }
@@ -47,7 +47,7 @@ pub trait Backing {
         ensures keeps { Keeps geometry knows is_broken follows self.old self.new }
         ensures gets { gets self.old key self.new };
 
-    /// Writes a block under a key that it knows. On Broken any blocks may stand.
+    /// Writes the block of a key that the backing knows. After `Broken` its blocks are unspecified.
     fn put(&mut self, key: Key, from: &[u8]) -> Completion
         requires known { IsTrue (knows self.old key) }
         requires whole { length from.now ≡ block_len_of (geometry self.old) }
@@ -57,9 +57,9 @@ pub trait Backing {
         ensures breaks { result ≡ Completion.Broken → breaks self.old key self.new }
         ensures keeps { Keeps geometry knows is_broken follows self.old self.new };
 
-    /// A state follows itself.
+    /// `follows` is reflexive.
     ghost follows_refl: { (s : Self) → follows s s };
 
-    /// What follows a state that follows another follows that one too.
+    /// `follows` is transitive.
     ghost follows_trans: { (a b c : Self) → follows a b → follows b c → follows a c };
 }

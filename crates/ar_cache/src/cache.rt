@@ -1,4 +1,5 @@
-// A cache's calls, each of which changes entries, the backing, or both.
+// The invariant: at most `capacity` entries, with different keys, each one block long. If the backing fails in a call,
+// the entry that was being destaged is still there.
 ghost use Rattle.std.specs.Prelude.{◌≡◌, ◌≢◌, ◌≤◌, ◌<◌, ◌↔◌, ◌∷◌, ◌++◌, length, reverse, [], IfOk, IfSome, IsTrue, IsSome, false};
 ghost use Rattle.std.specs.Map.{keys_of};
 ghost use Rattle.std.specs.Bool.{OnTrue, OnFalse};
@@ -15,18 +16,18 @@ use std::alloc::{AllocError, Global};
 use std::marker::Model;
 use std::num::NonZeroUsize;
 
-/// The most entries that a cache may be made for.
+/// The greatest capacity of a cache, in blocks.
 pub const CAPACITY_LIMIT: u32 = 65_536;
 
-/// A write-back cache: blocks under keys, each of which the backing has not yet got. Contracts see it as its geometry,
-/// its capacity and its entries, the most recently used first.
+/// A write-back cache: the blocks of some keys, dirty until they are destaged. Contracts see its geometry, its capacity
+/// and its entries, the most recently used first.
 #[derive(Debug, Drop)]
 pub struct Cache {
     alloc: Global,
     geometry: Geometry,
     capacity: u32,
     entries: LruCache<Key, Block>,
-    // A block that no entry uses. The next new entry takes it, so a full cache asks for memory for one block at most.
+    // A block without an entry, kept for the next one: so a full cache allocates one block at most.
     spare: Option<Block>,
 }
 
@@ -49,7 +50,7 @@ impl Cache {
     ghost use Rattle.ar_disks.specs.Addresses.{same_addr};
     ghost use Rattle.ar_cache.specs.Cache.{answer_of, cached, giving_way, last_keys, pushed_out, put_through, seen, with_entries, with_room, without_addr, without_key, without_last, turned};
 
-    /// A cache without entries, for so many of them (at most 65,536; 0 writes through). It fails where memory is refused.
+    /// Creates an empty cache for `capacity` blocks (at most 65,536; 0 writes through). Fails if out of memory.
     pub fn new(alloc: Global, geometry: Geometry, capacity: u32) -> Result<Cache, AllocError>
         requires { capacity ≤ 65536 }
         ensures { IfOk result (λ cache.
@@ -65,7 +66,7 @@ impl Cache {
         })
     }
 
-    /// How many blocks are cached.
+    /// Returns the number of cached blocks.
     pub fn len(&self) -> usize
         ensures len { result ≡ length self.now.entries }
         ensures sound { IsSound self.now }
@@ -73,14 +74,15 @@ impl Cache {
         self.entries.len()
     }
 
-    /// Whether no block is cached.
+    /// Returns whether no block is cached.
     pub fn is_empty(&self) -> bool
         ensures { IsTrue result ↔ (self.now.entries ≡ []) }
     {
         self.len() == 0
     }
 
-    /// Reads the block that is seen under a key: the cached one, else the backing's. On Broken any bytes may have come.
+    /// Reads the block of `key`: the cached one, without access to the backing, else the backing's. After `Broken` the
+    /// contents of `into` are unspecified.
     pub fn get<B: Backing>(&self, key: Key, into: &mut Block, backing: &mut B) -> Completion
         requires geometry { B.geometry backing.old ≡ self.now.geometry }
         requires known { IsTrue (B.knows backing.old key) }
@@ -108,11 +110,11 @@ impl Cache {
         }
     }
 
-    /// Puts a block under a key, as the most recently used.
+    /// Writes the block of `key` to the cache, as the most recently used.
     ///
-    /// A present entry takes the block over. For a new key a full cache first destages its least recently used entry.
-    /// Where memory for the new entry is refused, or where the capacity is 0, the block goes straight to the backing.
-    /// On Broken the cache stays as it was.
+    /// A cached key's block is overwritten. For a new key a full cache first destages its least recently used entry. If
+    /// the allocation of the new entry fails, or the capacity is 0, the block is written through to the backing. At
+    /// `Broken` the cache is unchanged.
     pub fn put<B: Backing>(&mut self, key: Key, block: &[u8], backing: &mut B) -> Completion
         requires geometry { B.geometry backing.old ≡ self.old.geometry }
         requires known { IsTrue (B.knows backing.old key) }
@@ -150,8 +152,8 @@ impl Cache {
         self.put_new(key, block, backing)
     }
 
-    /// Destages the least recently used entry: gives its block to the backing, and then lets it go. Idle says that there
-    /// was none. On Broken it stays.
+    /// Destages the least recently used entry: writes its block to the backing, then drops it. `Idle` if there is none.
+    /// At `Broken` the entry stays.
     pub fn flush_one<B: Backing>(&mut self, backing: &mut B) -> Flush
         requires geometry { B.geometry backing.old ≡ self.old.geometry }
         requires all_known { KnowsAll (B.knows backing.old) self.old }
@@ -179,7 +181,7 @@ impl Cache {
         answer
     }
 
-    /// Destages the entry of a key, where there is one. On Broken it stays.
+    /// Destages the entry of `key`, if there is one. At `Broken` the entry stays.
     pub fn flush_key<B: Backing>(&mut self, key: Key, backing: &mut B) -> Completion
         requires geometry { B.geometry backing.old ≡ self.old.geometry }
         requires all_known { KnowsAll (B.knows backing.old) self.old }
@@ -218,7 +220,8 @@ impl Cache {
         }
     }
 
-    /// Destages every entry, the least recently used first. On Broken the one that broke it stays, and those after it.
+    /// Destages every entry, the least recently used first. At `Broken` the entry whose destaging failed stays, and so
+    /// do those after it.
     pub fn flush_all<B: Backing>(&mut self, backing: &mut B) -> Completion
         requires geometry { B.geometry backing.old ≡ self.old.geometry }
         requires all_known { KnowsAll (B.knows backing.old) self.old }
@@ -246,7 +249,7 @@ impl Cache {
         Completion::Done
     }
 
-    /// Lets the entries of an address go, without destaging them. The others stay, in their order.
+    /// Discards the entries of `addr` without destaging them. The other entries keep their order.
     pub fn forget(&mut self, addr: Addr)
         ensures entries { self.new ≡ with_entries self.old (without_addr self.old.entries addr) }
         ensures gone { (key : Key) → IsTrue (same_addr addr key.addr) → cached self.new key ≡ None }
@@ -258,7 +261,7 @@ impl Cache {
         }
     }
 
-    // Takes the least recently used entry out where it is of an address, and else makes it the most recently used.
+    // Discards the least recently used entry if it belongs to `addr`, and else makes it the most recently used.
     fn turn(&mut self, addr: Addr)
         requires { 0 < length self.old.entries }
         ensures { self.new ≡ with_entries self.old (turned self.old.entries addr) }
@@ -273,7 +276,7 @@ impl Cache {
         }
     }
 
-    // Puts a block under a key that isn't cached.
+    // Writes the block of a key that isn't cached.
     fn put_new<B: Backing>(&mut self, key: Key, block: &[u8], backing: &mut B) -> Completion
         requires geometry { B.geometry backing.old ≡ self.old.geometry }
         requires known { IsTrue (B.knows backing.old key) }
@@ -311,7 +314,7 @@ impl Cache {
         }
     }
 
-    // The same where the cache isn't full.
+    // The same if the cache isn't full.
     fn put_beside<B: Backing>(&mut self, key: Key, block: &[u8], backing: &mut B) -> Completion
         requires geometry { B.geometry backing.old ≡ self.old.geometry }
         requires known { IsTrue (B.knows backing.old key) }
@@ -343,7 +346,7 @@ impl Cache {
         backing.put(key, block)
     }
 
-    // The same where the cache is full.
+    // The same if the cache is full. The old entry is dropped last, so that at `Broken` the cache is unchanged.
     fn put_over<B: Backing>(&mut self, key: Key, block: &[u8], backing: &mut B) -> Completion
         requires geometry { B.geometry backing.old ≡ self.old.geometry }
         requires known { IsTrue (B.knows backing.old key) }
@@ -412,7 +415,7 @@ impl Cache {
         }
     }
 
-    // Puts an entry in front, in the place of the last where the cache is full, and says whether there was memory for it.
+    // Adds an entry as the most recently used, in a full cache in place of the last. Returns false if out of memory.
     fn insert(&mut self, key: Key, block: &[u8]) -> bool
         requires absent { cached self.old key ≡ None }
         requires whole { length block.now ≡ block_len_of self.old.geometry }
@@ -438,7 +441,7 @@ impl Cache {
         }
     }
 
-    // A block for a new entry: the spare one, else a new one where there is memory.
+    // A block for a new entry: the spare one, else a new allocation.
     fn blank(&mut self) -> Option<Block>
         ensures same { self.new ≡ self.old }
         ensures whole { IfSome result (λ block. length block ≡ block_len_of self.old.geometry) }
@@ -449,7 +452,7 @@ impl Cache {
         }
     }
 
-    // Takes the entry of a key out.
+    // Removes the entry of a key.
     fn take_out(&mut self, key: Key)
         ensures { self.new ≡ with_entries self.old (without_key self.old.entries key) }
     {
@@ -458,7 +461,7 @@ impl Cache {
         }
     }
 
-    // Takes the least recently used entry out.
+    // Removes the least recently used entry.
     fn drop_last(&mut self)
         ensures { self.new ≡ with_entries self.old (without_last self.old.entries) }
     {

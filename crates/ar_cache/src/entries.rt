@@ -1,4 +1,4 @@
-// Changes of a cache's entries that touch no backing.
+// Operations on the entries of a cache that need no backing.
 ghost use Rattle.std.specs.Prelude.{◌≡◌, ◌↔◌, ◌∷◌, All, IsTrue, IsSome, length};
 ghost use Rattle.std.specs.Bool.{OnTrue, OnFalse};
 ghost use Rattle.std.specs.Map.{lookup};
@@ -9,7 +9,7 @@ ghost use Rattle.ar_cache.specs.Cache.{same_key, without_key, CacheState};
 use ar_disks::{Block, Key};
 use lru::LruCache;
 
-// Copies a block into the entry of a key, which becomes the most recently used, and says whether there was one.
+// Copies a block into the entry of a key, which becomes the most recently used. Returns whether there is one.
 pub(crate) fn replace(entries: &mut LruCache<Key, Block>, key: Key, block: &[u8]) -> bool
     requires { All (λ e. length e.1 ≡ length block.now) entries.old.entries }
     ensures found { IsTrue result ↔ IsSome (lookup (same_key key) entries.old.entries) }

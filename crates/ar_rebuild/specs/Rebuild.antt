@@ -1,4 +1,4 @@
--- What a step of a rebuild answers, and what it makes of the disks.
+-- What a step of a rebuild returns, and how it changes the disks.
 use Rattle.std.specs.Prelude.{◌≡◌, ◌⊎◌, ℕ, ◌+◌, ◌-◌, ◌<◌, ◌≤◌, true, length}
 use Rattle.ar_disks.specs.declared.address.Place.{Place}
 use Rattle.ar_extents.specs.declared.health.Health.{Health}
@@ -10,7 +10,7 @@ use Rattle.ar_extents.specs.Access.{next_place, IsGivenUp}
 use Rattle.ar_rebuild.specs.declared.step.Rebuild.{Rebuild}
 use Rattle.ar_rebuild.specs.declared.step.Rebuild.TheVariants.{Rebuilt, Finished, Idle, GivenUp, Broken}
 
--- nothing is being rebuilt: the disks are whole, or one is out
+-- nothing is being rebuilt: the array is healthy, or one disk has failed
 abbrev pub IsQuiet : Health → Type 0
 IsQuiet Whole = Unit {0}
 IsQuiet (Out x) = Unit {0}
@@ -27,7 +27,7 @@ left_on AllBroken extents = 0
 abbrev pub rebuild_left : SetState → ℕ
 rebuild_left s = left_on s.health s.extents
 
--- This extent, the lowest that wasn't, is done, and so many aren't; no disk has faulted.
+-- This extent, the lowest that wasn't done, is done, and `left` aren't; no disk has faulted.
 pub record IsRebuilt (old new : SetState) (extent left : ℕ) : Type 0 where
   pub was : old.health ≡ Rebuilding (rebuilt_disk old.health) extent
   pub rest : extent + 1 + left ≡ old.extents
@@ -35,24 +35,24 @@ pub record IsRebuilt (old new : SetState) (extent left : ℕ) : Type 0 where
   pub health : new.health ≡ Rebuilding (rebuilt_disk old.health) (extent + 1)
   pub calm : (d : ℕ) → faults_of new d ≡ faults_of old d
 
--- The last extent is done, all disks are sound, and none has faulted.
+-- The last extent is done, the array is healthy, and no disk has faulted.
 pub record IsFinished (old new : SetState) : Type 0 where
   pub was : IsRebuilding old.health
   pub last : next_extent old.health + 1 ≡ old.extents
   pub health : new.health ≡ Whole
   pub calm : (d : ℕ) → faults_of new d ≡ faults_of old d
 
--- There was nothing to rebuild, and nothing has changed.
+-- There was nothing to rebuild, and nothing changed.
 pub record IsLeft (old new : SetState) : Type 0 where
   pub quiet : IsQuiet old.health
   pub same : new ≡ old
 
--- The replaced disk has faulted in this step, and is out.
+-- The replaced disk has faulted in this step, and counts as failed.
 pub record IsStopped (old new : SetState) : Type 0 where
   pub was : IsRebuilding old.health
   pub given_up : IsGivenUp old new
 
--- what a step answers
+-- what a step returns
 abbrev pub Answers : SetState → SetState → Rebuild → Type 0
 Answers old new (Rebuilt extent left) = IsRebuilt old new extent left
 Answers old new Finished = IsFinished old new
@@ -60,7 +60,7 @@ Answers old new Idle = IsLeft old new
 Answers old new GivenUp = IsStopped old new
 Answers old new Broken = new.health ≡ AllBroken
 
--- what is answered once an extent counts as done
+-- what is returned once an extent counts as done
 abbrev pub Counts : SetState → SetState → Rebuild → Type 0
 Counts old new (Rebuilt extent left) = IsRebuilt old new extent left
 Counts old new Finished = IsFinished old new
@@ -84,12 +84,11 @@ pub record IsLostAgain (old new : SetState) (d : ℕ) : Type 0 where
   pub down : IsDown old.health d
   pub faulted : Faulted old new d
 
--- How a step of a rebuild leaves the disks: as reads and writes do, but that the mark may have moved on by one extent. Their
--- shape and the loose extents stay; fault counts only grow, and a disk whose count has grown is out, or the set is broken. No
--- extent can be used that couldn't, but the one that was rebuilt. The disks are whole only where they were, or the last extent
--- was rebuilt; a disk is out only where it was, or where it is the replaced one and has faulted, and is being rebuilt only where
--- it was, with one extent fewer done; the set is broken only where it was, or where two disks are hit; and nothing changes once
--- it is broken.
+-- How a rebuild step changes the disks: as reads and writes do, but one more extent may be done. Shape and unassigned
+-- extents stay; fault counts only grow, and a disk whose count has grown has failed, or the array has. Only the rebuilt
+-- extent becomes usable. The array becomes healthy only with the last extent; a disk fails only if it is the replaced
+-- one and has faulted; a rebuild that goes on has advanced by one extent; the array fails only if two disks are hit,
+-- and a failed array is unchanged.
 pub record Advances (old new : SetState) : Type 0 where
   pub geometry : new.geometry ≡ old.geometry
   pub extents : new.extents ≡ old.extents

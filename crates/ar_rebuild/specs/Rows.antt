@@ -1,4 +1,4 @@
--- What the writing of an extent's rows makes of a set.
+-- How the writing of an extent's rows changes the disks.
 use Rattle.std.specs.Prelude.{◌≡◌, ◌≢◌, ℕ, ◌<◌, List, length}
 use Rattle.ar_disks.specs.declared.address.Place.{Place}
 use Rattle.ar_disks.specs.declared.address.Members.{Members}
@@ -26,7 +26,7 @@ use Rattle.ar_store.specs.Slots.{ClassHolds, SlotsHold}
 abbrev pub IsBesideNext : SetState → Place → Type 0
 IsBesideNext s place = place ≢ next_place s
 
--- Rows were read, and none was written but those of the extent that is rebuilt next. No disk was lost without a cause.
+-- Rows were read, and only those of the extent that is rebuilt next written. Disks failed only by faults.
 pub record WritesNext (old new : SetState) : Type 0 where
   pub follows : Follows old new
   pub keeps : Keeps (IsBesideNext old) old new
@@ -43,7 +43,7 @@ pub record GroupIsWhole (class : Class) (old new : SetState) (m : Members) : Typ
       → ClassHolds class (with_done new) m i block
   pub health : new.health ≡ old.health
 
--- what the writing of all rows of a group's member answers
+-- what the writing of all rows of a group's member returns
 abbrev pub WritesRows : Class → SetState → SetState → Members → RowOutcome → Type 0
 WritesRows class old new m Done = GroupIsWhole class old new m
 WritesRows class old new m GivenUp = IsGivenUp old new
@@ -54,37 +54,39 @@ pub record CanBeDone (old new : StoreState) : Type 0 where
   pub slots : SlotsHold old (store_of (with_done new.disks) new.book)
   pub health : new.disks.health ≡ old.disks.health
 
--- There is nothing to write of the extent that is rebuilt next: no group that is used has it.
+-- The extent that is rebuilt next needs no write: no used group has it.
 pub record HasNothingNext (s : StoreState) : Type 0 where
   pub rebuilding : IsRebuilding s.disks.health
   pub unused : (g : ℕ) → g < length s.book.groups → class_in s g ≢ Free → IsOutside (members_of s g) (next_place s.disks)
 
--- the extents that the writing of a group's member needs: with a mirror its pair, with parity the whole group
+-- the extents that the rebuild of a group's member accesses: its mirrored pair, or with parity the whole group
 abbrev pub NeedsNext : Class → Members → ℕ → Place → Type 0
 NeedsNext Free m i place = ⊥
 NeedsNext Mirrored m i place = IsEither (member m (partner_of i)) (member m i) place
 NeedsNext Parity m i place = IsMember m place
 
--- Of the extent that is rebuilt next, if a group has it: no disk was accessed that the writing of this member doesn't need.
+-- If a group has the extent that is rebuilt next, only disks that this member's rebuild needs were accessed.
 pub record AsksNext (old : StoreState) (new : SetState) : Type 0 where
   pub spares :
       (g i : ℕ) → g < length old.book.groups → i < 4 → member (members_of old g) i ≡ next_place old.disks
       → Spares (HasNoneOf (NeedsNext (class_in old g) (members_of old g) i)) old.disks new
 
--- what the writing of an extent answers, whatever it is used for
+-- what the writing of an extent returns, in whatever class of group it is
 abbrev pub WritesExtent : StoreState → StoreState → RowOutcome → Type 0
 WritesExtent old new Done = CanBeDone old new
 WritesExtent old new GivenUp = IsGivenUp old.disks new.disks
 WritesExtent old new Broken = new.disks.health ≡ AllBroken
 
--- a row of the extent that is rebuilt next, a group's member, is what the group's others say
+-- a row of the extent that is rebuilt next has its contents: the partner's row, or with parity the one that agrees with
+-- the stripe's others
 abbrev pub IsRowWritten : Class → SetState → SetState → Members → ℕ → ℕ → Type 0
 IsRowWritten Free old new m i row = Unit {0}
 IsRowWritten Mirrored old new m i row = content new (next_place old) row ≡ content old (member m (partner_of i)) row
 IsRowWritten Parity old new m i row = (blocks : Blocks) → RowAgrees old m row blocks → content new (next_place old) row ≡ block blocks i
 
--- The writing stopped at a row: those below it are written, those past it are as they were, and so is the row itself where another
--- disk broke the set, since nothing is written but what was read. Where that is the first row the new disk wasn't asked then.
+-- The writing stopped at `row`: the rows below are written, those past it unchanged, and so is the row itself if
+-- another disk failed the array, since only data that were read are written. If that is the first row, the new disk
+-- wasn't accessed then.
 pub record StopsAt (class : Class) (old new : SetState) (m : Members) (i : ℕ) : Type 0 where
   pub row : ℕ
   pub there : row < rows_of old.geometry
@@ -93,7 +95,7 @@ pub record StopsAt (class : Class) (old new : SetState) (m : Members) (i : ℕ) 
   pub unread : new.health ≡ AllBroken → content new (next_place old) row ≡ content old (next_place old) row
   pub unasked : row ≡ 0 → new.health ≡ AllBroken → Spares (λ d. d ≡ rebuilt_disk old.health) old new
 
--- Of the extent that is rebuilt next, if a group has it: the writing of this member stopped at a row.
+-- If a group has the extent that is rebuilt next, the writing of this member stopped at a row.
 pub record StopsWriting (old : StoreState) (new : SetState) : Type 0 where
   pub stops :
       (g i : ℕ) → g < length old.book.groups → i < 4 → member (members_of old g) i ≡ next_place old.disks

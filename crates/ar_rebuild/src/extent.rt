@@ -1,4 +1,4 @@
-// One extent is rebuilt, and counts as done.
+// The rebuild of one extent: all its rows are written, and only then is it counted as done.
 ghost use Rattle.std.specs.Prelude.{◌≡◌, ◌≢◌, ◌↔◌, ◌<◌};
 ghost use Rattle.ar_extents.specs.Follows.{Keeps};
 ghost use Rattle.ar_extents.specs.Changes.{with_done};
@@ -44,7 +44,7 @@ pub(crate) fn rebuild_extent<D: Disk>(space: &mut Space<D>, place: Place) -> Reb
     }
 }
 
-// Writes every row of the lowest extent that isn't done; none of one that is loose, or whose group is free.
+// Writes every row of the lowest extent that isn't done; none if it is unassigned or its group is free.
 fn write_extent<D: Disk>(space: &mut Space<D>, place: Place) -> RowOutcome
     requires ready { IsReady space.old }
     requires rebuilding { space.old.disks.health ≡ Health.Rebuilding place.disk place.extent }
@@ -69,7 +69,7 @@ fn write_extent<D: Disk>(space: &mut Space<D>, place: Place) -> RowOutcome
     }
 }
 
-// Counts the lowest extent that isn't done as done, and tells how many aren't.
+// Counts the lowest extent that isn't done as done, and returns how many aren't.
 fn count_done<D: Disk>(set: &mut DiskSet<D>, place: Place) -> Rebuild
     requires rebuilding { set.old.health ≡ Health.Rebuilding place.disk place.extent }
     requires exists { place.extent < set.old.extents }

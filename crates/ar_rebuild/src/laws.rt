@@ -1,10 +1,10 @@
-// What crates above cite of rebuilds.
+// Laws on rebuilds for higher crates.
 ghost use Rattle.std.specs.Prelude.{◌≡◌, ℕ, ◌+◌};
 ghost use Rattle.ar_extents.specs.Set.{SetState};
 ghost use Rattle.ar_rebuild.specs.Rebuild.{IsRebuilt, IsFinished, rebuild_left};
 
-/// A rebuild ends: each extent that is rebuilt leaves one fewer, and the last of them finishes it. So it takes as many steps as
-/// extents weren't done, unless a disk is lost on the way. It does nothing when it is called.
+/// A law: a rebuild ends. Each rebuilt extent leaves one fewer, and the last finishes the rebuild; so it takes as many
+/// steps as extents weren't done, unless a disk fails on the way.
 pub fn rebuild_ends()
     ensures rebuilt { (old new : SetState) (extent left : ℕ) → new.extents ≡ old.extents → IsRebuilt old new extent left
         → (rebuild_left new ≡ left) × (rebuild_left old ≡ left + 1) }

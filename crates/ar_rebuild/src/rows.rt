@@ -1,4 +1,5 @@
-// Every row of one member of a group is written, from the group's other members.
+// Writes every row of one member of a group from the group's other members, in ascending order. Only the rows of that
+// member change.
 ghost use Rattle.std.specs.Prelude.{◌≡◌, ◌≢◌, ◌<◌, IsTrue};
 ghost use Rattle.ar_disks.specs.Members.{member};
 ghost use Rattle.ar_extents.specs.Health.{IsRebuilding};
@@ -13,7 +14,7 @@ ghost use Rattle.ar_rebuild.specs.Rows.{IsSpared, WritesNext, WritesRows, StopsA
 use ar_disks::{Disk, Members, Place, Scratch};
 use ar_extents::{DiskSet, RowOutcome};
 
-// The member position of an extent that is a member.
+// The position in the group, 0 to 3, of a member.
 pub(crate) fn position_of(members: &Members, place: Place) -> u8
     requires { IsTrue (stands_on members.now place) }
     ensures below { result < 4 }

@@ -1,4 +1,4 @@
-// A step of a rebuild, and what it answers.
+// One step of a rebuild, and its result.
 ghost use Rattle.std.specs.Prelude.{◌≡◌, ◌↔◌};
 ghost use Rattle.ar_extents.specs.Follows.{Keeps};
 ghost use Rattle.ar_extents.specs.Changes.{with_done};
@@ -15,35 +15,33 @@ use ar_store::Store;
 /// What a step of a rebuild did.
 #[derive(Clone, Copy, Debug, PartialEq, Eq)]
 pub enum Rebuild {
-    /// This extent of the replaced disk is done, and so many aren't: at least one.
+    /// This extent (first number) of the replaced disk is done; the second is how many aren't, at least one.
     Rebuilt(u16, u16),
-    /// The last extent is done: all disks are sound.
+    /// The last extent is done, and the array is healthy.
     Finished,
     /// Nothing: no disk is being rebuilt.
     Idle,
-    /// The replaced disk faulted, and is out.
+    /// The replaced disk faulted, and counts as failed again.
     GivenUp,
-    /// The disks are broken.
+    /// The array has failed.
     Broken,
 }
 
-/// Rebuilds one extent of the disk that was replaced: the lowest that isn't done. Every row of it is written from the other
-/// members of its group, those of empty slots too, and none where it is loose or its group is free; then it counts as done, and
-/// is used from then on. No disk is accessed but its own and those of the members that its rows are read from: the other one of
-/// its pair in a mirrored group, the three others in one with parity. No memory is taken.
+/// Rebuilds the lowest extent of the replaced disk that isn't done. Each of its rows is written from the other members
+/// of its group (the partner of a mirrored pair, the three others of a stripe), also for empty slots; an extent that is
+/// unassigned or in a free group needs no write. Then it counts as done and is used again; until then no other call
+/// accesses it. Only its own disk and the disks of these sources are accessed. No memory is allocated.
 ///
-/// Every slot holds what it held, on the rebuilt extent too, and every block stands as it did. Until it is done an extent is
-/// neither read nor written by any other call. After `Finished` the disks are whole, so any one of them may go, as the contract
-/// of `Store::health` says. `GivenUp` and `Broken` count no extent as done; of a store that was broken before nothing has
-/// changed.
+/// Every slot and every block keeps its contents. After `Finished` the array survives the loss of any one disk again
+/// (`Store::health`). `GivenUp` and `Broken` count no extent as done; an array that had failed before is unchanged.
 pub fn rebuild_one<D: Disk>(store: &mut Store<D>) -> Rebuild
     ensures answer { Answers store.old.disks store.new.disks result }
     ensures idle { (result ≡ Rebuild.Idle) ↔ IsQuiet store.old.disks.health }
     ensures broken { (result ≡ Rebuild.Broken) ↔ (store.new.disks.health ≡ Health.Broken) }
-    // It is broken by another disk than the replaced one, once that has faulted nothing more is asked.
+    // Another disk than the replaced one fails the array: once that has faulted, nothing more is accessed.
     ensures spared { result ≡ Rebuild.Broken → IsSpared store.old.disks store.new.disks }
-    // Of the extent at which it ends so, rows are written in their order, and none past the one that couldn't be. For one whose sources
-    // couldn't be read the new disk isn't asked.
+    // If the step ends so, the extent's rows are written in order, and none past the one that failed. If that is the
+    // first row and its sources can't be read, the new disk isn't accessed.
     ensures given_up { result ≡ Rebuild.GivenUp → StopsWriting store.old store.new.disks }
     ensures lost { result ≡ Rebuild.Broken → IsRebuilding store.old.disks.health → StopsWriting store.old store.new.disks }
 
@@ -51,8 +49,8 @@ pub fn rebuild_one<D: Disk>(store: &mut Store<D>) -> Rebuild
     ensures stands { AllStand store.old store.new }
     ensures slots { SlotsHold store.old store.new }
 
-    // No row is written but those of the extent that is rebuilt, none at all where no used group has it. No disk is accessed but
-    // those of that extent and of the members from which it is written, and none is lost without a cause.
+    // Only the rows of the rebuilt extent are written, and none if no used group has it. Only the disks of that extent
+    // and of its sources are accessed, and disks fail only by faults.
     ensures keeps { Keeps (IsBesideNext store.old.disks) store.old.disks store.new.disks }
     ensures asks { AsksNext store.old store.new.disks }
     ensures nothing { HasNothingNext store.old → store.new.disks ≡ with_done store.old.disks }

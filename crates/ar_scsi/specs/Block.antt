@@ -1,5 +1,5 @@
--- What a command descriptor block says, or what is wrong with it. A block is carried in 16 bytes. Bytes past the command's own
--- length, and each bit that no line here names, may be anything and mean nothing.
+-- What a command descriptor block (CDB) requests, or what is wrong with it. A CDB is padded to 16 bytes. Bytes past the
+-- command's own length, and each bit that no line here names, are ignored.
 use Rattle.std.specs.Prelude.{◌≡◌, ◌≢◌, ◌<◌, ◌≤◌, ◌⊎◌, ℕ, ◌==◌, List}
 use Rattle.ar_scsi.specs.declared.command.Command.{Command}
 use Rattle.ar_scsi.specs.declared.command.Command.TheVariants.{TestReady, Inquiry, Capacity, Read, Write}
@@ -7,7 +7,7 @@ use Rattle.ar_scsi.specs.declared.sense.Sense.{Sense}
 use Rattle.ar_scsi.specs.Field.{operation_code, naca, evpd, page_code, allocation_length, pmi, protect, fua, logical_block_address_10, transfer_length_10, logical_block_address_16, transfer_length_16}
 use Rattle.ar_scsi.specs.Sense.{invalid_command_operation_code, invalid_field_in_cdb}
 
--- the block asks for this command
+-- the CDB requests this command
 pub data Says (cdb : List ℕ) : Command → Type 0 where
   -- TEST UNIT READY, 6 bytes (SPC-3, TEST UNIT READY command)
   test_unit_ready : operation_code cdb ≡ 0x00 → naca 5 cdb ≡ 0 → Says cdb TestReady
@@ -15,7 +15,7 @@ pub data Says (cdb : List ℕ) : Command → Type 0 where
   inquiry :
       operation_code cdb ≡ 0x12 → naca 5 cdb ≡ 0 → evpd cdb ≡ 0 → page_code cdb ≡ 0
       → Says cdb (Inquiry (allocation_length cdb))
-  -- READ CAPACITY (10), 10 bytes (SBC-2, READ CAPACITY (10) command): of the medium, or with PMI whatever the address
+  -- READ CAPACITY (10), 10 bytes (SBC-2, READ CAPACITY (10) command): of the medium, or with PMI for any address
   read_capacity_10 :
       operation_code cdb ≡ 0x25 → naca 9 cdb ≡ 0 → pmi cdb ≡ 0 → logical_block_address_10 cdb ≡ 0
       → Says cdb Capacity
@@ -47,11 +47,11 @@ pub record IsUnknown (code : ℕ) : Type 0 where
   pub not_read_16 : code ≢ 0x88
   pub not_write_16 : code ≢ 0x8A
 
--- the block is refused with this sense
+-- the CDB is refused with this sense
 pub data Faults (cdb : List ℕ) : Sense → Type 0 where
   -- INVALID COMMAND OPERATION CODE
   unknown_code : IsUnknown (operation_code cdb) → Faults cdb invalid_command_operation_code
-  -- INVALID FIELD IN CDB: NACA and EVPD, a protect field and a longer transfer are not supported (our profile)
+  -- INVALID FIELD IN CDB: NACA, EVPD, a protect field and a longer transfer are not supported (our profile)
   test_unit_ready_naca : operation_code cdb ≡ 0x00 → naca 5 cdb ≢ 0 → Faults cdb invalid_field_in_cdb
   inquiry_naca : operation_code cdb ≡ 0x12 → naca 5 cdb ≢ 0 → Faults cdb invalid_field_in_cdb
   inquiry_evpd : operation_code cdb ≡ 0x12 → evpd cdb ≢ 0 → Faults cdb invalid_field_in_cdb
@@ -70,7 +70,7 @@ pub data Faults (cdb : List ℕ) : Sense → Type 0 where
   write_16_protect : operation_code cdb ≡ 0x8A → protect cdb ≢ 0 → Faults cdb invalid_field_in_cdb
   write_16_length : operation_code cdb ≡ 0x8A → 65535 < transfer_length_16 cdb → Faults cdb invalid_field_in_cdb
 
--- the block says a command or is refused: not both, and with one command or one sense
+-- the CDB is a command or is refused: not both, and with one command or one sense
 pub record MeansOneThing (cdb : List ℕ) : Type 0 where
   pub something : ((c : Command) × Says cdb c) ⊎ ((s : Sense) × Faults cdb s)
   pub not_both : (c : Command) (s : Sense) → Says cdb c → Faults cdb s → ⊥

@@ -1,4 +1,4 @@
--- The fields of a command descriptor block. Bytes count from 0, a byte's bits from 0, the lowest.
+-- The fields of a command descriptor block (CDB). Bytes are numbered from 0; bit 0 of a byte is the lowest.
 use Rattle.std.specs.Prelude.{ℕ, ◌/◌, ◌^◌, List, drop, slice_index}
 use Rattle.std.specs.Int.{bit_at}
 use Rattle.byteorder.specs.Endian.{big_number}
@@ -11,7 +11,7 @@ byte i cdb = slice_index cdb i
 abbrev pub bit : ℕ → ℕ → List ℕ → ℕ
 bit i k cdb = bit_at (byte i cdb) k
 
--- the number in the n bytes from byte i on, the highest first
+-- the big-endian number in the n bytes from byte i on
 unfoldable pub number : ℕ → ℕ → List ℕ → ℕ
 number i n cdb = big_number n (drop i cdb)
 
@@ -19,7 +19,7 @@ number i n cdb = big_number n (drop i cdb)
 abbrev pub operation_code : List ℕ → ℕ
 operation_code cdb = byte 0 cdb
 
--- NACA, bit 2 of CONTROL, which is byte i (SAM-3, CONTROL byte)
+-- NACA, bit 2 of the CONTROL byte, which is byte i (SAM-3, CONTROL byte)
 abbrev pub naca : ℕ → List ℕ → ℕ
 naca i cdb = bit i 2 cdb
 
@@ -47,18 +47,18 @@ protect cdb = byte 1 cdb / 2 ^ 5
 abbrev pub fua : List ℕ → ℕ
 fua cdb = bit 1 3 cdb
 
--- LOGICAL BLOCK ADDRESS of a block of ten bytes (SBC-2, READ (10) command)
+-- LOGICAL BLOCK ADDRESS of a 10-byte CDB (SBC-2, READ (10) command)
 abbrev pub logical_block_address_10 : List ℕ → ℕ
 logical_block_address_10 cdb = number 2 4 cdb
 
--- TRANSFER LENGTH of a block of ten bytes, in logical blocks (SBC-2, READ (10) command)
+-- TRANSFER LENGTH of a 10-byte CDB, in logical blocks (SBC-2, READ (10) command)
 abbrev pub transfer_length_10 : List ℕ → ℕ
 transfer_length_10 cdb = number 7 2 cdb
 
--- LOGICAL BLOCK ADDRESS of a block of sixteen bytes (SBC-2, READ (16) command)
+-- LOGICAL BLOCK ADDRESS of a 16-byte CDB (SBC-2, READ (16) command)
 abbrev pub logical_block_address_16 : List ℕ → ℕ
 logical_block_address_16 cdb = number 2 8 cdb
 
--- TRANSFER LENGTH of a block of sixteen bytes, in logical blocks (SBC-2, READ (16) command)
+-- TRANSFER LENGTH of a 16-byte CDB, in logical blocks (SBC-2, READ (16) command)
 abbrev pub transfer_length_16 : List ℕ → ℕ
 transfer_length_16 cdb = number 10 4 cdb

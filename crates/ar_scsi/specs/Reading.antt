@@ -1,4 +1,4 @@
--- The same as a function, for definitions that go on from what a block says.
+-- The decoding as a function, for definitions that build on a CDB's command.
 use Rattle.std.specs.Prelude.{◌≡◌, ◌↔◌, ℕ, Bool, ◌==◌, ◌&&◌, true, nat_le, if◌then◌else◌, List, Option, Some, None, Result, Ok, Err}
 use Rattle.ar_scsi.specs.declared.command.Command.{Command}
 use Rattle.ar_scsi.specs.declared.command.Command.TheVariants.{TestReady, Inquiry, Capacity, Read, Write}
@@ -7,7 +7,7 @@ use Rattle.ar_scsi.specs.Block.{Says, Faults}
 use Rattle.ar_scsi.specs.Field.{operation_code, naca, evpd, page_code, allocation_length, pmi, protect, fua, logical_block_address_10, transfer_length_10, logical_block_address_16, transfer_length_16}
 use Rattle.ar_scsi.specs.Sense.{invalid_command_operation_code, invalid_field_in_cdb}
 
--- the command where the fields are valid
+-- the command if the fields are valid
 abbrev pub where_valid : Bool → Command → Result Command Sense
 where_valid valid command = if valid then Ok command else Err invalid_field_in_cdb
 
@@ -31,11 +31,11 @@ transfer_10_valid cdb = (naca 9 cdb == 0) && (protect cdb == 0)
 abbrev pub transfer_16_valid : List ℕ → Bool
 transfer_16_valid cdb = (naca 15 cdb == 0) && ((protect cdb == 0) && nat_le (transfer_length_16 cdb) 65535)
 
--- the TRANSFER LENGTH of a valid block of sixteen bytes
+-- the TRANSFER LENGTH of a valid 16-byte CDB
 abbrev pub valid_count_16 : List ℕ → Option ℕ
 valid_count_16 cdb = if transfer_16_valid cdb then Some (transfer_length_16 cdb) else None
 
--- what the block says, or the sense with which it is refused
+-- the command of a CDB, or the sense with which it is refused
 unfoldable pub reading : List ℕ → Result Command Sense
 reading cdb =
     if operation_code cdb == 0x00 then where_valid (test_unit_ready_valid cdb) TestReady

@@ -5,14 +5,14 @@ use Rattle.ar_scsi.specs.declared.reply.Status.TheVariants.{Good, CheckCondition
 use Rattle.ar_scsi.specs.declared.sense.Sense.{Sense}
 use Rattle.ar_scsi.specs.Sense.{fixed_sense}
 
--- GOOD, with these bytes
+-- GOOD, with this payload
 abbrev pub good : List ℕ → Reply
 good payload = record { status = Good; sense = None; payload = payload }
 
--- CHECK CONDITION, with this sense and no bytes
+-- CHECK CONDITION, with this sense and no payload
 abbrev pub check : Sense → Reply
 check sense = record { status = CheckCondition; sense = Some (fixed_sense sense); payload = [] }
 
--- BUSY, with neither
+-- BUSY, without sense data or payload
 abbrev pub busy : Reply
 busy = record { status = Busy; sense = None; payload = [] }

@@ -1,4 +1,4 @@
--- Sense data: a sense key with an additional sense code and its qualifier (SPC-3, Sense data).
+-- Sense data: sense key, additional sense code and its qualifier (SPC-3, Sense data).
 use Rattle.std.specs.Prelude.{ℕ, ◌%◌, List, [], ◌∷◌}
 use Rattle.ar_scsi.specs.declared.sense.Sense.{Sense}
 
@@ -30,7 +30,7 @@ capacity_data_has_changed = record { key = 0x06; asc = 0x2A; ascq = 0x09 }
 abbrev pub data_phase_error : Sense
 data_phase_error = record { key = 0x0B; asc = 0x4B; ascq = 0x00 }
 
--- The 18 bytes of sense data in the fixed format, for a current error (SPC-3, Fixed format sense data): RESPONSE CODE 70h, the
+-- The 18 bytes of fixed format sense data, for a current error (SPC-3, Fixed format sense data): RESPONSE CODE 70h, the
 -- SENSE KEY in the low four bits of byte 2, ADDITIONAL SENSE LENGTH 10, the code and its qualifier in bytes 12 and 13.
 -- All other bits are 0.
 abbrev pub fixed_sense : Sense → List ℕ

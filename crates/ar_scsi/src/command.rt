@@ -1,4 +1,5 @@
-// Command blocks.
+// Decodes command descriptor blocks (CDBs). Every CDB is decoded to a command or refused with a sense; reserved and
+// obsolete bits are ignored.
 ghost use Rattle.std.specs.Prelude.{◌≡◌, ◌==◌, ◌<◌, ◌↔◌};
 ghost use Rattle.std.specs.Int.{bit_at};
 ghost use Rattle.ar_scsi.specs.Block.{Says, Faults};
@@ -8,12 +9,12 @@ ghost use Rattle.ar_scsi.specs.Reading as meaning;
 use crate::Sense;
 use byteorder::{BigEndian, ByteOrder};
 
-/// What a command block asks for. Addresses and counts are in sectors, `allocation_length` in bytes.
+/// A decoded command. Addresses and counts are in sectors, `allocation_length` in bytes.
 #[derive(Clone, Copy, Debug, PartialEq, Eq)]
 pub enum Command {
     /// TEST UNIT READY.
     TestReady,
-    /// INQUIRY, whose data is cut to `allocation_length`.
+    /// INQUIRY; its data are truncated to `allocation_length`.
     Inquiry { allocation_length: u16 },
     /// READ CAPACITY (10).
     Capacity,
@@ -37,8 +38,8 @@ const READ_16: u8 = 0x88;
 
 const WRITE_16: u8 = 0x8A;
 
-/// Reads a command block, padded to 16 bytes. `Err` has the sense to answer: an operation code that
-/// isn't known, or a field that isn't valid.
+/// Decodes a CDB, padded to 16 bytes. `Err` has the sense to return: INVALID COMMAND OPERATION CODE, or INVALID FIELD
+/// IN CDB.
 pub fn decode(cdb: &[u8; 16]) -> Result<Command, Sense>
     ensures value { result ≡ meaning.reading cdb.now }
     ensures command { (c : Command) → (result ≡ Ok c) ↔ Says cdb.now c }
@@ -63,14 +64,14 @@ fn read_block(cdb: &[u8; 16]) -> Result<Command, Sense>
     }
 }
 
-/// The operation code is that of INQUIRY, whatever the other fields hold.
+/// Returns whether the operation code is that of INQUIRY, whatever the other fields hold.
 pub fn is_inquiry(cdb: &[u8; 16]) -> bool
     ensures { result ≡ (field.operation_code cdb.now == 0x12) }
 {
     cdb[0] == INQUIRY
 }
 
-// The command, where the block's fields are valid.
+// The command if the CDB's fields are valid.
 fn where_valid(valid: bool, command: Command) -> Result<Command, Sense>
     ensures { result ≡ meaning.where_valid valid command }
 {
@@ -89,14 +90,14 @@ fn bit(byte: u8, place: u32) -> u8
     byte >> place & 1
 }
 
-// NACA of a CONTROL byte.
+// NACA, bit 2 of the CONTROL byte.
 fn naca(control: u8) -> u8
     ensures { result ≡ bit_at control 2 }
 {
     bit(control, 2)
 }
 
-// RDPROTECT or WRPROTECT.
+// RDPROTECT or WRPROTECT, bits 7 to 5 of byte 1.
 fn protect(cdb: &[u8; 16]) -> u8
     ensures { result ≡ field.protect cdb.now }
 {
@@ -109,7 +110,7 @@ fn fua(cdb: &[u8; 16]) -> bool
     bit(cdb[1], 3) == 1
 }
 
-/// The number of bytes that an INQUIRY allows for its data, whatever its other fields hold.
+/// Returns the ALLOCATION LENGTH of an INQUIRY in bytes, whatever its other fields hold (SPC-3 6.4).
 #[tactic(auto, unfolding(crate::specs::Field::number))]
 pub fn allocation_length(cdb: &[u8; 16]) -> u16
     ensures { result ≡ field.allocation_length cdb.now }
@@ -199,7 +200,7 @@ fn write_10(cdb: &[u8; 16]) -> Result<Command, Sense>
     )
 }
 
-// The TRANSFER LENGTH of a block of sixteen bytes whose fields are valid.
+// The TRANSFER LENGTH of a 16-byte CDB with valid fields.
 fn valid_count_16(cdb: &[u8; 16]) -> Option<u16>
     ensures { result ≡ meaning.valid_count_16 cdb.now }
 {

@@ -4,7 +4,7 @@ ghost use Rattle.ar_scsi.specs.Data as table;
 
 use byteorder::{BigEndian, ByteOrder};
 
-/// Standard INQUIRY data: of a unit that is there, or of an address where none is.
+/// Returns the standard INQUIRY data (SPC-3 6.4) of a unit if `present`, and else of an address without a unit.
 pub fn inquiry_data(present: bool) -> [u8; 36]
     ensures { result ≡ table.inquiry_data present }
 {
@@ -15,8 +15,8 @@ pub fn inquiry_data(present: bool) -> [u8; 36]
     bytes
 }
 
-/// READ CAPACITY (10) data of a unit of `sectors` blocks of 512 bytes: the address of the last block,
-/// and the block length.
+/// Returns the READ CAPACITY (10) data (SBC-2 5.10) of a unit of `sectors` blocks of 512 bytes, at least one: the
+/// address of the last block, and the block length.
 pub fn capacity_data(sectors: u32) -> [u8; 8]
     requires { 1 ≤ sectors }
     ensures { result ≡ table.capacity_data sectors }

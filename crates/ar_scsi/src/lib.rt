@@ -1,5 +1,6 @@
-//! The SCSI commands of a small direct access block device, after SPC-3 and SBC-2: command blocks,
-//! status and sense, and the data that INQUIRY and READ CAPACITY return. Nothing here takes memory.
+//! The SCSI commands of a small direct access block device, after SPC-3 and SBC-2: command descriptor blocks (CDBs),
+//! status and sense, and the data that INQUIRY and READ CAPACITY return. Each CDB of 16 bytes is one command or is
+//! refused with one sense, never both. Nothing here allocates memory.
 #![tactic(auto)]
 
 ghost use Rattle.std.specs.Prelude.{◌≡◌, ℕ, List};
@@ -17,17 +18,17 @@ pub use data::{capacity_data, inquiry_data};
 pub use reply::{Reply, Status};
 pub use sense::{Sense, sense18};
 
-/// A law on the definitions: each block says one command or is refused with one sense, never both.
+/// A law on the definitions: each CDB is one command or is refused with one sense, never both.
 pub fn each_block_means_one_thing()
     ensures { (cdb : List ℕ) → MeansOneThing cdb }
 {}
 
-/// A law on the definitions: the function `reading` and the two relations say the same.
+/// A law on the definitions: the function `reading` and the two relations agree.
 pub fn reading_is_the_relations()
     ensures { (cdb : List ℕ) → ReadingAgrees cdb }
 {}
 
-/// A law on the constants: each is the sense that the definitions mean by its name.
+/// A law on the constants: each is the sense that the definitions give its name.
 pub fn sense_constants_are_the_table()
     ensures failure { Sense.INTERNAL_TARGET_FAILURE ≡ table.internal_target_failure }
     ensures code { Sense.INVALID_COMMAND_OPERATION_CODE ≡ table.invalid_command_operation_code }

@@ -1,4 +1,4 @@
-// What a command is answered with.
+// The reply to a command. Sense data come with CHECK CONDITION alone, and data with GOOD alone.
 ghost use Rattle.std.specs.Prelude.{◌≡◌};
 ghost use Rattle.ar_scsi.specs.Reply as shape;
 
@@ -9,16 +9,16 @@ use std::alloc::AllocError;
 /// The status of a command.
 #[derive(Clone, Copy, Debug, PartialEq, Eq)]
 pub enum Status {
-    /// Done.
+    /// GOOD: the command is done.
     Good,
-    /// Not done, and the sense says why.
+    /// CHECK CONDITION: the command failed, and the sense data state why.
     CheckCondition,
-    /// Not done for want of memory, and no unit has changed.
+    /// BUSY: the command ran out of memory, and no unit has changed.
     Busy,
 }
 
-/// The answer to a command. `good`, `check` and `busy` make those that stand: sense with CHECK CONDITION alone, bytes
-/// with GOOD alone.
+/// The reply to a command. `good`, `check` and `busy` create those that occur: sense data with CHECK CONDITION alone, a
+/// payload with GOOD alone.
 #[derive(Debug, Drop, PartialEq, Eq)]
 pub struct Reply {
     pub status: Status,
@@ -27,7 +27,7 @@ pub struct Reply {
 }
 
 impl Reply {
-    /// GOOD, with these bytes.
+    /// Returns GOOD with `payload`.
     pub fn good(payload: Bytes) -> Reply
         ensures { result ≡ shape.good payload }
     {
@@ -38,7 +38,7 @@ impl Reply {
         }
     }
 
-    /// CHECK CONDITION, with this sense and no bytes.
+    /// Returns CHECK CONDITION with `sense` and no payload.
     pub fn check(sense: Sense) -> Reply
         ensures { result ≡ shape.check sense }
     {
@@ -49,7 +49,7 @@ impl Reply {
         }
     }
 
-    /// BUSY, with neither.
+    /// Returns BUSY, without sense data or payload.
     pub fn busy() -> Reply
         ensures { result ≡ shape.busy }
     {
@@ -68,8 +68,8 @@ impl Clone for Reply {
 
     ghost is_infallible = { λ reply. reply.payload ≡ [] };
 
-    /// A reply with the same bytes, which are shared and not copied. `Err` comes only where the bytes can't be
-    /// shared, never where there are none.
+    /// Clones the reply; its bytes are shared, not copied. `Err` only if the bytes can't be shared, never if there are
+    /// none.
     fn clone(&self) -> Result<Reply, AllocError> {
         let bytes = &self.payload;
         Ok(Reply {

@@ -1,8 +1,8 @@
-// Sense data.
+// Sense data: why a command failed.
 ghost use Rattle.std.specs.Prelude.{◌≡◌};
 ghost use Rattle.ar_scsi.specs.Sense.{fixed_sense};
 
-/// Why a command wasn't done: a sense key (0 to 15) with an additional sense code and its qualifier.
+/// Why a command failed: sense key (0 to 15), additional sense code and its qualifier.
 #[derive(Clone, Copy, Debug, PartialEq, Eq)]
 pub struct Sense {
     pub key: u8,
@@ -55,7 +55,7 @@ impl Sense {
     };
 }
 
-/// Sense data in the fixed format, 18 bytes. Of the key, the low four bits are shown.
+/// Returns fixed format sense data, 18 bytes, for a current error. Only the low four bits of the key are used.
 pub fn sense18(sense: Sense) -> [u8; 18]
     ensures { result ≡ fixed_sense sense }
 {

@@ -1,4 +1,4 @@
--- What calls answer, and what they leave as it was.
+-- What calls return, and what they leave unchanged.
 use Rattle.std.specs.Prelude.{◌≡◌, ℕ, ◌+◌, ◌*◌, ◌≤◌, ◌<◌, ◌⊎◌, None}
 use Rattle.ar_disks.specs.Block.{zeros}
 use Rattle.ar_disks.specs.Geometry.{rows_of, block_len_of}
@@ -20,8 +20,8 @@ use Rattle.ar_store.specs.Store.{StoreState, class_in}
 use Rattle.ar_store.specs.Slots.{SlotHolds, BesideHold}
 use Rattle.ar_store.specs.Placing.{slot_at, HasNoHole, HasNoWay}
 
--- Rows were read and written: no disk was lost without a cause, and what is loose stays so. An extent that isn't used, of a disk
--- that is out or isn't rebuilt so far, keeps what stands in its rows: the rebuild alone writes them.
+-- Rows were read and written: disks failed only by faults, and unassigned extents stay so. An extent that isn't used,
+-- on a failed disk or not rebuilt yet, keeps its rows: only the rebuild writes them.
 pub record IsAccessed (old new : SetState) : Type 0 where
   pub follows : Follows old new
   pub loose : new.loose ≡ old.loose
@@ -38,54 +38,55 @@ pub record HasNoneToOpen (old new : StoreState) : Type 0 where
   pub few : free_groups old.book < 2
   pub same : new ≡ old
 
--- the disks were broken before, and nothing has changed
+-- the array had failed before, and nothing has changed
 pub record WasBroken (old new : StoreState) : Type 0 where
   pub was : old.disks.health ≡ AllBroken
   pub same : new ≡ old
 
--- the disks are broken: they were before, or the group was opened that was to be
+-- the array has failed: it had before, or it failed with the group opened in the tables
 pub record IsCutShort (old new : StoreState) (class : Class) : Type 0 where
   pub broken : new.disks.health ≡ AllBroken
   pub tables : WasBroken old new ⊎ ((group : ℕ) × IsOpened old.book new.book class group)
 
--- each slot of a group with parity holds the zero block
+-- each slot of a parity group holds the zero block
 pub record HoldsZeros (s : StoreState) (group : ℕ) : Type 0 where
   pub slots : (i : ℕ) → i < 3 * rows_of s.disks.geometry → SlotHolds s (slot_at group i) (zeros (block_len_of s.disks.geometry))
 
--- each slot of a group with parity, from one on, holds the zero block
+-- each slot of a parity group from `first` on holds the zero block
 pub record HoldsZerosFrom (s : StoreState) (group first : ℕ) : Type 0 where
   pub slots : (i : ℕ) → first ≤ i → i < 3 * rows_of s.disks.geometry → SlotHolds s (slot_at group i) (zeros (block_len_of s.disks.geometry))
 
--- A put that needed a squeeze filled the group that it opened with zeros: each slot behind the block's own holds the zero block.
+-- A put that needed a squeeze filled the group that it opened with zeros: each slot behind the block's own holds the
+-- zero block.
 pub record LeavesZeros (old : StoreState) (k : Key) (new : StoreState) : Type 0 where
   pub behind :
       (from to : ℕ) → home old.book k ≡ None → HasNoHole old.book Mirrored → HasNoHole old.book Parity → free_groups old.book < 2
       → IsFullMirrored old.book from → IsLowestFree old.book to → HoldsZerosFrom new to (slots_of old.book.geometry Mirrored + 1)
 
--- the slot is in a group with parity, of which each slot from this one on holds the zero block
+-- the slot is in a parity group, each of whose slots from this one on holds the zero block
 pub record IsZerosFrom (s : StoreState) (slot : Slot) : Type 0 where
   pub parity : class_in s slot.group ≡ Parity
   pub zeros : HoldsZerosFrom s slot.group slot.slot
 
--- the slot that was found for a block that had no way without a squeeze is such a one
+-- a slot that a squeeze has made for a block is such a one
 abbrev pub IsZerosOnWay : Tables → Key → StoreState → Way → Type 0
 IsZerosOnWay t k new (Home s) = Unit {0}
 IsZerosOnWay t k new (Hole s) = HasNoWay t k t → IsZerosFrom new s
 IsZerosOnWay t k new NoWay = Unit {0}
 
--- where a hole was written, each other slot of its group that held a block holds it
+-- if a hole was written, the other slots of its group keep their blocks
 abbrev pub BesideWay : Way → StoreState → StoreState → Type 0
 BesideWay (Home s) old new = Unit {0}
 BesideWay (Hole s) old new = BesideHold old new s
 BesideWay NoWay old new = Unit {0}
 
--- what is said of the group that was opened, if one was
+-- P holds for the group that was opened, if one was
 abbrev pub IfOpened : Opening → (ℕ → Type 0) → Type 0
 IfOpened (Opened group) P = P group
 IfOpened Idle P = Unit {0}
 IfOpened NotOpened P = Unit {0}
 
--- what the opening of a group answers
+-- what the opening of a group returns
 abbrev pub Opens : StoreState → StoreState → Class → Opening → Type 0
 Opens old new class (Opened group) = IsOpened old.book new.book class group
 Opens old new class Idle = HasNoneToOpen old new

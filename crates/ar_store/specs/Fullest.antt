@@ -1,11 +1,11 @@
--- Which four disks the next group stands on, from how many extents of each disk are loose.
+-- Which four disks the next group uses, by the number of unassigned extents of each disk (`counts`).
 use Rattle.std.specs.Prelude.{◌≡◌, ◌≢◌, ◌⊎◌, ℕ, ◌-◌, ◌<◌, ◌≤◌, false, ◌==◌, List, length, slice_index, slice_set, Option, IfSome, IfNone}
 use Rattle.std.specs.List.{list_any}
 use Rattle.ar_disks.specs.declared.address.Members.{Members}
 use Rattle.ar_disks.specs.declared.address.Place.{Place}
 use Rattle.ar_store.specs.declared.form.FourDisks.{FourDisks}
 
--- the disk has more loose extents than the other, or as many and the lower number
+-- disk d has more unassigned extents than disk x, or as many and the lower number
 abbrev pub Precedes : List ℕ → ℕ → ℕ → Type 0
 Precedes counts d x = (slice_index counts x < slice_index counts d) ⊎ ((slice_index counts x ≡ slice_index counts d) × (d < x))
 
@@ -13,7 +13,8 @@ Precedes counts d x = (slice_index counts x < slice_index counts d) ⊎ ((slice_
 abbrev pub IsOther : List ℕ → ℕ → Type 0
 IsOther but x = list_any (λ y. y == x) but ≡ false
 
--- of the disks below a number, but some, this is the one with most loose extents, the lowest on ties; or none has any
+-- of the disks below `end` other than `but`, `best` has the most unassigned extents, the lowest on ties; or none has
+-- any
 pub record IsFullest (counts but : List ℕ) (end : ℕ) (best : Option ℕ) : Type 0 where
   pub below : IfSome best (λ d. d < end)
   pub some : IfSome best (λ d. 0 < slice_index counts d)
@@ -21,7 +22,7 @@ pub record IsFullest (counts but : List ℕ) (end : ℕ) (best : Option ℕ) : T
   pub most : IfSome best (λ d. (x : ℕ) → x < end → IsOther but x → x ≢ d → Precedes counts d x)
   pub none : IfNone best ((x : ℕ) → x < end → IsOther but x → slice_index counts x ≡ 0)
 
--- four different disks with loose extents, each before all others
+-- four different disks with unassigned extents, each before all others
 pub record ArePicked (counts : List ℕ) (a b c d : ℕ) : Type 0 where
   pub apart : (a ≢ b) × (a ≢ c) × (a ≢ d) × (b ≢ c) × (b ≢ d) × (c ≢ d)
   pub there : (a < length counts) × (b < length counts) × (c < length counts) × (d < length counts)
@@ -33,7 +34,7 @@ pub record ArePicked (counts : List ℕ) (a b c d : ℕ) : Type 0 where
 abbrev pub AreFour : List ℕ → FourDisks → Type 0
 AreFour counts f = ArePicked counts f.first f.second f.third f.fourth
 
--- no number is above the next
+-- the numbers don't descend
 pub record AreOrdered (a b c d : ℕ) : Type 0 where
   pub second : a ≤ b
   pub third : b ≤ c
@@ -45,29 +46,29 @@ pub record AreAscending (f : FourDisks) : Type 0 where
   pub third : f.second < f.third
   pub fourth : f.third < f.fourth
 
--- the four disks with most loose extents, of so many for each, the lowest numbers on ties, in ascending order
+-- the four disks with the most unassigned extents, the lowest numbers on ties, in ascending order
 pub record AreFourFullest (counts : List ℕ) (f : FourDisks) : Type 0 where
   pub ascending : AreAscending f
   pub picked : AreFour counts f
 
--- no four different disks have loose extents, of so many for each
+-- no four different disks have unassigned extents
 pub record HasFewCounts (counts : List ℕ) : Type 0 where
   pub few : (a b c d : ℕ) → a < b → b < c → c < d → d < length counts
       → 0 < slice_index counts a → 0 < slice_index counts b → 0 < slice_index counts c → 0 < slice_index counts d → ⊥
 
--- the counts once a disk has one loose extent fewer
+-- the counts with one unassigned extent fewer on a disk
 abbrev pub one_fewer : List ℕ → ℕ → List ℕ
 one_fewer counts d = slice_set counts d (slice_index counts d - 1)
 
--- and once four have
+-- the same on four disks
 abbrev pub four_fewer : List ℕ → FourDisks → List ℕ
 four_fewer counts f = one_fewer (one_fewer (one_fewer (one_fewer counts f.first) f.second) f.third) f.fourth
 
--- the first of so many extents at the end of a disk
+-- the first unassigned extent of disk d, where the last `counts[d]` of its extents are unassigned
 abbrev pub next_place : List ℕ → ℕ → ℕ → Place
 next_place counts extents d = record { disk = d; extent = extents - slice_index counts d }
 
--- the first extents of four disks
+-- the first unassigned extents of four disks
 abbrev pub next_members : List ℕ → ℕ → FourDisks → Members
 next_members counts extents f = record {
   first = next_place counts extents f.first;

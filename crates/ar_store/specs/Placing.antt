@@ -1,4 +1,4 @@
--- Where a block goes that is put, and what that makes of the tables.
+-- Where a put writes its block, and how that changes the tables.
 use Rattle.std.specs.Prelude.{◌≡◌, ◌≢◌, ◌⊎◌, ℕ, zero, suc, ◌<◌, ◌≤◌, length, Option, None, Some, IsSome}
 use Rattle.std.specs.Map.{keys_of}
 use Rattle.ar_disks.specs.declared.address.Addr.{Addr}
@@ -19,12 +19,12 @@ use Rattle.ar_book.specs.Choices.{IsHole, IsUpTo, IsLowestFree, IsFullMirrored}
 abbrev pub slot_at : ℕ → ℕ → Slot
 slot_at group slot = record { group = group; slot = slot }
 
--- the hole of a class that comes first in slot order
+-- the first hole of a class in slot order
 pub record IsLowestHole (t : Tables) (c : Class) (s : Slot) : Type 0 where
   pub hole : IsHole t c s
   pub least : (other : Slot) → IsHole t c other → IsUpTo s other
 
--- the slot is there, and names no block
+-- the slot exists, and no block is mapped to it
 pub record IsVacant (t : Tables) (s : Slot) : Type 0 where
   pub there : HasSlot t s
   pub empty : key_at t s ≡ None
@@ -33,46 +33,46 @@ pub record IsVacant (t : Tables) (s : Slot) : Type 0 where
 pub record HasNoHole (t : Tables) (c : Class) : Type 0 where
   pub none : (s : Slot) → IsHole t c s → ⊥
 
--- the block that a slot named, if it named one, moves to another
+-- the tables with the block that a slot named, if any, mapped to another slot
 abbrev pub moved_from : Tables → Option Key → Slot → Tables
 moved_from t None to = t
 moved_from t (Some k) to = assigned t k to
 
--- the first so many blocks of a group stand in the slots with the same numbers of another
+-- the tables with the blocks of the group's first n slots mapped to the slots with the same numbers of another
 abbrev pub moved_first : Tables → ℕ → ℕ → ℕ → Tables
 moved_first t from to zero = t
 moved_first t from to (suc n) = moved_from (moved_first t from to n) (key_at t (slot_at from n)) (slot_at to n)
 
--- The squeeze: a free group is opened for parity, and all blocks of a mirrored one move there in slot order. The mirrored
--- group is free then, and the other has as many holes left as it has slots more.
+-- The squeeze: a free group is opened for parity, and all blocks of a mirrored group move there in slot order. The
+-- mirrored group is free then, and the parity group has as many holes as it has slots more.
 abbrev pub squeezed : Tables → ℕ → ℕ → Tables
 squeezed t from to = moved_first (opened t to Parity) from to (slots_of t.geometry Mirrored)
 
--- a block is written to a slot that was a hole
+-- a block is written to a hole
 abbrev pub put_in : Tables → Key → Slot → Tables
 put_in t k s = stamped (assigned t k s) k
 
--- What a put makes of the tables, step by step: the first of these that applies. One always does, since with a block without a
--- home, no hole and one free group there is a full mirrored one (the condition and the answer of the book's `full_mirrored`).
+-- How a put changes the tables: by the first of these cases that applies. One always does, since with a block without a
+-- home, no hole and one free group there is a full mirrored group (the contract of the book's `full_mirrored`).
 pub record Puts (t : Tables) (k : Key) (new : Tables) : Type 0 where
-  -- a block at the mirrored level is written where it is
+  -- a mirrored block is overwritten in place
   pub mirrored : level t k ≡ MirroredLevel → new ≡ stamped t k
   -- else it goes to the lowest mirrored hole
   pub mirrored_hole : (s : Slot) → level t k ≢ MirroredLevel → IsLowestHole t Mirrored s → new ≡ put_in t k s
-  -- or, while two groups are free, to the first slot of the lowest, which is opened for that
+  -- or, while two groups are free, to the first slot of the lowest, which is opened as mirrored
   pub opened_group :
       (g : ℕ) → level t k ≢ MirroredLevel → HasNoHole t Mirrored → 2 ≤ free_groups t → IsLowestFree t g
       → new ≡ put_in (opened t g Mirrored) k (slot_at g 0)
-  -- else a block at the parity level is written where it is
+  -- else a block at the parity level is overwritten in place
   pub parity : level t k ≡ ParityLevel → HasNoHole t Mirrored → free_groups t < 2 → new ≡ stamped t k
   -- and one without a home goes to the lowest parity hole
   pub parity_hole : (s : Slot) → level t k ≡ Unplaced → HasNoHole t Mirrored → free_groups t < 2 → IsLowestHole t Parity s → new ≡ put_in t k s
-  -- or, where there is none, to the first that a squeeze leaves
+  -- or, if there is none, to the first hole that a squeeze leaves
   pub squeezed_group :
       (from to : ℕ) → level t k ≡ Unplaced → HasNoHole t Mirrored → HasNoHole t Parity → free_groups t < 2 → IsFullMirrored t from → IsLowestFree t to
       → new ≡ put_in (squeezed t from to) k (slot_at to (slots_of t.geometry Mirrored))
 
--- The units are as they were but for homes and stamps, and so is the room.
+-- The units keep all but homes and write sequence numbers; the number of groups and the reserved space stay.
 pub record SameUnits (t new : Tables) : Type 0 where
   pub order : keys_of new.units ≡ keys_of t.units
   pub sectors : (a : Addr) → (unit_in new.units a).sectors ≡ (unit_in t.units a).sectors
@@ -81,7 +81,7 @@ pub record SameUnits (t new : Tables) : Type 0 where
   pub groups : length new.groups ≡ length t.groups
   pub reserved : reserved new ≡ reserved t
 
--- the home that a block keeps: at the mirrored level, or where there is no room at that level
+-- a block is overwritten at its home: it is mirrored, or there is no mirrored slot for it
 pub record LeadsHome (t : Tables) (k : Key) (new : Tables) (s : Slot) : Type 0 where
   pub same : new ≡ t
   pub home : home t k ≡ Some s
@@ -100,13 +100,13 @@ pub record LeadsToHole (t : Tables) (k : Key) (new : Tables) (s : Slot) : Type 0
       (from to : ℕ) → HasNoHole t Mirrored → HasNoHole t Parity → free_groups t < 2 → IsFullMirrored t from → IsLowestFree t to
       → (new ≡ squeezed t from to) × (s ≡ slot_at to (slots_of t.geometry Mirrored))
 
--- where a block goes that is put; nothing is said once the store is broken
+-- where a put writes its block; unspecified once the array has failed
 abbrev pub Leads : Tables → Key → Tables → Way → Type 0
 Leads t k new (Home s) = LeadsHome t k new s
 Leads t k new (Hole s) = LeadsToHole t k new s
 Leads t k new Broken = Unit {0}
 
--- a hole at the mirrored level that is found, or made while two groups are free
+-- a mirrored hole that is found, or made while two groups are free
 pub record IsMirroredHole (t new : Tables) (s : Slot) : Type 0 where
   pub empty : IsVacant new s
   pub found : (r : Slot) → IsLowestHole t Mirrored r → (new ≡ t) × (s ≡ r)
@@ -124,7 +124,7 @@ pub record IsSqueezed (t new : Tables) (s : Slot) : Type 0 where
   pub empty : IsVacant new s
   pub tables : (from to : ℕ) → IsFullMirrored t from → IsLowestFree t to → (new ≡ squeezed t from to) × (s ≡ slot_at to (slots_of t.geometry Mirrored))
 
--- all blocks of a full mirrored group can move to an empty one with parity
+-- all blocks of a full mirrored group can move to an empty parity group
 pub record CanMove (t : Tables) (from to : ℕ) : Type 0 where
   pub from_there : from < length t.groups
   pub to_there : to < length t.groups
@@ -133,29 +133,30 @@ pub record CanMove (t : Tables) (from to : ℕ) : Type 0 where
   pub opened : class_of t to ≡ Parity
   pub empty : (i : ℕ) → key_at t (slot_at to i) ≡ None
 
--- the lowest of two free groups or more was opened for mirrored blocks
+-- the lowest of two or more free groups was opened as mirrored
 pub record HasOpened (t new : Tables) : Type 0 where
   pub group : ℕ
   pub lowest : IsLowestFree t group
   pub many : 2 ≤ free_groups t
   pub tables : new ≡ opened t group Mirrored
 
--- it may have been, and nothing else changed
+-- the same, or nothing changed
 abbrev pub MayOpen : Tables → Tables → Type 0
 MayOpen t new = (new ≡ t) ⊎ HasOpened t new
 
--- no slot is there for a block without a squeeze: it has no home, and no group a hole
+-- a block needs a squeeze: it has no home, and no group has a hole
 pub record HasNoWay (t : Tables) (k : Key) (new : Tables) : Type 0 where
   pub unplaced : home t k ≡ None
   pub mirrored : HasNoMirroredHole t new
   pub parity : HasNoHole new Parity
 
--- so many of a mirrored group's blocks, the first ones, have moved to another group
+-- the first `moved` blocks of a mirrored group have moved to another group
 pub record HasMovedSome (t : Tables) (from to moved : ℕ) (new : Tables) : Type 0 where
   pub within : moved ≤ slots_of t.geometry Mirrored
   pub tables : new ≡ moved_first t from to moved
 
--- a squeeze was begun: the free group was opened for parity, and so many blocks of the full mirrored one have moved there
+-- a squeeze was begun: the lowest free group was opened for parity, and the first `moved` blocks of the full mirrored
+-- group have moved there
 pub record HasBegunSqueeze (t new : Tables) : Type 0 where
   pub from : ℕ
   pub to : ℕ
@@ -164,21 +165,21 @@ pub record HasBegunSqueeze (t new : Tables) : Type 0 where
   pub moved : ℕ
   pub moves : HasMovedSome (opened t to Parity) from to moved new
 
--- a block that is put wants a group to be opened: it isn't at the mirrored level, where no group has a hole
+-- a put of the block may open a group: the block isn't mirrored, and no mirrored group has a hole
 pub record WantsGroup (t : Tables) (k : Key) : Type 0 where
   pub low : level t k ≢ MirroredLevel
   pub none : HasNoHole t Mirrored
 
--- What was done before a block is written, as far as it came: nothing; or a group was opened for it; or, where it has no way
--- without one, a squeeze was begun. No home has changed but for the blocks that a squeeze moves.
+-- What was done before the block was written, as far as it got: nothing; or a group was opened for it; or, if it has no
+-- slot otherwise, a squeeze was begun. Only the homes of blocks that a squeeze moves have changed.
 abbrev pub MayHavePrepared : Tables → Key → Tables → Type 0
 MayHavePrepared t k new = (new ≡ t) ⊎ ((WantsGroup t k × HasOpened t new) ⊎ (HasNoWay t k t × HasBegunSqueeze t new))
 
--- Where a put wanted a group and two were free, the lowest is open, also where the disks broke in the write after it.
+-- If a put may open a group and two were free, the lowest is open, even if the array failed in the write after that.
 pub record LeavesOpened (t : Tables) (k : Key) (new : Tables) : Type 0 where
   pub stays_open : (g : ℕ) → WantsGroup t k → 2 ≤ free_groups t → IsLowestFree t g → new ≡ opened t g Mirrored
 
--- a way is there: the block's home, or a slot that names none
+-- the way exists: the block's home, or a hole
 abbrev pub IsThere : Tables → Key → Way → Type 0
 IsThere t k (Home s) = home t k ≡ Some s
 IsThere t k (Hole s) = IsVacant t s
@@ -189,13 +190,13 @@ pub record IsWayIn (t : Tables) (k : Key) (new : Tables) (way : Way) : Type 0 wh
   pub leads : Leads t k new way
   pub there : IsThere new k way
 
--- a block can be written where it was found to go; the way is Broken only where the disks are
+-- a block can be written this way: to its home, or to a hole; the way is Broken only if the array has failed
 abbrev pub IsReadyFor : StoreState → Key → Way → Type 0
 IsReadyFor s k (Home slot) = home s.book k ≡ Some slot
 IsReadyFor s k (Hole slot) = IsVacant s.book slot
 IsReadyFor s k Broken = s.disks.health ≡ AllBroken
 
--- the tables once the block stands there
+-- the tables once the block is written there
 abbrev pub placed_by : Tables → Key → Way → Tables
 placed_by t k (Home slot) = t
 placed_by t k (Hole slot) = assigned t k slot

@@ -1,4 +1,4 @@
--- What the slots of groups hold, and which block stands for a key.
+-- What the slots of groups hold, and which block a key reads as.
 use Rattle.std.specs.Prelude.{◌≡◌, ◌≢◌, ℕ, ◌<◌, List, length, Option, None, Some}
 use Rattle.ar_disks.specs.Block.{zeros}
 use Rattle.ar_disks.specs.Disk.{DiskState}
@@ -23,7 +23,7 @@ use Rattle.ar_book.specs.declared.class.Slot.{Slot}
 use Rattle.ar_book.specs.Tables.{home, slots_of, HasSlot}
 use Rattle.ar_store.specs.Store.{StoreState, store_of, members_of, class_in}
 
--- a slot of four extents that are used as a class says holds a block; a free group holds none
+-- a slot of four extents holds a block in the layout of a class; a free group holds none
 abbrev pub ClassHolds : Class → SetState → Members → ℕ → List ℕ → Type 0
 ClassHolds Free s m i block = ⊥
 ClassHolds Mirrored s m i block = MirrorHolds s m i block
@@ -33,69 +33,70 @@ ClassHolds Parity s m i block = ParityHolds s m i block
 abbrev pub SlotHolds : StoreState → Slot → List ℕ → Type 0
 SlotHolds s slot block = ClassHolds (class_in s slot.group) s.disks (members_of s slot.group) slot.slot block
 
--- a slot holds some block, as long as blocks are
+-- a slot holds some block of full length
 pub record HoldsBlock (s : StoreState) (slot : Slot) : Type 0 where
   pub block : List ℕ
   pub len : length block ≡ block_len_of s.disks.geometry
   pub holds : SlotHolds s slot block
 
--- the block that a read of a slot gives: it is the one that the slot holds, if it holds any
+-- the block that a read of a slot returns: the one that the slot holds, if it holds any
 abbrev pub standing_in : Class → SetState → Members → ℕ → List ℕ
 standing_in Free s m i = zeros (block_len_of s.geometry)
 standing_in Mirrored s m i = mirror_standing s m i
 standing_in Parity s m i = parity_standing s m i
 
--- the block at a home: the zero block where there is none
+-- the block at a home: the zero block if there is none
 abbrev pub stands_at : StoreState → Option Slot → List ℕ
 stands_at s None = zeros (block_len_of s.disks.geometry)
 stands_at s (Some slot) = standing_in (class_in s slot.group) s.disks (members_of s slot.group) slot.slot
 
--- the block that stands for a key on the disks
+-- the block that a key reads as
 unfoldable pub stands : StoreState → Key → List ℕ
 stands s k = stands_at s (home s.book k)
 
--- every block stands as it did; of a broken store nothing is said
+-- every block keeps its contents; unspecified for a failed array
 pub record AllStand (old new : StoreState) : Type 0 where
   pub blocks : new.disks.health ≢ Broken → (k : Key) → stands new k ≡ stands old k
 
--- every block but one stands as it did; of a broken store nothing is said
+-- every block but `key`'s keeps its contents; unspecified for a failed array
 pub record OthersStand (old new : StoreState) (key : Key) : Type 0 where
   pub blocks : new.disks.health ≢ Broken → (k : Key) → k ≢ key → stands new k ≡ stands old k
 
--- a slot of four extents with parity holds some block
+-- a slot of a parity group holds some block
 pub record HoldsAny (s : SetState) (m : Members) (i : ℕ) : Type 0 where
   pub block : List ℕ
   pub holds : ParityHolds s m i block
 
--- the slot can be written: with parity it holds a block, which the row's parity counts in
+-- the slot can be written: with parity it holds a block, which the stripe's parity covers
 abbrev pub CanWrite : Class → SetState → Members → ℕ → Type 0
 CanWrite Free s m i = Unit {0}
 CanWrite Mirrored s m i = Unit {0}
 CanWrite Parity s m i = HoldsAny s m i
 
--- One slot of four extents was written: it holds the block, the others hold what they held, and no other extent was written.
+-- One slot of a group was written: it holds the block, the others keep theirs, and no other extent was written.
 pub record IsWritten (class : Class) (old new : SetState) (m : Members) (i : ℕ) (block : List ℕ) : Type 0 where
   pub here : ClassHolds class new m i block
   pub beside : (k : ℕ) (other : List ℕ) → k < slots_of old.geometry class → k ≢ i → ClassHolds class old m k other → ClassHolds class new m k other
   pub outside : Keeps (IsOutside m) old new
 
--- the extents that a read of a slot may need: its pair, or its whole group with parity, where a lost one is added up
+-- the extents that a read of a slot may need: its pair, or with parity the whole group, to reconstruct a missing one
 abbrev pub NeedsIn : Class → Geometry → Members → ℕ → Place → Type 0
 NeedsIn Free g m i place = ⊥
 NeedsIn Mirrored g m i place = IsInPair g m i place
 NeedsIn Parity g m i place = IsMember m place
 
--- the one that it asks first: the first of the pair, or the one that has the slot's own block beside parity
+-- the extent that a read accesses first: the first of the pair, or with parity the one with the slot's own block
 abbrev pub first_in : Class → Geometry → Members → ℕ → Place
 first_in Free g m i = m.first
 first_in Mirrored g m i = one_of g m i
 first_in Parity g m i = member m (data_position i)
 
--- the extents that a read of a slot asks, by how it leaves the disks: while the one that it asks first can be used, that alone
+-- the extents that a read of a slot accesses, given the health afterwards: if its first one is usable, that alone
 abbrev pub ReadsIn : Class → SetState → Geometry → Members → ℕ → Place → Type 0
 ReadsIn class new g m i place = NeedsIn class g m i place × (IsSound new (first_in class g m i) → place ≡ first_in class g m i)
 
--- the extents that a write of a slot asks: its pair; with parity, while the slot's own can be used, that and its row's parity
+-- the extents that a write of a slot accesses: its pair; with parity, if the slot's own is usable, it and the stripe's
+-- parity
 abbrev pub WritesIn : Class → SetState → Geometry → Members → ℕ → Place → Type 0
 WritesIn Free new g m i place = ⊥
 WritesIn Mirrored new g m i place = IsInPair g m i place
@@ -103,27 +104,27 @@ WritesIn Parity new g m i place =
     IsMember m place
     × (IsSound new (member m (data_position i)) → IsEither (member m (data_position i)) (member m (parity_position (parity_row_of i))) place)
 
--- One slot of four extents was read: no disk was asked that the read doesn't need, and no other while the first can be used.
+-- One slot of a group was read: only disks that the read may need were accessed, and only the first if that is usable.
 pub record AsksFor (class : Class) (old new : SetState) (m : Members) (i : ℕ) : Type 0 where
   pub works : WorksOn (NeedsIn class old.geometry m i) old new
   pub first : IsSound new (first_in class old.geometry m i) → WorksOn (IsPlace (first_in class old.geometry m i)) old new
 
--- the same of a slot of a store
+-- the same for a slot of a store
 abbrev pub AsksForSlot : StoreState → StoreState → Slot → Type 0
 AsksForSlot old new slot = AsksFor (class_in old slot.group) old.disks new.disks (members_of old slot.group) slot.slot
 
--- every slot that held a block holds it
+-- every slot keeps the block that it held
 pub record SlotsHold (old new : StoreState) : Type 0 where
   pub slots : (slot : Slot) (block : List ℕ) → HasSlot old.book slot → SlotHolds old slot block → SlotHolds new slot block
 
--- every slot but one that held a block holds it
+-- every slot but `written` keeps the block that it held
 pub record OtherSlotsHold (old new : StoreState) (written : Slot) : Type 0 where
   pub slots : (slot : Slot) (block : List ℕ) → HasSlot old.book slot → slot ≢ written → SlotHolds old slot block → SlotHolds new slot block
 
--- every other slot of a slot's group that held a block holds it
+-- every other slot of the group of `written` keeps the block that it held
 pub record BesideHold (old new : StoreState) (written : Slot) : Type 0 where
   pub slots : (slot : Slot) (block : List ℕ) → HasSlot old.book slot → slot.group ≡ written.group → slot ≢ written → SlotHolds old slot block → SlotHolds new slot block
 
--- with one disk lost, and anything on it, every block stands as it does now
+-- with disk d lost, whatever it holds, every block keeps its contents
 pub record SurvivesLossOf (s : StoreState) (d : ℕ) : Type 0 where
   pub blocks : (disk : DiskState) (k : Key) → stands (store_of (without_disk s.disks d disk) s.book) k ≡ stands s k

@@ -1,4 +1,4 @@
-// Single disks: one is taken out, added or replaced, and rows are read as they stand there.
+// Disk failure, addition and replacement, and raw reads of rows: none of them changes the contents of a block.
 
 use crate::Store;
 use ar_disks::{Block, Disk, Place};
@@ -15,8 +15,9 @@ impl<D: Disk> Store<D> {
     ghost use Rattle.ar_store.specs.Slots.{AllStand};
     ghost use Rattle.ar_store.specs.Calls.{IsAccessed};
 
-    /// Takes a disk out, as if it had faulted: every block stands as it did, unless another disk was down. A disk that is out
-    /// already stays so, and a broken store stays broken. Refused exactly where there is no such disk; nothing changes then.
+    /// Marks `disk` as failed, as if an access to it had faulted. The blocks keep their contents, unless another disk
+    /// has failed or is being rebuilt: then the array fails. A disk that has failed already stays so, and a failed
+    /// array stays failed. Returns an error exactly if there is no such disk, and changes nothing then.
     pub fn fail(&mut self, disk: u8) -> Result<(), DiskRefusal>
         ensures taken { OnOk result (fail_refusal self.old.disks disk ≡ None) }
         ensures refused { IfErr result (λ refusal. fail_refusal self.old.disks disk ≡ Some refusal) }
@@ -28,9 +29,9 @@ impl<D: Disk> Store<D> {
         self.space.disks.fail(disk)
     }
 
-    /// Adds a disk, every extent of which is loose: no group stands on it yet, and every block stands as it did. Refused, in this
-    /// order, on broken disks, with twelve already, for another shape than theirs, or without memory. A refused disk is handed
-    /// back, and nothing has changed.
+    /// Adds `disk` with all its extents unassigned: no group uses them yet, and every block keeps its contents. Errors,
+    /// in this order: the array has failed, it has twelve disks, the disk has another shape (geometry or number of
+    /// extents), out of memory. An error gives `disk` back and changes nothing.
     pub fn add(&mut self, disk: D) -> Result<(), (DiskRefusal, D)>
         requires { CanCount (D.state disk) }
         ensures taken { OnOk result (add_refusal self.old.disks (D.state disk) ≡ None) }
@@ -41,13 +42,14 @@ impl<D: Disk> Store<D> {
         ensures unchanged { OnErr result (self.new ≡ self.old) }
         ensures stands { AllStand self.old self.new }
     {
-        // Asked for what it tells: there are marks for each disk.
+        // Called for its contract: the set keeps a list of unassigned extents for each disk.
         let _health = self.space.disks.health();
         self.space.disks.add(disk)
     }
 
-    /// Reads a row of an extent into `into`, a block of the store's length, as it stands on the disk, whatever the extent is used
-    /// for. After another answer than `Read` any bytes may stand in `into`. A missing extent isn't accessed.
+    /// Reads row `row` of the extent `place` from its disk into `into`, a block of the store's length, whatever the
+    /// extent is used for. Unless it returns `Read`, the contents of `into` are unspecified. A missing extent isn't
+    /// accessed.
     pub fn read_place(&mut self, place: Place, row: u16, into: &mut Block) -> Got
         requires place { HasExtent self.old.disks place }
         requires row { row < rows_of self.old.disks.geometry }
@@ -72,9 +74,9 @@ impl<D: Disk + Drop> Store<D> {
     ghost use Rattle.ar_extents.specs.Changes.{replace_refusal, replaced};
     ghost use Rattle.ar_store.specs.Slots.{AllStand, SlotsHold};
 
-    /// Takes a disk in the place of one that is out, which is let go, and begins to rebuild it: none of its extents is used
-    /// before it is rebuilt, so every block stands as it did, whatever is on the disk. A refused disk is handed back, and nothing
-    /// changes then.
+    /// Puts `disk` in the place of the failed disk `number`, which is dropped, and starts its rebuild. No extent of the
+    /// new disk is used before it is rebuilt, so every block keeps its contents, whatever is on the disk. An error
+    /// gives `disk` back and changes nothing.
     pub fn replace(&mut self, number: u8, disk: D) -> Result<(), (DiskRefusal, D)>
         requires { CanCount (D.state disk) }
 

@@ -1,4 +1,4 @@
-// Which four disks the next group stands on.
+// Chooses the four disks of the next group: those with the most unassigned extents, the lowest numbers on ties.
 ghost use Rattle.std.specs.Prelude.{◌+◌, ◌<◌, ◌≤◌, List, ℕ, length, IfSome, IfNone};
 ghost use Rattle.ar_store.specs.Fullest.{IsFullest, ArePicked, AreFour, AreOrdered, AreFourFullest, HasFewCounts};
 
@@ -11,8 +11,8 @@ pub struct FourDisks {
     pub fourth: u8,
 }
 
-/// The four disks with most loose extents, the lowest numbers on ties, from the number of loose extents of each disk. None where
-/// fewer than four disks have any.
+/// Returns the four disks with the most unassigned extents, the lowest numbers on ties; `counts` has the number for
+/// each disk. None if fewer than four disks have any.
 pub fn four_fullest(counts: &[u16]) -> Option<FourDisks>
     requires { length counts.now ≤ 255 }
     ensures found { IfSome result (AreFourFullest counts.now) }
@@ -25,7 +25,8 @@ pub fn four_fullest(counts: &[u16]) -> Option<FourDisks>
     Some(in_order(first, second, third, fourth))
 }
 
-// The disk with most loose extents, but some disks: the lowest number on ties. None where no other has any.
+// The disk with the most unassigned extents other than those of `but`, the lowest number on ties. None if no other has
+// any.
 fn fullest(counts: &[u16], but: &[u8]) -> Option<u8>
     requires { length counts.now ≤ 255 }
     ensures { IsFullest counts.now but.now (length counts.now) result }
@@ -37,7 +38,7 @@ fn fullest(counts: &[u16], but: &[u8]) -> Option<u8>
     best
 }
 
-// The next disk, where it has more loose extents than the best of those before it.
+// Returns `number` if it has more unassigned extents than `best`, the best of the disks below it, and else `best`.
 fn fuller(counts: &[u16], but: &[u8], best: Option<u8>, number: u8) -> Option<u8>
     requires best { IsFullest counts.now but.now number best }
     requires there { number < length counts.now }

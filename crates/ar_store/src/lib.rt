@@ -1,4 +1,9 @@
-//! The store: the blocks of units by key, over the disks and the book of their space. No write is ever refused for room.
+//! The store maps each relocation block (RB) of a unit to a slot of an extent group (a PEG, as Wilkes et al. call it),
+//! and keeps its data through the loss of one disk. One group stays free until the array fails (two disks missing at
+//! once), so no put is ever refused for lack of space.
+//!
+//!     key (unit, block) --home--> slot (group, index) --> rows of the group's four extents, on four disks
+//!     group:  free  |  mirrored, 2 slots a row  |  parity (RAID 5), 3 slots a row
 #![tactic(auto)]
 
 mod disks;

@@ -1,4 +1,5 @@
-// A block is moved to a hole, or written to the slot that was found for it.
+// Writes of blocks to slots. The data are written before the tables change, so a fault in the write leaves no home
+// without its block.
 
 use crate::space::Space;
 use crate::way::Way;
@@ -20,7 +21,8 @@ impl<D: Disk> Space<D> {
     ghost use Rattle.ar_store.specs.Calls.{BesideWay};
     ghost use Rattle.ar_store.specs.Spaces.{store_in, IsReady, Stays};
 
-    /// Moves a block to a slot that names none, by way of `block`. The new slot is written before the old one is left.
+    /// Moves a block to an empty slot, through the buffer `block`. The new slot is written before the tables drop the
+    /// old one.
     pub(crate) fn move_block(&mut self, key: Key, to: Slot, block: &mut Block) -> Completion
         requires ready { IsReady self.old }
         requires placed { IsSome (home self.old.book key) }
@@ -48,7 +50,7 @@ impl<D: Disk> Space<D> {
         }
     }
 
-    // Writes a block to a slot that names none, which is its home from then on.
+    // Writes a block to an empty slot, which becomes its home.
     fn fill(&mut self, key: Key, to: Slot, from: &[u8]) -> Completion
         requires ready { IsReady self.old }
         requires block { HasBlock self.old.book key }
@@ -76,7 +78,7 @@ impl<D: Disk> Space<D> {
         }
     }
 
-    /// Writes a block of a unit to the slot that was found for it, and gives it the next stamp.
+    /// Writes a block to the slot that `way` has found for it, and gives it the next write sequence number.
     pub(crate) fn write(&mut self, key: Key, way: Way, from: &[u8]) -> Completion
         requires ready { IsReady self.old }
         requires block { HasBlock self.old.book key }
@@ -103,7 +105,7 @@ impl<D: Disk> Space<D> {
         }
     }
 
-    // Writes a block of a unit to the slot that was found for it, which is its home from then on.
+    // Writes a block to the slot that `way` has found for it, which becomes its home.
     fn write_by(&mut self, key: Key, way: Way, from: &[u8]) -> Completion
         requires ready { IsReady self.old }
         requires block { HasBlock self.old.book key }

@@ -1,18 +1,19 @@
-// Free groups are opened.
+// Opens free groups. A parity group is filled with zeros as it is opened, so that the parity of each stripe is right
+// from the start.
 
 use crate::space::Space;
 use ar_book::Class;
 use ar_disks::{Completion, Disk};
 use ar_index::Steps;
 
-/// Whether a group was opened.
+/// What `open_group` did.
 #[derive(Clone, Copy, Debug, PartialEq, Eq)]
 pub enum Opening {
-    /// The group with this number was.
+    /// It opened the group with this number.
     Opened(u32),
-    /// None was: the last free group stays free.
+    /// It opened none: the last free group stays free.
     Idle,
-    /// The disks are broken.
+    /// The array has failed.
     Broken,
 }
 
@@ -29,8 +30,8 @@ impl<D: Disk> Space<D> {
     ghost use Rattle.ar_store.specs.Calls.{Opens, IfOpened, HoldsZeros};
     ghost use Rattle.ar_store.specs.Spaces.{store_in, IsReady, Stays};
 
-    /// Opens the lowest free group for mirrored blocks or for parity, while two are free. Each slot of a group that is opened for
-    /// parity holds the zero block then.
+    /// Opens the lowest free group as mirrored or parity while two are free. Each slot of an opened parity group then
+    /// holds the zero block.
     pub(crate) fn open_group(&mut self, class: Class) -> Opening
         requires ready { IsReady self.old }
         requires class { class ≢ Free }
@@ -63,7 +64,8 @@ impl<D: Disk> Space<D> {
         }
     }
 
-    /// Opens the one free group for parity: each of its slots holds the zero block then, unless the disks broke.
+    /// Opens the only free group as a parity group. Each of its slots then holds the zero block, unless the array
+    /// failed.
     pub(crate) fn open_last(&mut self) -> u32
         requires ready { IsReady self.old }
         requires free { free_groups self.old.book ≡ 1 }
@@ -76,7 +78,7 @@ impl<D: Disk> Space<D> {
     {
         let group = self.book.open_last(Class::Parity);
         let members = self.book.members(group);
-        // Where the disks break, their health tells.
+        // The caller sees from health whether the array failed.
         let _ = ar_parity::open_zero(&mut self.disks, &members, &mut self.scratch);
         group
     }

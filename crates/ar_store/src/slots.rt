@@ -1,4 +1,4 @@
-// Reads and writes of slots, whatever their group is used for.
+// Reads and writes one slot, by the layout of its group.
 
 use crate::space::Space;
 use ar_book::{Class, Slot};

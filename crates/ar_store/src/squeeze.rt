@@ -1,4 +1,8 @@
-// The squeeze: all blocks of a mirrored group move to one with parity.
+// A squeeze demotes a whole mirrored group to a parity group, which has half as many slots again:
+//
+// mirrored `from`, 2 n slots: [ 0 | 1 | .. | 2n-1 ]                                      then free
+//                               |   |         |      copied in slot order
+// parity `to`, 3 n slots:     [ 0 | 1 | .. | 2n-1 | 2n | .. | 3n-1 ]    2n.. are holes, which hold the zero block
 
 use crate::space::Space;
 use ar_book::Slot;
@@ -20,8 +24,8 @@ impl<D: Disk> Space<D> {
     ghost use Rattle.ar_store.specs.Placing.{slot_at, moved_first, IsVacant, IsSqueezed, HasNoHole, CanMove, HasBegunSqueeze};
     ghost use Rattle.ar_store.specs.Spaces.{store_in, IsReady, Stays};
 
-    /// Moves all blocks of the lowest mirrored group to the one free group, which is opened for parity, and answers the first
-    /// hole that is left there. None where the disks broke.
+    /// Opens the only free group for parity, moves all blocks of the lowest mirrored group there, and returns the first
+    /// hole behind them. None if the array failed.
     pub(crate) fn squeeze(&mut self, block: &mut Block) -> Option<Slot>
         requires ready { IsReady self.old }
         requires waiting { IsWaiting self.old.book }
@@ -56,7 +60,7 @@ impl<D: Disk> Space<D> {
         }
     }
 
-    // Moves all blocks of a full mirrored group, in slot order, to the slots with the same numbers of a group with parity.
+    // Moves all blocks of a full mirrored group, in slot order, to the slots with the same numbers of a parity group.
     fn move_all(&mut self, from: u32, to: u32, block: &mut Block) -> Completion
         requires ready { IsReady self.old }
         requires can { CanMove self.old.book from to }

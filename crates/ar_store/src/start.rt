@@ -1,4 +1,5 @@
-// How a store begins.
+// Creates a store. All memory is allocated first (the plan), but for that of the disk set, so that an error can give
+// the disks back.
 ghost use Rattle.std.specs.Prelude.{◌≡◌, ◌<◌, ◌≤◌, ℕ, All, map, replicate, None, length, slice_index, unwrap_or, IfOk, IfErr, OnOk};
 ghost use Rattle.ar_disks.specs.Geometry.{block_len_of};
 ghost use Rattle.ar_extents.specs.declared.refusal.StartFault.TheVariants.{NoMemory};
@@ -18,8 +19,8 @@ use ar_extents::{DiskSet, StartFault, fault_of};
 use std::alloc::{AllocError, Global};
 
 impl<D: Disk> Store<D> {
-    /// A store of these disks: whole, without a unit, its extents in groups of four disks as `IsStarted` says. Disks that are
-    /// refused, for their number, their shapes or want of memory, are handed back.
+    /// Creates a store of `disks`: healthy, without units, its extents in free groups of four disks each, as
+    /// `IsStarted` states. Errors, which give the disks back: their number, their shapes, out of memory.
     pub fn start(alloc: Global, disks: Vec<D>) -> Result<Store<D>, (StartFault, Vec<D>)>
         requires { All CanCount (map D.state disks.items) }
         ensures taken { OnOk result (start_fault (map D.state disks.items) ≡ None) }
@@ -37,7 +38,7 @@ impl<D: Disk> Store<D> {
     }
 }
 
-// All that a store has beside its disks: the book with its groups, and the blocks that calls work in.
+// What a store has beside its disks: the tables with its groups, and the buffers of its calls.
 #[derive(Drop)]
 struct Plan {
     book: Book,
@@ -50,7 +51,7 @@ struct Work {
     scratch: Scratch,
 }
 
-// The store of disks that aren't refused, by the plan for them.
+// The store of disks that pass `start_fault`, by their plan.
 fn start_planned<D: Disk>(
     alloc: Global,
     disks: Vec<D>,
@@ -69,7 +70,7 @@ fn start_planned<D: Disk>(
     Ok(form(set, plan))
 }
 
-// The store of a set that was just started, by the plan for it.
+// The store of a set that was just created, by its plan.
 fn form<D: Disk>(mut set: DiskSet<D>, plan: Plan) -> Store<D>
     requires fresh { IsFresh set }
     requires book { IsPlanFor set plan.book }
@@ -88,7 +89,7 @@ fn form<D: Disk>(mut set: DiskSet<D>, plan: Plan) -> Store<D>
     }
 }
 
-// Takes all the memory that a store of these disks needs, but for that of the disk set.
+// Allocates all the memory of a store of these disks but that of the disk set.
 fn make_plan<D: Disk>(alloc: Global, disks: &[D]) -> Result<Plan, AllocError>
     requires { start_fault (map D.state disks.now) ≡ None }
     ensures book { IfOk result (λ plan. IsPlanFor (started (map D.state disks.now)) plan.book) }
@@ -102,7 +103,7 @@ fn make_plan<D: Disk>(alloc: Global, disks: &[D]) -> Result<Plan, AllocError>
     Ok(Plan { book, work })
 }
 
-// The blocks that calls work in.
+// Allocates the buffers of the store's calls.
 fn make_work(alloc: Global, geometry: Geometry) -> Result<Work, AllocError>
     ensures block { IfOk result (λ work. length work.block ≡ block_len_of geometry) }
     ensures scratch { IfOk result (λ work. work.scratch.geometry ≡ geometry) }
@@ -112,7 +113,7 @@ fn make_work(alloc: Global, geometry: Geometry) -> Result<Work, AllocError>
     Ok(Work { block, scratch })
 }
 
-// The book of all groups that so many disks form.
+// The tables with all groups that `disks` disks of `extents` extents form.
 fn plan_groups(
     alloc: Global,
     geometry: Geometry,
@@ -126,7 +127,8 @@ fn plan_groups(
     form_groups(alloc, geometry, &mut counts, extents)
 }
 
-// The book of all groups that disks form of which the last extents are loose, so many of each.
+// The tables with all groups that these disks form, where the last `counts[d]` of the `extents` extents of disk d are
+// unassigned.
 fn form_groups(
     alloc: Global,
     geometry: Geometry,
@@ -146,7 +148,7 @@ fn form_groups(
     Ok(book)
 }
 
-// The first loose extents of four disks of which the last extents are loose, so many of each.
+// The first unassigned extent of each of four disks, where the last `counts[d]` of `extents` extents are unassigned.
 fn next_members(counts: &[u16], extents: u16, four: FourDisks) -> Members
     requires four { AreFourFullest counts.now four }
     requires few { (d : ℕ) → slice_index counts.now d ≤ extents }
@@ -171,7 +173,7 @@ fn next_place(counts: &[u16], extents: u16, disk: u8) -> Place
     }
 }
 
-// Counts one loose extent fewer of each of four disks.
+// Counts one unassigned extent fewer on each of four disks.
 fn four_fewer(counts: &mut Vec<u16>, four: FourDisks)
     requires { AreFourFullest counts.old.items four }
     ensures { counts.new.items ≡ four_fewer counts.old.items four }
@@ -190,7 +192,7 @@ fn one_fewer(counts: &mut Vec<u16>, disk: u8)
     counts[disk as usize] -= 1;
 }
 
-// Takes the extents of a book's groups, which are those that the set forms.
+// Assigns the extents of the groups in `book`, which are those that the set forms.
 fn take_groups<D: Disk>(set: &mut DiskSet<D>, book: &Book)
     requires { IsPlanFor set.old book.now }
     ensures formed { IsFormed (store_of set.old (empty_book set.old.geometry)) (members_list book.now) (store_of set.new book.now) }
@@ -201,7 +203,7 @@ fn take_groups<D: Disk>(set: &mut DiskSet<D>, book: &Book)
     }
 }
 
-// Takes the lowest loose extents of four disks.
+// Assigns the lowest unassigned extent of each of four disks.
 fn take_members<D: Disk>(set: &mut DiskSet<D>, members: Members)
     requires { AreFullest set.old members }
     ensures { set.new ≡ without set.old members }

@@ -1,4 +1,5 @@
-// The store, and its reads and writes by key.
+// Reads and writes of blocks by key. The invariant: tables and disks agree, a slot that names a block holds one, and
+// until the array fails one group is free (`IsKept`).
 
 use crate::Opening;
 use crate::space::Space;
@@ -7,12 +8,12 @@ use ar_disks::{Block, Completion, Disk, Key};
 use ar_extents::{DiskSet, Health};
 use std::marker::Model;
 
-/// The disks of an array and the book of their space. Both are open to the crates that move blocks in the background; whoever
-/// changes them keeps what `IsKept` says of them.
+/// The disks of an array and the tables of its groups and units. Both are public for the crates that move blocks in the
+/// background; whoever changes them keeps `IsKept`.
 #[derive(Drop)]
 pub struct Store<D: Disk> {
     pub space: Space<D>,
-    /// The block that is on its way from one slot to another.
+    /// The buffer of a block that moves from one slot to another.
     pub block: Block,
 }
 
@@ -44,38 +45,41 @@ impl<D: Disk> Store<D> {
     ghost use Rattle.ar_store.specs.Asking.{AsksToPut, AsksSlots, AsksGroup, ReadsThenWrites};
     ghost use Rattle.ar_store.specs.Calls.{IsAccessed, Opens, IfOpened, HoldsZeros, LeavesZeros};
 
-    /// The health of the disks, with what the store keeps true.
+    /// Returns the health of the array: `Whole` (all disks present), `Out` (one has failed), `Rebuilding` (its
+    /// replacement is being rebuilt) or `Broken` (failed: two disks missing at once). Its contract states the store's
+    /// invariant.
     pub fn health(&self) -> Health
         ensures health { result ≡ self.now.disks.health }
         ensures kept { IsKept self.now }
 
-        // Redundancy: while the disks are whole, any one of them may go.
+        // Redundancy: while the array is healthy, it survives the loss of any one disk.
         ensures redundant { result ≡ Health.Whole → (d : ℕ) → SurvivesLossOf self.now d }
 
-        // Until the disks are broken, whole blocks stand for all keys.
+        // Until the array fails, every key reads as a block of full length.
         ensures whole { result ≢ Health.Broken → (k : Key) → length (stands self.now k) ≡ block_len_of self.now.disks.geometry }
     {
         self.space.disks.health()
     }
 
-    /// The disks.
+    /// Returns the disk set.
     pub fn disks(&self) -> &DiskSet<D>
         ensures { result.now ≡ self.now.disks }
     {
         &self.space.disks
     }
 
-    /// The book of their space.
+    /// Returns the tables of groups and units.
     pub fn book(&self) -> &Book
         ensures { result.now ≡ self.now.book }
     {
         &self.space.book
     }
 
-    /// Reads the block of a key into `into`, a block of the store's length. A block without a home is read as zeros, and no disk
-    /// is accessed then; else none that the read doesn't need, as `AsksFor` says. No row of any disk changes. `Broken` says that
-    /// the disks are, whether the block has a home or none, and any bytes may stand in `into` then; of a store that was broken
-    /// before nothing has changed.
+    /// Reads the block of `key` into `into`, a block of the store's length. A block without a home (the slot that a
+    /// block is mapped to) reads as zeros and accesses no disk; otherwise only disks that the read needs are accessed
+    /// (`AsksFor`). No row of any disk changes. Returns `Broken` exactly if the array has failed after the call, with
+    /// or without a home; the contents of `into` are then unspecified, and an array that had failed before is
+    /// unchanged.
     pub fn get(&mut self, key: Key, into: &mut Block) -> Completion
         requires whole { length into.old ≡ block_len_of self.old.disks.geometry }
 
@@ -103,11 +107,11 @@ impl<D: Disk> Store<D> {
         }
     }
 
-    /// Writes a block of a unit, from a block of the store's length, and gives it the next stamp. It is never refused for room:
-    /// where it goes, `Puts` says, and which disks are asked and which rows are written for that, `AsksToPut`; a group that is
-    /// opened for a squeeze is filled with zeros first. `Broken` says that the disks are: the block has its old home then,
-    /// other blocks' homes have changed only as far as a squeeze came, as `MayHavePrepared` says, and of a store that was
-    /// broken before nothing has.
+    /// Writes the block of `key` from `from`, a block of the store's length, and gives it the next write sequence
+    /// number (its `stamp`). There is always a slot for it: `Puts` states which, and `AsksToPut` which disks are
+    /// accessed and which rows written; a group that a squeeze opens is filled with zeros first. Returns `Broken`
+    /// exactly if the array has failed after the call: the block then keeps its old home, other homes have changed only
+    /// as far as a squeeze got (`MayHavePrepared`), and an array that had failed before is unchanged.
     pub fn put(&mut self, key: Key, from: &[u8]) -> Completion
         requires block { HasBlock self.old.book key }
         requires whole { length from.now ≡ block_len_of self.old.disks.geometry }
@@ -133,8 +137,8 @@ impl<D: Disk> Store<D> {
         self.space.write(key, way, from)
     }
 
-    /// Gives a unit's block that has no home one, by writing zeros: it goes where `put` would put it, and reads as before. No
-    /// disk is asked that a put doesn't ask. After `Broken` it has none.
+    /// Gives a block without a home one by writing zeros: it goes where `put` would put it, accesses what a put
+    /// accesses, and reads as before. After `Broken` it still has no home.
     pub fn place(&mut self, key: Key) -> Completion
         requires block { HasBlock self.old.book key }
         requires unplaced { home self.old.book key ≡ None }
@@ -161,10 +165,10 @@ impl<D: Disk> Store<D> {
         self.space.write(key, way, self.block.bytes())
     }
 
-    /// Moves a block from its home to a slot that names none. The new slot is written before the old one is left; the stamp
-    /// stays, and so does what the other slots of the new one's group hold. No disk is asked but those that a read of the one
-    /// slot and a write of the other ask, and no row is written but the new slot's. After `Broken` the block has its old home;
-    /// of a store that was broken before nothing has changed.
+    /// Moves a block from its home to the empty slot `slot`. The new slot is written before the tables drop the old
+    /// one. The write sequence number stays, and the other slots of the new group keep their contents. Only the disks
+    /// of a read of the old slot and of a write of the new one are accessed, and only the new slot's rows are written.
+    /// After `Broken` the block keeps its old home; an array that had failed before is unchanged.
     pub fn move_rb(&mut self, key: Key, slot: Slot) -> Completion
         requires placed { IsSome (home self.old.book key) }
         requires hole { IsVacant self.old.book slot }
@@ -187,9 +191,9 @@ impl<D: Disk> Store<D> {
         self.space.move_block(key, slot, &mut self.block)
     }
 
-    /// Opens the lowest free group for mirrored blocks or for parity, while two are free. A group that is opened for parity is
-    /// filled with zeros; no disk is asked but those of the group, and no other group is written. `Broken` says that the disks
-    /// are: the group may have been opened then, but of a store that was broken before nothing has changed.
+    /// Opens the lowest free group as mirrored or parity while two are free. A parity group is filled with zeros. Only
+    /// the group's disks are accessed, and no other group is written. Returns `Broken` exactly if the array has failed
+    /// after the call: the group may have been opened then, but an array that had failed before is unchanged.
     pub fn open_group(&mut self, class: Class) -> Opening
         requires { class ≢ Class.Free }
 

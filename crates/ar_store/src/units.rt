@@ -1,4 +1,4 @@
-// The making, growth and removal of units. No disk is accessed.
+// Creates, resizes and deletes units. Only the tables change: no disk is accessed.
 
 use crate::Store;
 use ar_book::Refusal;
@@ -15,9 +15,9 @@ impl<D: Disk> Store<D> {
     ghost use Rattle.ar_book.specs.Refusals.{make_refusal, grow_refusal};
     ghost use Rattle.ar_store.specs.Slots.{stands};
 
-    /// Makes a unit of so many sectors, 1 to 1,048,576, without a home: all its blocks are read as zeros. Refused in this
-    /// order: `BadLun` for a LUN over 7, `Exists`, `Size`, `NoRoom` where its blocks exceed the room, which it carries, and
-    /// `NoMemory`. A refused making changes nothing.
+    /// Creates a unit of `sectors` sectors, 1 to 1,048,576. None of its blocks has a home, so all read as zeros.
+    /// Errors, in this order: `BadLun` for a LUN above 7, `Exists`, `Size`, `NoRoom` with the number of blocks that
+    /// still fit, `NoMemory`. An error changes nothing.
     pub fn make(&mut self, addr: Addr, sectors: u32) -> Result<(), Refusal>
         ensures granted { OnOk result (make_refusal self.old.book addr sectors ≡ None) }
         ensures refused { IfErr result (λ refusal. refusal ≡ unwrap_or (make_refusal self.old.book addr sectors) Refusal.NoMemory) }
@@ -29,9 +29,9 @@ impl<D: Disk> Store<D> {
         self.space.book.make(addr, sectors)
     }
 
-    /// Makes a unit longer, up to 1,048,576 sectors, and sets its mark; the new blocks have no home and are read as zeros.
-    /// Refused in this order: `Absent`, `Size` where the length isn't above the present one or too great, `NoRoom` where the
-    /// added blocks exceed the room, which it carries, and `NoMemory`. A refused growth changes nothing.
+    /// Extends a unit to `sectors` sectors, at most 1,048,576, and sets its pending UNIT ATTENTION. The new blocks have
+    /// no home and read as zeros. Errors, in this order: `Absent`, `Size` if the length isn't above the present one or
+    /// is too great, `NoRoom` with the number of blocks that still fit, `NoMemory`. An error changes nothing.
     pub fn grow(&mut self, addr: Addr, sectors: u32) -> Result<(), Refusal>
         ensures granted { OnOk result (grow_refusal self.old.book addr sectors ≡ None) }
         ensures refused { IfErr result (λ refusal. refusal ≡ unwrap_or (grow_refusal self.old.book addr sectors) Refusal.NoMemory) }
@@ -43,8 +43,8 @@ impl<D: Disk> Store<D> {
         self.space.book.grow(addr, sectors)
     }
 
-    /// Drops a unit: its blocks have no home from then on and are read as zeros, and every other block stands as it did.
-    /// `Absent` exactly where there is no unit; nothing changes then.
+    /// Deletes a unit: its blocks lose their homes and read as zeros, and every other block keeps its contents.
+    /// `Absent` exactly if there is no unit; nothing changes then.
     pub fn drop_unit(&mut self, addr: Addr) -> Result<(), Refusal>
         ensures absent { IfErr result (λ refusal. refusal ≡ Refusal.Absent) }
         ensures there { IsOk result ↔ IsTrue (has_unit self.old.book addr) }
@@ -57,7 +57,7 @@ impl<D: Disk> Store<D> {
         self.space.book.drop_unit(addr)
     }
 
-    /// Clears a unit's mark. Where there is no unit nothing changes.
+    /// Clears a unit's pending UNIT ATTENTION. Nothing changes if there is no unit.
     pub fn clear_attention(&mut self, addr: Addr)
         ensures book { self.new.book ≡ unmarked self.old.book addr }
         ensures disks { self.new.disks ≡ self.old.disks }

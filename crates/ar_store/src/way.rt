@@ -1,4 +1,5 @@
-// Where a block goes that is put.
+// Finds the slot of a block that is put, the first of these: its home, if mirrored; a mirrored hole; its home, if
+// parity; a parity hole; the first hole that a squeeze leaves.
 ghost use Rattle.std.specs.Prelude.{◌≡◌, ◌≢◌, ◌⊎◌, ◌<◌, length, IfSome, IfNone};
 ghost use Rattle.ar_disks.specs.Geometry.{block_len_of};
 ghost use Rattle.ar_extents.specs.declared.health.Health.TheVariants.{Broken};
@@ -16,19 +17,19 @@ use ar_book::{Book, Class, Level, Slot};
 use ar_disks::{Block, Disk, Key};
 use ar_index::Steps;
 
-/// The slot that a block goes to.
+/// The slot that a block is written to.
 #[derive(Clone, Copy)]
 pub(crate) enum Way {
-    /// The slot where it stands.
+    /// Its home: it is overwritten in place.
     Home(Slot),
-    /// A slot that names no block so far.
+    /// A hole: a slot that no block is mapped to.
     Hole(Slot),
-    /// None: the disks broke before one was free.
+    /// None: the array failed before a slot was found.
     Broken,
 }
 
 impl<D: Disk> Space<D> {
-    /// Finds the slot to which a block of a unit goes, or makes one, by way of `block`.
+    /// Finds a slot for a block of a unit; a squeeze, if needed, moves blocks through the buffer `block`.
     pub(crate) fn find_way(&mut self, key: Key, block: &mut Block) -> Way
         requires ready { IsReady self.old }
         requires unit { HasBlock self.old.book key }
@@ -58,7 +59,7 @@ impl<D: Disk> Space<D> {
     }
 }
 
-// The slot to which a block goes, where that needs no squeeze.
+// The slot for a block, if it needs no squeeze.
 fn way_in(book: &mut Book, key: Key) -> Option<Way>
     requires { TablesAgree book.old }
     ensures way { IfSome result (IsWayIn book.old key book.new) }
@@ -82,7 +83,7 @@ fn way_in(book: &mut Book, key: Key) -> Option<Way>
     }
 }
 
-// The lowest mirrored hole. Where there is none and two groups are free, the lowest is opened for it.
+// The lowest mirrored hole. If there is none and two groups are free, opens the lowest for it.
 fn mirrored_hole(book: &mut Book) -> Option<Slot>
     ensures found { IfSome result (IsMirroredHole book.old book.new) }
     ensures none { IfNone result (HasNoMirroredHole book.old book.new) }

@@ -7,8 +7,9 @@ use Rattle.ar_balance.specs.Balance.{Balances, LeavesAll, IfChanged, gained}
 use Rattle.ar_balance.specs.Measure.{balance_left}
 use Rattle.ar_volume.specs.Image.{ArrayState, is_broken}
 
--- What the rule of balancing names was done, or why it was not is told. Every block stands as it did, and the cache stays. There
--- is more room by a group with parity where one was formed, and as much otherwise; and less is left to be balanced.
+-- The step that the rule of balancing names was done, or the answer says why not. Every block keeps its contents, and
+-- the cache stays. The room for units grows by a parity group where a group was formed, and stays otherwise; each
+-- change leaves less to balance.
 pub record BalancesOne (old : ArrayState) (answer : Balance) (new : ArrayState) : Type 0 where
   pub does : Balances old.store new.store answer
   pub leaves : LeavesAll old.store new.store

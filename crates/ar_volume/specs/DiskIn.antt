@@ -1,4 +1,4 @@
--- What adding a disk does, and putting one in another's place.
+-- How the addition and the replacement of a disk change the array.
 use Rattle.std.specs.Prelude.{◌≡◌, ℕ, Option, None, Some, option_map, unwrap_or, Result, OnOk, OnErr, IfErr}
 use Rattle.ar_disks.specs.Disk.{DiskState}
 use Rattle.ar_extents.specs.Changes.{add_refusal, added, replace_refusal, replaced}
@@ -12,7 +12,7 @@ use Rattle.ar_volume.specs.Image.{ArrayState}
 abbrev pub with_disks : ArrayState → SetState → ArrayState
 with_disks s disks = record s { store = record s.store { disks = disks } }
 
--- why a disk isn't added; want of memory apart
+-- why a disk isn't added; out of memory apart
 abbrev pub disk_add_refusal : ArrayState → DiskState → Option Refusal
 disk_add_refusal s disk = option_map DiskRefused (add_refusal s.store.disks disk)
 
@@ -20,7 +20,7 @@ disk_add_refusal s disk = option_map DiskRefused (add_refusal s.store.disks disk
 abbrev pub disk_replace_refusal : ArrayState → ℕ → DiskState → Option Refusal
 disk_replace_refusal s number disk = option_map DiskRefused (replace_refusal s.store.disks number disk)
 
--- a disk was added, or refused for its reason, or else for want of memory, and handed back; nothing has changed then
+-- a disk was added; or it was refused for its reason, or else out of memory, given back, and nothing changed
 pub record AddsDisk (old : ArrayState) (disk : DiskState) (result : Result (Unit {0}) (Refusal × DiskState)) (new : ArrayState) : Type 0 where
   pub taken : OnOk result (disk_add_refusal old disk ≡ None)
   pub refused : IfErr result (λ back. back.0 ≡ unwrap_or (disk_add_refusal old disk) (DiskRefused NoMemory))
@@ -28,8 +28,8 @@ pub record AddsDisk (old : ArrayState) (disk : DiskState) (result : Result (Unit
   pub added : OnOk result (new ≡ with_disks old (added old.store.disks disk))
   pub unchanged : OnErr result (new ≡ old)
 
--- a disk was put in the place of the one that is out, and is being rebuilt, or it was refused for its reason and handed back;
--- nothing has changed then
+-- a disk took the place of the failed one, and its rebuild began; or it was refused for its reason, given back, and
+-- nothing changed
 pub record ReplacesDisk (old : ArrayState) (number : ℕ) (disk : DiskState) (result : Result (Unit {0}) (Refusal × DiskState)) (new : ArrayState) : Type 0 where
   pub taken : OnOk result (disk_replace_refusal old number disk ≡ None)
   pub refused : IfErr result (λ back. disk_replace_refusal old number disk ≡ Some back.0)

@@ -11,8 +11,8 @@ use Rattle.ar_cache.specs.Cache.{Flushes, Gives, IsPut, last_keys}
 use Rattle.ar_volume.specs.Following.{PutsStored, BreaksStored}
 use Rattle.ar_volume.specs.Image.{ArrayState, is_broken, image_at, image_on_disks}
 
--- The cache gave its least recently used block to the disks, in one put, or had none. Broken is answered exactly where the
--- array is broken after it: it was broken before, and nothing has changed, or this put broke it.
+-- The cache destaged its least recently used block in one put, or was empty. Broken is returned exactly if the array
+-- has failed afterwards: it had before, and nothing changed, or this put failed it.
 pub record FlushesOne (old : ArrayState) (answer : Flush) (new : ArrayState) : Type 0 where
   pub entries : Flushes answer old.cache new.cache
   pub given : is_broken old ≡ false → Gives answer old.cache.entries (stands old.store) (stands new.store)
@@ -20,9 +20,9 @@ pub record FlushesOne (old : ArrayState) (answer : Flush) (new : ArrayState) : T
   pub stopped : answer ≡ NotFlushed → is_broken old ≡ false → StopsInTurn PutsStored BreaksStored (last_keys old.cache.entries) old.store new.store
   pub idle : answer ≡ Idle → new ≡ old
   pub on_disks : answer ≡ Idle → (addr : Addr) → image_at new addr ≡ image_on_disks new.store addr
-  -- whatever is answered, no unit has changed but for homes and stamps, nor has the room
+  -- whatever is returned, the units keep all but homes and write sequence numbers, and the room stays
   pub units : SameUnits old.store.book new.store.book
-  -- and no disk was lost without a fault, nor is an extent loose that wasn't
+  -- and disks failed only by faults, and no extent became unassigned
   pub accessed : IsAccessed old.store.disks new.store.disks
   pub broken : (answer ≡ NotFlushed) ↔ IsTrue (is_broken new)
   pub unchanged : IsTrue (is_broken old) → new ≡ old

@@ -1,4 +1,4 @@
--- What an array holds, and the units that stand on it.
+-- The state of an array, and the units as their hosts see them.
 use Rattle.std.specs.Prelude.{◌≡◌, ◌⊎◌, ℕ, ◌<◌, ◌≤◌, Bool, false, nat_lt, if◌then◌else◌, List, length}
 use Rattle.std.proofs.Common.{inl, inr}
 use Rattle.std.proofs.lemmas.Bool.{cases_lt}
@@ -19,7 +19,7 @@ pub record ArrayState : Type 0 where
   pub store : StoreState
   pub cache : CacheState
 
--- the array has lost its data, for good
+-- the array has failed: its data are lost for good
 abbrev pub is_broken : ArrayState → Bool
 is_broken s = is_broken_set s.store.disks.health
 
@@ -31,43 +31,43 @@ geometry_of s = s.store.disks.geometry
 abbrev pub with_book : ArrayState → Tables → ArrayState
 with_book s t = record s { store = record s.store { book = t } }
 
--- the block that is seen under a key: the cached one, else the one that stands on the disks
+-- the block that a key reads as: the cached one, else the one on the disks
 unfoldable pub seen_at : ArrayState → Key → List ℕ
 seen_at s key = seen s.cache (stands s.store) key
 
--- the key is of a unit's block
+-- the key is that of a unit's block
 abbrev pub knows_in : StoreState → Key → Bool
 knows_in s key = nat_lt key.rb (length (unit_in s.book.units key.addr).homes)
 
--- how many sectors the unit at an address has
+-- the length of the unit at an address, in sectors
 abbrev pub length_at : Tables → Addr → ℕ
 length_at t addr = (unit_in t.units addr).sectors
 
--- whether it has to tell that it has grown
+-- whether it has a pending UNIT ATTENTION
 abbrev pub attention_at : Tables → Addr → Bool
 attention_at t addr = (unit_in t.units addr).attention
 
--- its sectors, where its blocks are these
+-- its sectors, given the blocks
 abbrev pub sectors_by : StoreState → (Key → List ℕ) → Addr → List (List ℕ)
 sectors_by s block_at addr = sectors_in s.disks.geometry (unit_block block_at addr) 0 (length_at s.book addr)
 
--- the unit that the tables say is there, where its blocks are these
+-- the unit at an address by the tables, given the blocks
 abbrev pub unit_by : StoreState → (Key → List ℕ) → Addr → UnitState
 unit_by s block_at addr = if has_unit s.book addr then Present (sectors_by s block_at addr) (attention_at s.book addr) else Absent
 
--- the sectors of a unit as its host sees them
+-- the sectors of a unit as its host reads them
 abbrev pub unit_sectors : ArrayState → Addr → List (List ℕ)
 unit_sectors s addr = sectors_by s.store (seen_at s) addr
 
--- the unit at a host's LUN as that host sees it: absent, or its sectors and its mark
+-- the unit at a host's LUN as that host sees it: absent, or its sectors and whether a UNIT ATTENTION is pending
 abbrev pub image_at : ArrayState → Addr → UnitState
 image_at s addr = unit_by s.store (seen_at s) addr
 
--- the same from the disks alone
+-- the same by the disks alone
 abbrev pub image_on_disks : StoreState → Addr → UnitState
 image_on_disks s addr = unit_by s (stands s) addr
 
--- a pair of numbers that is no host's address has no unit
+-- the unit at a host number and a LUN; Absent if no host has this number (0 to 3)
 abbrev pub at_numbers : (Addr → UnitState) → (number lun : ℕ) → (number < 4) ⊎ (4 ≤ number) → UnitState
 at_numbers units number lun (inl is) = units (record { host = record { number = number; in_range = is }; lun = lun })
 at_numbers units number lun (inr not) = Absent
@@ -79,13 +79,13 @@ at_address units a = at_numbers units a.0 a.1 (cases_lt a.0 4)
 abbrev pub image : ArrayState → Address → UnitState
 image s a = at_address (image_at s) a
 
--- the cache has blocks of the store's shape, of units alone
+-- every cached block belongs to a unit, and the cache has the store's geometry
 pub record IsJoined (s : ArrayState) : Type 0 where
   pub geometry : s.cache.geometry ≡ geometry_of s
   pub known : KnowsAll (knows_in s.store) s.cache
 
--- What every array keeps: past the end of each unit, and everywhere where there is none, sectors are zeros. So a unit that
--- is made or grows shows none of what stood there before. Of a broken array nothing is said.
+-- The invariant of every array: past the end of each unit, and where there is no unit, sectors are zero. So a unit that
+-- is created or extended shows no former data. A failed array is unspecified.
 pub record IsPadded (s : ArrayState) : Type 0 where
   pub zeros : is_broken s ≡ false → (addr : Addr) (i : ℕ) → length_at s.store.book addr ≤ i
       → sector_in (geometry_of s) (unit_block (seen_at s) addr) i ≡ zero_sector

@@ -1,4 +1,4 @@
--- Reads and writes of blocks, one after another, leave what one may: laws of what READ and WRITE run over.
+-- Laws of what READ and WRITE keep: the relations are reflexive and transitive, so they hold of any sequence.
 use Rattle.std.proofs.Common.{◌≡◌, ℕ, List, [], ◌∷◌, Option, None, Some, IsSome, refl, sym, ◌∙◌, subst}
 use Rattle.ar_disks.specs.declared.address.Key.{Key}
 use Rattle.ar_store.specs.Store.{StoreState}
@@ -45,7 +45,7 @@ places_refl s = record { reads = reads_refl s.store; cache = refl }
 pub places_then : (a b c : ArrayState) → SamePlaces a b → SamePlaces b c → SamePlaces a c
 places_then a b c p q = record { reads = reads_then a.store b.store c.store p.reads q.reads; cache = q.cache ∙ p.cache }
 
--- what one block's read leaves
+-- what the read of one block keeps
 pub places_read : (a b : ArrayState) (key : Key) → ReadsBlock a key b → SamePlaces a b
 places_read a b key read = by (cached a.cache key) refl
   where
@@ -55,7 +55,7 @@ places_read a b key read = by (cached a.cache key) refl
         let hit : IsSome (cached a.cache key) = rw is refl in
         record { reads = subst (StoreReads a.store) (sym (read.hit hit)) (reads_refl a.store); cache = read.cache }
 
--- and the reads of some, in turn
+-- and the reads of several, in order
 pub places_in_turn : (keys : List Key) (a b : ArrayState) → InTurn ReadsBlock keys a b → SamePlaces a b
 places_in_turn [] a b same = subst (SamePlaces a) (sym same) (places_refl a)
 places_in_turn (key ∷ keys) a b turn =

@@ -1,4 +1,4 @@
--- What a demotion and a clean do.
+-- What a demotion and a cleaning step do.
 use Rattle.std.specs.Prelude.{◌≡◌, ◌≢◌, ◌↔◌, ◌<◌, ◌≤◌, IsTrue}
 use Rattle.ar_extents.specs.declared.health.Health.TheVariants.{Broken as AllBroken}
 use Rattle.ar_book.specs.declared.class.Class.TheVariants.{Parity}
@@ -12,16 +12,16 @@ use Rattle.ar_moves.specs.Demotion.{Demotes, NamesNoDemotion, MayHaveOpened, Lea
 use Rattle.ar_moves.specs.Cleaning.{Cleans, NothingToClean, AsksToClean, cleaning_left}
 use Rattle.ar_volume.specs.Image.{ArrayState, is_broken}
 
--- what both leave: every block as it stood, and the cache. Broken is answered exactly where the array is broken after it.
+-- Both keep the contents of every block, and the cache. Broken is returned exactly if the array has failed afterwards.
 pub record MovesBlock (old : ArrayState) (answer : Move) (new : ArrayState) : Type 0 where
   pub leaves : LeavesBlocks old.store new.store
   pub cache : new.cache ≡ old.cache
   pub broken : (answer ≡ Broken) ↔ IsTrue (is_broken new)
 
--- The block that the rule of demotion names went to the slot that it names, in a group that was opened for it where the rule says
--- so; or the rule names nothing, and nothing has changed. Where the array broke, a group that the rule opens is open. Each other slot of
--- the block's new group that held a block holds it; no disk was asked but those that this asks, and no row was written but the
--- slot's, or those of the group that was opened.
+-- The block that the rule of demotion names moved to the slot that it names, in a group that was opened if the rule
+-- says so; or the rule names nothing, and nothing changed. If the step fails the array, a group that the rule opens is
+-- open. The other slots of the block's new group keep their blocks; only the disks that this needs were accessed, and
+-- only the slot's rows, or those of the group that was opened, were written.
 pub record DemotesOne (old : ArrayState) (answer : Move) (new : ArrayState) : Type 0 where
   pub moves : MovesBlock old answer new
   pub moved : IfMoved answer (λ key to. Demotes old.store.book key to new.store.book)
@@ -33,9 +33,9 @@ pub record DemotesOne (old : ArrayState) (answer : Move) (new : ArrayState) : Ty
   pub ready : answer ≡ Broken → old.store.disks.health ≢ AllBroken → LeavesReady old.store.book new.store.book
   pub asks : AsksToDemote old.store new.store
 
--- The block that the rule of cleaning names went to the slot that it names, and less is left to be cleaned; or the rule names
--- nothing, and nothing has changed. No group is opened. Each other slot of the block's new group that held a block holds it; no
--- disk was asked but those that this move asks, and no row was written but the slot's.
+-- The block that the rule of cleaning names moved to the slot that it names, and less is left to clean; or the rule
+-- names nothing, and nothing changed. No group is opened. The other slots of the block's new group keep their blocks;
+-- only the disks that this move needs were accessed, and only the slot's rows were written.
 pub record CleansOne (old : ArrayState) (answer : Move) (new : ArrayState) : Type 0 where
   pub moves : MovesBlock old answer new
   pub moved : IfMoved answer (λ key to. Cleans old.store.book key to new.store.book)

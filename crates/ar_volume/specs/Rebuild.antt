@@ -10,11 +10,11 @@ use Rattle.ar_rebuild.specs.Rows.{IsBesideNext, HasNothingNext, IsSpared, AsksNe
 use Rattle.ar_rebuild.specs.Rebuild.{Answers, Advances, IsQuiet as NothingToRebuild}
 use Rattle.ar_volume.specs.Image.{ArrayState, is_broken}
 
--- The lowest extent that wasn't done of the replaced disk is, or why it is not is told. Every slot holds what it held, on that
--- extent too, and every block stands as it did; tables and cache stay, and so do the rows of all other extents. No disk is
--- accessed but those of the extent and of the members from which it is written. Where no used group has the extent none is: it
--- counts as done, and that is all. The array is broken by another disk than the replaced one: once that has faulted nothing more
--- is asked. Where the rebuild ends so, or is given up, the extent's rows are written up to one.
+-- The lowest extent of the replaced disk that wasn't done is done, or the answer says why not. Every slot and block
+-- keeps its contents, also on that extent; tables, cache and the rows of all other extents stay. Only the disks of the
+-- extent and of its sources are accessed, and none if no used group has the extent. Only another disk can fail the
+-- array: once the replaced disk has faulted, nothing more is accessed. If the array fails or the rebuild is given up,
+-- the extent's rows are written up to one.
 pub record RebuildsOne (old : ArrayState) (answer : Rebuild) (new : ArrayState) : Type 0 where
   pub answers : Answers old.store.disks new.store.disks answer
   pub idle : (answer ≡ Idle) ↔ NothingToRebuild old.store.disks.health

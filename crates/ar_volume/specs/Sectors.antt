@@ -1,4 +1,4 @@
--- The sectors of a unit, as they lie in its blocks.
+-- How the sectors of a unit lie in its blocks: block rb has sectors rb * n to rb * n + n - 1, n sectors a block.
 use Rattle.std.specs.Prelude.{◌≡◌, ℕ, ◌+◌, ◌-◌, ◌/◌, ◌%◌, ◌≤◌, ◌==◌, ◌&&◌, ◌++◌, if◌then◌else◌, Bool, List, [], map}
 use Rattle.std.specs.List.{concat, range_with_len}
 use Rattle.ar_disks.specs.declared.address.Addr.{Addr}
@@ -21,28 +21,28 @@ same_address a b = (a.0 == b.0) && (a.1 == b.1)
 abbrev pub key_of : Addr → ℕ → Key
 key_of addr rb = record { addr = addr; rb = rb }
 
--- a unit's blocks by their number
+-- a unit's blocks by number
 abbrev pub unit_block : (Key → List ℕ) → Addr → ℕ → List ℕ
 unit_block block_at addr rb = block_at (key_of addr rb)
 
--- the keys of so many of a unit's blocks, in ascending order
+-- the keys of `count` of a unit's blocks from `first` on, in ascending order
 abbrev pub keys_from : Addr → ℕ → ℕ → List Key
 keys_from addr first count = map (key_of addr) (range_with_len first count)
 
--- the keys of the blocks that sectors of a unit lie in, in ascending order
+-- the keys of the blocks that `count` sectors of a unit from `lba` on lie in, in ascending order
 abbrev pub keys_in : Geometry → Addr → ℕ → ℕ → List Key
 keys_in g addr lba count =
     if count == 0 then [] else keys_from addr (lba / sectors_of g) ((lba + count - 1) / sectors_of g + 1 - lba / sectors_of g)
 
--- sector i of a unit whose block of each number is given
+-- sector i of a unit, given its blocks by number
 unfoldable pub sector_in : Geometry → (ℕ → List ℕ) → ℕ → List ℕ
 sector_in g blocks i = sectors_at (blocks (i / sectors_of g)) (i % sectors_of g) 1
 
--- its sectors from one on, so many
+-- its `count` sectors from `first` on
 abbrev pub sectors_in : Geometry → (ℕ → List ℕ) → ℕ → ℕ → List (List ℕ)
 sectors_in g blocks first count = map (sector_in g blocks) (range_with_len first count)
 
--- the bytes of the first of so many sectors of a unit stand behind what was there, and nothing else
+-- the first `many` of `count` sectors of a unit from `lba` on were appended, and nothing else
 pub record AppendsFirst (g : Geometry) (blocks : ℕ → List ℕ) (lba count : ℕ) (old new : List ℕ) : Type 0 where
   pub many : ℕ
   pub within : many ≤ count

@@ -1,4 +1,4 @@
--- What is seen of the units' blocks, and what a call leaves of it.
+-- The units' contents, as their hosts read them, and what a call keeps of them.
 use Rattle.std.specs.Prelude.{◌≡◌, ◌≢◌, ◌⊎◌, ℕ, ◌+◌, ◌-◌, ◌/◌, ◌<◌, ◌≤◌, true, List, length, None}
 use Rattle.std.specs.List.{concat}
 use Rattle.ar_disks.specs.declared.address.Addr.{Addr}
@@ -12,11 +12,11 @@ use Rattle.ar_volume.specs.Sectors.{sector_in, sectors_in, unit_block, key_of}
 use Rattle.ar_volume.specs.Image.{ArrayState, geometry_of, seen_at, length_at, attention_at, unit_sectors}
 use Rattle.ar_volume.specs.Following.{StoreReads}
 
--- the bytes of sectors of a unit
+-- the bytes of `count` sectors of a unit from `lba` on
 abbrev pub sectors_read : ArrayState → Addr → ℕ → ℕ → List ℕ
 sectors_read s addr lba count = concat (sectors_in (geometry_of s) (unit_block (seen_at s) addr) lba count)
 
--- there is a unit at this address, with so many sectors
+-- there is a unit at this address, with `sectors` sectors (1 to 1,048,576)
 pub record IsUnit (s : ArrayState) (addr : Addr) (sectors : ℕ) : Type 0 where
   pub there : has_unit s.store.book addr ≡ true
   pub sectors_same : length_at s.store.book addr ≡ sectors
@@ -28,30 +28,30 @@ pub record IsUnit (s : ArrayState) (addr : Addr) (sectors : ℕ) : Type 0 where
 abbrev pub present_at : ArrayState → Addr → UnitState
 present_at s addr = Present (unit_sectors s addr) (attention_at s.store.book addr)
 
--- every block is seen as it was, and stands where it stood; no row of any disk was written
+-- the tables and the cache stayed, and no row of any disk was written
 pub record SamePlaces (old new : ArrayState) : Type 0 where
   pub reads : StoreReads old.store new.store
   pub cache : new.cache ≡ old.cache
 
--- sectors of a unit have these bytes in their place, all others of all units are as they were
+-- `count` sectors of a unit from `lba` on have these bytes; all other sectors of all units stay
 pub record Writes (old : ArrayState) (addr : Addr) (lba count : ℕ) (bytes : List ℕ) (new : ArrayState) : Type 0 where
   pub inside : (i : ℕ) → lba ≤ i → i < lba + count → sector_in (geometry_of old) (unit_block (seen_at new) addr) i ≡ sectors_at bytes (i - lba) 1
   pub outside : (i : ℕ) → (i < lba) ⊎ (lba + count ≤ i) → sector_in (geometry_of old) (unit_block (seen_at new) addr) i ≡ sector_in (geometry_of old) (unit_block (seen_at old) addr) i
   pub others : (k : Key) → k.addr ≢ addr → seen_at new k ≡ seen_at old k
 
--- no block is seen to change
+-- no block changed its contents
 pub record SameSeen (old new : ArrayState) : Type 0 where
   pub same : (k : Key) → seen_at new k ≡ seen_at old k
 
--- the cache has for each key the block that it had, but for those of a unit's blocks from one number to before another
+-- the cache has the same block for each key, but for those of a unit's blocks from `first` to before `end`
 pub record IsSpared (old new : CacheState) (addr : Addr) (first end : ℕ) : Type 0 where
   pub others : (k : Key) → (k.addr ≢ addr) ⊎ ((k.rb < first) ⊎ (end ≤ k.rb)) → cached new k ≡ cached old k
 
--- none of the blocks of these sectors is in the cache
+-- none of the blocks of these sectors is cached
 pub record IsForced (s : ArrayState) (addr : Addr) (lba count : ℕ) : Type 0 where
   pub none : (i : ℕ) → lba ≤ i → i < lba + count → cached s.cache (key_of addr (i / sectors_of (geometry_of s))) ≡ None
 
--- the tables say of an address what they said
+-- the tables have the same unit at an address: its existence, length and pending UNIT ATTENTION
 pub record SameUnit (t u : Tables) (addr : Addr) : Type 0 where
   pub there : has_unit u addr ≡ has_unit t addr
   pub sectors : length_at u addr ≡ length_at t addr

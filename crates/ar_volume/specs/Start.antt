@@ -5,7 +5,7 @@ use Rattle.ar_extents.specs.declared.health.Health.TheVariants.{Whole}
 use Rattle.ar_store.specs.Forming as store
 use Rattle.ar_volume.specs.Image.{ArrayState, geometry_of}
 
--- the array has these disks, whole, in groups that are all free, no unit, and an empty cache of so many blocks
+-- the array has these disks, healthy, in groups that are all free, no unit, and an empty cache of `capacity` blocks
 pub record IsStarted (disks : List DiskState) (capacity : ℕ) (s : ArrayState) : Type 0 where
   pub formed : store.IsStarted disks s.store
   pub disks_same : s.store.disks.disks ≡ disks

@@ -1,11 +1,11 @@
--- How refusals are written.
+-- The texts of refusals.
 use Rattle.std.specs.Prelude.{ℕ, List, codes}
 use Rattle.ar_book.specs.Texts.{refusal_text as unit_refusal_text}
 use Rattle.ar_extents.specs.Texts.{disk_refusal_text}
 use Rattle.ar_volume.specs.declared.refusal.Refusal.{Refusal}
 use Rattle.ar_volume.specs.declared.refusal.Refusal.TheVariants.{Unit, Broken, Disk}
 
--- an array's refusal is that of the unit or of the disk, or that the array has lost its data
+-- the text of an array's refusal: that of the unit or of the disk, or that the array has lost its data
 abbrev pub refusal_text : Refusal → List ℕ
 refusal_text (Unit refusal) = unit_refusal_text refusal
 refusal_text Broken = codes "M6 Broken"

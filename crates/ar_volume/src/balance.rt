@@ -1,4 +1,4 @@
-// Groups that are formed of added disks, and extents that move to them.
+// Balancing: new groups are formed from added disks, and extents move to them.
 ghost use Rattle.std.specs.Prelude.{◌≡◌, false};
 ghost use Rattle.ar_volume.specs.Balance.{BalancesOne};
 ghost use Rattle.ar_volume.specs.Image.{is_broken};
@@ -9,7 +9,7 @@ use ar_balance::{Balance, balance_one};
 use ar_disks::Disk;
 
 impl<D: Disk> Blocks<D> {
-    /// Balances the disks by one step.
+    /// Performs one step of balancing. No block changes its contents unless the array fails.
     pub fn balance_one(&mut self) -> Balance
         ensures balances { BalancesOne self.old result self.new }
         ensures seen { is_broken self.new ≡ false → SameSeen self.old self.new }

@@ -1,4 +1,4 @@
-// The store, as what the cache gives its blocks to.
+// The store as the backing of the cache.
 ghost use Rattle.std.specs.Prelude.{◌≡◌};
 ghost use Rattle.ar_extents.specs.Changes.{is_broken as is_broken_set};
 ghost use Rattle.ar_store.specs.Slots.{stands};
@@ -10,7 +10,7 @@ use ar_cache::Backing;
 use ar_disks::{Block, Completion, Disk, Key};
 use ar_store::Store;
 
-/// The store behind the cache. The keys that it knows are those of units' blocks.
+/// The store behind the cache. It knows the keys of units' blocks.
 #[derive(Drop)]
 pub struct Behind<D: Disk> {
     pub store: Store<D>,

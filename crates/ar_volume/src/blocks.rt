@@ -1,4 +1,5 @@
-// The blocks of all units: a write-back cache over the store.
+// The blocks of all units: a write-back cache over the store. The invariant: every cached block belongs to a unit and
+// has the store's geometry (`IsJoined`).
 ghost use Rattle.std.specs.Prelude.{◌≡◌, ◌≢◌, ◌≤◌, ◌<◌, All, map, None, false, IfOk, IfErr, OnOk, MatchOption, length, unwrap_or};
 ghost use Rattle.ar_disks.specs.declared.address.Key.{Key};
 ghost use Rattle.ar_disks.specs.Block.{zeros};
@@ -23,7 +24,7 @@ use ar_store::Store;
 use std::alloc::Global;
 use std::marker::Model;
 
-/// The blocks of all units, by key. A read sees the cached block where there is one.
+/// The blocks of all units, by key. A read returns the cached block if there is one.
 #[derive(Drop)]
 pub struct Blocks<D: Disk> {
     pub(crate) cache: Cache,
@@ -85,8 +86,8 @@ impl<D: Disk> Blocks<D> {
     ghost use Rattle.ar_volume.specs.Start.{IsStarted};
     ghost use Rattle.ar_volume.specs.Seen.{IsUnit};
 
-    /// The blocks of no unit, on these disks, behind an empty cache of so many blocks (at most 65,536). Disks that are refused
-    /// are handed back.
+    /// Creates the blocks of no unit, on `disks`, with an empty cache of `cache` blocks (at most 65,536). Errors, which
+    /// give the disks back: their number, their shapes, out of memory.
     pub fn start(
         alloc: Global,
         disks: Vec<D>,
@@ -112,19 +113,19 @@ impl<D: Disk> Blocks<D> {
         })
     }
 
-    /// Which disk is down, if any.
+    /// Returns the health of the array; its contract states the invariant.
     pub fn health(&self) -> Health
         ensures health { result ≡ self.now.store.disks.health }
         ensures joined { IsJoined self.now }
         ensures kept { IsKept self.now.store }
         ensures whole { result ≢ Health.Broken → (k : Key) → length (seen_at self.now k) ≡ block_len_of (geometry_of self.now) }
     {
-        // The cache is asked for what it keeps true alone: its blocks are whole.
+        // The cache is called for its invariant alone: its blocks are of full length.
         let _cached = self.cache.len();
         self.behind.store.health()
     }
 
-    /// Whether the data are lost.
+    /// Returns whether the array has failed: the data are lost.
     pub fn is_broken(&self) -> bool
         ensures broken { result ≡ is_broken self.now }
         ensures whole { result ≡ false → (k : Key) → length (seen_at self.now k) ≡ block_len_of (geometry_of self.now) }
@@ -132,7 +133,7 @@ impl<D: Disk> Blocks<D> {
         matches!(self.health(), Health::Broken)
     }
 
-    /// The book of the store.
+    /// Returns the tables of groups and units.
     pub fn book(&self) -> &Book
         ensures book { result.now ≡ self.now.store.book }
         ensures kept { IsKept self.now.store }
@@ -140,28 +141,28 @@ impl<D: Disk> Blocks<D> {
         &self.behind.store.space.book
     }
 
-    /// The disks of the store.
+    /// Returns the disk set.
     pub fn disks(&self) -> &DiskSet<D>
         ensures { result.now ≡ self.now.store.disks }
     {
         &self.behind.store.space.disks
     }
 
-    /// The geometry of the blocks.
+    /// Returns the geometry of the blocks.
     pub fn geometry(&self) -> Geometry
         ensures { result ≡ geometry_of self.now }
     {
         self.disks().geometry()
     }
 
-    /// How many sectors the unit at an address has; None where there is no unit.
+    /// Returns the length of the unit at `addr` in sectors; None if there is no unit.
     pub fn sectors(&self, addr: Addr) -> Option<u32>
         ensures { MatchOption result (has_unit self.now.store.book addr ≡ false) (IsUnit self.now addr) }
     {
         self.book().sectors(addr)
     }
 
-    /// Whether the unit at an address has to tell that it has grown.
+    /// Returns whether the unit at `addr` has a pending UNIT ATTENTION.
     pub fn attention(&self, addr: Addr) -> bool
         ensures { result ≡ attention_at self.now.store.book addr }
     {
@@ -169,7 +170,7 @@ impl<D: Disk> Blocks<D> {
     }
 }
 
-// The events of units, of the cache and of disks. Where the data are lost they change nothing.
+// Events of units, and raw reads. A failed array refuses create, resize and delete.
 impl<D: Disk> Blocks<D> {
     ghost use Rattle.ar_book.specs.Changes.{unmarked};
     ghost use Rattle.ar_book.specs.Book.{TablesAgree};
@@ -177,7 +178,8 @@ impl<D: Disk> Blocks<D> {
     ghost use Rattle.ar_volume.specs.Seen.{SameSeen, SamePlaces};
     ghost use Rattle.ar_volume.specs.Changes.{Makes, Grows, Removes};
 
-    /// Makes a unit, its sectors all zero.
+    /// Creates a unit of `sectors` zero sectors. Errors: `Broken`, then those of `Store::make`; an error changes
+    /// nothing.
     pub fn make(&mut self, addr: Addr, sectors: u32) -> Result<(), Refusal>
         ensures makes { Makes self.old addr sectors result self.new }
         ensures seen { SameSeen self.old self.new }
@@ -188,7 +190,8 @@ impl<D: Disk> Blocks<D> {
         self.behind.store.make(addr, sectors).map_err(Refusal::Unit)
     }
 
-    /// Makes a unit longer, by sectors that are zero, and marks it.
+    /// Extends a unit to `sectors` sectors, the new ones zero, and sets its pending UNIT ATTENTION. Errors: `Broken`,
+    /// then those of `Store::grow`; an error changes nothing.
     pub fn grow(&mut self, addr: Addr, sectors: u32) -> Result<(), Refusal>
         ensures grows { Grows self.old addr sectors result self.new }
         ensures seen { SameSeen self.old self.new }
@@ -199,7 +202,7 @@ impl<D: Disk> Blocks<D> {
         self.behind.store.grow(addr, sectors).map_err(Refusal::Unit)
     }
 
-    /// Removes a unit. Its cached blocks are forgotten.
+    /// Deletes a unit and discards its cached blocks. Errors: `Broken`, then `Absent`; an error changes nothing.
     pub fn remove(&mut self, addr: Addr) -> Result<(), Refusal>
         ensures removes { Removes self.old addr result self.new }
         ensures tables { TablesAgree self.old.store.book }
@@ -214,7 +217,7 @@ impl<D: Disk> Blocks<D> {
         Ok(())
     }
 
-    /// Clears a unit's mark.
+    /// Clears a unit's pending UNIT ATTENTION.
     pub fn clear_attention(&mut self, addr: Addr)
         ensures cleared { self.new ≡ with_book self.old (unmarked self.old.store.book addr) }
         ensures seen { SameSeen self.old self.new }
@@ -222,7 +225,8 @@ impl<D: Disk> Blocks<D> {
         self.behind.store.clear_attention(addr);
     }
 
-    /// Reads a row of an extent as it stands on its disk.
+    /// Reads row `row` of the extent `place` from its disk, past the cache. Unless it returns `Read`, the contents of
+    /// `into` are unspecified.
     pub fn read_place(&mut self, place: Place, row: u16, into: &mut Block) -> Got
         requires place { HasExtent self.old.store.disks place }
         requires row { row < rows_of (geometry_of self.old) }

@@ -1,4 +1,4 @@
-// A disk that is added, and one that is put in another's place.
+// Addition and replacement of disks. No block changes its contents.
 ghost use Rattle.std.specs.Prelude.{◌≡◌, false};
 ghost use Rattle.ar_volume.specs.DiskIn.{AddsDisk, ReplacesDisk};
 ghost use Rattle.ar_volume.specs.Image.{is_broken};
@@ -8,7 +8,7 @@ use crate::{Blocks, NewDisk, Refusal};
 use ar_disks::Disk;
 
 impl<D: Disk> Blocks<D> {
-    /// Adds a disk. A refused one is handed back.
+    /// Adds a disk with all its extents unassigned. An error gives it back and changes nothing.
     pub fn add(&mut self, disk: NewDisk<D>) -> Result<(), (Refusal, NewDisk<D>)>
         ensures adds { AddsDisk self.old disk result self.new }
         ensures seen { is_broken self.new ≡ false → SameSeen self.old self.new }
@@ -21,7 +21,8 @@ impl<D: Disk> Blocks<D> {
 }
 
 impl<D: Disk + Drop> Blocks<D> {
-    /// Puts a disk in the place of one that is out, which is let go. A refused one is handed back.
+    /// Puts `disk` in the place of the failed disk `number`, which is dropped, and starts its rebuild. An error gives
+    /// `disk` back and changes nothing.
     pub fn replace(&mut self, number: u8, disk: NewDisk<D>) -> Result<(), (Refusal, NewDisk<D>)>
         ensures replaces { ReplacesDisk self.old number disk result self.new }
         ensures seen { is_broken self.new ≡ false → SameSeen self.old self.new }

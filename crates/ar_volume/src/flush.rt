@@ -1,4 +1,4 @@
-// What is given from the cache to the disks.
+// Destages cached blocks to the disks. No block changes its contents unless the array fails.
 ghost use Rattle.std.specs.Prelude.{◌≡◌, ◌≢◌, ◌≤◌, ◌+◌, ◌-◌, ℕ, None, false, IsTrue, [], reverse};
 ghost use Rattle.ar_disks.specs.declared.address.Key.{Key};
 ghost use Rattle.std.specs.Map.{keys_of};
@@ -15,7 +15,7 @@ use crate::{Blocks, Flush};
 use ar_disks::{Addr, Completion, Disk, Key};
 
 impl<D: Disk> Blocks<D> {
-    /// Gives the least recently used cached block to the disks.
+    /// Destages the least recently used cached block.
     pub fn flush_one(&mut self) -> Flush
         ensures flushes { FlushesOne self.old result self.new }
         ensures seen { is_broken self.new ≡ false → SameSeen self.old self.new }
@@ -27,7 +27,7 @@ impl<D: Disk> Blocks<D> {
         self.cache.flush_one(&mut self.behind)
     }
 
-    /// Gives all cached blocks to the disks, the least recently used first. An empty cache changes nothing.
+    /// Destages all cached blocks, the least recently used first. With an empty cache nothing changes.
     pub fn flush_all(&mut self) -> Completion
         ensures answer { result ≡ stored (is_broken self.new) }
         ensures emptied { result ≡ Completion.Done → self.new.cache ≡ with_entries self.old.cache [] }
@@ -45,7 +45,7 @@ impl<D: Disk> Blocks<D> {
         self.cache.flush_all(&mut self.behind)
     }
 
-    // Gives one block to the disks, where it is cached.
+    // Destages one block, if it is cached.
     fn flush_key(&mut self, key: Key) -> Completion
         requires sound { is_broken self.old ≡ false }
         ensures answer { result ≡ stored (is_broken self.new) }
@@ -59,7 +59,7 @@ impl<D: Disk> Blocks<D> {
         self.cache.flush_key(key, &mut self.behind)
     }
 
-    /// Gives the blocks `first` to `last` of a unit to the disks, those that are cached, in ascending order, and no other.
+    /// Destages those of the unit's blocks `first` to `last` that are cached, in ascending order, and no other.
     pub fn force(&mut self, addr: Addr, first: u32, last: u32) -> Completion
         requires sound { is_broken self.old ≡ false }
         requires few { last ≤ 1048576 }

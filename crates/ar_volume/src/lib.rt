@@ -1,5 +1,9 @@
-//! The units' blocks: a write-back cache over the store, how READ and WRITE move sectors over them, and the unit that its host
-//! sees, whatever stands in the cache and what on the disks.
+//! The contents of units: READ and WRITE move sectors over a write-back cache in front of the store. What a host reads
+//! doesn't depend on which blocks are cached, and no maintenance event changes it until the array fails.
+//!
+//!     image         the unit's sectors, cut to its length, and its pending UNIT ATTENTION
+//!       seen_at     Blocks: the cached block, else the store's
+//!         stands    Behind: the store's block
 #![tactic(auto)]
 
 mod balance;

@@ -1,4 +1,5 @@
-// Blocks that move between the levels, and between groups.
+// Background moves of blocks: demotion to the parity level, and cleaning within a level. No block changes its contents
+// unless the array fails.
 ghost use Rattle.std.specs.Prelude.{◌≡◌, false};
 ghost use Rattle.ar_volume.specs.Following.{Follows};
 ghost use Rattle.ar_volume.specs.Image.{is_broken};
@@ -10,7 +11,7 @@ use ar_disks::Disk;
 use ar_moves::{Move, clean_one, demote_one};
 
 impl<D: Disk> Blocks<D> {
-    /// Demotes the mirrored block on the disks that was written longest ago.
+    /// Demotes the mirrored block that was least recently written to the disks.
     pub fn demote_one(&mut self) -> Move
         ensures demotes { DemotesOne self.old result self.new }
         ensures seen { is_broken self.new ≡ false → SameSeen self.old self.new }
@@ -19,7 +20,7 @@ impl<D: Disk> Blocks<D> {
         demote_one(&mut self.behind.store)
     }
 
-    /// Moves one block out of the emptiest group that can be emptied into the others of its class.
+    /// Moves one block out of the emptiest group that can be emptied, into the others of its class.
     pub fn clean_one(&mut self) -> Move
         ensures cleans { CleansOne self.old result self.new }
         ensures seen { is_broken self.new ≡ false → SameSeen self.old self.new }

@@ -1,9 +1,9 @@
-// A disk that is handed to an array, or handed back by it.
+// A disk that is given to an array, or given back by it.
 use ar_disks::Disk;
 use std::fmt;
 use std::marker::Model;
 
-/// A disk that an event carries. Contracts see it as the state of the disk, which can still count a fault.
+/// A disk that an event carries. Contracts see its state; its fault count can still grow.
 #[derive(Drop)]
 pub struct NewDisk<D: Disk> {
     disk: D,
@@ -24,7 +24,7 @@ impl<D: Disk> NewDisk<D> {
     ghost use Rattle.std.specs.Prelude.{◌≡◌};
     ghost use Rattle.ar_extents.specs.Set.{CanCount};
 
-    /// A disk that an event is to carry. Its faults are fewer than can be counted.
+    /// Wraps `disk`, whose fault count must be below its maximum.
     pub fn new(disk: D) -> NewDisk<D>
         requires { CanCount (D.state disk) }
         ensures { result ≡ D.state disk }
@@ -32,7 +32,7 @@ impl<D: Disk> NewDisk<D> {
         NewDisk { disk }
     }
 
-    /// The disk.
+    /// Returns the disk.
     pub fn into_disk(self) -> D
         ensures is { D.state result ≡ self }
         ensures counting { CanCount (D.state result) }
@@ -42,7 +42,7 @@ impl<D: Disk> NewDisk<D> {
 }
 
 impl<D: Disk> fmt::Debug for NewDisk<D> {
-    // What stands on the disk is not for a message.
+    // A message doesn't print the contents of a disk.
     fn fmt<W: fmt::Write>(&self, f: &mut fmt::Formatter<W>) -> fmt::Result {
         f.write_str("NewDisk")
     }

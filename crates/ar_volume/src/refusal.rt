@@ -1,22 +1,22 @@
-// Why units and disks are not changed.
+// Why an event on units or disks is refused.
 use ar_book::Refusal as UnitRefusal;
 use ar_extents::DiskRefusal;
 use std::fmt;
 use std::fmt::{Display, Formatter};
 use thiserror::Error;
 
-/// Why an event was refused. Nothing has changed then.
+/// Why an event was refused. A refused event changes nothing.
 #[derive(Clone, Copy, Debug, PartialEq, Eq, Error)]
 pub enum Refusal {
-    /// The unit can't be made, grown or removed.
+    /// The unit can't be created, resized or deleted.
     Unit(UnitRefusal),
-    /// The array has lost its data.
+    /// The array has failed: its data are lost.
     Broken,
-    /// The disk can't be taken out, added or put in another's place.
+    /// The disk can't be failed, added or put in place of another.
     Disk(DiskRefusal),
 }
 
-// (By hand, as the text that a derived one writes is stated by no clause.)
+// Written by hand, since a derived implementation's text is not specified.
 impl Display for Refusal {
     ghost use Rattle.std.specs.Prelude.{Some};
     ghost use Rattle.ar_volume.specs.Texts.{refusal_text};

@@ -1,4 +1,4 @@
-// How READ and WRITE move sectors, block by block.
+// READ and WRITE, block by block in ascending order. A block that is overwritten as a whole is never read.
 ghost use Rattle.std.specs.Prelude.{◌≡◌, ◌≢◌, ◌⊎◌, ◌+◌, ◌*◌, ◌-◌, ◌/◌, ◌%◌, ◌<◌, ◌≤◌, ◌==◌, ◌++◌, ℕ, false, IsTrue, length, vec_len, vec_capacity};
 ghost use Rattle.std.specs.List.{concat};
 ghost use Rattle.ar_disks.specs.declared.address.Key.{Key};
@@ -55,9 +55,9 @@ fn read_part<B: Backing>(
     }
 }
 
-/// Appends `count` sectors of a unit from number `lba` on to `out`. Their blocks are read once each, in ascending order, until
-/// one can't be. NoMemory says that `out` had no room for them all, and got none. Whatever is answered, what stood in `out` before
-/// stays, and nothing stands behind it but the first of these sectors.
+/// Appends sectors `lba` to `lba + count - 1` of a unit, all below 1,048,576, to `out`. Reads each of their blocks
+/// once, in ascending order, until one fails. `NoMemory`: `out` lacked capacity and couldn't grow. After any result
+/// `out` is what it was, followed by a prefix of these sectors.
 pub fn read_sectors<B: Backing>(
     blocks: &mut B,
     geometry: Geometry,
@@ -108,7 +108,7 @@ pub fn read_sectors<B: Backing>(
     Transfer::Done
 }
 
-// Puts sectors of one block. A block that is covered in part is read first.
+// Overwrites sectors of one block; a block that they cover in part is read first.
 fn write_part<B: Backing>(
     blocks: &mut B,
     geometry: Geometry,
@@ -149,8 +149,8 @@ fn write_part<B: Backing>(
     }
 }
 
-/// Puts the bytes of `count` sectors in place of those of a unit from number `lba` on, block by block in ascending order. A block
-/// of which they are a part is read first, and no other.
+/// Overwrites sectors `lba` to `lba + count - 1` of a unit, all below 1,048,576, with `bytes`, block by block in
+/// ascending order, until one fails. Only blocks that they cover in part are read first.
 pub fn write_sectors<B: Backing>(
     blocks: &mut B,
     geometry: Geometry,
