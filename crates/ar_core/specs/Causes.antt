@@ -1,4 +1,4 @@
--- That no disk is lost without a cause.
+-- Causes: no disk fails, and no array fails, without one.
 use Rattle.std.specs.Prelude.{◌≡◌, ◌≢◌, ◌⊎◌, ℕ, ◌<◌, ◌≤◌, true, length}
 use Rattle.ar_disks.specs.Disk.{DiskState}
 use Rattle.ar_extents.specs.declared.health.Health.TheVariants.{Out, Rebuilding, Broken}
@@ -8,26 +8,26 @@ use Rattle.ar_extents.specs.Follows.{Faulted}
 use Rattle.ar_core.specs.Events.{Event}
 use Rattle.ar_core.specs.declared.event.EventOf.TheVariants.{DiskOut, Replace}
 
--- the event takes out a disk that there is
+-- the event takes out disk d, which exists
 pub record IsTakenOut (event : Event) (old : SetState) (d : ℕ) : Type 0 where
   pub named : event ≡ DiskOut d
   pub there : d < length old.disks
 
--- the event puts no other disk in the place of this one
+-- the event doesn't replace disk d
 abbrev pub IsNotReplaced : Event → ℕ → Type 0
 IsNotReplaced event d = (disk : DiskState) → event ≢ Replace d disk
 
--- the disk was there, is the same, and has faulted in the event: one that is new and brings faults has not
+-- disk d exists, isn't replaced, and faults during the event; the fault count of a new disk is no fault
 pub record FaultsIn (event : Event) (old new : SetState) (d : ℕ) : Type 0 where
   pub there : d < length old.disks
   pub same : IsNotReplaced event d
   pub more : Faulted old new d
 
--- the disk was out or being rebuilt before the event, has faulted in it, or is taken out by it
+-- disk d was out or being rebuilt before the event, faults during it, or is taken out by it
 abbrev pub IsHitBy : Event → SetState → SetState → ℕ → Type 0
 IsHitBy event old new d = IsDown old.health d ⊎ (FaultsIn event old new d ⊎ IsTakenOut event old d)
 
--- two different disks are hit
+-- two different disks are hit: they are missing at once
 pub record AreTwoHitBy (event : Event) (old new : SetState) : Type 0 where
   pub one : ℕ
   pub other : ℕ
@@ -44,10 +44,10 @@ pub record HurtsNone (event : Event) (old new : SetState) : Type 0 where
   pub no_fault : (d : ℕ) → FaultsIn event old new d → ⊥
   pub none_out : (d : ℕ) → IsTakenOut event old d → ⊥
 
--- What any event may do to the disks; what one does to their health and number and to the loose extents, its own relation says.
--- Their shape stays, and the fault counts of those that stay only grow. A disk that has faulted in the event is out after it, or
--- the data are lost; a disk is out only where it was, has faulted in the event or was taken out by it, and is being rebuilt only
--- where it was out or being rebuilt; the data are lost only where they were, or where two disks are hit, and for good.
+-- What any event may do to the disks; the number of disks, unassigned extents and exact health are in each event's own
+-- relation. Geometry and extents stay, and the fault count of a disk that isn't replaced never falls. A disk that
+-- faults is out after the event, or the array has failed. A disk is out only if it was, faulted or was taken out; it is
+-- being rebuilt only if it was out or being rebuilt. The array fails only if two disks are hit, and then for good.
 pub record HasCause (event : Event) (old new : SetState) : Type 0 where
   pub geometry : new.geometry ≡ old.geometry
   pub extents : new.extents ≡ old.extents

@@ -1,4 +1,4 @@
--- Events and their answers as contracts see them: a disk that is handed in, or back, is its state.
+-- Events and outcomes as contracts see them: a disk that is passed in or returned is its state.
 use Rattle.ar_disks.specs.Disk.{DiskState}
 use Rattle.ar_core.specs.declared.event.EventOf.{EventOf}
 use Rattle.ar_core.specs.declared.event.OutcomeOf.{OutcomeOf}
@@ -7,6 +7,6 @@ use Rattle.ar_core.specs.declared.event.OutcomeOf.{OutcomeOf}
 abbrev pub Event : Type 0
 Event = EventOf DiskState
 
--- the answer to an event
+-- the outcome of an event
 abbrev pub Outcome : Type 0
 Outcome = OutcomeOf DiskState

@@ -7,7 +7,7 @@ pub mod Run
 pub mod Served
 pub mod Step
 pub mod Views
--- the words of lower crates that clauses of this crate cite
+-- definitions of lower crates that contracts of this crate cite
 pub use Rattle.ar_volume.specs.Changes as ImageChanges
 pub use Rattle.ar_volume.specs.Following
 pub use Rattle.ar_volume.specs.Image

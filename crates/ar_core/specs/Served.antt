@@ -1,4 +1,4 @@
--- What a command to a unit that is there does.
+-- What a command to a unit that is present does.
 use Rattle.std.specs.Prelude.{◌≡◌, ◌≢◌, ℕ, true, false, IsTrue, Bool, if◌then◌else◌, ◌⊎◌, List, [], ◌∷◌, Result, Ok}
 use Rattle.ar_disks.specs.declared.address.Addr.{Addr}
 use Rattle.ar_disks.specs.declared.address.Key.{Key}
@@ -20,18 +20,18 @@ use Rattle.ar_cache.specs.Backing.{InTurn}
 use Rattle.ar_volume.specs.Storing.{ReadsBlock, ReadsFirst, StopsStoring, StoresBlocks}
 use Rattle.ar_volume.specs.Seen.{IsForced, SamePlaces, present_at}
 
--- The unit was served as the table says, by its sectors before the command, and is left with the table's, and no other unit's
--- block is seen to change; or the array is broken after it and the reply is the other.
+-- The reply and the unit's new sectors are those of `table`, from its sectors before the command, and no other unit's
+-- contents change; or the array has failed after it, and the reply is `otherwise`.
 pub record Serves (old : ArrayState) (addr : Addr) (table : Answered) (otherwise reply : Reply) (new : ArrayState) : Type 0 where
   pub follows : Follows old new
   pub sound : is_broken new ≡ false → IsServed (present_at old addr) table reply (present_at new addr)
   pub others : is_broken new ≡ false → (k : Key) → k.addr ≢ addr → seen_at new k ≡ seen_at old k
   pub broken : IsTrue (is_broken new) → IsGiven otherwise reply
 
--- Which disks were asked: none by a command that has no sector to read or to write, that is refused, or that finds the array
--- broken; by a READ, those of its blocks, and by one that is BUSY all of these or none. And where the unit's blocks are kept
--- afterwards: as before, but after a WRITE. One that was done has put each of its blocks once, and none of these is in the cache
--- where it came with FORCE UNIT ACCESS; one at which the array broke has put them up to the block at which it did.
+-- Which disks are accessed: none by a command without a sector to transfer, a refused one, or one to a failed array; by
+-- a READ those of its blocks, and with BUSY those of all or none. Where blocks are stored afterwards: as before, except
+-- after a WRITE. A GOOD one has put each of its blocks once, and with FORCE UNIT ACCESS none of them is cached; one at
+-- which the array failed has put them up to the block at which it did.
 pub record Settles (old : ArrayState) (addr : Addr) (command : Result Command Sense) (reply : Reply) (new : ArrayState) : Type 0 where
   pub still : moves_sectors command ≡ false → new ≡ old
   pub refused : reply.status ≡ CheckCondition → reply ≢ check internal_target_failure → new ≡ old
@@ -49,7 +49,8 @@ pub record Settles (old : ArrayState) (addr : Addr) (command : Result Command Se
   pub stopped : (lba count : ℕ) (fua : Bool) → command ≡ Ok (Write lba count fua) → is_broken old ≡ false → IsTrue (is_broken new)
       → StopsStoring addr lba count fua old new
 
--- What a command does to the array: its unit obeys, and each unit, its own too, is what the command makes of it.
+-- What a command does to the array: `Obeys` holds of its unit, until data loss no other unit changes, and the presence,
+-- length and pending UNIT ATTENTION of every unit are what the command makes of them.
 pub record Commands (old : ArrayState) (addr : Addr) (cdb bytes : List ℕ) (reply : Reply) (new : ArrayState) : Type 0 where
   pub obeys : Obeys old addr cdb bytes reply new
   pub others : is_broken new ≡ false → (b : Addr) → b ≢ addr → image_at new b ≡ image_at old b

@@ -38,11 +38,11 @@ use Rattle.ar_volume.specs.Balance.{BalancesOne}
 use Rattle.ar_volume.specs.DiskIn.{AddsDisk, ReplacesDisk}
 use Rattle.ar_volume.specs.DiskOut.{TakesDiskOut}
 
--- the address that a command is given to
+-- the address of a host's LUN
 abbrev pub addr_in : Host → ℕ → Addr
 addr_in host lun = record { host = host; lun = lun }
 
--- whether an event is about the unit at an address
+-- whether an event belongs to the unit at an address
 abbrev pub is_about : Event → Address → Bool
 is_about (MakeEvent addr sectors) a = same_address (address_of addr) a
 is_about (GrowEvent addr sectors) a = same_address (address_of addr) a
@@ -50,7 +50,7 @@ is_about (RemoveEvent addr) a = same_address (address_of addr) a
 is_about (CmdEvent host lun cdb payload) a = same_address (host.number, lun) a
 is_about event a = false
 
--- whether an event is nothing to any unit
+-- whether an event is a maintenance event
 abbrev pub is_quiet : Event → Bool
 is_quiet (MakeEvent addr sectors) = false
 is_quiet (GrowEvent addr sectors) = false
@@ -63,7 +63,7 @@ is_busy Busy = true
 is_busy Good = false
 is_busy CheckCondition = false
 
--- what an event was to its unit: a making, a growth or a removal that was done, or a command that was answered, BUSY apart
+-- the entry of an event in its unit: a create, resize or delete that was done, or a command whose reply isn't BUSY
 abbrev pub entry_of : Event → Outcome → List Entry
 entry_of (MakeEvent addr sectors) (MakeOutcome (Ok done)) = Make sectors ∷ []
 entry_of (GrowEvent addr sectors) (GrowOutcome (Ok done)) = Grow sectors ∷ []
@@ -71,7 +71,7 @@ entry_of (RemoveEvent addr) (RemoveOutcome (Ok done)) = Remove ∷ []
 entry_of (CmdEvent host lun cdb payload) (CmdOutcome reply) = if is_busy reply.status then [] else Cmd cdb payload ∷ []
 entry_of event outcome = []
 
--- what it was to the unit at one address: nothing where it was about another
+-- its entry in the unit at one address; none if it is about another
 abbrev pub entry_at : Address → Event → Outcome → List Entry
 entry_at a event outcome = if is_about event a then entry_of event outcome else []
 
@@ -86,61 +86,62 @@ moves_sectors (Ok (Read lba count)) = nat_lt 0 count
 moves_sectors (Ok (Write lba count fua)) = nat_lt 0 count
 moves_sectors other = false
 
--- the tables once a command has told a unit's mark, if it has one; INQUIRY tells none
+-- the tables after a command has reported and cleared a pending UNIT ATTENTION; INQUIRY does neither (SAM-3, Unit
+-- attention condition)
 abbrev pub told : Tables → Addr → List ℕ → Tables
 told t addr cdb = if attention_at t addr && not (operation_code cdb == 0x12) then unmarked t addr else t
 
--- the array once a command has told a unit's mark: nothing else has changed, and no disk was asked
+-- the array after that: nothing else has changed, and no disk was accessed
 abbrev pub once_told : ArrayState → Addr → List ℕ → ArrayState
 once_told s addr cdb = with_book s (told s.store.book addr cdb)
 
--- no home, no cache entry and no row of any disk has changed; a mark that was told is cleared
+-- no block's slot, no cache entry and no row of any disk has changed; a reported UNIT ATTENTION is cleared
 pub record MovesNothing (old : ArrayState) (addr : Addr) (cdb : List ℕ) (new : ArrayState) : Type 0 where
   pub tables : new.store.book ≡ told old.store.book addr cdb
   pub cache : new.cache ≡ old.cache
   pub rows : Keeps Anywhere old.store.disks new.store.disks
 
--- A command was answered by its unit's sectors as they were; or, where the array is broken after it, as a broken array
--- answers. BUSY stands only in the place of a reply with bytes.
+-- A command has the reply of its unit's sectors as they were; or, if the array has failed after it, that of a failed
+-- array. BUSY replaces only a reply with bytes.
 pub record Obeys (old : ArrayState) (addr : Addr) (cdb bytes : List ℕ) (reply : Reply) (new : ArrayState) : Type 0 where
   pub sound : is_broken new ≡ false → IsServed (image_at old addr) (answer (image_at old addr) cdb bytes) reply (image_at new addr)
   pub broken : IsTrue (is_broken new) → IsGiven (broken_answer (shape_of (image_at old addr)) cdb (length bytes)) reply
-  -- HARDWARE ERROR, INTERNAL TARGET FAILURE is answered only by an array that has lost its data
+  -- only a failed array replies HARDWARE ERROR, INTERNAL TARGET FAILURE
   pub failure : reply ≡ check internal_target_failure → IsTrue (is_broken new)
-  -- a reply has at most the bytes of as many sectors as the longest READ asks for
+  -- a reply has at most the bytes of the longest READ, 65,535 sectors
   pub few : length reply.payload ≤ 65535 * 512
-  -- whatever is answered, no unit has changed but for homes, stamps and the mark that was told, nor has the room
+  -- units change only in slots, write sequence numbers and the reported UNIT ATTENTION, and the room stays
   pub units : SameUnits (told old.store.book addr cdb) new.store.book
-  -- and no disk was lost without a fault, nor is an extent loose that wasn't
+  -- no disk fails without a fault, and the unassigned extents stay
   pub accessed : IsAccessed old.store.disks new.store.disks
-  -- nothing but the mark changes, and no disk is asked, by a command that has no sector to read or to write, that is refused, or
-  -- that finds the array broken
+  -- a command without a sector to transfer, a refused one, and one to a failed array access no disk and change nothing
+  -- but the UNIT ATTENTION
   pub still : moves_sectors (reading cdb) ≡ false → new ≡ once_told old addr cdb
   pub refused : reply.status ≡ CheckCondition → reply ≢ check internal_target_failure → new ≡ once_told old addr cdb
   pub lost : IsTrue (is_broken old) → new ≡ once_told old addr cdb
-  -- no other command than a WRITE places or caches a block, nor does one that is answered BUSY
+  -- only a WRITE places or caches a block, and no command with BUSY does
   pub reads : is_write (reading cdb) ≡ false → MovesNothing old addr cdb new
   pub busy : reply.status ≡ Busy → MovesNothing old addr cdb new
-  -- a READ, whatever it is answered, has read the blocks of its sectors once each, in ascending order, up to one of them, and no
-  -- other; all of them where it is GOOD, and all of them or none where it is BUSY
+  -- a READ, whatever the reply, has read the blocks of its sectors once each, in ascending order, up to some block, and
+  -- no other; with GOOD all of them, with BUSY all or none
   pub begun : (lba count : ℕ) → reading cdb ≡ Ok (Read lba count)
       → ReadsFirst ReadsBlock (geometry_of old) addr lba count (once_told old addr cdb) new
   pub got : (lba count : ℕ) → reading cdb ≡ Ok (Read lba count) → reply.status ≡ Good
       → InTurn ReadsBlock (keys_in (geometry_of old) addr lba count) old new
   pub busy_read : (lba count : ℕ) → reading cdb ≡ Ok (Read lba count) → reply.status ≡ Busy
       → (new ≡ once_told old addr cdb) ⊎ InTurn ReadsBlock (keys_in (geometry_of old) addr lba count) old new
-  -- a WRITE with FORCE UNIT ACCESS leaves none of its blocks in the cache (SBC-2, WRITE (10) command)
+  -- a GOOD WRITE with FORCE UNIT ACCESS leaves none of its blocks in the cache (SBC-2, WRITE (10) command)
   pub forced : (lba count : ℕ) → reading cdb ≡ Ok (Write lba count true) → reply.status ≡ Good → IsForced new addr lba count
-  -- a WRITE that was done has put each of its blocks once, in ascending order, and no other, and then forced each where it was
-  -- asked; it has read before none but those of which it has only a part
+  -- a GOOD WRITE has put each of its blocks once, in ascending order, and no other; it has read only the blocks that it
+  -- covers in part, each before its put; with FORCE UNIT ACCESS it has then destaged each
   pub stored : (lba count : ℕ) (fua : Bool) → reading cdb ≡ Ok (Write lba count fua) → reply.status ≡ Good
       → StoresBlocks addr lba count fua old new
-  -- a WRITE at which the array broke has put its blocks so up to one, in whose read or put it broke, and no other; or, where it
-  -- was asked to force them, it has put all, and forced them in ascending order up to one whose put broke it
+  -- a WRITE at which the array failed has put its blocks so up to the one whose read or put failed it, and no other;
+  -- or, with FORCE UNIT ACCESS, it has put all, and destaged them in ascending order up to the one whose put failed it
   pub stopped : (lba count : ℕ) (fua : Bool) → reading cdb ≡ Ok (Write lba count fua) → is_broken old ≡ false → IsTrue (is_broken new)
       → StopsStoring addr lba count fua old new
 
--- the event was answered by an outcome of its kind
+-- the outcome is of the event's kind, and its relation holds
 abbrev pub Answers : ArrayState → Event → Outcome → ArrayState → Type 0
 Answers old (MakeEvent addr sectors) (MakeOutcome result) new = Makes old addr sectors result new
 Answers old (GrowEvent addr sectors) (GrowOutcome result) new = Grows old addr sectors result new
@@ -156,9 +157,9 @@ Answers old (ReplaceEvent number disk) (ReplaceOutcome result) new = ReplacesDis
 Answers old RebuildEvent (RebuildOutcome answer) new = RebuildsOne old answer new
 Answers old event outcome new = ⊥
 
--- One step. Each unit, whatever the event was about, is what its own entry makes of it; of a broken array this is said of
--- whether the unit is there, and its length and mark. No data are lost without a cause, and a broken array stays broken. An event
--- that is nothing to any unit is quiet.
+-- One event. Each unit, whatever the event is about, is what its own entry makes of it; on a failed array only its
+-- presence, length and pending UNIT ATTENTION are. No disk fails without a cause, and a failed array stays failed. A
+-- maintenance event is quiet (`IsQuiet`).
 pub record Steps (old : ArrayState) (event : Event) (outcome : Outcome) (new : ArrayState) : Type 0 where
   pub answers : Answers old event outcome new
   pub images : is_broken new ≡ false → (a : Address) → image new a ≡ unit_run (image old a) (entry_at a event outcome)

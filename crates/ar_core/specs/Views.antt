@@ -1,4 +1,4 @@
--- What an array shows of its tables and its disks.
+-- Views of the tables, and of rows on the disks.
 use Rattle.std.specs.Prelude.{◌≡◌, ℕ, ◌<◌, nat_le, not, if◌then◌else◌, Option, Some, None, List, length}
 use Rattle.ar_disks.specs.declared.address.Addr.{Addr}
 use Rattle.ar_disks.specs.declared.address.Place.{Place}
@@ -21,47 +21,47 @@ use Rattle.ar_core.specs.declared.views.Shown.{Shown}
 use Rattle.ar_core.specs.declared.views.Shown.TheVariants.{Outside, Broken, Missing, Bytes}
 use Rattle.ar_volume.specs.Sectors.{key_of}
 
--- a level, as it is shown
+-- the view of a level
 abbrev pub level_shown : Level → LevelOf
 level_shown NowherePlaced = levels.Unplaced
 level_shown AtMirrored = levels.Mirrored
 level_shown AtParity = levels.Parity
 
--- the level of a unit's block, where there is one
+-- the level of a unit's block, if both exist
 abbrev pub level_of : Tables → Addr → ℕ → LevelOf
 level_of t addr rb =
     if not (has_unit t addr) then levels.Absent else
     if nat_le (length (unit_in t.units addr).homes) rb then levels.Outside else level_shown (level t (key_of addr rb))
 
--- a home, as it is shown
+-- the view of a block's slot
 abbrev pub home_shown : Option Slot → HomeOf
 home_shown None = homes.Unplaced
 home_shown (Some slot) = homes.At slot
 
--- the home of a unit's block, where there is one
+-- the slot of a unit's block, if both exist
 abbrev pub home_of : Tables → Addr → ℕ → HomeOf
 home_of t addr rb =
     if not (has_unit t addr) then homes.Absent else
     if nat_le (length (unit_in t.units addr).homes) rb then homes.Outside else home_shown (home t (key_of addr rb))
 
--- what a group is used for, and how many blocks stand in it
+-- the class of a group, and how many blocks it stores
 abbrev pub use_of : GroupState → GroupUse
 use_of g = record { class = g.class; blocks = used g }
 
--- a row of an extent that there is
+-- the extent exists and has this row
 pub record HasRow (s : SetState) (place : Place) (row : ℕ) : Type 0 where
   pub extent : HasExtent s place
   pub below : row < rows_of s.geometry
 
--- a row of an extent was read, with this answer: its disk alone was accessed, none where the extent is lost, and every row of
--- every disk has the content that it had
+-- a row of an extent was read, with this result: only its disk was accessed, none if the extent is lost, and every row
+-- of every disk keeps its content
 pub record IsShown (old new : SetState) (place : Place) (row : ℕ) (bytes : List ℕ) (got : Got) : Type 0 where
   pub there : HasRow old place row
   pub answer : Gets old new place row bytes got
   pub access : Accesses old new place (is_read got)
   pub keeps : Keeps Anywhere old new
 
--- what is shown of a row: that there is none, and nothing was read; or what reading it met
+-- the view of a row: it doesn't exist, and nothing was read; or the result of reading it
 abbrev pub Shows : SetState → SetState → Place → ℕ → List ℕ → Shown → Type 0
 Shows old new place row bytes Outside = (HasRow old place row → ⊥) × (new ≡ old)
 Shows old new place row bytes Broken = IsShown old new place row bytes ReadBroken

@@ -1,4 +1,5 @@
-// The array: what each event does.
+// The array and its events. Until data loss every sector past a unit's end, and of absent units, is zero (`IsPadded`);
+// so a create or resize writes nothing.
 ghost use Rattle.std.specs.Prelude.{◌≡◌, ◌≤◌, All, map, IfOk, IfErr, OnOk, OnErr, unwrap_or, length};
 ghost use Rattle.ar_disks.specs.declared.address.Addr.{Addr};
 ghost use Rattle.ar_disks.specs.Geometry.{block_len_of};
@@ -11,11 +12,11 @@ use ar_volume::Blocks;
 use std::alloc::Global;
 use std::marker::Model;
 
-/// The array: the units of four hosts on disks, each a plain list of sectors to its own host.
+/// A two-level disk array: units of four hosts, stored in mirrored and parity groups on 4 to 12 disks.
 #[derive(Drop)]
 pub struct Array<D: Disk> {
     pub(crate) blocks: Blocks<D>,
-    // A block that is on its way.
+    // The buffer of block transfers.
     pub(crate) block: Block,
 }
 
@@ -37,9 +38,9 @@ impl<D: Disk> Array<D> {
     ghost use Rattle.ar_extents.specs.Changes.{start_fault};
     ghost use Rattle.ar_volume.specs.Start.{IsStarted};
 
-    /// An array of these disks, whole, without a unit, its extents in groups of four disks. `cache` is how many blocks may wait
-    /// to be written: at most 65,536, and 0 writes through. Disks that are refused, for their number, their shapes or want of
-    /// memory, are handed back.
+    /// Creates a healthy array of `disks`, without units, its groups of four extents all free. `cache` is the capacity
+    /// of the write-back cache in blocks, 0 (write-through) to 65,536. On `BadCount`, `WrongSize` or `NoMemory` it
+    /// returns the disks.
     pub fn start(alloc: Global, disks: Vec<D>, cache: u32) -> Result<Array<D>, (StartFault, Vec<D>)>
         requires few { cache ≤ 65536 }
         requires counting { All CanCount (map D.state disks.items) }
@@ -63,7 +64,7 @@ impl<D: Disk + Drop> Array<D> {
     ghost use Rattle.ar_core.specs.Step.{Steps};
     ghost use Rattle.ar_core.specs.Run.{AreOutcomes};
 
-    /// Does one event, and answers it.
+    /// Executes one event and returns its outcome. The contract relates every unit and disk before and after (`Steps`).
     pub fn step(&mut self, alloc: Global, event: Event<D>) -> Outcome<D>
         ensures { Steps self.old event result self.new }
     {
@@ -90,11 +91,11 @@ impl<D: Disk + Drop> Array<D> {
         }
     }
 
-    /// Does events one after another, and answers each. **The isolation theorem is its contract**: whatever the other
-    /// events do, each unit answers as one plain list of sectors that its own makings, growths, removals and commands alone
-    /// change, until two disks are lost at one moment; what it answers from then on, its presence, length and mark decide
-    /// (`AreOutcomes`, whose part `IsIsolated` is the theorem). Where memory for the answers is refused, the events are handed
-    /// back and nothing was done.
+    /// Executes events in order and returns their outcomes. **The isolation theorem is its contract**: each unit
+    /// replies as one plain list of sectors that only its own create, resize, delete and I/O commands change, whatever
+    /// the other events do, until two disks are missing at once. From then on its presence, length and pending UNIT
+    /// ATTENTION decide its replies (`AreOutcomes`; its part `IsIsolated` is the theorem). If memory for the outcomes
+    /// can't be allocated, it returns the events and the array is unchanged.
     pub fn run(
         &mut self,
         alloc: Global,

@@ -1,4 +1,5 @@
-// The array: what a command to a unit does.
+// Commands to units. The checks come in this order: presence, UNIT ATTENTION, CDB, range, data length, health; a disk
+// is accessed only after all of them. BUSY replaces only a reply with bytes.
 ghost use Rattle.std.specs.Prelude.{◌≡◌, ◌≢◌, ◌⊎◌, ℕ, ◌+◌, ◌-◌, ◌*◌, ◌/◌, ◌≤◌, ◌<◌, ◌==◌, not, false, true, IsTrue, Ok, nat_lt, if◌then◌else◌, length, []};
 ghost use Rattle.ar_disks.specs.declared.address.Key.{Key};
 ghost use Rattle.ar_disks.specs.Geometry.{block_len_of, sectors_of};
@@ -29,7 +30,7 @@ use bytes::Bytes;
 use std::alloc::Global;
 
 impl<D: Disk> Array<D> {
-    // Answers a command to an address.
+    // Executes a command to the unit at `addr`, present or not.
     pub(crate) fn command(
         &mut self,
         alloc: Global,
@@ -48,7 +49,7 @@ impl<D: Disk> Array<D> {
         self.serve(alloc, addr, sectors, cdb, bytes)
     }
 
-    // Tells that the unit has grown, once.
+    // Reports the pending UNIT ATTENTION, and clears it.
     fn tell_growth(&mut self, addr: Addr) -> Reply
         ensures told { result ≡ check capacity_data_has_changed }
         ensures cleared { self.new ≡ with_book self.old (unmarked self.old.store.book addr) }
@@ -58,7 +59,7 @@ impl<D: Disk> Array<D> {
         Reply::check(Sense::CAPACITY_DATA_HAS_CHANGED)
     }
 
-    // Answers a command to the unit that is there.
+    // Executes a command to a unit that is present.
     fn serve(
         &mut self,
         alloc: Global,
@@ -80,7 +81,7 @@ impl<D: Disk> Array<D> {
         }
     }
 
-    // Does what a command with valid fields asks.
+    // Executes a decoded command.
     fn obey(
         &mut self,
         alloc: Global,
@@ -107,7 +108,7 @@ impl<D: Disk> Array<D> {
         }
     }
 
-    // TEST UNIT READY: GOOD while the data are there.
+    // TEST UNIT READY: GOOD unless the array has failed.
     fn test_ready(&self, addr: Addr) -> Reply
         ensures serves { Serves self.now addr (leaving (present_at self.now addr) (good []))
             (check internal_target_failure) result self.now }
@@ -120,7 +121,7 @@ impl<D: Disk> Array<D> {
         }
     }
 
-    // Does what a READ with valid fields asks.
+    // Executes a decoded READ.
     fn read(&mut self, alloc: Global, addr: Addr, sectors: u32, lba: u64, count: u16) -> Reply
         requires { IsUnit self.old addr sectors }
         ensures serves { Serves self.old addr
@@ -139,7 +140,7 @@ impl<D: Disk> Array<D> {
         self.read_range(alloc, addr, sectors, lba as u32, u32::from(count))
     }
 
-    // Returns sectors that the unit has.
+    // Executes a READ of `count` sectors within the unit.
     fn read_range(&mut self, alloc: Global, addr: Addr, sectors: u32, lba: u32, count: u32) -> Reply
         requires unit { IsUnit self.old addr sectors }
         requires within { lba + count ≤ sectors }
@@ -173,7 +174,7 @@ impl<D: Disk> Array<D> {
         )
     }
 
-    // Does what a WRITE with valid fields asks.
+    // Executes a decoded WRITE.
     fn write(
         &mut self,
         addr: Addr,
@@ -205,8 +206,7 @@ impl<D: Disk> Array<D> {
         reply_to_write(stored)
     }
 
-    // Puts bytes in place of sectors that the unit has, all of them first, and then, for FORCE UNIT ACCESS, writes their blocks
-    // to the disks.
+    // Overwrites `count` sectors within the unit; once all are written, FORCE UNIT ACCESS destages their blocks.
     fn write_range(
         &mut self,
         addr: Addr,
@@ -236,7 +236,7 @@ impl<D: Disk> Array<D> {
         }
     }
 
-    // Puts bytes in place of sectors that the unit has.
+    // Overwrites `count` sectors within the unit.
     fn put_range(
         &mut self,
         addr: Addr,
@@ -270,7 +270,7 @@ impl<D: Disk> Array<D> {
         )
     }
 
-    // Writes the blocks of sectors that the unit has to the disks, where they are cached.
+    // Destages the cached blocks of `count` sectors within the unit.
     fn force_range(&mut self, addr: Addr, sectors: u32, lba: u32, count: u32) -> Completion
         requires unit { IsUnit self.old addr sectors }
         requires within { lba + count ≤ sectors }
@@ -298,8 +298,8 @@ impl<D: Disk> Array<D> {
     }
 }
 
-// The reply to a READ of at least one sector: memory for all its bytes is asked for first, and then its blocks are read. (Over any
-// backing: a read of the array may leave no trace, and then to have read the first of its blocks is to have read them all.)
+// The reply to a READ of at least one sector; memory for its bytes is allocated before a block is read. It is generic
+// over the backing, since a read of the array may leave no trace: there, to read one block may equal reading all.
 fn fetch<B: Backing>(
     blocks: &mut B,
     alloc: Global,
@@ -357,7 +357,7 @@ fn reply_to_read(transfer: Transfer, bytes: Vec<u8>) -> Reply
     }
 }
 
-// The reply to a WRITE whose transfer ended so.
+// The reply to a WRITE whose transfer had this result.
 fn reply_to_write(stored: Completion) -> Reply
     ensures done { stored ≡ Completion.Done → result ≡ good [] }
     ensures broken { stored ≡ Completion.Broken → result ≡ check internal_target_failure }
@@ -368,7 +368,7 @@ fn reply_to_write(stored: Completion) -> Reply
     }
 }
 
-// GOOD with these bytes, or BUSY where there is no memory to share them.
+// GOOD with `bytes`, or BUSY when the allocation to share them fails.
 fn good_with(bytes: Vec<u8>) -> Reply
     requires some { bytes.items ≢ [] }
     ensures given { IsGiven (good bytes.items) result }

@@ -1,4 +1,4 @@
-// The array: a disk that is added, and one that is put in another's place.
+// Adding and replacing disks. A refused disk is returned, and the array is unchanged.
 use crate::{Array, EventOf, NewDisk, OutcomeOf, Refusal};
 use ar_disks::Disk;
 
@@ -16,7 +16,7 @@ impl<D: Disk> Array<D> {
 impl<D: Disk + Drop> Array<D> {
     ghost use Rattle.ar_core.specs.Step.{Steps};
 
-    // Puts a disk in the place of another.
+    // Replaces a failed disk.
     pub(crate) fn replace(
         &mut self,
         number: u8,

@@ -1,4 +1,4 @@
-// The array: a disk that is taken out.
+// Taking a disk out: it counts as failed, as after a fault.
 use crate::{Array, EventOf, OutcomeOf, Refusal};
 use ar_disks::Disk;
 

@@ -1,4 +1,5 @@
-// What happens to an array, and how it answers.
+// The events of an array and their outcomes. `Make`, `Grow`, `Remove` and `Cmd` are a unit's own; every other one is a
+// maintenance event, and until data loss changes no unit's contents.
 use ar_balance::Balance;
 use ar_disks::{Addr, Host};
 use ar_moves::Move;
@@ -7,48 +8,48 @@ use ar_scsi::Reply;
 use ar_volume::{Flush, NewDisk, Refusal};
 use bytes::Bytes;
 
-/// One event of an array of disks of this type.
+/// An event of an array of disks of type `D`.
 pub type Event<D> = EventOf<NewDisk<D>>;
 
-/// The answer to an event of such an array.
+/// The outcome of an event of such an array.
 pub type Outcome<D> = OutcomeOf<NewDisk<D>>;
 
-/// One event of an array; `N` is what stands for a disk that is handed in.
+/// An event of an array; `N` is the type that represents a disk passed in.
 #[derive(Debug, Drop)]
 pub enum EventOf<N> {
-    /// Makes a unit of so many sectors, all zero.
+    /// Creates a unit with a length in sectors, 1 to 1,048,576, all zero.
     Make(Addr, u32),
-    /// Makes a unit longer, by sectors that are zero: so many sectors is its new length. Its next command other than
-    /// INQUIRY is told so, and not done.
+    /// Extends a unit by zero sectors to a new length in sectors, at most 1,048,576. Its next command other than
+    /// INQUIRY is terminated with UNIT ATTENTION, CAPACITY DATA HAS CHANGED.
     Grow(Addr, u32),
-    /// Removes a unit.
+    /// Deletes a unit.
     Remove(Addr),
-    /// A host's command to one of its units: the command block, padded with zeros, and the data that came with it.
+    /// Executes a host's command to one of its LUNs: the CDB, padded with zeros to 16 bytes, and the data-out.
     Cmd {
         host: Host,
         lun: u8,
         cdb: [u8; 16],
         payload: Bytes,
     },
-    /// Writes the least recently used block of the cache to the disks.
+    /// Destages the least recently used block of the cache.
     Flush,
-    /// Moves the mirrored block that was written longest ago to a group with parity.
+    /// Moves the least recently written mirrored block to a parity group.
     Demote,
-    /// Moves one block out of the emptiest group whose blocks all fit in the others of its class.
+    /// Moves one block out of the emptiest group whose blocks all fit in the other groups of its class.
     Clean,
-    /// Forms a group of loose extents, or moves a group's extent to a disk on which more are loose.
+    /// Forms a group of unassigned extents, or moves a group's member to a disk that has more of them.
     Balance,
-    /// Adds a disk, every extent of which is loose.
+    /// Adds a disk, all of whose extents are unassigned (`loose`).
     AddDisk(N),
-    /// Takes a disk out, by its number, as if it had faulted.
+    /// Takes a disk `out`, by its number: it counts as failed, as after a fault.
     DiskOut(u8),
-    /// Puts a disk in the place of the one that is out, by its number, and begins to rebuild it. The old disk is let go.
+    /// Replaces the failed disk of this number, drops the old disk, and starts the rebuild.
     Replace(u8, N),
-    /// Rebuilds one extent of the disk that was replaced.
+    /// Rebuilds one extent of the replaced disk.
     Rebuild,
 }
 
-/// The answer to an event, by the event's name. A disk that is refused is handed back.
+/// The outcome of an event, under the event's name. A refused disk is returned.
 #[derive(Debug, Drop, PartialEq, Eq)]
 pub enum OutcomeOf<N> {
     Make(Result<(), Refusal>),

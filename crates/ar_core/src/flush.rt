@@ -1,4 +1,4 @@
-// The array: what is written from the cache to the disks.
+// Destaging: cached blocks go to the disks, least recently used first. Until data loss no unit changes.
 ghost use Rattle.std.specs.Prelude.{◌≡◌, IsTrue, false, [], reverse};
 ghost use Rattle.ar_disks.specs.declared.address.Addr.{Addr};
 ghost use Rattle.std.specs.Map.{keys_of};
@@ -14,15 +14,15 @@ use ar_disks::Disk;
 impl<D: Disk> Array<D> {
     ghost use Rattle.ar_core.specs.Step.{Steps};
 
-    // The least recently used block alone.
+    // Destages the least recently used block.
     pub(crate) fn flush_one(&mut self) -> Flush
         ensures { Steps self.old EventOf.Flush (OutcomeOf.Flush result) self.new }
     {
         self.blocks.flush_one()
     }
 
-    /// Writes all cached blocks to the disks, the least recently used first. Where none is cached nothing changes. Broken says
-    /// that the array has lost its data, before or by this call.
+    /// Destages all cached blocks, the least recently used first. With an empty cache nothing changes. Returns `Broken`
+    /// if the array has failed, before or during this call.
     pub fn flush_all(&mut self) -> Completion
         ensures answer { result ≡ stored (is_broken self.new) }
         ensures lost { IsTrue (is_broken self.old) → self.new ≡ self.old }

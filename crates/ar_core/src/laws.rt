@@ -1,4 +1,4 @@
-// What hosts ask of an array, as laws of steps and runs.
+// Laws of steps and runs, in the terms of a host. A law is the contract of a function that does nothing.
 ghost use Rattle.std.specs.Prelude.{◌≡◌, ℕ, suc, [], false, Some, List, take, slice_get};
 ghost use Rattle.ar_disks.specs.declared.address.Host.{Host};
 ghost use Rattle.ar_scsi.specs.declared.reply.Reply.{Reply};
@@ -17,10 +17,10 @@ ghost use Rattle.ar_core.specs.Events.{Event, Outcome};
 
 use crate::{EventOf, OutcomeOf};
 
-/// A host's own entries decide its replies: in two runs, on any arrays and whatever else happened in them, a command to a unit
-/// that began the same and has met the same makings, growths, removals and commands of its own is answered the same; where the
-/// data of both arrays are lost, it needs to have begun with the same presence, length and mark alone. It does nothing when it is
-/// called.
+/// A unit's own entries decide its replies. In two runs, on any arrays that haven't failed, a command has the same
+/// reply, BUSY apart, if its unit began the same and had the same create, resize, delete and I/O commands before it,
+/// whatever else happened. On failed arrays the unit need only have begun with the same presence, length and pending
+/// UNIT ATTENTION. The function does nothing.
 pub fn own_entries_decide_replies()
     ensures sound { (one other : RunOf) (k j : ℕ) (host : Host) (lun : ℕ) (cdb payload : List ℕ) (reply answer : Reply)
         → IsIsolated one.first one.turns one.states → IsIsolated other.first other.turns other.states
@@ -34,15 +34,15 @@ pub fn own_entries_decide_replies()
         → reply ≡ answer }
 {}
 
-/// Redundancy: while no disk is lost any one of them may go, and each block of each unit stands on as it does, whatever then
-/// stands on that disk. Every array keeps `IsKept` (`Array::health`, clause `kept`), so this holds between any two calls. It does
-/// nothing when it is called.
+/// Redundancy: on a healthy array any one disk may fail, and every block reads from the disks as before, whatever that
+/// disk then stores. Every array keeps `IsKept` (`Array::health: kept`), so this holds between any two calls. The
+/// function does nothing.
 pub fn any_disk_may_go()
     ensures { (array : ArrayState) (disk : ℕ) → IsKept array.store → array.store.disks.health ≡ Whole → SurvivesLossOf array.store disk }
 {}
 
-/// Disks that are whole stay whole over an event in which none of them faults and which takes none out, and so over a run of such
-/// turns. It does nothing when it is called.
+/// A healthy array stays healthy over an event in which no disk faults and none is taken out, and over a run of such
+/// steps. The function does nothing.
 pub fn whole_disks_stay_whole()
     ensures event { (old new : ArrayState) (event : Event) (outcome : Outcome) → Steps old event outcome new
         → HurtsNone event old.store.disks new.store.disks
@@ -52,8 +52,8 @@ pub fn whole_disks_stay_whole()
         → slice_get states k ≡ Some new → new.store.disks.health ≡ Whole }
 {}
 
-/// No write is refused for room: a WRITE inside its unit, with the data for its sectors, is done and GOOD unless the data of the
-/// array are lost, however full the array is. It does nothing when it is called.
+/// No write fails for lack of space: a WRITE within its unit, with the data for its sectors and no UNIT ATTENTION
+/// pending, is done and GOOD unless the array has failed, however full it is. The function does nothing.
 pub fn writes_that_fit_are_done()
     ensures { (old new : ArrayState) (host : Host) (lun : ℕ) (cdb payload : List ℕ) (reply : Reply) (sectors : List Sector) (lba count : ℕ)
         → Steps old (EventOf.Cmd host lun cdb payload) (OutcomeOf.Cmd reply) new

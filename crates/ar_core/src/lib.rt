@@ -1,5 +1,5 @@
-//! The array: units of four hosts, each a plain list of sectors to its own host, whatever happens to all others and to any one
-//! disk.
+//! The disk array: each unit is to its host a plain list of sectors that only the unit's own create, resize, delete and
+//! I/O commands change, whatever happens to other units and to any one disk. `Array::run` has this as its contract.
 #![tactic(auto)]
 
 mod array;

@@ -1,4 +1,4 @@
-// What an array shows of where its groups stand.
+// Read-only views of the groups: on which extents each is stored, and how full it is.
 ghost use Rattle.std.specs.Prelude.{◌≡◌, map, length, IfOk};
 ghost use Rattle.ar_book.specs.Tables.{slots_of};
 ghost use Rattle.ar_core.specs.Map.{view_of};
@@ -8,13 +8,13 @@ use ar_book::Book;
 use ar_disks::{Disk, Geometry, Members};
 use std::alloc::{AllocError, Global};
 
-/// A group: what it is used for, which extents it has, and how many blocks stand in it.
+/// A group: its class, its four extents, and how many blocks it stores.
 #[derive(Clone, Copy, Debug, PartialEq, Eq)]
 pub struct GroupView {
     pub class: Class,
     pub members: Members,
     pub blocks: u16,
-    /// How many blocks it has slots for. A free group has none.
+    /// The number of its slots, each for one block; a free group has none.
     pub slots: u16,
 }
 
@@ -26,7 +26,7 @@ impl<D: Disk> Array<D> {
         self.blocks.disks().count()
     }
 
-    /// The groups, in their order. An extent that none of them has is loose. It fails where memory is refused.
+    /// Lists the groups by number. An extent in none of them is unassigned (`loose`). Fails only when out of memory.
     pub fn group_views(&self, alloc: Global) -> Result<Vec<GroupView>, AllocError>
         ensures { IfOk result (λ groups. groups.items ≡ map (view_of self.now.store.book.geometry) self.now.store.book.groups) }
     {
@@ -34,7 +34,7 @@ impl<D: Disk> Array<D> {
     }
 }
 
-// The groups of a book.
+// The views of all groups of the tables.
 fn views_of(alloc: Global, book: &Book) -> Result<Vec<GroupView>, AllocError>
     ensures { IfOk result (λ groups. groups.items ≡ map (view_of book.now.geometry) book.now.groups) }
 {
@@ -53,7 +53,7 @@ fn views_of(alloc: Global, book: &Book) -> Result<Vec<GroupView>, AllocError>
     Ok(views)
 }
 
-// How many blocks a group of a class has slots for.
+// The slots of a group: for each row two mirrored blocks, or three with parity.
 fn slots_of(geometry: Geometry, class: Class) -> u16
     ensures { result ≡ slots_of geometry class }
 {

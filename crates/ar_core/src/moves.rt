@@ -1,18 +1,18 @@
-// The array: blocks that move between the levels, and between groups.
+// Demotion and cleaning: one block a call moves to another level or group. Until data loss no unit changes.
 use crate::{Array, EventOf, Move, OutcomeOf};
 use ar_disks::Disk;
 
 impl<D: Disk> Array<D> {
     ghost use Rattle.ar_core.specs.Step.{Steps};
 
-    // Demotes one block.
+    // Moves one mirrored block to a parity group.
     pub(crate) fn demote_one(&mut self) -> Move
         ensures { Steps self.old EventOf.Demote (OutcomeOf.Demote result) self.new }
     {
         self.blocks.demote_one()
     }
 
-    // Cleans one slot.
+    // Moves one block out of a group that can be emptied.
     pub(crate) fn clean_one(&mut self) -> Move
         ensures { Steps self.old EventOf.Clean (OutcomeOf.Clean result) self.new }
     {

@@ -1,4 +1,5 @@
-// What an array shows of its tables and its disks.
+// Read-only views of the tables and of rows on the disks. A view changes no unit's contents; reading a row may meet a
+// fault of its disk.
 ghost use Rattle.std.specs.Prelude.{◌≡◌, ◌≢◌, ◌↔◌, ℕ, ◌+◌, ◌-◌, ◌*◌, ◌<◌, false, IsTrue, map, length, IfOk};
 ghost use Rattle.ar_disks.specs.Geometry.{block_len_of, rows_of};
 ghost use Rattle.ar_disks.specs.declared.address.Addr.{Addr};
@@ -16,51 +17,51 @@ use ar_disks::{Addr, Block, Disk, Geometry, Key, Place};
 use ar_extents::{DiskSet, Got};
 use std::alloc::{AllocError, Global};
 
-/// At which level a unit's block stands.
+/// The level at which a unit's block is stored.
 #[derive(Clone, Copy, Debug, PartialEq, Eq)]
 pub enum LevelOf {
-    /// There is no such unit.
+    /// There is no unit at this address.
     Absent,
-    /// The unit has no such block.
+    /// The block is past the unit's end.
     Outside,
-    /// It was never written to the disks.
+    /// The block has no slot on the disks yet.
     Unplaced,
     /// In a mirrored group.
     Mirrored,
-    /// In a group with rotating parity.
+    /// In a parity group (RAID 5 layout).
     Parity,
 }
 
-/// Where a unit's block stands.
+/// The slot that stores a unit's block (its home).
 #[derive(Clone, Copy, Debug, PartialEq, Eq)]
 pub enum HomeOf {
-    /// There is no such unit.
+    /// There is no unit at this address.
     Absent,
-    /// The unit has no such block.
+    /// The block is past the unit's end.
     Outside,
-    /// It was never written to the disks.
+    /// The block has no slot on the disks yet.
     Unplaced,
     /// In this slot.
     At(Slot),
 }
 
-/// What a group is used for, and how many blocks stand in it.
+/// The class of a group and the number of blocks that it stores.
 #[derive(Clone, Copy, Debug, PartialEq, Eq)]
 pub struct GroupUse {
     pub class: Class,
     pub blocks: u16,
 }
 
-/// What a row of an extent shows.
+/// The result of reading a row of an extent.
 #[derive(Clone, Copy, Debug, PartialEq, Eq)]
 pub enum Shown {
-    /// There is no such row.
+    /// There is no such disk, extent or row.
     Outside,
-    /// The array has lost its data, perhaps by this very read.
+    /// The array has failed, perhaps by this read.
     Broken,
-    /// The extent is missing, perhaps since this very read.
+    /// The extent is missing, perhaps since this read.
     Missing,
-    /// The bytes came.
+    /// The row was read.
     Bytes,
 }
 
@@ -79,28 +80,29 @@ impl<D: Disk> Array<D> {
         self.blocks.disks().extents()
     }
 
-    /// At which level a unit's block stands, by its number from 0.
+    /// Returns the level of block `rb` (from 0) of the unit at `addr`.
     pub fn level(&self, addr: Addr, rb: u32) -> LevelOf
         ensures { result ≡ level_of self.now.store.book addr rb }
     {
         level_in(self.blocks.book(), addr, rb)
     }
 
-    /// Where a unit's block stands, by its number from 0.
+    /// Returns the slot that stores block `rb` (from 0) of the unit at `addr`.
     pub fn home_of(&self, addr: Addr, rb: u32) -> HomeOf
         ensures { result ≡ home_of self.now.store.book addr rb }
     {
         home_in(self.blocks.book(), addr, rb)
     }
 
-    /// What each group is used for, in their order. It fails where memory is refused.
+    /// Lists the use of each group, by group number. Fails only when out of memory.
     pub fn groups(&self, alloc: Global) -> Result<Vec<GroupUse>, AllocError>
         ensures { IfOk result (λ groups. groups.items ≡ map use_of self.now.store.book.groups) }
     {
         uses_of(alloc, self.blocks.book())
     }
 
-    /// How many more blocks units may have: with those that they have, as many as all groups but one hold with parity.
+    /// Returns how many more blocks units may have in all: the capacity of all groups but one as parity groups, less
+    /// the blocks of the units that exist.
     pub fn free_room(&self) -> u32
         ensures room { result ≡ room self.now.store.book }
         ensures kept { reserved self.now.store.book + result ≡ 3 * rows_of (geometry_of self.now) * (length self.now.store.book.groups - 1) }
@@ -115,28 +117,28 @@ impl<D: Disk> Array<D> {
         self.blocks.book().free_groups()
     }
 
-    /// Which disk is down, if any.
+    /// Returns the health: healthy, one disk failed or being rebuilt, or the array failed.
     pub fn health(&self) -> Health
         ensures health { result ≡ self.now.store.disks.health }
 
-        // Room: until the data are lost a group is free, so that no write is ever refused for want of room.
+        // Until data loss at least one group is free, so no write is refused for lack of space.
         ensures free { result ≢ Health.Broken → 0 < free_groups self.now.store.book }
         ensures padded { IsPadded self.now }
 
-        // The tables agree with each other and with the disks (so that, by the law `any_disk_may_go`, an array whose disks are
-        // whole outlives the loss of any one), and the cache has blocks of units alone.
+        // The tables are consistent with each other and with the disks, so that a healthy array survives the failure of
+        // any one disk (`any_disk_may_go`), and every cached block belongs to a unit.
         ensures kept { IsKept self.now.store }
         ensures joined { IsJoined self.now }
 
-        // Images are whole: until the data are lost each sector of each unit has its 512 bytes.
+        // Until data loss every sector of every unit has its 512 bytes.
         ensures whole { result ≢ Health.Broken → (a : Address) → IsWhole (image self.now a) }
     {
         self.blocks.health()
     }
 
-    /// Reads a row of an extent, from its disk, into `into`, a block of the array's length. Extents and rows count from 0. After
-    /// another answer than `Bytes` any bytes may stand in `into`. A missing extent isn't accessed, and no row of any disk
-    /// changes.
+    /// Reads row `row` of extent `extent` of disk `disk`, all from 0, into `into`, a block of the geometry's length.
+    /// Unless it returns `Bytes`, the contents of `into` are unspecified. A missing extent isn't accessed. No row of
+    /// any disk changes; a fault takes the disk out.
     pub fn block_at(&mut self, disk: u8, extent: u16, row: u16, into: &mut Block) -> Shown
         requires whole { length into.old ≡ block_len_of (geometry_of self.old) }
         ensures shows { Shows self.old.store.disks self.new.store.disks (record { disk = disk; extent = extent }) row into.new result }
@@ -156,7 +158,7 @@ impl<D: Disk> Array<D> {
     }
 }
 
-// At which level a unit's block stands.
+// The level of block `rb` of the unit at `addr`.
 fn level_in(book: &Book, addr: Addr, rb: u32) -> LevelOf
     ensures { result ≡ level_of book.now addr rb }
 {
@@ -173,7 +175,7 @@ fn level_in(book: &Book, addr: Addr, rb: u32) -> LevelOf
     }
 }
 
-// Where a unit's block stands.
+// The slot of block `rb` of the unit at `addr`.
 fn home_in(book: &Book, addr: Addr, rb: u32) -> HomeOf
     ensures { result ≡ home_of book.now addr rb }
 {
@@ -189,14 +191,14 @@ fn home_in(book: &Book, addr: Addr, rb: u32) -> HomeOf
     }
 }
 
-// Whether there is such a row of an extent.
+// Whether the extent exists and has this row.
 fn has_row<D: Disk>(disks: &DiskSet<D>, place: Place, row: u16) -> bool
     ensures { IsTrue result ↔ HasRow disks.now place row }
 {
     place.disk < disks.count() && place.extent < disks.extents() && row < disks.geometry().rows()
 }
 
-// What each group is used for.
+// The use of each group.
 fn uses_of(alloc: Global, book: &Book) -> Result<Vec<GroupUse>, AllocError>
     ensures { IfOk result (λ groups. groups.items ≡ map use_of book.now.groups) }
 {

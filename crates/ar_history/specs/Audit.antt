@@ -1,4 +1,4 @@
--- What an audit says of transcripts and a history.
+-- The audit: transcripts compared with a history.
 use Rattle.std.specs.Prelude.{◌≡◌, ◌≢◌, ℕ, ◌<◌, ◌≤◌, Bool, true, false, ◌==◌, if◌then◌else◌, Option, Some, None, List, [], ◌∷◌, ◌++◌, take, slice_get, length}
 use Rattle.ar_disks.specs.declared.address.Host.{Host}
 use Rattle.ar_unit.specs.Unit.{answer}
@@ -8,7 +8,7 @@ use Rattle.ar_history.specs.declared.entry.Entry.TheVariants.{Make, Grow, Remove
 use Rattle.ar_history.specs.History.{part, replay}
 use Rattle.ar_history.specs.Seat.{SeatState}
 
--- The first place where two lists differ: before it they are the same, and there they aren't. It can be the end of one of them.
+-- the first position where two lists differ; it can be the end of one of them
 pub record DiffersAt (position : ℕ) (one other : List Exchange) : Type 0 where
   pub before : take position one ≡ take position other
   pub there : slice_get one position ≢ slice_get other position
@@ -17,28 +17,28 @@ pub record DiffersAt (position : ℕ) (one other : List Exchange) : Type 0 where
 abbrev pub IsHostsPart : List Entry → SeatState → Type 0
 IsHostsPart history seat = seat.transcript ≡ part seat.host.number history
 
--- of the seats of hosts from 0 on, the one of this number is the first whose transcript isn't its host's part, and that from this
--- place on
+-- of the seats of hosts 0, 1 and so on, the one of this number is the first whose transcript isn't its host's part, and
+-- it differs first at this position
 pub record IsFirstMismatch (history : List Entry) (seats : List SeatState) (number position : ℕ) : Type 0 where
   pub there : number < length seats
   pub before : (k : ℕ) (seat : SeatState) → slice_get seats k ≡ Some seat → k < number → IsHostsPart history seat
   pub differs : (seat : SeatState) → slice_get seats number ≡ Some seat → DiffersAt position seat.transcript (part number history)
 
--- the command that an entry is, if it is one of this host
+-- the command of an entry, if it is one of this host
 abbrev pub command_of : ℕ → Entry → Option Exchange
 command_of number (Make addr sectors) = None
 command_of number (Grow addr sectors) = None
 command_of number (Remove addr) = None
 command_of number (Cmd host exchange) = if host.number == number then Some exchange else None
 
--- a transcript agrees with an entry at this place, and goes on at the next one, whatever comes after the entry
+-- a transcript agrees with an entry at this position and continues at the next one, whatever follows the entry
 pub record Agrees (number : ℕ) (entry : Entry) (transcript : List Exchange) (at next : ℕ) : Type 0 where
   pub within : next ≤ length transcript
   pub goes_on :
       (rest : List Entry)
       → take at transcript ++ part number (entry ∷ rest) ≡ take next transcript ++ part number rest
 
--- it differs there, whatever comes after the entry
+-- it differs from the entry there, whatever follows the entry
 pub record Departs (number : ℕ) (entry : Entry) (transcript : List Exchange) (at : ℕ) : Type 0 where
   pub differs : (rest : List Entry) → DiffersAt at transcript (take at transcript ++ part number (entry ∷ rest))
 
@@ -47,15 +47,15 @@ pub record IsSame (test : Bool) (one other : Exchange) : Type 0 where
   pub same : test ≡ true → one ≡ other
   pub others : test ≡ false → one ≢ other
 
--- A command of a host's part, and where it stands in a history: so many of the part stand before it, and its reply is the one
--- that its unit gives, as the unit's own makings, growths, removals and commands before it have made it.
+-- A command of a host's part is in the history at `place`, after `position` others of the part, and its reply is that
+-- of its unit, as the unit's own create, resize, delete and I/O commands before it have made it.
 pub record StandsAt (history : List Entry) (number position : ℕ) (exchange : Exchange) (place : ℕ) (host : Host) : Type 0 where
   pub entry : slice_get history place ≡ Some (Cmd host exchange)
   pub host_is : host.number ≡ number
   pub before : part number (take place history) ≡ take position (part number history)
   pub reply : exchange.reply ≡ (answer (replay (take place history) (number, exchange.lun)) exchange.cdb exchange.payload).reply
 
--- each command of a transcript stands in the history so
+-- each command of a transcript is in the history so
 abbrev pub IsIsolated : List Entry → SeatState → Type 0
 IsIsolated history seat =
     (position : ℕ) (exchange : Exchange) → slice_get seat.transcript position ≡ Some exchange

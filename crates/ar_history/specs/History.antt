@@ -7,14 +7,14 @@ use Rattle.ar_history.specs.declared.entry.Exchange.{Exchange}
 use Rattle.ar_history.specs.declared.entry.Entry.{Entry}
 use Rattle.ar_history.specs.declared.entry.Entry.TheVariants.{Make, Grow, Remove, Cmd}
 
--- the address that an entry is about
+-- the address of an entry's unit
 abbrev pub address_in : Entry → Address
 address_in (Make addr sectors) = address_of addr
 address_in (Grow addr sectors) = address_of addr
 address_in (Remove addr) = address_of addr
 address_in (Cmd host exchange) = (host.number, exchange.lun)
 
--- what it was to the unit there
+-- the entry as its unit's own
 abbrev pub unit_entry : Entry → UnitEntry
 unit_entry (Make addr sectors) = UnitMake sectors
 unit_entry (Grow addr sectors) = UnitGrow sectors
@@ -27,24 +27,24 @@ entries_at a [] = []
 entries_at a (entry ∷ history) =
     if same_address (address_in entry) a then unit_entry entry ∷ entries_at a history else entries_at a history
 
--- the unit at an address that its own entries make
+-- the unit at an address that its own entries make of an absent one
 abbrev pub replay : List Entry → Address → UnitState
 replay history a = unit_run Absent (entries_at a history)
 
--- a unit can be made of so many sectors, where none is
+-- a unit of `sectors` sectors can be created: the LUN is 0 to 7 and has none
 pub record CanBeMade (state : UnitState) (lun sectors : ℕ) : Type 0 where
   pub absent : (shape_of state).present ≡ false
   pub lun_known : lun ≤ 7
   pub some : 1 ≤ sectors
   pub few : sectors ≤ 1048576
 
--- a unit that is there can grow to so many
+-- the unit is present and can be extended to `sectors` sectors
 pub record CanGrow (state : UnitState) (sectors : ℕ) : Type 0 where
   pub present : (shape_of state).present ≡ true
   pub more : (shape_of state).sectors < sectors
   pub few : sectors ≤ 1048576
 
--- an entry fits the unit before it; a command's reply is the one that the unit gives
+-- an entry is valid for the unit before it; a command's reply is the one that the unit gives
 abbrev pub Fits : UnitState → Entry → Type 0
 Fits state (Make addr sectors) = CanBeMade state addr.lun sectors
 Fits state (Grow addr sectors) = CanGrow state sectors

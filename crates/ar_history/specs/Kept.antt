@@ -1,4 +1,4 @@
--- What a kept array keeps: its history, of which the array is what the history makes.
+-- An array and its history: each unit is what its entries make it.
 use Rattle.std.specs.Prelude.{◌≡◌, ◌⊎◌, ◌+◌, max, ℕ, Bool, false, if◌then◌else◌, Ok, List, [], ◌∷◌}
 use Rattle.ar_scsi.specs.declared.reply.Reply.{Reply}
 use Rattle.ar_unit.specs.Unit.{UnitState, Absent, Present}
@@ -14,34 +14,34 @@ use Rattle.ar_history.specs.declared.entry.Entry.{Entry}
 use Rattle.ar_history.specs.declared.entry.Entry.TheVariants.{Make, Grow, Remove, Cmd}
 use Rattle.ar_history.specs.History.{IsLegal, replay}
 
--- the array, the history, and for how many entries there is room
+-- the array, the history, and its capacity in entries
 pub record KeptState : Type 0 where
   pub array : ArrayState
   pub history : List Entry
   pub room : ℕ
 
--- a list keeps its places, or gets as many again and at least four
+-- a list keeps its capacity, or doubles it; it grows by at least four
 abbrev pub MayDouble : ℕ → ℕ → Type 0
 MayDouble old new = (new ≡ old) ⊎ (new ≡ old + max old 4)
 
--- both units are there and as long, or neither is there
+-- both units are present and equally long, or both are absent
 pub record SameLength (one other : UnitState) : Type 0 where
   pub present : (shape_of one).present ≡ (shape_of other).present
   pub sectors : (shape_of one).sectors ≡ (shape_of other).sectors
 
--- The history is legal, and until the data are lost each unit is what the history makes of it. Whether a unit is there, and its
--- length, hold for a broken array too; its mark is told then without an entry.
+-- The history is legal, and until data loss each unit is what the history makes it. Presence and length hold on a
+-- failed array, too; there a pending UNIT ATTENTION is reported without an entry.
 pub record IsKept (s : ArrayState) (history : List Entry) : Type 0 where
   pub legal : IsLegal history
   pub images : is_broken s ≡ false → (a : Address) → image s a ≡ replay history a
   pub lengths : (a : Address) → SameLength (image s a) (replay history a)
 
--- a unit with this mark
+-- a unit whose pending UNIT ATTENTION is `mark`
 abbrev pub with_attention : Bool → UnitState → UnitState
 with_attention mark Absent = Absent
 with_attention mark (Present sectors attention) = Present sectors mark
 
--- the unit that a history makes, with the mark that the array has for it: of a broken array they may differ
+-- the unit that the history makes, with the array's own pending UNIT ATTENTION: on a failed array they may differ
 abbrev pub standing : KeptState → Address → UnitState
 standing k a = with_attention (shape_of (image k.array a)).attention (replay k.history a)
 
@@ -49,7 +49,7 @@ standing k a = with_attention (shape_of (image k.array a)).attention (replay k.h
 abbrev pub exchange_of : ℕ → List ℕ → List ℕ → Reply → Exchange
 exchange_of lun cdb payload reply = record { lun = lun; cdb = cdb; payload = payload; reply = reply }
 
--- what an event leaves in the history: a making, a growth or a removal that was done, or a command that was answered, BUSY apart
+-- the entry of an event in the history: a create, resize or delete that was done, or a command whose reply isn't BUSY
 abbrev pub entry_of : Event → Outcome → List Entry
 entry_of (MakeEvent addr sectors) (MakeOutcome (Ok done)) = Make addr sectors ∷ []
 entry_of (GrowEvent addr sectors) (GrowOutcome (Ok done)) = Grow addr sectors ∷ []

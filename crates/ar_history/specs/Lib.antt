@@ -4,7 +4,7 @@ pub mod Kept
 pub mod Operations
 pub mod Seat
 pub mod Serving
--- the words of lower crates that clauses of this crate cite
+-- definitions of lower crates that contracts of this crate cite
 pub use Rattle.ar_core.specs.Events
 pub use Rattle.ar_core.specs.Step
 pub use Rattle.ar_volume.specs.Image

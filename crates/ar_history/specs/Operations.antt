@@ -1,4 +1,4 @@
--- What is asked of a kept array, and how it is done.
+-- Operations and background work, as events of the array.
 use Rattle.std.specs.Prelude.{◌≡◌, ◌⊎◌, Bool, true, false, Option, Some, None, Ok, Err}
 use Rattle.ar_disks.specs.Disk.{DiskState}
 use Rattle.ar_scsi.specs.Reply.{busy}
@@ -16,7 +16,7 @@ use Rattle.ar_history.specs.declared.operation.OperationOf.TheVariants.{Make, Gr
 use Rattle.ar_history.specs.declared.operation.Task.{Task}
 use Rattle.ar_history.specs.declared.operation.Task.TheVariants.{Flush, Rebuild, Clean, Balance, Demote}
 
--- the event that an operation is
+-- the event of an operation
 abbrev pub event_of : OperationOf DiskState → Event
 event_of (Make addr sectors) = events.Make addr sectors
 event_of (Grow addr sectors) = events.Grow addr sectors
@@ -25,7 +25,7 @@ event_of (AddDisk disk) = events.AddDisk disk
 event_of (DiskOut disk) = events.DiskOut disk
 event_of (Replace number disk) = events.Replace number disk
 
--- the event that a piece of work is
+-- the event of a piece of background work
 abbrev pub event_in : Task → Event
 event_in Flush = events.Flush
 event_in Rebuild = events.Rebuild
@@ -33,21 +33,21 @@ event_in Clean = events.Clean
 event_in Balance = events.Balance
 event_in Demote = events.Demote
 
--- the entry of an event that is an operation on a unit, where it is done
+-- the entry of a create, resize or delete, if it is done
 abbrev pub entry_asked : Event → Option Entry
 entry_asked (events.Make addr sectors) = Some (entries.Make addr sectors)
 entry_asked (events.Grow addr sectors) = Some (entries.Grow addr sectors)
 entry_asked (events.Remove addr) = Some (entries.Remove addr)
 entry_asked event = None
 
--- the operation on a unit was done
+-- a create, resize or delete was done
 abbrev pub is_done : Outcome → Bool
 is_done (outcomes.Make (Ok done)) = true
 is_done (outcomes.Grow (Ok done)) = true
 is_done (outcomes.Remove (Ok done)) = true
 is_done outcome = false
 
--- the answer for want of memory
+-- the outcome when out of memory
 abbrev pub IsNoMemory : Event → Outcome → Type 0
 IsNoMemory (events.Make addr sectors) outcome = outcome ≡ outcomes.Make (Err (UnitRefused NoMemory))
 IsNoMemory (events.Grow addr sectors) outcome = outcome ≡ outcomes.Grow (Err (UnitRefused NoMemory))
@@ -55,8 +55,8 @@ IsNoMemory (events.Remove addr) outcome = outcome ≡ outcomes.Remove (Err (Unit
 IsNoMemory (events.Cmd host lun cdb payload) outcome = outcome ≡ outcomes.Cmd busy
 IsNoMemory event outcome = ⊥
 
--- the event was not begun, since the history could not grow: the array is as it was. A broken one records nothing, and answers
--- each event.
+-- The event was not begun, since the history couldn't grow: the array is unchanged. A failed array records nothing, so
+-- it begins each event.
 pub record IsRefused (old : ArrayState) (event : Event) (outcome : Outcome) (new : ArrayState) : Type 0 where
   pub answer : IsNoMemory event outcome
   pub unchanged : new ≡ old

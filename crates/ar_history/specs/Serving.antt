@@ -1,4 +1,4 @@
--- How a host's command is done, and what it leaves in history and transcript.
+-- How a host's command is executed, and recorded in history and transcript.
 use Rattle.std.specs.Prelude.{◌≡◌, ◌≢◌, ◌⊎◌, ◌<◌, ℕ, true, false, List, [], ◌∷◌, ◌++◌, length, Option, Some, None}
 use Rattle.ar_disks.specs.declared.address.Host.{Host}
 use Rattle.ar_scsi.specs.declared.reply.Reply.{Reply}
@@ -22,12 +22,12 @@ use Rattle.ar_history.specs.Seat.{SeatState}
 abbrev pub with_reply : Exchange → Reply → Exchange
 with_reply exchange reply = record exchange { reply = reply }
 
--- no entry is made of a command that the array answered so: BUSY, or with bytes, whose copies need memory
+-- a reply that may go unrecorded: BUSY, or one with bytes, since memory is needed to share them
 abbrev pub IsBusyFor : Reply → Type 0
 IsBusyFor reply = (is_busy reply.status ≡ true) ⊎ (reply.payload ≢ [])
 
--- The command was answered: history and transcript have grown by it, and its reply is the one that its unit gives, as the history
--- so far has made the unit.
+-- The command is recorded: history and transcript have grown by it and its reply, which is that of its unit, as the
+-- history so far has made the unit.
 pub record IsRecorded (old : KeptState) (before : SeatState) (lun : ℕ) (cdb payload : List ℕ) (reply : Reply) (position : ℕ)
     (new : KeptState) (after : SeatState) : Type 0 where
   pub position_is : position ≡ length old.history
@@ -37,8 +37,8 @@ pub record IsRecorded (old : KeptState) (before : SeatState) (lun : ℕ) (cdb pa
   pub not_busy : is_busy reply.status ≡ false
   pub sound : is_broken new.array ≡ false
 
--- It was not: history and transcript stay. Either the reply is BUSY, and each unit is as it was; or the array is broken after it,
--- and the reply is what a broken array says in place of the unit's.
+-- It is not recorded: history and transcript stay. Either the reply is BUSY and no unit has changed; or the array has
+-- failed after it, and the reply is that of a failed array in place of the unit's.
 pub record IsUnrecorded (old : KeptState) (before : SeatState) (lun : ℕ) (cdb payload : List ℕ) (reply : Reply)
     (new : KeptState) (after : SeatState) : Type 0 where
   pub history : new.history ≡ old.history
@@ -48,20 +48,19 @@ pub record IsUnrecorded (old : KeptState) (before : SeatState) (lun : ℕ) (cdb 
   pub broken :
       is_broken new.array ≡ true
       → IsGiven (where_broken cdb (answer (standing old (before.host.number, lun)) cdb payload).reply) reply
-  -- whether each unit is there, its length and its mark are then what the command leaves of them
+  -- presence, length and pending UNIT ATTENTION of each unit are then what the command leaves of them
   pub shapes :
       is_broken new.array ≡ true
       → (a : Address)
       → shape_of (image new.array a)
       ≡ shape_of (unit_run (standing old a) (entry_at a (CmdEvent before.host lun cdb payload) (CmdOutcome reply)))
 
--- by the position of its entry
+-- recorded at the position of its entry, or not recorded
 abbrev pub Serves : KeptState → SeatState → ℕ → List ℕ → List ℕ → Reply → Option ℕ → KeptState → SeatState → Type 0
 Serves old before lun cdb payload reply (Some position) new after = IsRecorded old before lun cdb payload reply position new after
 Serves old before lun cdb payload reply None new after = IsUnrecorded old before lun cdb payload reply new after
 
--- the array took the command as one step, but memory for the copies of its reply was refused, and BUSY stands in the reply's
--- place
+-- the array executed the command, but the bytes of its reply couldn't be shared, and BUSY replaces it
 pub record IsUncopied (old : ArrayState) (host : Host) (lun : ℕ) (cdb payload : List ℕ) (reply : Reply) (new : ArrayState) : Type 0 where
   pub first : Reply
   pub steps : Steps old (CmdEvent host lun cdb payload) (CmdOutcome first) new
@@ -69,29 +68,30 @@ pub record IsUncopied (old : ArrayState) (host : Host) (lun : ℕ) (cdb payload 
   pub bytes : first.payload ≢ []
   pub busy_is : reply ≡ busy
 
--- the command was one step of the array, or its reply was lost
+-- the command was one step of the array, perhaps with its reply replaced by BUSY
 abbrev pub Begins : ArrayState → Host → ℕ → List ℕ → List ℕ → Reply → ArrayState → Type 0
 Begins old host lun cdb payload reply new =
     Steps old (CmdEvent host lun cdb payload) (CmdOutcome reply) new ⊎ IsUncopied old host lun cdb payload reply new
 
--- the command was one step of the array, or was not begun, or its reply was lost
+-- the same, or the command was not begun
 abbrev pub DoesCommand : ArrayState → Host → ℕ → List ℕ → List ℕ → Reply → ArrayState → Type 0
 DoesCommand old host lun cdb payload reply new =
     Does old (CmdEvent host lun cdb payload) (CmdOutcome reply) new ⊎ IsUncopied old host lun cdb payload reply new
 
--- history and transcript have a place for one command more, which they had or were given for it, and it has no data to share
+-- history and transcript have capacity for one more command, from before or reserved for it, and it has no data to
+-- share
 pub record HasPlace (old new : KeptState) (before after : SeatState) (payload : List ℕ) : Type 0 where
   pub history : length old.history < new.room
   pub transcript : length before.transcript < after.room
   pub no_data : payload ≡ []
 
--- no home, no cache entry and no row of any disk has changed
+-- no table, no cache entry and no row of any disk has changed
 pub record LeavesBlocks (old new : ArrayState) : Type 0 where
   pub tables : new.store.book ≡ old.store.book
   pub cache : new.cache ≡ old.cache
   pub rows : Keeps Anywhere old.store.disks new.store.disks
 
--- of a broken array nothing is recorded, and nothing grows for it
+-- nothing is recorded, and no capacity is reserved
 pub record GrowsNothing (old : KeptState) (before : SeatState) (new : KeptState) (after : SeatState) : Type 0 where
   pub history : new.history ≡ old.history
   pub room : new.room ≡ old.room

@@ -1,4 +1,4 @@
-// The audit: whether each host's transcript is its part of the history.
+// The audit: each host's transcript must equal its part of the history.
 ghost use Rattle.std.specs.Prelude.{◌≡◌, ◌≤◌, ◌∷◌, [], Some, None, All, IfOk, OnOk, IfErr, MatchOption, map, sum, count_by, length};
 ghost use Rattle.ar_history.specs.Audit.{DiffersAt, IsHostsPart, IsFirstMismatch, IsIsolated, Agrees, Departs, command_of, IsSame};
 ghost use Rattle.ar_history.specs.History.{IsLegal, is_command, part};
@@ -8,45 +8,46 @@ use crate::{Entry, Exchange, Kept, Seat};
 use ar_disks::{Disk, Host};
 use std::sync::ledger::Ledger;
 
-/// What an audit found, where each transcript is its host's part of the history.
+/// The result of an audit in which each transcript equals its host's part of the history.
 #[derive(Clone, Copy, Debug, PartialEq, Eq)]
 pub struct Report {
-    /// How many commands each of hosts 0 to 3 has in its transcript, and in the history.
+    /// The number of commands of hosts 0 to 3, the same in transcript and history.
     pub commands: [u64; 4],
 }
 
-/// The first transcript that isn't its host's part of the history.
+/// The first transcript that differs from its host's part of the history.
 #[derive(Clone, Copy, Debug, PartialEq, Eq)]
 pub struct Mismatch {
     pub host: Host,
-    /// The first place where the two lists differ, from 0. Where one of them begins the other, it is the shorter one's length.
+    /// The first position where the two lists differ, from 0; if one is a prefix of the other, the shorter one's
+    /// length.
     pub position: u64,
 }
 
 impl<D: Disk, L: Ledger> Kept<D, L> {
-    /// Compares each host's transcript with its part of the history: Ok exactly where all four are the same, else the first
-    /// host of which they aren't, and the first place where they differ. The history is legal in any case. At Ok each reply in a
-    /// transcript is the one that the unit's own makings, growths, removals and commands before it give. It takes no memory, and
-    /// walks the history once for each host.
+    /// Compares each host's transcript with its part of the history: `Ok` exactly if all four are equal, else the first
+    /// host whose lists differ, and the first position where they do. The history is legal in any case. With `Ok` each
+    /// reply in a transcript is the one that the unit's own create, resize, delete and I/O commands before it give.
+    /// Allocates nothing, and reads the history once for each host.
     pub fn close(&self, seats: &[Seat<L>; 4]) -> Result<Report, Mismatch>
         requires order { map (λ (s : SeatState). s.host.number) seats.now ≡ 0 ∷ 1 ∷ 2 ∷ 3 ∷ [] }
         ensures legal { IsLegal self.now.history }
 
-        // Where all four agree.
+        // If all four agree.
         ensures parts { OnOk result (All (IsHostsPart self.now.history) seats.now) }
         ensures commands { IfOk result (λ report. report.commands ≡ map (λ (s : SeatState). length s.transcript) seats.now) }
         ensures isolated { OnOk result (All (IsIsolated self.now.history) seats.now) }
         ensures none_else { IfOk result (λ report. sum report.commands ≡ count_by is_command self.now.history) }
 
-        // Where they don't.
+        // If they don't.
         ensures mismatch { IfErr result (λ mismatch. IsFirstMismatch self.now.history seats.now mismatch.host.number mismatch.position) }
     {
         audited(self.history.as_slice(), seats)
     }
 }
 
-/// Compares a host's transcript with its part of a history: the first place where they differ, if there is one. Where one of them
-/// begins the other, it is the shorter one's length.
+/// Returns the first position where a host's transcript differs from its part of a history, or `None` if they are
+/// equal. If one is a prefix of the other, it is the shorter one's length.
 pub fn first_difference(history: &[Entry], host: Host, transcript: &[Exchange]) -> Option<u64>
     ensures { MatchOption result
         (transcript.now ≡ part host.number history.now)
@@ -83,7 +84,7 @@ fn audited<L: Ledger>(history: &[Entry], seats: &[Seat<L>; 4]) -> Result<Report,
     })
 }
 
-// How many commands a seat's transcript has, where it is its host's part of the history.
+// The length of a seat's transcript, if it equals its host's part of the history.
 fn count<L: Ledger>(history: &[Entry], seat: &Seat<L>) -> Result<u64, Mismatch>
     ensures part { OnOk result (IsHostsPart history.now seat.now) }
     ensures count { IfOk result (λ count. count ≡ length seat.now.transcript) }
@@ -98,7 +99,7 @@ fn count<L: Ledger>(history: &[Entry], seat: &Seat<L>) -> Result<u64, Mismatch>
     }
 }
 
-// Where a transcript goes on after an entry that agrees with it; there is none where the entry doesn't.
+// The position in the transcript after `entry`, or None if the transcript differs from it at `at`.
 fn follow(entry: &Entry, host: Host, transcript: &[Exchange], at: usize) -> Option<usize>
     requires { at ≤ length transcript.now }
     ensures { MatchOption result
@@ -120,7 +121,7 @@ fn follow(entry: &Entry, host: Host, transcript: &[Exchange], at: usize) -> Opti
     }
 }
 
-// The command that an entry is, if it is one of this host.
+// The command of an entry, if it is one of this host.
 fn command_of(entry: &Entry, host: Host) -> Option<&Exchange>
     ensures { MatchOption result
         (command_of host.number entry.now ≡ None)

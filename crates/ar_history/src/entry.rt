@@ -1,4 +1,4 @@
-// What a history and a transcript are made of.
+// Entries of the history and exchanges of a transcript. Data and replies are shared between the two, not copied.
 ghost use Rattle.std.specs.Prelude.{◌≡◌, [], IsOk, IfOk};
 
 use ar_disks::{Addr, Host};
@@ -6,30 +6,30 @@ use ar_scsi::Reply;
 use bytes::Bytes;
 use std::alloc::AllocError;
 
-/// A command to one of a host's units, with the data that came with it, and what it was answered.
+/// A command to one of a host's LUNs, with its data-out and its reply.
 #[derive(Debug, Drop, PartialEq, Eq)]
 pub struct Exchange {
     pub lun: u8,
-    /// The command block, padded with zeros.
+    /// The CDB, padded with zeros.
     pub cdb: [u8; 16],
     pub payload: Bytes,
     pub reply: Reply,
 }
 
-/// What was done to a unit: an entry of the history.
+/// An entry of the history: what was done to a unit.
 #[derive(Debug, Drop, PartialEq, Eq)]
 pub enum Entry {
-    /// A unit of so many sectors was made.
+    /// A unit was created with a length in sectors.
     Make(Addr, u32),
-    /// A unit has grown to so many sectors.
+    /// A unit was extended to a new length in sectors.
     Grow(Addr, u32),
-    /// A unit was removed.
+    /// A unit was deleted.
     Remove(Addr),
-    /// A host's command was answered, other than BUSY.
+    /// A host's command had a reply other than BUSY.
     Cmd(Host, Exchange),
 }
 
-// The same bytes, which are shared and not copied. None at all take no memory.
+// Shares the bytes without copying them. With no bytes it never fails.
 pub(crate) fn shared(bytes: &Bytes) -> Result<Bytes, AllocError>
     ensures granted { bytes.now ≡ [] → IsOk result }
     ensures same { IfOk result (λ same. same ≡ bytes.now) }

@@ -1,4 +1,5 @@
-// Commands of hosts.
+// Commands of hosts. Capacity in both lists is reserved before the array acts, so that history and transcript record a
+// command together, or neither does.
 ghost use Rattle.std.specs.Prelude.{◌≡◌, ◌≢◌, ◌⊎◌, ◌+◌, ◌<◌, ◌++◌, ◌∷◌, ◌↔◌, [], None, true, false, IsOk, IfOk, OnOk, length, vec_len, vec_capacity};
 ghost use Rattle.ar_volume.specs.Image.{is_broken};
 ghost use Rattle.ar_scsi.specs.Reply.{busy};
@@ -16,16 +17,15 @@ use bytes::Bytes;
 use std::alloc::{AllocError, Global};
 use std::sync::ledger::{Book, Ledger};
 
-/// What a host's command was answered.
+/// The reply to a host's command, and where it is recorded.
 #[derive(Debug, Drop, PartialEq, Eq)]
 pub struct Served {
     pub reply: Reply,
-    /// The position of the command's entry in the history, from 0. There is none where the reply is BUSY, or the array has lost
-    /// its data.
+    /// The position of the command's entry in the history, from 0; `None` if the reply is BUSY or the array has failed.
     pub at: Option<u64>,
 }
 
-// Both copies of a command, for the history and for the transcript, whose reply is still to come.
+// The copies of a command for history and transcript, before its reply.
 #[derive(Drop)]
 struct Draft {
     ours: Exchange,
@@ -33,17 +33,17 @@ struct Draft {
 }
 
 impl<D: Disk + Drop, L: Ledger> Kept<D, L> {
-    /// Does a host's command, by its seat: the command block is padded with zeros, and `payload` is the data that came with it.
-    /// Where the command is answered, history and transcript have both grown by it and its reply, which is the one that the
-    /// unit's own part of the history gives. Their places, and the shares of its data, come first: where one of these is refused
-    /// the command is BUSY and was not begun. So is one that was done and whose reply's bytes can't be shared, which has changed
-    /// no unit. A broken array records nothing more, and nothing grows for it.
+    /// Executes a command of the seat's host to its LUN `lun`: `cdb` is padded with zeros, `payload` is the data-out.
+    /// Unless the reply is BUSY, history and transcript have both grown by the command with its reply, which is the one
+    /// that the unit's own entries give. If memory to record the command can't be allocated, the reply is BUSY and the
+    /// command isn't begun; if the bytes of its reply can't be shared, it is BUSY, too, and no unit has changed. A
+    /// failed array records nothing, and nothing is allocated to record it.
     pub fn host(&mut self, seat: &mut Seat<L>, lun: u8, cdb: [u8; 16], payload: Bytes) -> Served
         ensures serves { Serves self.old seat.old lun cdb payload result.reply result.at self.new seat.new }
         ensures does { DoesCommand self.old.array seat.old.host lun cdb payload result.reply self.new.array }
         ensures host { seat.new.host ≡ seat.old.host }
 
-        // Want of memory, and what BUSY leaves.
+        // Out of memory, and what BUSY leaves unchanged.
         ensures begun { HasPlace self.old self.new seat.old seat.new payload
             → Begins self.old.array seat.old.host lun cdb payload result.reply self.new.array }
         ensures unbegun { self.new.room ≡ length self.old.history → is_broken self.old.array ≡ false → self.new.array ≡ self.old.array }
@@ -51,12 +51,12 @@ impl<D: Disk + Drop, L: Ledger> Kept<D, L> {
         ensures busy { is_busy result.reply.status ≡ true → LeavesBlocks self.old.array self.new.array }
         ensures lost { is_broken self.old.array ≡ true → GrowsNothing self.old seat.old self.new seat.new }
 
-        // A list that has a place asks for no other, and one that has none asks for as many again.
+        // A list with capacity left keeps it; a full one may double it.
         ensures placed { length self.old.history < self.old.room → self.new.room ≡ self.old.room }
         ensures seat_placed { length seat.old.transcript < seat.old.room → seat.new.room ≡ seat.old.room }
         ensures grown { MayDouble self.old.room self.new.room }
         ensures seat_grown { MayDouble seat.old.room seat.new.room }
-        // Where the history got no place, the transcript asks for none.
+        // If the history can't grow, the transcript doesn't.
         ensures seat_unasked { self.new.room ≡ length self.old.history → seat.new.room ≡ seat.old.room }
     {
         if is_lost(&self.array) {
@@ -68,7 +68,7 @@ impl<D: Disk + Drop, L: Ledger> Kept<D, L> {
         }
     }
 
-    // A command to a broken array.
+    // Executes a command on a failed array.
     fn unrecorded(&mut self, host: Host, lun: u8, cdb: [u8; 16], payload: Bytes) -> Served
         requires { is_broken self.old.array ≡ true }
         ensures broken { is_broken self.new.array ≡ true }
@@ -81,7 +81,7 @@ impl<D: Disk + Drop, L: Ledger> Kept<D, L> {
         Served { reply, at: None }
     }
 
-    // Both copies of a command, and room for them in history and transcript.
+    // Reserves capacity in history and transcript, and makes both copies of a command.
     fn draft(
         &mut self,
         seat: &mut Seat<L>,
@@ -110,7 +110,7 @@ impl<D: Disk + Drop, L: Ledger> Kept<D, L> {
         Draft::new(lun, cdb, payload)
     }
 
-    // Does a command for whose copies there is room, and records it where it was answered.
+    // Executes a command for which capacity is reserved, and records it unless the reply is BUSY or the array fails.
     fn serve(&mut self, seat: &mut Seat<L>, draft: Draft, payload: Bytes) -> Served
         requires sound { is_broken self.old.array ≡ false }
         requires same { draft.theirs ≡ draft.ours }
@@ -149,7 +149,7 @@ impl<D: Disk + Drop, L: Ledger> Kept<D, L> {
 }
 
 impl Served {
-    // BUSY, for want of memory.
+    // BUSY, when out of memory.
     fn busy() -> Served
         ensures reply { result.reply ≡ busy }
         ensures at { result.at ≡ None }
@@ -162,7 +162,7 @@ impl Served {
 }
 
 impl Draft {
-    // Two copies of a command, which share its data: without data they take no memory.
+    // Two copies of a command that share its data; without data it never fails.
     fn new(lun: u8, cdb: [u8; 16], payload: &Bytes) -> Result<Draft, AllocError>
         ensures granted { payload.now ≡ [] → IsOk result }
         ensures ours { IfOk result (λ draft. draft.ours ≡ exchange_of lun cdb payload.now busy) }
@@ -174,7 +174,7 @@ impl Draft {
         })
     }
 
-    // Gives both copies the reply. It isn't done for BUSY, nor where memory for the copies of the reply's bytes is refused.
+    // Sets the reply of both copies. Returns false for BUSY, and when the allocation to share the reply's bytes fails.
     fn answer(&mut self, reply: &Reply) -> bool
         ensures ours { result ≡ true → self.new.ours ≡ with_reply self.old.ours reply.now }
         ensures theirs { result ≡ true → self.new.theirs ≡ with_reply self.old.theirs reply.now }
@@ -196,7 +196,7 @@ impl Draft {
     }
 }
 
-// A command whose reply is still to come.
+// A command before its reply.
 fn exchange(lun: u8, cdb: [u8; 16], payload: &Bytes) -> Result<Exchange, AllocError>
     ensures granted { payload.now ≡ [] → IsOk result }
     ensures copy { IfOk result (λ exchange. exchange ≡ exchange_of lun cdb payload.now busy) }
@@ -209,7 +209,7 @@ fn exchange(lun: u8, cdb: [u8; 16], payload: &Bytes) -> Result<Exchange, AllocEr
     })
 }
 
-// Does a command.
+// Executes a command on the array.
 fn command<D: Disk + Drop>(
     array: &mut Array<D>,
     alloc: Global,
@@ -232,7 +232,7 @@ fn command<D: Disk + Drop>(
     }
 }
 
-// Puts a command into history and transcript, and answers its position.
+// Appends a command to history and transcript, and returns its position in the history.
 fn record<L: Ledger>(
     history: &mut Vec<Entry>,
     book: &mut Book<L>,

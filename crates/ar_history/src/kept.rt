@@ -1,4 +1,5 @@
-// The array and its history.
+// The array and its history. Until data loss every unit is what its entries make it; presence and length stay so for
+// good (`IsKept`). The ledger's total is the number of commands in the history.
 ghost use Rattle.std.specs.Prelude.{◌≡◌, ◌<◌, ◌+◌, [], ◌∷◌, map};
 ghost use Rattle.ar_book.specs.Tables.{free_groups};
 ghost use Rattle.ar_history.specs.Kept.{IsKept};
@@ -11,11 +12,11 @@ use std::alloc::Global;
 use std::marker::Model;
 use std::sync::ledger::{Blank, Book, Ledger, Share};
 
-/// An array with its stored history. The ledger counts the commands in it, and each seat's share those of its host.
+/// An array with its stored history. The ledger counts the commands in it; each seat's share counts those of its host.
 ///
-/// Nothing is ever taken out of a history. An entry is 136 bytes long, and a command is 128 bytes more in its host's transcript;
-/// both lists double their places when they are full, from four on. Beside that a command keeps the data that came with it and the
-/// bytes of its reply, each once, whoever else holds them: a READ or WRITE of n sectors keeps 512 n bytes.
+/// A history is append-only. An entry takes 136 bytes, and a command another 128 bytes in its host's transcript; both
+/// lists double their capacity when full, from four on. Data-out and reply bytes are stored once, however many share
+/// them: a READ or WRITE of n sectors keeps 512 n bytes.
 #[derive(Drop)]
 pub struct Kept<D: Disk, L: Ledger> {
     pub(crate) alloc: Global,
@@ -37,7 +38,7 @@ impl<D: Disk, L: Ledger> Model for Kept<D, L> {
 }
 
 impl<D: Disk, L: Ledger> Kept<D, L> {
-    /// An array that has no unit, with an empty history, and the seats of hosts 0 to 3 in their order.
+    /// Gives an array without units an empty history, and returns it with the seats of hosts 0 to 3, in order.
     pub fn start(alloc: Global, blank: Blank, array: Array<D>) -> (Kept<D, L>, [Seat<L>; 4])
         requires name { blank.name ≡ L.name }
         requires parts { blank.parts ≡ L.parts }
@@ -48,7 +49,7 @@ impl<D: Disk, L: Ledger> Kept<D, L> {
         ensures hosts { map (λ (s : SeatState). s.host.number) result.1 ≡ 0 ∷ 1 ∷ 2 ∷ 3 ∷ [] }
         ensures transcripts { map (λ (s : SeatState). s.transcript) result.1 ≡ [] ∷ [] ∷ [] ∷ [] ∷ [] }
 
-        // No memory is asked for: neither the history nor a transcript has a place yet.
+        // History and transcripts have no capacity yet.
         ensures room { result.0.room ≡ 0 }
         ensures rooms { map (λ (s : SeatState). s.room) result.1 ≡ 0 ∷ 0 ∷ 0 ∷ 0 ∷ [] }
     {
@@ -62,8 +63,8 @@ impl<D: Disk, L: Ledger> Kept<D, L> {
         (kept, seats(alloc, &mut rest))
     }
 
-    /// What was done to units so far, in the order in which it was done. The array is what it makes: each unit until data are
-    /// lost, and for good whether it is there and how long it is.
+    /// Returns the entries so far, in the order in which they were done. Each unit is what its entries make it: until
+    /// data loss its contents, and for good its presence and length.
     pub fn history(&self) -> &[Entry]
         ensures history { result.now ≡ self.now.history }
         ensures kept { IsKept self.now.array self.now.history }
@@ -95,7 +96,7 @@ fn seats<L: Ledger>(alloc: Global, share: &mut Share<L>) -> [Seat<L>; 4]
     ]
 }
 
-// The seat of a host, with one part.
+// The seat of a host, with one part of the ledger.
 fn seat<L: Ledger>(alloc: Global, share: &mut Share<L>, number: u8) -> Seat<L>
     requires number { number < 4 }
     requires parts { 0 < share.old.parts }

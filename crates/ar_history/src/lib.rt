@@ -1,5 +1,6 @@
-//! The array with its stored history: what was done to its units and what each command was answered, and the seats of the four
-//! hosts.
+//! The array with a stored history: each create, resize and delete of a unit, and each command with its reply, BUSY
+//! apart. Each entry fits the unit that the entries before it make (`IsLegal`); the audit compares it with hosts'
+//! transcripts.
 #![tactic(auto)]
 
 mod audit;

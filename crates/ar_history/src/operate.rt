@@ -1,4 +1,5 @@
-// Operations and work in the background.
+// Operations and background work. Capacity for an entry is reserved before the array acts, so that each create, resize
+// or delete that is done is recorded.
 ghost use Rattle.std.specs.Prelude.{◌≡◌, ◌≢◌, ◌⊎◌, ◌<◌, ◌++◌, true, false, Some, None, IsTrue, IsOk, OnOk, length, vec_len, vec_capacity};
 ghost use Rattle.ar_volume.specs.Image.{is_broken, image};
 ghost use Rattle.ar_volume.specs.Sectors.{Address};
@@ -14,19 +15,20 @@ use std::sync::ledger::Ledger;
 
 const NO_MEMORY: Refusal = Refusal::Unit(UnitRefusal::NoMemory);
 
-// How many places a list gets that has none.
+// The first capacity of a list, in items.
 const FIRST_PLACES: usize = 4;
 
 impl<D: Disk + Drop, L: Ledger> Kept<D, L> {
-    /// Does one operation, and answers it as the array does. A making, a growth or a removal for which the history can't grow is
-    /// refused for want of memory, and nothing has changed then; one that is done is the history's next entry. Nothing else
-    /// changes the history. Memory is asked for only where it is full, and never for another operation or a broken array, which
-    /// refuses each operation, so that nothing is recorded.
+    /// Executes one operation and returns the array's outcome. A create, resize or delete that is done is the history's
+    /// next entry; no other operation changes the history. If a full history can't grow, these three fail with
+    /// `NoMemory` and change nothing. Nothing is allocated to record another operation, nor on a failed array, which
+    /// refuses these three.
     pub fn operate(&mut self, operation: Operation<D>) -> Outcome<D>
         ensures does { Does self.old.array (event_of operation) result self.new.array }
         ensures recorded { self.new.history ≡ self.old.history ++ entry_of (event_of operation) result }
 
-        // Want of memory is told only where the history has no place for an entry and gets none, or by the array.
+        // The operation fails for lack of memory only if the history has no capacity and gets none, or if the array
+        // says so.
         ensures begun { length self.old.history < self.new.room → Steps self.old.array (event_of operation) result self.new.array }
         ensures unbegun { self.new.room ≡ length self.old.history → is_broken self.old.array ≡ false → entry_asked (event_of operation) ≢ None
             → IsRefused self.old.array (event_of operation) result self.new.array }
@@ -45,8 +47,8 @@ impl<D: Disk + Drop, L: Ledger> Kept<D, L> {
         }
     }
 
-    /// Does one piece of work in the background, and answers it as the array does. The history stays, and until the data are
-    /// lost every unit.
+    /// Executes one piece of background work and returns the array's outcome. The history doesn't change, nor until
+    /// data loss does any unit.
     pub fn background(&mut self, task: Task) -> Outcome<D>
         ensures steps { Steps self.old.array (event_in task) result self.new.array }
         ensures history { self.new.history ≡ self.old.history }
@@ -110,7 +112,7 @@ impl<D: Disk + Drop, L: Ledger> Kept<D, L> {
         self.change(EventOf::Remove(addr), Entry::Remove(addr))
     }
 
-    // Does an event that is nothing to any unit.
+    // Executes a maintenance event.
     fn quiet(&mut self, event: Event<D>) -> Outcome<D>
         requires { is_quiet event ≡ true }
         ensures steps { Steps self.old.array event result self.new.array }
@@ -121,7 +123,7 @@ impl<D: Disk + Drop, L: Ledger> Kept<D, L> {
         self.array.step(self.alloc, event)
     }
 
-    // Does an event whose entry the history takes where the event is done.
+    // Executes an event, and records `entry` if it was done.
     fn change(&mut self, event: Event<D>, entry: Entry) -> Outcome<D>
         requires asked { entry_asked event ≡ Some entry }
         requires room { is_broken self.old.array ≡ false → length self.old.history < self.old.room }
@@ -136,8 +138,8 @@ impl<D: Disk + Drop, L: Ledger> Kept<D, L> {
         outcome
     }
 
-    // Whether the history has room for one entry more, which is made where there is none. A broken array records nothing, and
-    // needs none.
+    // Whether one more entry can be recorded; a full history grows first. A failed array records nothing and needs no
+    // capacity.
     pub(crate) fn can_record(&mut self) -> bool
         ensures array { self.new.array ≡ self.old.array }
         ensures history { self.new.history ≡ self.old.history }
@@ -152,7 +154,7 @@ impl<D: Disk + Drop, L: Ledger> Kept<D, L> {
     }
 }
 
-// Makes room for one more in a list that is full, by as many places again. One with a place stays as it is.
+// Doubles the capacity of a full list. By `reserve_exact`, since std gives no upper bound on what `reserve` adds.
 pub(crate) fn reserve_place<T>(list: &mut Vec<T>) -> Result<(), AllocError>
     ensures items { list.new.items ≡ list.old.items }
     ensures place { OnOk result (vec_len list.new < vec_capacity list.new) }
@@ -166,14 +168,14 @@ pub(crate) fn reserve_place<T>(list: &mut Vec<T>) -> Result<(), AllocError>
     list.reserve_exact(list.len().max(FIRST_PLACES))
 }
 
-// Whether an array has lost its data.
+// Whether the array has failed.
 pub(crate) fn is_lost<D: Disk>(array: &Array<D>) -> bool
     ensures { result ≡ is_broken array.now }
 {
     matches!(array.health(), Health::Broken)
 }
 
-// Whether a unit was made, has grown or was removed.
+// Whether a unit was created, extended or deleted.
 fn is_done<D: Disk>(outcome: &Outcome<D>) -> bool
     ensures { result ≡ is_done outcome.now }
 {

@@ -1,38 +1,38 @@
-// What is asked of a kept array, but for commands.
+// What an administrator, and background work, do to an array; hosts send only commands.
 use ar_core::NewDisk;
 use ar_disks::Addr;
 
-/// What is asked of an array of disks of this type by whom it belongs to.
+/// An administrator's operation on an array of disks of type `D`.
 pub type Operation<D> = OperationOf<NewDisk<D>>;
 
-/// What is asked of an array by whom it belongs to; `N` is what stands for a disk that is handed in.
+/// An administrator's operation on an array; `N` is the type that represents a disk passed in.
 #[derive(Debug, Drop)]
 pub enum OperationOf<N> {
-    /// Makes a unit of so many sectors, all zero.
+    /// Creates a unit with a length in sectors, 1 to 1,048,576, all zero.
     Make(Addr, u32),
-    /// Makes a unit longer: so many sectors is its new length.
+    /// Extends a unit to a new length in sectors, at most 1,048,576.
     Grow(Addr, u32),
-    /// Removes a unit.
+    /// Deletes a unit.
     Remove(Addr),
     /// Adds a disk.
     AddDisk(N),
-    /// Takes a disk out, by its number.
+    /// Takes a disk `out`, by its number: it counts as failed.
     DiskOut(u8),
-    /// Puts a disk in the place of the one that is out, by its number.
+    /// Replaces the failed disk of this number.
     Replace(u8, N),
 }
 
-/// Work in the background: one small piece of it.
+/// One piece of background work.
 #[derive(Clone, Copy, Debug, PartialEq, Eq)]
 pub enum Task {
-    /// Writes the least recently used block of the cache to the disks.
+    /// Destages the least recently used block of the cache.
     Flush,
-    /// Rebuilds one extent of the disk that was replaced.
+    /// Rebuilds one extent of the replaced disk.
     Rebuild,
     /// Moves one block out of a group that can be emptied.
     Clean,
-    /// Forms a group of loose extents, or moves a group's extent.
+    /// Forms a group of unassigned extents, or moves a group's member.
     Balance,
-    /// Moves the mirrored block that was written longest ago to a group with parity.
+    /// Moves the least recently written mirrored block to a parity group.
     Demote,
 }

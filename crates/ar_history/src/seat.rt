@@ -1,4 +1,5 @@
-// What a host holds of a kept array.
+// A host's seat. Its share of the ledger is the length of its transcript, so that no transcript grows without the
+// history.
 ghost use Rattle.std.specs.Prelude.{◌≡◌, ◌<◌, ◌+◌, ◌++◌, ◌∷◌, [], length};
 
 use crate::Exchange;
@@ -6,8 +7,8 @@ use ar_disks::Host;
 use std::marker::Model;
 use std::sync::ledger::{Book, Ledger, Share};
 
-/// A host's seat at the kept array of the same ledger: the transcript of its commands, which grows with the array's history
-/// alone.
+/// A host's seat: the handle by which it sends commands to the array of the same ledger, with their transcript, which
+/// grows only with the array's history.
 #[derive(Drop)]
 pub struct Seat<L: Ledger> {
     pub(crate) host: Host,
@@ -27,21 +28,21 @@ impl<L: Ledger> Model for Seat<L> {
 }
 
 impl<L: Ledger> Seat<L> {
-    /// The host whose seat it is.
+    /// Returns the host of the seat.
     pub fn host(&self) -> Host
         ensures { result ≡ self.now.host }
     {
         self.host
     }
 
-    /// The host's commands with their replies, in the order in which they were done.
+    /// Returns the host's commands with their replies, in the order in which they were done.
     pub fn transcript(&self) -> &[Exchange]
         ensures { result.now ≡ self.now.transcript }
     {
         self.transcript.as_slice()
     }
 
-    // Puts a command into the transcript, for which there is room, and counts it in the book.
+    // Appends a command to the transcript, which has capacity, and counts it in the ledger.
     pub(crate) fn append(&mut self, book: &mut Book<L>, exchange: Exchange)
         requires { length self.old.transcript < self.old.room }
         ensures transcript { self.new.transcript ≡ self.old.transcript ++ exchange ∷ [] }

@@ -1,4 +1,4 @@
--- What a picture shows of an extent, by the data of the array.
+-- What a picture shows of an extent.
 use Rattle.std.specs.Prelude.{ℕ, ◌*◌, ◌/◌, Bool, false, ◌==◌, ◌&&◌, ◌||◌, nat_le, if◌then◌else◌, List, Option, None, Some, position, find}
 use Rattle.ar_disks.specs.declared.address.Place.{Place}
 use Rattle.ar_disks.specs.declared.address.Members.{Members}
@@ -24,7 +24,7 @@ stands_on m p = same_place m.first p || same_place m.second p || same_place m.th
 abbrev pub fullness_of : ℕ → ℕ → ℕ
 fullness_of blocks slots = if nat_le slots blocks then 9 else blocks * 9 / slots
 
--- the extent's disk is out, or isn't rebuilt so far
+-- the extent's disk has failed, or isn't rebuilt up to it
 abbrev pub is_missing : Health → Place → Bool
 is_missing Whole p = false
 is_missing (Out disk) p = p.disk == disk
@@ -35,22 +35,22 @@ is_missing Broken p = false
 abbrev pub group_at : List Group → Place → Option ℕ
 group_at groups p = position (λ g. stands_on g.members p) groups
 
--- what extents of a group of this class are used for, where it is so full
+-- the use of extents of a group of this class and fullness
 abbrev pub content_in : Class → ℕ → Content
 content_in classes.Free full = Free
 content_in classes.Mirrored full = Mirrored full
 content_in classes.Parity full = Parity full
 
--- what a group's extents are used for
+-- the use of a group's extents
 abbrev pub content_of : Group → Content
 content_of g = content_in g.class (fullness_of g.blocks g.slots)
 
--- the same of an extent in a group, or in none
+-- the use of an extent in a group, or in none
 abbrev pub content_within : Option Group → Content
 content_within None = Loose
 content_within (Some g) = content_of g
 
--- what an extent is used for
+-- the use of an extent
 abbrev pub content_at : List Group → Place → Content
 content_at groups p = content_within (find (λ g. stands_on g.members p) groups)
 

@@ -1,11 +1,11 @@
--- Extents that a text map shows by one line.
+-- Folds: extents that share a line of the text map.
 use Rattle.std.specs.Prelude.{◌≡◌, ◌⊎◌, ℕ, ◌-◌, ◌<◌, ◌≤◌, List}
 use Rattle.std.specs.List.{range_with_len}
 use Rattle.ar_picture.specs.declared.folds.Fold.{Fold}
 use Rattle.ar_picture.specs.declared.picture.Picture.{Picture}
 use Rattle.ar_picture.specs.Cells.{cell_of}
 
--- the extents of two numbers look alike on each of so many disks
+-- the extents `one` and `other` look alike on each disk below `disks`
 abbrev pub AreAlikeBelow : Picture → ℕ → ℕ → ℕ → Type 0
 AreAlikeBelow picture disks one other =
     (disk : ℕ) → disk < disks → cell_of picture (record { disk = disk; extent = one }) ≡ cell_of picture (record { disk = disk; extent = other })
@@ -18,7 +18,7 @@ AreAlike picture = AreAlikeBelow picture picture.disks
 abbrev pub extents_of : Fold → List ℕ
 extents_of fold = range_with_len fold.first (fold.end - fold.first)
 
--- extents of the disks, at least one, that look alike, and that the next one doesn't look like
+-- at least one extent, all of which look alike, and the next doesn't
 pub record IsFold (picture : Picture) (fold : Fold) : Type 0 where
   pub some : fold.first < fold.end
   pub within : fold.end ≤ picture.extents

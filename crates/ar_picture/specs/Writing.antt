@@ -1,13 +1,13 @@
--- What is written is added.
+-- Output is appended.
 use Rattle.std.specs.Prelude.{◌≢◌, ℕ, List, [], Option}
 use Rattle.std.specs.Io.KnownBytes.{Appends}
 
--- bytes, perhaps none, come behind those that a writer is known to hold, which stay
+-- bytes, perhaps none, are appended to those that a writer is known to hold
 pub record AddsBytes (old new : Option (List ℕ)) : Type 0 where
   pub more : List ℕ
   pub appends : Appends old new more
 
--- the same, and there are some
+-- the same, of at least one byte
 pub record AddsSome (old new : Option (List ℕ)) : Type 0 where
   pub more : List ℕ
   pub appends : Appends old new more

@@ -1,4 +1,4 @@
-// What a picture shows of an extent.
+// Cells: what a picture shows of an extent. The lowest group that has the extent decides its use.
 ghost use Rattle.std.specs.Prelude.{◌≡◌, find};
 ghost use Rattle.std.specs.Option.{option_copied};
 ghost use Rattle.ar_picture.specs.Cells.{stands_on, content_of, content_at, cell_of};
@@ -9,13 +9,13 @@ use ar_disks::Place;
 /// What an extent is used for.
 #[derive(Clone, Copy, Debug, PartialEq, Eq)]
 pub enum Content {
-    /// For nothing: it is in no group.
+    /// Unassigned (`loose` in the API): it is in no group.
     Loose,
-    /// For nothing: its group is free.
+    /// In a free group.
     Free,
-    /// For a mirrored group that is so full, 0 to 9.
+    /// In a mirrored group of this fullness, 0 to 9.
     Mirrored(u8),
-    /// For a group with parity that is so full, 0 to 9.
+    /// In a parity group of this fullness, 0 to 9.
     Parity(u8),
 }
 
@@ -23,12 +23,12 @@ pub enum Content {
 #[derive(Clone, Copy, Debug, PartialEq, Eq)]
 pub struct Cell {
     pub content: Content,
-    /// Whether the extent can't be used: its disk is out, or isn't rebuilt so far.
+    /// Whether the extent is missing: its disk has failed, or isn't rebuilt up to it.
     pub is_missing: bool,
 }
 
 impl Group {
-    /// What the group's extents are used for.
+    /// Returns the use of the group's extents.
     pub fn content(&self) -> Content
         ensures { result ≡ content_of self.now }
     {
@@ -41,7 +41,7 @@ impl Group {
 }
 
 impl Picture {
-    /// What the picture shows of an extent.
+    /// Returns what the picture shows of the extent at `place`.
     pub fn cell_at(&self, place: Place) -> Cell
         ensures { result ≡ cell_of self.now place }
     {
@@ -51,7 +51,7 @@ impl Picture {
         }
     }
 
-    // What an extent is used for.
+    // The use of an extent.
     fn content_at(&self, place: Place) -> Content
         ensures { result ≡ content_at self.now.groups.items place }
     {

@@ -1,4 +1,4 @@
-// Which extents a text map shows by one line.
+// Folds: neighbouring extents that look alike on every disk share a line of the text map; each extent is in one fold.
 ghost use Rattle.std.specs.Prelude.{◌≡◌, ◌↔◌, ◌≤◌, ◌<◌, All, IfOk, OnErr, IsTrue, length};
 ghost use Rattle.std.specs.List.{flat_map, range_with_len};
 ghost use Rattle.ar_picture.specs.Folds.{AreAlike, IsFold, extents_of};
@@ -7,7 +7,7 @@ use crate::Picture;
 use ar_disks::Place;
 use std::alloc::{AllocError, Global};
 
-/// Extents that look alike on each disk: those of the numbers from `first` to before `end`.
+/// Extents that look alike on each disk: the numbers from `first` up to, not including, `end`.
 #[derive(Clone, Copy, Debug, PartialEq, Eq)]
 pub struct Fold {
     pub first: u16,
@@ -15,8 +15,8 @@ pub struct Fold {
 }
 
 impl Picture {
-    /// The extents, in their order: neighbours that look alike on each disk are together, as many as there are. It fails where
-    /// memory is refused; where there are no extents it asks for none.
+    /// Returns the folds of all extents, in order, each as long as possible. Fails only when out of memory, and never
+    /// without extents.
     pub fn folds(&self, alloc: Global) -> Result<Vec<Fold>, AllocError>
         // Each extent is in one fold, once.
         ensures once { IfOk result (λ folds. flat_map extents_of folds.items ≡ range_with_len 0 self.now.extents) }
@@ -34,7 +34,7 @@ impl Picture {
         Ok(folds)
     }
 
-    // The end of the extents that look like the first of them.
+    // The end of the fold that begins at `first`.
     fn fold_end(&self, first: u16) -> u16
         requires { first < self.now.extents }
         ensures { IsFold self.now (record { first = first; end = result }) }

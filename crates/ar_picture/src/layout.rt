@@ -1,4 +1,13 @@
-// Where things stand in the SVG, in its units, which are pixels where it is shown at its own size.
+// The layout of the SVG of n disks, in user units (pixels at its own size). Columns, extents and numbers don't overlap.
+//
+//        0      64         156         84 + 92 n          348 + 92 n
+//      0 +------+----------+-----------+------------------+
+//        | title, health                                  |
+//     74 |      :          :           | legend           |   22 a line
+//        |      : disk 0   : disk 1    |                  |
+//    124 |    0 : extent   : extent    |                  |   `pitch` an extent
+//        |    1 : extent   : extent    |                  |
+//        +------+----------+-----------+------------------+
 ghost use Rattle.std.specs.Prelude.{◌≡◌, ◌==◌, ◌+◌, ◌*◌, ◌%◌, ◌/◌, ◌<◌, ◌≤◌, ◌^◌, nat_lt, min, max, length};
 ghost use Rattle.ar_picture.specs.Looks.{outline_of, height_of};
 
@@ -22,7 +31,7 @@ const LINE: u32 = 22;
 /// How wide the legend is.
 const LEGEND: u32 = 264;
 
-/// How tall extents are drawn: the more there are, the less.
+/// The vertical scale of extents: the more a disk has, the lower each is drawn.
 #[derive(Clone, Copy, Debug, PartialEq, Eq)]
 pub struct Scale {
     /// From one extent to the next.
@@ -39,22 +48,22 @@ pub struct Scale {
 }
 
 impl Scale {
-    /// The scale for disks of so many extents.
+    /// Returns the scale for disks of `extents` extents.
     pub fn of(extents: u16) -> Scale
-        // Extents don't overlap, and each has its bar within it, which is seen.
+        // Extents don't overlap, and each contains its bar, which is visible.
         ensures apart { result.height ≤ result.pitch }
         ensures bar { result.bar.0 + result.bar.1 ≤ result.height }
         ensures seen { 0 < result.bar.1 }
-        // A bar takes a third of its extent or more, and no more than 4 are left free between two extents.
+        // A bar takes at least a third of its extent, and at most 4 units separate two extents.
         ensures thick { result.height ≤ 3 * result.bar.1 }
         ensures near { result.pitch ≤ result.height + 4 }
-        // Words stand above the bar, and few extents have them. Many are no taller than 3,072 in all.
+        // Text fits above the bar; up to 16 extents have it. Up to 1,024 extents are at most 3,072 high in all.
         ensures words { 24 < result.height → 14 ≤ result.bar.0 }
         ensures few { extents ≤ 16 → 24 < result.height }
         ensures many { extents ≤ 1024 → result.pitch * extents ≤ 3072 }
-        // None is too flat to be seen, and none flatter than one of a disk with more.
+        // Extents are at least 3 high, and never lower than those of a disk with more of them.
         ensures tall { result.height ≡ height_of extents }
-        // Numbers, 11 tall, don't overlap, and there is one in each 384. Where there are words, each extent has its number.
+        // Numbers, 11 high, don't overlap, and are at most 384 apart. With text, each extent has its number.
         ensures numbers { 11 ≤ result.pitch * result.numbered }
         ensures often { result.pitch * result.numbered ≤ 384 }
         ensures each { 24 < result.height → result.numbered ≡ 1 }
@@ -75,14 +84,14 @@ impl Scale {
         }
     }
 
-    /// Whether there is room for words in an extent.
+    /// Whether an extent has room for text.
     pub fn has_words(self) -> bool
         ensures { result ≡ nat_lt 24 self.height }
     {
         self.height > 24
     }
 
-    /// Where an extent begins, from above.
+    /// Returns the y coordinate of an extent's top.
     pub fn top_of(self, extent: u16) -> u32
         ensures top { result ≡ 124 + self.pitch * extent }
         ensures small { result < 2 ^ 25 }
@@ -90,14 +99,14 @@ impl Scale {
         TOP + u32::from(self.pitch) * u32::from(extent)
     }
 
-    /// Where its bar begins.
+    /// Returns the y coordinate of its bar's top.
     pub fn bar_of(self, extent: u16) -> u32
         ensures { result ≡ 124 + self.pitch * extent + self.bar.0 }
     {
         self.top_of(extent) + u32::from(self.bar.0)
     }
 
-    /// Where its number stands, whose foot is a little below its middle.
+    /// Returns the y coordinate of its number's baseline, a little below its middle.
     pub fn number_of(self, extent: u16) -> u32
         ensures { result ≡ 124 + self.pitch * extent + self.height / 2 + 4 }
     {
@@ -112,10 +121,10 @@ impl Scale {
     }
 }
 
-/// Where a disk's column begins, from the left.
+/// Returns the x coordinate of a disk's column.
 pub fn left_of(disk: u8) -> u32
     ensures left { result ≡ 64 + 92 * disk }
-    // The next column begins behind its extents, and no more than 12 are left free between two.
+    // Columns don't overlap, and at most 12 units separate two.
     ensures apart { result + WIDTH < 64 + 92 * (disk + 1) }
     ensures near { 64 + 92 * (disk + 1) ≤ result + WIDTH + 12 }
     ensures small { result < 2 ^ 16 }
@@ -123,7 +132,7 @@ pub fn left_of(disk: u8) -> u32
     LEFT + COLUMN * u32::from(disk)
 }
 
-/// Where a line of the legend begins, from above.
+/// Returns the y coordinate of a line of the legend.
 pub fn line_top(line: u8) -> u32
     ensures top { result ≡ 74 + 22 * line }
     ensures small { result < 2 ^ 16 }
@@ -131,7 +140,7 @@ pub fn line_top(line: u8) -> u32
     TOP - 50 + LINE * u32::from(line)
 }
 
-/// Where the legend begins, from the left.
+/// Returns the x coordinate of the legend.
 pub fn legend_left(picture: &Picture) -> u32
     ensures left { result ≡ 84 + 92 * picture.now.disks }
     ensures small { result < 2 ^ 17 }
@@ -139,7 +148,7 @@ pub fn legend_left(picture: &Picture) -> u32
     left_of(picture.disks) + 20
 }
 
-/// How wide and how tall the whole picture is, with an edge: as wide as disks and legend, as tall as the taller of them.
+/// Returns width and height of the picture, with a margin: as wide as disks and legend, as high as the higher of them.
 pub fn size_of(picture: &Picture, scale: Scale) -> (u32, u32)
     ensures wide { result.0 ≡ 348 + 92 * picture.now.disks }
     ensures tall { result.1

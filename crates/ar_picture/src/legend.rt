@@ -1,4 +1,4 @@
-// The legend of the SVG.
+// The legend of the SVG: a line for each style of extents, and one for each unit.
 ghost use Rattle.std.specs.Prelude.{◌<◌, ◌^◌};
 
 use crate::Picture;
@@ -7,7 +7,7 @@ use crate::palette::colour_of;
 use std::io;
 use std::io::Write;
 
-/// The lines for the styles of extents: its number, the style, and what that means.
+/// The lines for the styles of extents: line number, style, and what the style means.
 static STYLES: [(u8, &str, &str); 5] = [
     (1, "mirrored", "in a mirrored group"),
     (2, "parity", "in a group with parity"),
@@ -59,7 +59,7 @@ fn write_units<W: Write>(out: &mut W, picture: &Picture, x: u32) -> io::Result<(
     Ok(())
 }
 
-// Writes the words of a line.
+// Writes the text of a line.
 fn write_words<W: Write>(
     out: &mut W,
     x: u32,

@@ -1,12 +1,12 @@
-// Colours of units.
+// Colours. Those of units, of extents and of the background all differ (`colours_differ`).
 ghost use Rattle.std.specs.Prelude.{◌≡◌, ◌+◌, ◌*◌, true, ◌∷◌, map, slice_index_or};
 ghost use Rattle.std.specs.List.{list_all};
 ghost use Rattle.ar_picture.specs.Looks.{are_apart, is_colour};
 
 use crate::{UNITS_MAX, Unit};
 
-/// The colour of each unit, by its place: 8 H + L of unit L of host H. The hues of the hosts are told apart by those, too, who
-/// see red and green alike; a host's units are light and dark in turn.
+/// The colours of units: that of unit L of host H has index 8 H + L. The hosts' hues, from Okabe and Ito's palette, are
+/// distinct with red-green colour blindness, too; a host's units alternate between dark and light.
 pub static COLOURS: [&str; UNITS_MAX] = [
     // Host 0: blue.
     "#0072B2", "#99C7E0", "#003350", "#4C9CC9", "#00507D", "#C7E0EE", "#001927", "#73B1D5",
@@ -18,27 +18,27 @@ pub static COLOURS: [&str; UNITS_MAX] = [
     "#CC79A7", "#EBC9DC", "#5C364B", "#DBA1C1", "#8F5575", "#F4E2EC", "#2D1B25", "#E3B5CF",
 ];
 
-/// The colour of what is no unit.
+/// The colour for an index without a unit.
 const NO_UNIT: &str = "#000000";
 
-/// What an extent of a mirrored group is filled with.
+/// The fill of extents of mirrored groups.
 pub const MIRRORED: &str = "#D3EAF9";
 
-/// What one of a group with parity is filled with.
+/// The fill of extents of parity groups.
 pub const PARITY: &str = "#FBF1C0";
 
-/// What one of a free group is filled with, and the ground.
+/// The fill of extents of free groups, and the background.
 pub const GROUND: &str = "#FFFFFF";
 
-/// Each unit has a colour of its own, what is no unit another, and what they are seen on, extents and the ground, others.
+/// All colours differ: each unit's, that for no unit, and the fills behind them. The function does nothing.
 pub fn colours_differ()
-    // Each is written in the one way. So where the texts differ, the colours do.
+    // All are written in the same form, so that different texts are different colours.
     ensures written { list_all is_colour
         (MIRRORED.now ∷ PARITY.now ∷ GROUND.now ∷ NO_UNIT.now ∷ map (λ colour. colour.now) COLOURS) ≡ true }
     ensures apart { are_apart (MIRRORED.now ∷ PARITY.now ∷ GROUND.now ∷ NO_UNIT.now ∷ map (λ colour. colour.now) COLOURS) ≡ true }
 {}
 
-/// A unit's colour: the one at its place, or black where there is none.
+/// Returns the colour at a unit's index, or black past the end.
 pub fn colour_of(unit: Unit) -> &'static str
     ensures { result.now ≡ slice_index_or (map (λ colour. colour.now) COLOURS) (8 * unit.host + unit.lun) NO_UNIT.now }
 {
@@ -49,7 +49,7 @@ pub fn colour_of(unit: Unit) -> &'static str
     )
 }
 
-// The text at a place, or another where there is none.
+// The text at an index, or `other` past the end.
 fn text_at(texts: &[&'static str], place: usize, other: &'static str) -> &'static str
     ensures { result.now ≡ slice_index_or (map (λ text. text.now) texts.now) place other.now }
 {

@@ -1,4 +1,4 @@
-// A disk array as plain data.
+// A disk array as plain data: pictures depend on no table and no disk of the array.
 ghost use Rattle.std.specs.Prelude.{◌≡◌, ◌≢◌, ℕ, ◌+◌, ◌^◌, ◌<◌, ◌≤◌, slice_index};
 ghost use Rattle.ar_picture.specs.Cells.{stands_on, fullness_of, is_missing, group_at};
 
@@ -14,7 +14,7 @@ pub enum Class {
     Free,
     /// For two copies of each block.
     Mirrored,
-    /// For blocks with parity.
+    /// For blocks with rotating parity (RAID 5 layout).
     Parity,
 }
 
@@ -41,8 +41,8 @@ impl Group {
             || members.fourth == place
     }
 
-    /// How full the group is: how many ninths of its slots hold a block, rounded down. So 9 is full, and 0 is less than a ninth.
-    /// A group without slots is full.
+    /// Returns how many ninths of the group's slots hold a block, rounded down: 9 is full, 0 is less than a ninth. A
+    /// group without slots is full.
     pub fn fullness(&self) -> u8
         ensures same { result ≡ fullness_of self.now.blocks self.now.slots }
         ensures none { self.now.slots ≡ 0 → result ≡ 9 }
@@ -57,21 +57,21 @@ impl Group {
     }
 }
 
-/// Which disk is down, if any.
+/// The health of the disks.
 #[derive(Clone, Copy, Debug, PartialEq, Eq)]
 pub enum Health {
-    /// Every disk is sound.
+    /// Healthy: all disks are present.
     Whole,
-    /// This disk is out.
+    /// This disk has failed (it is `out`).
     Out(u8),
-    /// This disk was replaced, and so many of its extents are rebuilt, the lowest first.
+    /// This disk was replaced, and this number of its extents are rebuilt, the lowest first.
     Rebuilding(u8, u16),
-    /// Two disks were down at one moment, and the data are lost.
+    /// The array has failed: two disks were missing at once, and the data are lost.
     Broken,
 }
 
 impl Health {
-    /// Whether an extent is missing: its disk is out, or isn't rebuilt so far. On a broken array none is.
+    /// Whether an extent is missing: its disk has failed, or isn't rebuilt up to it. On a failed array none is.
     pub fn is_missing(self, place: Place) -> bool
         ensures { result ≡ is_missing self place }
     {
@@ -92,18 +92,18 @@ pub struct Unit {
     pub lun: u8,
     /// How many blocks it has.
     pub blocks: u32,
-    /// How many of them stand on the disks.
+    /// How many of them are stored on the disks.
     pub placed: u32,
 }
 
-/// How many blocks of each unit a group holds. Unit L of host H has place 8 H + L.
+/// How many blocks of each unit a group holds. Unit L of host H has index 8 H + L.
 #[derive(Clone, Copy, Debug, PartialEq, Eq)]
 pub struct Held {
     pub blocks: [u32; UNITS_MAX],
 }
 
 impl Held {
-    /// Counts one more block of the unit with a place.
+    /// Counts one more block of the unit with index `place`, 0 to 31.
     pub fn add(&mut self, place: usize)
         requires place { place < 32 }
         requires few { slice_index self.old.blocks place + 1 < 2 ^ 32 }
@@ -122,16 +122,16 @@ pub struct Picture {
     /// How many extents each disk has.
     pub extents: u16,
     pub health: Health,
-    /// The groups, in their order. An extent that none of them has is loose.
+    /// The groups, by number. An extent in none of them is unassigned (`loose`).
     pub groups: Vec<Group>,
-    /// The units, as the pictures list them.
+    /// The units, in the order in which pictures list them.
     pub units: Vec<Unit>,
-    /// Whose blocks the groups hold, in the order of the groups.
+    /// The blocks of units in each group, in the order of `groups`.
     pub held: Vec<Held>,
 }
 
 impl Picture {
-    /// The number of the group that has an extent, the lowest if there are several; None for a loose one.
+    /// Returns the number of the lowest group that has an extent, or `None` if it is unassigned.
     pub fn group_at(&self, place: Place) -> Option<usize>
         ensures { result ≡ group_at self.now.groups.items place }
     {

@@ -1,4 +1,4 @@
-// The SVG.
+// The SVG: for each disk a column of its extents, from top to bottom, and the legend on the right.
 use crate::layout::{Scale, TOP, WIDTH, left_of, size_of};
 use crate::legend::write_legend;
 use crate::palette::{COLOURS, GROUND, MIRRORED, PARITY};
@@ -7,7 +7,7 @@ use ar_disks::Place;
 use std::io;
 use std::io::Write;
 
-/// How texts look.
+/// The style of text.
 const TEXTS: &str = "\
 text { font-family: 'DejaVu Sans', Verdana, sans-serif; font-size: 12px; fill: #222222; stroke: none }
 .title { font-size: 17px; font-weight: bold }
@@ -17,19 +17,19 @@ text { font-family: 'DejaVu Sans', Verdana, sans-serif; font-size: 12px; fill: #
 .head { font-weight: bold }
 .small { font-size: 10px; paint-order: stroke; stroke: #FFFFFF; stroke-width: 2 }";
 
-/// How extents look that are in no group, or can't be used.
+/// The styles of extents that are unassigned or missing.
 const UNUSED: &str = "\
 .loose { fill: #EFEFEF; stroke: #9A9A9A; stroke-dasharray: 3 3 }
 .missing { fill: url(#missing); stroke: #B03A00 }";
 
-/// The hatch of extents that can't be used.
+/// The hatch of missing extents.
 const HATCH: &str = "\
 <defs><pattern id='missing' width='9' height='9' patternUnits='userSpaceOnUse' patternTransform='rotate(45)'>\
 <rect width='2' height='9' fill='#B03A00'/></pattern></defs>";
 
-/// Writes the picture as an SVG: a column for each disk, in it its extents, coloured by the class of their group, each with a bar
-/// as long as the group is full, in the colours of the units whose blocks it holds; and a legend. Extents that can't be used are
-/// hatched.
+/// Writes the picture as an SVG: for each disk a column of its extents, coloured by the class of their group, each with
+/// a bar as long as the group is full, in the colours of the units whose blocks it holds; and a legend. Missing extents
+/// are hatched.
 pub fn write_svg<W: Write>(out: &mut W, picture: &Picture) -> io::Result<()> {
     let scale = Scale::of(picture.extents);
     write_frame(out, picture, scale)?;
@@ -44,7 +44,7 @@ pub fn write_svg<W: Write>(out: &mut W, picture: &Picture) -> io::Result<()> {
     writeln!(out, "</svg>")
 }
 
-// Writes what stands before the disks.
+// Writes what comes before the disks: size, styles, title and health.
 fn write_frame<W: Write>(out: &mut W, picture: &Picture, scale: Scale) -> io::Result<()> {
     let (width, height) = size_of(picture, scale);
     let (disks, extents) = (picture.disks, picture.extents);
@@ -82,7 +82,7 @@ fn write_frame<W: Write>(out: &mut W, picture: &Picture, scale: Scale) -> io::Re
     writeln!(out, "</text>")
 }
 
-// Writes how texts look, and extents by what they are used for.
+// Writes the styles of text and of extents.
 fn write_style<W: Write>(out: &mut W) -> io::Result<()> {
     writeln!(out, "<style>\n{TEXTS}")?;
     writeln!(out, ".mirrored {{ fill: {MIRRORED}; stroke: #3D8FC4 }}")?;
@@ -91,7 +91,7 @@ fn write_style<W: Write>(out: &mut W) -> io::Result<()> {
     writeln!(out, "{UNUSED}\n</style>\n{HATCH}")
 }
 
-// Writes the numbers of extents beside their lines.
+// Writes the numbers of extents to their left.
 fn write_numbers<W: Write>(out: &mut W, picture: &Picture, scale: Scale) -> io::Result<()> {
     for extent in 0..picture.extents {
         if scale.is_numbered(extent) {
@@ -134,7 +134,7 @@ fn write_disk<W: Write>(out: &mut W, picture: &Picture, scale: Scale, disk: u8) 
     Ok(())
 }
 
-// Writes an extent: its cell, the bar of its group, a hatch where it can't be used, and words where there is room.
+// Writes an extent: its cell, the bar of its group, a hatch if it is missing, and text if there is room.
 fn write_extent<W: Write>(
     out: &mut W,
     picture: &Picture,
@@ -178,7 +178,7 @@ fn write_cell<W: Write>(out: &mut W, scale: Scale, place: Place, class: &str) ->
     )
 }
 
-// Writes the blocks of an extent's group as a bar, in which each slot is as long as any other.
+// Writes the blocks of an extent's group as a bar, in which all slots are equally long.
 fn write_bar<W: Write>(
     out: &mut W,
     picture: &Picture,
@@ -209,7 +209,7 @@ fn write_bar<W: Write>(
     writeln!(out, "</svg>")
 }
 
-// Writes the number of an extent's group, and how full that is.
+// Writes the number of an extent's group, and its fullness.
 fn write_words<W: Write>(
     out: &mut W,
     picture: &Picture,

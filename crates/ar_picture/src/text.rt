@@ -1,4 +1,10 @@
-// The text map.
+// The text map: a column for each disk, five characters wide, and a line for each fold of extents.
+//
+//   4 disks (columns) of 1024 extents (lines)
+//                 0    1    2    3
+//                    out
+//      0         9M  !9M   9M   9M          9M: mirrored, full; !: missing
+//      1..1023   ..  !..   ..   ..          ..: in no group
 ghost use Rattle.std.specs.Prelude.{◌≡◌, All, OnOk};
 ghost use Rattle.std.specs.List.{flat_map, range_with_len};
 ghost use Rattle.ar_picture.specs.Folds.{IsFold, extents_of};
@@ -9,11 +15,10 @@ use ar_disks::Place;
 use std::io;
 use std::io::Write;
 
-/// Writes the text map: how many disks and extents there are, the numbers of the disks with the one that is down marked below, a
-/// line for each of the picture's folds, two lines that say what the marks mean, one of the disks' health, and a line for each
-/// unit.
+/// Writes the text map: the number of disks and of extents; the disks' numbers, the failed or replaced one marked
+/// below; a line for each of `folds`; a legend of two lines; the health; and a line for each unit.
 pub fn write_map<W: Write>(out: &mut W, picture: &Picture, folds: &[Fold]) -> io::Result<()>
-    // They are the picture's own, as it tells them.
+    // The folds are the picture's own (`Picture::folds`).
     requires once { flat_map extents_of folds.now ≡ range_with_len 0 picture.now.extents }
     requires folded { All (IsFold picture.now) folds.now }
     ensures adds { OnOk result (AddsSome (W.contents out.old) (W.contents out.new)) }
@@ -34,7 +39,7 @@ pub fn write_map<W: Write>(out: &mut W, picture: &Picture, folds: &[Fold]) -> io
     Ok(())
 }
 
-// Writes what the lines above the extents say.
+// Writes the lines above the extents.
 fn write_heads<W: Write>(out: &mut W, picture: &Picture) -> io::Result<()>
     ensures adds { OnOk result (AddsSome (W.contents out.old) (W.contents out.new)) }
 {
@@ -48,7 +53,7 @@ fn write_heads<W: Write>(out: &mut W, picture: &Picture) -> io::Result<()>
     write_down(out, picture.health)
 }
 
-// Writes, below the number of a disk that is down, whether it is out or new.
+// Marks the failed disk as out, or the replaced one as new, below its number.
 fn write_down<W: Write>(out: &mut W, health: Health) -> io::Result<()>
     ensures grows { OnOk result (AddsBytes (W.contents out.old) (W.contents out.new)) }
 {
@@ -70,7 +75,7 @@ fn write_below<W: Write>(out: &mut W, disk: u8, word: &str) -> io::Result<()>
     writeln!(out, "{word:>5}")
 }
 
-// Writes the line of extents that look alike: their numbers, and what each disk's is used for.
+// Writes the line of a fold: its extents' numbers, and a cell for each disk.
 fn write_fold<W: Write>(out: &mut W, picture: &Picture, fold: Fold) -> io::Result<()>
     requires { IsFold picture.now fold }
     ensures grows { OnOk result (AddsBytes (W.contents out.old) (W.contents out.new)) }
@@ -86,7 +91,7 @@ fn write_fold<W: Write>(out: &mut W, picture: &Picture, fold: Fold) -> io::Resul
     writeln!(out)
 }
 
-// Writes the numbers of the first and the last extent of a line, or the one that it has.
+// Writes the first and the last number of a fold's extents, or the only one.
 fn write_extents<W: Write>(out: &mut W, first: u16, last: u16) -> io::Result<()>
     ensures grows { OnOk result (AddsBytes (W.contents out.old) (W.contents out.new)) }
 {
