@@ -1,4 +1,4 @@
--- How a login is answered.
+-- The login of a session, and the reply to it.
 use Rattle.std.specs.Prelude.{◌≡◌, ℕ, true, false, List, [], ◌∷◌}
 use Rattle.ar_disks.specs.declared.address.Host.{Host}
 use Rattle.ar_frames.specs.declared.login.Admission.{Admission}
@@ -17,13 +17,13 @@ stage_of (Admitted host) = admitted
 stage_of BadLogin = refused
 stage_of HostInUse = in_use
 
--- the byte that tells it
+-- the byte that reports it to the client
 abbrev pub greeting_of : Admission → ℕ
 greeting_of (Admitted host) = 0x00
 greeting_of BadLogin = 0x01
 greeting_of HostInUse = 0x01
 
--- how a session begins after it was told
+-- how a session goes on once the admission is reported
 abbrev pub entry_after : Admission → Entry
 entry_after (Admitted host) = EntryAdmitted host
 entry_after BadLogin = EntryEnded why.BadLogin
@@ -33,7 +33,7 @@ entry_after HostInUse = EntryEnded why.HostInUse
 abbrev pub Names : Host → List ℕ → Type 0
 Names host login = login ≡ login_bytes host.number
 
--- an admission was told, or wasn't: one byte
+-- the one byte that reports an admission was written, or its write faulted
 abbrev pub Tells : SinkState → SinkState → Admission → Entry → Type 0
 Tells old new admission (EntryAdmitted host) = (admission ≡ Admitted host) × Writing old new (0x00 ∷ []) false
 Tells old new admission (EntryEnded why.BadLogin) = (admission ≡ BadLogin) × Writing old new (0x01 ∷ []) false
@@ -46,7 +46,7 @@ Tells old new admission (EntryEnded why.Cut) = ⊥
 Tells old new admission (EntryEnded why.Read) = ⊥
 Tells old new admission (EntryEnded why.Bound) = ⊥
 
--- the login of this host was taken, and that was told
+-- the login of this host was accepted, and the reply to it written
 pub record IsAdmitted {P : Type 0} (host : Host) (logins : Logins P) (source source' : SourceState) (sink sink' : SinkState)
     (port port' : P) : Type 0 where
   pub login : List ℕ
@@ -55,7 +55,7 @@ pub record IsAdmitted {P : Type 0} (host : Host) (logins : Logins P) (source sou
   pub read : Reading source source' login false
   pub written : Writing sink sink' (0x00 ∷ []) false
 
--- a login was taken, or the session is over
+-- the login was accepted, or the session has ended without a frame
 abbrev pub Enters : {P : Type 0} → Logins P → Commands P → SourceState → SourceState → SinkState → SinkState → P → P → Entry → Type 0
 Enters logins commands source source' sink sink' port port' (EntryAdmitted host) = IsAdmitted host logins source source' sink sink' port port'
 Enters logins commands source source' sink sink' port port' (EntryEnded end) =

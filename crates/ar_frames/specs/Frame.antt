@@ -22,18 +22,18 @@ pub record IsFrame (request : Request) (bytes : List ℕ) : Type 0 where
   pub cdb_len : length request.cdb ≡ 16
   pub data_fits : length request.payload ≤ most_data
 
--- the byte of a status (SAM-3, Status)
+-- the status code (SAM-3, Status)
 abbrev pub status_byte : Status → ℕ
 status_byte Good = 0x00
 status_byte CheckCondition = 0x02
 status_byte Busy = 0x08
 
--- the bytes of sense data, none where there are none
+-- the bytes of the sense data, empty if there are none
 abbrev pub sense_bytes : Option (List ℕ) → List ℕ
 sense_bytes None = []
 sense_bytes (Some sense) = sense
 
--- a status goes with this sense and these bytes: sense with CHECK CONDITION alone, bytes with GOOD alone
+-- what a reply carries, by its status: sense data with CHECK CONDITION alone, a payload with GOOD alone
 abbrev pub Suits : Status → Option (List ℕ) → List ℕ → Type 0
 Suits Good sense payload = (sense ≡ None) × (length payload ≤ most_data)
 Suits CheckCondition sense payload = (length (sense_bytes sense) ≡ 18) × (payload ≡ [])
@@ -47,7 +47,7 @@ IsReply reply = Suits reply.status reply.sense reply.payload
 abbrev pub most_bytes : ℕ
 most_bytes = 14 + most_data
 
--- a reply frame: N, the tag of the request, the status, the length of the sense data, they and the payload
+-- a reply frame: N, the tag of the request, the status, the length of the sense data, the sense data, the payload
 pub record IsReplyFrame (tag : ℕ) (reply : Reply) (bytes : List ℕ) : Type 0 where
   pub count : List ℕ
   pub name : List ℕ
@@ -59,27 +59,27 @@ pub record IsReplyFrame (tag : ℕ) (reply : Reply) (bytes : List ℕ) : Type 0 
   pub name_is : big_number 8 name ≡ tag
   pub suits : IsReply reply
 
--- nothing, or fewer bytes than a frame that begins so has: less than its N, or less than N says, which is low to high
+-- an incomplete frame: fewer bytes than N has, or fewer than an N from `low` to `high` says
 abbrev pub IsCutFrame : ℕ → ℕ → List ℕ → Type 0
 IsCutFrame low high bytes =
     (length bytes < 4)
     ⊎ ((4 ≤ length bytes) × (low ≤ big_number 4 bytes) × (big_number 4 bytes ≤ high) × (length bytes < 4 + big_number 4 bytes))
 
--- what came of a request frame that isn't whole
+-- an incomplete request frame
 abbrev pub IsCutRequest : List ℕ → Type 0
 IsCutRequest bytes = IsCutFrame 25 (25 + most_data) bytes
 
--- what came of a reply frame that isn't whole
+-- an incomplete reply frame
 abbrev pub IsCutReply : List ℕ → Type 0
 IsCutReply bytes = IsCutFrame 10 (10 + most_data) bytes
 
--- where the bytes of a frame begin those of another, the two are one
+-- a request frame that is a prefix of another is equal to it, and so are the requests
 abbrev pub NoneBeginsAnother : Type 0
 NoneBeginsAnother =
     (first second : Request) (bytes more : List ℕ) → IsFrame first bytes → IsFrame second (bytes ++ more)
     → (more ≡ []) × (first ≡ second)
 
--- the same for reply frames
+-- a reply frame that is a prefix of another is equal to it, and so are the tags and replies
 abbrev pub NoReplyBeginsAnother : Type 0
 NoReplyBeginsAnother =
     (tag other : ℕ) (first second : Reply) (bytes more : List ℕ) → IsReplyFrame tag first bytes → IsReplyFrame other second (bytes ++ more)

@@ -1,13 +1,13 @@
--- What a port answers to a login.
+-- Logins at a port.
 use Rattle.std.specs.Prelude.{ℕ, Bool, true, false}
 use Rattle.ar_frames.specs.declared.port.Login.{Login}
 use Rattle.ar_frames.specs.declared.port.Login.TheVariants.{Taken, BadHost, InUse}
 
--- a port's own relation of a login: the port before, the host's number, the answer, the port after
+-- what a login may do at a port: the port before, the host's number, the result, the port after
 abbrev pub Logins : Type 0 → Type 1
 Logins P = P → ℕ → Login → P → Type 0
 
--- the login was taken
+-- the login was accepted
 abbrev pub is_taken : Login → Bool
 is_taken Taken = true
 is_taken BadHost = false

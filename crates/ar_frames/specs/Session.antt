@@ -1,4 +1,4 @@
--- What a session reads, asks of its port, writes, and how it ends.
+-- A session: what it reads, gives to its port and writes, and when each end comes.
 use Rattle.std.specs.Prelude.{◌≡◌, ◌≢◌, ◌<◌, ◌≤◌, ◌+◌, ℕ, Bool, true, false, List, [], ◌∷◌, ◌++◌, length, take, Option, ⊤}
 use Rattle.std.specs.Io.KnownBytes.{IsAtEnd}
 use Rattle.byteorder.specs.Endian.{big_number}
@@ -23,14 +23,14 @@ login_name = 0x41 ∷ 0x52 ∷ 0x41 ∷ 0x49 ∷ 0x44 ∷ 0x48 ∷ 0x4F ∷ 0x31
 abbrev pub login_bytes : ℕ → List ℕ
 login_bytes host = login_name ++ host ∷ []
 
--- how far a session came before its frames: its login didn't come whole, was refused, was of a host in use, was taken
+-- the result of the login: not read whole, refused, of a host in use, or accepted
 pub data Stage : Type 0 where
   silent : Stage
   refused : Stage
   in_use : Stage
   admitted : Stage
 
--- What a login brings: the port before, the bytes that came of it, the answer that is due, and the port after.
+-- A login: the port before, the bytes that were read of it, the reply that is due, the result, and the port after.
 pub data Opening {P : Type 0} (logins : Logins P) (old : P) : List ℕ → List ℕ → Stage → P → Type 0 where
   cut : (login : List ℕ) → length login < 9 → Opening logins old login [] silent old
   other_name : (login : List ℕ) → length login ≡ 9 → take 8 login ≢ login_name → Opening logins old login (0x01 ∷ []) refused old
@@ -38,26 +38,26 @@ pub data Opening {P : Type 0} (logins : Logins P) (old : P) : List ℕ → List 
   host_in_use : (host : ℕ) (new : P) → host ≤ 3 → logins old host InUse new → Opening logins old (login_bytes host) (0x01 ∷ []) in_use new
   taken : (host : ℕ) (new : P) → host ≤ 3 → logins old host Taken new → Opening logins old (login_bytes host) (0x00 ∷ []) admitted new
 
--- the login didn't come whole, or after so many frames a part of the next did; of these two only the second may have a rest
+-- the login wasn't read whole, or the frame after `frames` whole ones wasn't, of which `rest` was read
 abbrev pub IsInside : Stage → ℕ → List ℕ → Type 0
 IsInside silent frames rest = (frames ≡ 0) × (rest ≡ [])
 IsInside refused frames rest = ⊥
 IsInside in_use frames rest = ⊥
 IsInside admitted frames rest = (frames < most_frames) × IsCutRequest rest
 
--- an answer that was due wasn't written whole: that to the login, or that to the last frame
+-- a reply wasn't written whole: the one to the login, or the one to the last frame
 abbrev pub IsUnsent : Stage → ℕ → Type 0
 IsUnsent silent frames = ⊥
 IsUnsent refused frames = frames ≡ 0
 IsUnsent in_use frames = frames ≡ 0
 IsUnsent admitted frames = frames ≤ most_frames
 
--- the login was taken, and fewer frames came than may come
+-- the login was accepted, and the limit of frames isn't reached
 pub record IsWaiting (stage : Stage) (frames : ℕ) : Type 0 where
   pub taken : stage ≡ admitted
   pub below : frames < most_frames
 
--- the N of the next frame came, and is this number
+-- just the N of the next frame was read, and it is `n`
 pub record CountCame (rest : List ℕ) (n : ℕ) : Type 0 where
   pub len : length rest ≡ 4
   pub is : n ≡ big_number 4 rest
@@ -68,7 +68,7 @@ abbrev pub Closes : Why → Stage → ℕ → List ℕ → Type 0
 Closes why.End stage frames rest = IsWaiting stage frames × (rest ≡ [])
 -- the name or the host's number is wrong
 Closes why.BadLogin stage frames rest = (stage ≡ refused) × (frames ≡ 0) × (rest ≡ [])
--- the port said so
+-- the port reported that the host is in use
 Closes why.HostInUse stage frames rest = (stage ≡ in_use) × (frames ≡ 0) × (rest ≡ [])
 -- N is too small or too large: nothing after it is read
 Closes (why.TooShort n) stage frames rest = IsWaiting stage frames × CountCame rest n × (n < 25)
@@ -77,12 +77,12 @@ Closes (why.TooLong n) stage frames rest = IsWaiting stage frames × CountCame r
 Closes why.Cut stage frames rest = IsInside stage frames rest × (stage ≡ admitted → 0 < length rest)
 -- a read faulted, before or inside the login or a frame
 Closes why.Read stage frames rest = IsInside stage frames rest
--- a write of the last answer faulted
+-- a write of the last reply faulted
 Closes why.Write stage frames rest = IsUnsent stage frames × (rest ≡ [])
--- as many frames as may come were answered
+-- the limit of frames is reached, and all were answered
 Closes why.Bound stage frames rest = (stage ≡ admitted) × (frames ≡ most_frames) × (rest ≡ [])
 
--- the end is a read's fault
+-- the session ended at a read fault
 abbrev pub is_read : Why → Bool
 is_read why.End = false
 is_read why.BadLogin = false
@@ -94,7 +94,7 @@ is_read why.Read = true
 is_read why.Write = false
 is_read why.Bound = false
 
--- where input is said to have ended, none is left
+-- an end that reports the end of input comes only if no input is left
 abbrev pub EndsInput : Why → Option (List ℕ) → Type 0
 EndsInput why.End left = IsAtEnd left
 EndsInput why.BadLogin left = ⊤
@@ -112,13 +112,13 @@ pub record WritesPart (old new : SinkState) (answers : List ℕ) : Type 0 where
   pub proper : n < length answers
   pub written : Writing old new (take n answers) true
 
--- the same of several answers, of which the last one has so many bytes: all before it were written whole
+-- the same for several replies: all but the last, which has `last` bytes, were written whole
 pub record WritesAllButLast (old new : SinkState) (answers : List ℕ) (last : ℕ) : Type 0 where
   pub part : WritesPart old new answers
   pub whole : length answers ≤ part.n + last
 
--- all answers that are due are written, and at a write's fault a proper prefix of them, from which nothing but a part of the last
--- one is missing: it has so many bytes
+-- all replies are written or, at a write fault, a proper prefix that lacks only bytes of the last reply, which has
+-- `last` bytes
 abbrev pub WritesAnswers : Why → SinkState → SinkState → List ℕ → ℕ → Type 0
 WritesAnswers why.End old new answers last = Writing old new answers false
 WritesAnswers why.BadLogin old new answers last = Writing old new answers false
@@ -130,8 +130,8 @@ WritesAnswers why.Read old new answers last = Writing old new answers false
 WritesAnswers why.Write old new answers last = WritesAllButLast old new answers last
 WritesAnswers why.Bound old new answers last = Writing old new answers false
 
--- A whole session, from the streams and the port before it to those after it: it reads a login, so many frames and a rest,
--- and writes the answer to the login and the frames of the port's replies.
+-- A whole session, from the streams and the port before it to those after it: it reads a login, `end.frames` frames and
+-- a rest, and writes the reply to the login and the reply frames.
 pub record Session {P : Type 0} (logins : Logins P) (commands : Commands P) (source source' : SourceState) (sink sink' : SinkState)
     (port port' : P) (end : SessionEnd) : Type 0 where
   pub stage : Stage

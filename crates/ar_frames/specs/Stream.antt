@@ -1,4 +1,4 @@
--- What contracts see of a stream: its bytes, where it tells them, and how often it has faulted.
+-- Streams, as contracts see them: the bytes, if the stream reports them, and the number of faults.
 use Rattle.std.specs.Prelude.{◌≡◌, ℕ, ◌<◌, Bool, true, false, if◌then◌else◌, List, [], length, take, Option, Some, None, ⊤}
 use Rattle.std.specs.Io.KnownBytes.{Consumes, Appends, IsAtEnd}
 use Rattle.ar_disks.specs.Disk.{counted}
@@ -13,36 +13,36 @@ use Rattle.ar_frames.specs.declared.hold.Fetched.TheVariants.{Kept as FetchKept,
 use Rattle.ar_frames.specs.declared.fill.Sent.{Sent}
 use Rattle.ar_frames.specs.declared.fill.Sent.TheVariants.{Whole, Part}
 
--- a stream to read from: the bytes that are left, if it tells them, and the number of its faults
+-- a stream to read from: the bytes that are left, if it reports them, and the number of its faults
 pub record SourceState : Type 0 where
   pub left : Option (List ℕ)
   pub faults : ℕ
 
--- a stream to write to: the bytes that it took, if it tells them, and the number of its faults
+-- a stream to write to: the bytes that were written, if it reports them, and the number of its faults
 pub record SinkState : Type 0 where
   pub taken : Option (List ℕ)
   pub faults : ℕ
 
--- the first bytes of a piece that a call of read gave or one of write took
+-- the bytes that a call transferred: the first of a piece, or none at a fault
 abbrev pub moved : Option ℕ → List ℕ → List ℕ
 moved None piece = []
 moved (Some n) piece = take n piece
 
--- the faults after calls of which the last one faulted, or none
+-- the number of faults after calls of which the last one faulted, or none
 abbrev pub faults_after : Bool → ℕ → ℕ
 faults_after faulted faults = if faulted then counted faults else faults
 
--- calls of read gave these bytes, and the last of them faulted, or none
+-- reads returned these bytes, and the last of them faulted, or none
 pub record Reading (old new : SourceState) (bytes : List ℕ) (faulted : Bool) : Type 0 where
   pub given : Consumes old.left new.left bytes
   pub faults : new.faults ≡ faults_after faulted old.faults
 
--- calls of write took these bytes, and the last of them faulted, or none
+-- writes took these bytes, and the last of them faulted, or none
 pub record Writing (old new : SinkState) (bytes : List ℕ) (faulted : Bool) : Type 0 where
   pub took : Appends old.taken new.taken bytes
   pub faults : new.faults ≡ faults_after faulted old.faults
 
--- the bytes that came of those that were wanted
+-- the part of a buffer that was filled
 abbrev pub filled_bytes : Filled → List ℕ → List ℕ
 filled_bytes Full piece = piece
 filled_bytes (Ended n) piece = take n piece
@@ -54,36 +54,36 @@ is_failed Full = false
 is_failed (Ended n) = false
 is_failed (Failed n) = true
 
--- fewer bytes came than were wanted, unless all did; where no more came without a fault, none is left
+-- unless the buffer is full, fewer bytes were read than it has; at the end of input, none is left
 abbrev pub StopsShort : Filled → ℕ → Option (List ℕ) → Type 0
 StopsShort Full wanted left = ⊤
 StopsShort (Ended n) wanted left = (n < wanted) × IsAtEnd left
 StopsShort (Failed n) wanted left = n < wanted
 
--- a piece was filled as far as the stream allowed
+-- a buffer was filled, whole or up to a read fault or the end of input
 pub record Filling (old new : SourceState) (piece : List ℕ) (filled : Filled) : Type 0 where
   pub read : Reading old new (filled_bytes filled piece) (is_failed filled)
   pub stops : StopsShort filled (length piece) new.left
 
--- so many bytes came
+-- `wanted` bytes were read
 pub record CameAll (old new : SourceState) (wanted : ℕ) : Type 0 where
   pub bytes : List ℕ
   pub len : length bytes ≡ wanted
   pub read : Reading old new bytes false
 
--- fewer came than were wanted, and then a read faulted or found none
+-- fewer than `wanted` bytes were read, and then a read faulted, or none
 pub record CamePart (old new : SourceState) (wanted : ℕ) (faulted : Bool) : Type 0 where
   pub bytes : List ℕ
   pub short : length bytes < wanted
   pub read : Reading old new bytes faulted
 
--- bytes were passed over
+-- bytes were read and discarded, by the result
 abbrev pub Passes : SourceState → SourceState → ℕ → Passed → Type 0
 Passes old new wanted All = CameAll old new wanted
 Passes old new wanted PassEnded = CamePart old new wanted false × IsAtEnd new.left
 Passes old new wanted PassFailed = CamePart old new wanted true
 
--- bytes are shared, or no memory is there to share them
+-- bytes are shared, or the allocation for sharing them failed
 abbrev pub Shares : List ℕ → Held → Type 0
 Shares bytes (Kept shared) = shared ≡ bytes
 Shares bytes Refused = ⊥
@@ -91,7 +91,8 @@ Shares bytes Lost = ⊤
 Shares bytes HoldEnded = ⊥
 Shares bytes HoldFailed = ⊥
 
--- bytes were read into memory of their own, which may have been refused before any was read or after all were
+-- bytes were read into a buffer of their own; its allocation may fail before any is read, or the one for sharing after
+-- all are
 abbrev pub Holds : SourceState → SourceState → ℕ → Held → Type 0
 Holds old new wanted (Kept bytes) = (length bytes ≡ wanted) × Reading old new bytes false
 Holds old new wanted Refused = (0 < wanted) × (new ≡ old)
@@ -99,14 +100,14 @@ Holds old new wanted Lost = (0 < wanted) × CameAll old new wanted
 Holds old new wanted HoldEnded = CamePart old new wanted false × IsAtEnd new.left
 Holds old new wanted HoldFailed = CamePart old new wanted true
 
--- the same, and where memory was refused before, the bytes were passed over
+-- the same, but the bytes are discarded if their buffer can't be allocated
 abbrev pub Fetches : SourceState → SourceState → ℕ → Fetched → Type 0
 Fetches old new wanted (FetchKept bytes) = (length bytes ≡ wanted) × Reading old new bytes false
 Fetches old new wanted FetchLost = (0 < wanted) × CameAll old new wanted
 Fetches old new wanted FetchEnded = CamePart old new wanted false × IsAtEnd new.left
 Fetches old new wanted FetchFailed = CamePart old new wanted true
 
--- the bytes that were taken of a piece
+-- the part of a buffer that was written
 abbrev pub sent_bytes : Sent → List ℕ → List ℕ
 sent_bytes Whole piece = piece
 sent_bytes (Part n) piece = take n piece
@@ -116,12 +117,12 @@ abbrev pub is_part : Sent → Bool
 is_part Whole = false
 is_part (Part n) = true
 
--- where a write faulted, what was taken is a proper prefix
+-- at a write fault, what was written is a proper prefix
 abbrev pub IsProper : Sent → ℕ → Type 0
 IsProper Whole wanted = ⊤
 IsProper (Part n) wanted = n < wanted
 
--- a piece was written as far as the stream allowed
+-- a buffer was written, whole or up to a write fault
 pub record Sending (old new : SinkState) (piece : List ℕ) (sent : Sent) : Type 0 where
   pub written : Writing old new (sent_bytes sent piece) (is_part sent)
   pub proper : IsProper sent (length piece)

@@ -1,21 +1,21 @@
--- What a port may answer, frame by frame.
+-- The requests and replies of a session, frame by frame.
 use Rattle.std.specs.Prelude.{◌≡◌, ◌<◌, ◌⊎◌, ◌+◌, ℕ, List, [], ◌∷◌, ◌++◌, length}
 use Rattle.ar_scsi.specs.declared.reply.Reply.{Reply}
 use Rattle.ar_scsi.specs.Reply.{busy}
 use Rattle.ar_frames.specs.declared.frame.Request.{Request}
 use Rattle.ar_frames.specs.Frame.{IsFrame, IsReplyFrame, sense_bytes}
 
--- a port's own relation of a command: the port before, the LUN, the command block, the data, the reply, the port after
+-- what a command may do at a port: the port before, the LUN, the command block, the data, the reply, the port after
 abbrev pub Commands : Type 0 → Type 1
 Commands P = P → ℕ → List ℕ → List ℕ → Reply → P → Type 0
 
--- one answer: a command of the port, or BUSY, the port not being asked, where the request has data
+-- one reply: the port's, or BUSY without the port, which only a request with data gets
 abbrev pub Answers : {P : Type 0} → Commands P → P → Request → Reply → P → Type 0
 Answers commands old request reply new =
     commands old request.lun request.cdb request.payload reply new
     ⊎ ((0 < length request.payload) × (reply ≡ busy) × (new ≡ old))
 
--- the port may answer these requests by these replies, in order
+-- these are replies to these requests, in order, each from the port that the one before left
 abbrev pub Talk : {P : Type 0} → Commands P → P → List Request → List Reply → P → Type 0
 Talk commands old [] [] new = new ≡ old
 Talk {P = P} commands old (request ∷ requests) (reply ∷ replies) new =
@@ -38,16 +38,16 @@ AreReplyFrames (request ∷ requests) (reply ∷ replies) bytes =
 AreReplyFrames [] (reply ∷ replies) bytes = ⊥
 AreReplyFrames (request ∷ requests) [] bytes = ⊥
 
--- how many bytes the frame of a reply has
+-- the length of a reply's frame in bytes
 abbrev pub reply_len : Reply → ℕ
 reply_len reply = 14 + (length (sense_bytes reply.sense) + length reply.payload)
 
--- how many bytes the last of these replies' frames has, or what was answered before them, which has so many, where there is none
+-- the length of the last reply's frame, or `len` if there is no reply
 abbrev pub last_len : ℕ → List Reply → ℕ
 last_len len [] = len
 last_len len (reply ∷ replies) = last_len (reply_len reply) replies
 
--- So many whole frames were read and answered: the bytes read are theirs, the bytes of the answers are those of the replies.
+-- `frames` whole frames were read and answered: `read` is their bytes, `answers` those of the reply frames.
 pub record Conversation {P : Type 0} (commands : Commands P) (old new : P)
     (read answers : List ℕ) (frames : ℕ) : Type 0 where
   pub requests : List Request

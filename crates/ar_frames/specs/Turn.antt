@@ -1,4 +1,4 @@
--- One frame of a session: how it is read, asked of the port, and answered.
+-- One step of a session: a frame is read, executed at the port, and its reply written.
 use Rattle.std.specs.Prelude.{◌≡◌, ◌⊎◌, ◌<◌, ◌≤◌, ◌+◌, max, ℕ, zero, suc, false, List, [], ◌++◌, length, take}
 use Rattle.ar_scsi.specs.declared.reply.Reply.{Reply}
 use Rattle.ar_scsi.specs.Reply.{busy}
@@ -17,20 +17,20 @@ use Rattle.ar_frames.specs.Frame.{IsFrame, IsReplyFrame}
 use Rattle.ar_frames.specs.Talk.{Commands, Answers, Conversation, last_len, reply_len}
 use Rattle.ar_frames.specs.Session.{admitted, most_frames, Closes, EndsInput, WritesAnswers, WritesPart, is_read}
 
--- after these first bytes of a frame the rest of it was read
+-- the rest of the request's frame was read, after its first bytes `front`
 pub record ReadsFrame (front : List ℕ) (source source' : SourceState) (request : Request) : Type 0 where
   pub body : List ℕ
   pub is_frame : IsFrame request (front ++ body)
   pub read : Reading source source' body false
 
--- the same, of some request with this tag and with data, which found no memory
+-- the rest of a frame with this tag was read, after `front`, and its data, at least one byte, couldn't be allocated
 pub record LosesData (front : List ℕ) (source source' : SourceState) (tag : ℕ) : Type 0 where
   pub request : Request
   pub tag_is : request.tag ≡ tag
   pub some : 0 < length request.payload
   pub reads : ReadsFrame front source source' request
 
--- after these first bytes no whole frame came, and so the session ends, whatever was written before
+-- after `front` no whole frame came, so that the session ends for this reason, whatever was written before
 pub record StopsAfter (front : List ℕ) (source source' : SourceState) (end : Why) : Type 0 where
   pub body : List ℕ
   pub closes : (frames : ℕ) → frames < most_frames → Closes end admitted frames (front ++ body)
@@ -38,59 +38,59 @@ pub record StopsAfter (front : List ℕ) (source source' : SourceState) (end : W
   pub ended : EndsInput end source'.left
   pub unwritten : (sink : SinkState) (last : ℕ) → WritesAnswers end sink sink [] last
 
--- what came after these first bytes of a frame
+-- what was read after `front`, the first bytes of a frame
 abbrev pub Receives : List ℕ → SourceState → SourceState → Incoming → Type 0
 Receives front source source' (Whole request) = ReadsFrame front source source' request
 Receives front source source' (Lost tag) = LosesData front source source' tag
 Receives front source source' (Ended end) = StopsAfter front source source' end
 
--- a reply frame was written as far as the stream allowed
+-- a reply frame was written, whole or up to a write fault
 pub record SendsReply (sink sink' : SinkState) (tag : ℕ) (reply : Reply) (sent : Sent) : Type 0 where
   pub frame : List ℕ
   pub is_frame : IsReplyFrame tag reply frame
   pub sending : Sending sink sink' frame sent
 
--- a request frame was written as far as the stream allowed
+-- a request frame was written, whole or up to a write fault
 pub record SendsRequest (sink sink' : SinkState) (request : Request) (sent : Sent) : Type 0 where
   pub frame : List ℕ
   pub is_frame : IsFrame request frame
   pub sending : Sending sink sink' frame sent
 
--- what an answer's writing leaves to do
+-- how far a reply frame was written, by the step's result
 abbrev pub WritesReply : SinkState → SinkState → List ℕ → Turn → Type 0
 WritesReply sink sink' frame Answered = Writing sink sink' frame false
 WritesReply sink sink' frame Unsent = WritesPart sink sink' frame
 WritesReply sink sink' frame (TurnEnded end) = ⊥
 
--- what becomes of a frame whose reply was written so far
+-- the result of a step whose reply was written this far
 abbrev pub turn_after : Sent → Turn
 turn_after sent.Whole = Answered
 turn_after (sent.Part n) = Unsent
 
--- what a session keeps from frame to frame: for so many bytes its buffer has the place, these stand in it, and so many commands were
--- given to the port
+-- a session's state between frames: the buffer's capacity and bytes, and the number of commands given to the port
 pub record WorkState : Type 0 where
   pub room : ℕ
   pub bytes : List ℕ
   pub given : ℕ
 
--- the buffer keeps its memory, and gets no more than this reply takes, and none for a reply without bytes, which leaves it alone
+-- the buffer's capacity doesn't shrink, and grows to the reply's frame at most; a reply without payload leaves the
+-- buffer unchanged
 pub record GrowsFor (reply : Reply) (work work' : WorkState) : Type 0 where
   pub kept : work.room ≤ work'.room
   pub grown : work'.room ≤ max work.room (reply_len reply)
   pub still : length reply.payload ≡ 0 → (work'.room ≡ work.room) × (work'.bytes ≡ work.bytes)
 
--- a command that the port was given is counted, and one that was answered BUSY in its place isn't
+-- a command given to the port is counted; one that got BUSY without the port isn't
 abbrev pub Counts : {P : Type 0} → Commands P → P → Request → Reply → P → ℕ → ℕ → Type 0
 Counts commands port request reply port' given given' =
     (commands port request.lun request.cdb request.payload reply port' × (given' ≡ given + 1))
     ⊎ ((0 < length request.payload) × (reply ≡ busy) × (port' ≡ port) × (given' ≡ given))
 
--- where the buffer has the place for the frame of a reply with bytes, that was put together there
+-- if the buffer has capacity for the frame of a reply with payload, the frame was assembled there
 abbrev pub IsJoined : ℕ → Reply → WorkState → Type 0
 IsJoined tag reply work = 0 < length reply.payload → reply_len reply ≤ work.room → IsReplyFrame tag reply (take (reply_len reply) work.bytes)
 
--- BUSY was written under this tag as far as the stream allowed
+-- BUSY was written under this tag, whole or up to a write fault
 pub record RefusesRequest (sink sink' : SinkState) (tag : ℕ) (turn : Turn) (work work' : WorkState) : Type 0 where
   pub frame : List ℕ
   pub is_frame : IsReplyFrame tag busy frame
@@ -98,7 +98,7 @@ pub record RefusesRequest (sink sink' : SinkState) (tag : ℕ) (turn : Turn) (wo
   pub memory : GrowsFor busy work work'
   pub uncounted : work'.given ≡ work.given
 
--- a request was answered, and the reply written as far as the stream allowed
+-- a request got a reply, which was written whole or up to a write fault
 pub record AnswersRequest {P : Type 0} (commands : Commands P) (sink sink' : SinkState) (port port' : P) (request : Request) (turn : Turn) (work work' : WorkState) : Type 0 where
   pub reply : Reply
   pub frame : List ℕ
@@ -109,26 +109,26 @@ pub record AnswersRequest {P : Type 0} (commands : Commands P) (sink sink' : Sin
   pub joined : IsJoined request.tag reply work'
   pub counts : Counts commands port request reply port' work.given work'.given
 
--- a whole frame was read and answered
+-- a whole frame was read, and its reply written whole or up to a write fault
 pub record ServesFrame {P : Type 0} (commands : Commands P) (source source' : SourceState) (sink sink' : SinkState) (port port' : P) (work work' : WorkState) (turn : Turn) : Type 0 where
   pub request : Request
   pub reads : ReadsFrame [] source source' request
   pub answers : AnswersRequest commands sink sink' port port' request turn work work'
 
--- no whole frame came
+-- no whole frame came; the sink, the port and the session's state are unchanged
 pub record EndsTurn {P : Type 0} (source source' : SourceState) (sink sink' : SinkState) (port port' : P) (work work' : WorkState) (end : Why) : Type 0 where
   pub stops : StopsAfter [] source source' end
   pub same_sink : sink' ≡ sink
   pub same_port : port' ≡ port
   pub same_work : work' ≡ work
 
--- one frame of a session
+-- one step of a session, by its result
 abbrev pub Turns : {P : Type 0} → Commands P → SourceState → SourceState → SinkState → SinkState → P → P → WorkState → WorkState → Turn → Type 0
 Turns commands source source' sink sink' port port' work work' Answered = ServesFrame commands source source' sink sink' port port' work work' Answered
 Turns commands source source' sink sink' port port' work work' Unsent = ServesFrame commands source source' sink sink' port port' work work' Unsent
 Turns commands source source' sink sink' port port' work work' (TurnEnded end) = EndsTurn source source' sink sink' port port' work work' end
 
--- so many frames were read and answered whole
+-- `count` frames were read and answered whole
 pub record Served {P : Type 0} (commands : Commands P) (source source' : SourceState) (sink sink' : SinkState) (port port' : P) (count : ℕ) : Type 0 where
   pub frames : List ℕ
   pub answers : List ℕ
@@ -147,33 +147,33 @@ pub record ServesAll {P : Type 0} (commands : Commands P) (source source' : Sour
   pub ended : EndsInput end.why source'.left
   pub written : WritesAnswers end.why sink sink' answers (last_len 0 conversation.replies)
 
--- what a session has at one moment between two frames: its streams, its port, and what it keeps
+-- a moment between two frames: the streams, the port and the session's state
 pub record Moment (P : Type 0) : Type 0 where
   pub source : SourceState
   pub sink : SinkState
   pub port : P
   pub work : WorkState
 
--- one frame of a session, from one moment to the next
+-- one step of a session, from one moment to the next
 abbrev pub TurnsTo : {P : Type 0} → Commands P → Moment P → Moment P → Turn → Type 0
 TurnsTo commands old new turn = Turns commands old.source new.source old.sink new.sink old.port new.port old.work new.work turn
 
--- so many frames were answered, each from the moment that the one before left
+-- this many frames were answered, each from the moment that the one before left
 abbrev pub HasTurned : {P : Type 0} → Commands P → ℕ → Moment P → Moment P → Type 0
 HasTurned commands zero first last = last ≡ first
 HasTurned {P = P} commands (suc n) first last =
     (between : Moment P) × HasTurned commands n first between × TurnsTo commands between last Answered
 
--- the end of a session after so many answered frames, and its last moment from the one that they left
+-- the end of a session after `count` answered frames, and its last moment, from the one that they left
 pub data Finishes {P : Type 0} (commands : Commands P) (count : ℕ) (between last : Moment P) : SessionEnd → Type 0 where
-  -- as many frames as may come were answered: nothing more was done
+  -- the limit of frames is reached: nothing more was done
   full : count ≡ most_frames → last ≡ between → Finishes commands count between last (record { frames = count; why = why.Bound })
   -- one more frame came, whose reply wasn't written whole
   unsent : TurnsTo commands between last Unsent → Finishes commands count between last (record { frames = count + 1; why = why.Write })
   -- no whole frame came, for this reason
   stopped : (end : Why) → TurnsTo commands between last (TurnEnded end) → Finishes commands count between last (record { frames = count; why = end })
 
--- a session turn by turn: nothing but frames lies between its first moment and its last
+-- a session step by step: nothing but steps leads from its first moment to its last
 pub record TakesTurns {P : Type 0} (commands : Commands P) (first last : Moment P) (end : SessionEnd) : Type 0 where
   pub count : ℕ
   pub between : Moment P

@@ -1,4 +1,5 @@
-// The client's side of a session.
+// The client's side of a session. A reply is returned only if it is whole, well-formed and under the tag of its
+// request.
 ghost use Rattle.std.specs.Prelude.{◌≡◌, ◌≤◌, ◌+◌, ◌++◌, ℕ, List, [], length, IfSome, IfNone};
 ghost use Rattle.byteorder.specs.Endian.{big_number};
 ghost use Rattle.ar_scsi.specs.declared.reply.Reply.{Reply};
@@ -17,24 +18,24 @@ use byteorder::{BigEndian, ByteOrder};
 use bytes::Bytes;
 use std::alloc::Global;
 
-/// Why a login or a command has no answer.
+/// Why a login or a command got no reply.
 #[derive(Clone, Copy, Debug, PartialEq, Eq)]
 pub enum AskFault {
     /// A read faulted.
     Read,
     /// A write faulted: a proper prefix was written, and nothing was read.
     Write,
-    /// Input ended before the answer was whole.
+    /// Input ended before the reply was whole.
     Cut,
-    /// A whole reply came, of another tag.
+    /// A whole reply with another tag arrived.
     WrongTag,
-    /// What came is no answer.
+    /// What arrived is no reply.
     BadFrame,
-    /// Memory for the reply was refused.
+    /// The reply couldn't be allocated.
     NoMemory,
 }
 
-/// Logs a host in, by its number: true where the login was taken.
+/// Logs a host in by its number, and returns whether the server accepted the login.
 pub fn hello<R: Source, W: Sink>(reader: &mut R, writer: &mut W, host: u8) -> Result<bool, AskFault>
     ensures { Greets (R.state reader.old) (R.state reader.new) (W.state writer.old) (W.state writer.new)
         (login_bytes host) result }
@@ -47,7 +48,7 @@ pub fn hello<R: Source, W: Sink>(reader: &mut R, writer: &mut W, host: u8) -> Re
     }
 }
 
-// Reads the one byte that answers a login.
+// Reads the one byte that replies to a login.
 fn read_greeting<R: Source>(reader: &mut R) -> Result<bool, AskFault>
     ensures { ReadsGreeting (R.state reader.old) (R.state reader.new) result }
 {
@@ -69,7 +70,8 @@ fn greeting_of(byte: u8) -> Result<bool, AskFault>
     }
 }
 
-/// Gives a command to the server and waits for its reply. A payload has at most 33,553,920 bytes.
+/// Sends a command to the server and waits for its reply. `payload` has at most 33,553,920 bytes. After `Write` nothing
+/// was read; after any other error the request was sent whole.
 pub fn ask<R: Source, W: Sink>(
     alloc: Global,
     reader: &mut R,
@@ -106,7 +108,7 @@ fn send_request<W: Sink>(
     send_joined(writer, &mut buffer, &head, payload)
 }
 
-// Reads the reply to a tag. Nothing is read after an N that no reply has.
+// Reads the reply to `tag`. After an N that no reply has, nothing is read.
 fn read_reply<R: Source>(alloc: Global, reader: &mut R, tag: u64) -> Result<Reply, AskFault>
     ensures { ReadsReply [] (R.state reader.old) (R.state reader.new) tag result }
 {
@@ -138,7 +140,7 @@ fn read_counted<R: Source>(
     read_head(alloc, reader, tag, len)
 }
 
-// Reads what follows the N of a reply with so many bytes of sense data and payload.
+// Reads what follows N, in a reply with `len` bytes of sense data and payload.
 fn read_head<R: Source>(
     alloc: Global,
     reader: &mut R,
@@ -157,7 +159,7 @@ fn read_head<R: Source>(
     }
 }
 
-// Reads sense data and payload, after N and these ten bytes.
+// Reads the `len` bytes of sense data and payload, after N and `head`.
 fn read_body<R: Source>(
     alloc: Global,
     reader: &mut R,
@@ -178,7 +180,7 @@ fn read_body<R: Source>(
     }
 }
 
-// What a whole reply is, of which these are the ten bytes after N and the rest.
+// Checks a whole reply: `head` is the ten bytes after N, `body` the rest.
 fn judge(tag: u64, head: &[u8; 10], body: Bytes) -> Result<Reply, AskFault>
     requires { length body ≤ most_data }
     ensures { (count : List ℕ) → length count ≡ 4 → big_number 4 count ≡ 10 + length body →
@@ -197,7 +199,7 @@ fn judge(tag: u64, head: &[u8; 10], body: Bytes) -> Result<Reply, AskFault>
     }
 }
 
-// The reply with this status byte and sense length, whose sense data and payload these bytes are.
+// Decodes a reply from its status byte, its sense length, and its sense data and payload.
 fn parse(status: u8, sense_len: u8, body: Bytes) -> Option<Reply>
     requires { length body ≤ most_data }
     ensures some { IfSome result (λ reply. Parses status sense_len body reply) }
@@ -211,7 +213,7 @@ fn parse(status: u8, sense_len: u8, body: Bytes) -> Option<Reply>
     }
 }
 
-// CHECK CONDITION with these bytes of sense data, if they are as many as that takes.
+// A CHECK CONDITION with these sense data, if they have 18 bytes.
 fn checked(sense: &Bytes) -> Option<Reply>
     ensures some { IfSome result (λ reply. Parses 0x02 0x12 sense.now reply) }
     ensures none { IfNone result (¬ (length sense.now ≡ 18)) }

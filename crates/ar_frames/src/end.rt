@@ -1,4 +1,5 @@
-// How a session ends.
+// Why sessions end. Each reason says where reading and writing stopped (`Closes` and `WritesAnswers` of the
+// specification).
 
 /// Why a session ended.
 #[derive(Clone, Copy, Debug, PartialEq, Eq)]
@@ -19,14 +20,14 @@ pub enum Why {
     Read,
     /// A write faulted.
     Write,
-    /// The most frames of a session were answered.
+    /// The limit of 1,000,000 frames was reached, and all were answered.
     Bound,
 }
 
-/// The end of a session.
+/// How a session ended.
 #[derive(Clone, Copy, Debug, PartialEq, Eq)]
 pub struct SessionEnd {
-    /// How many frames were read whole.
+    /// The number of frames that were read whole.
     pub frames: u64,
     pub why: Why,
 }

@@ -1,28 +1,29 @@
-// Reads and writes of whole pieces, over as many calls as the stream wants.
+// Transfers of whole buffers, in as many calls as the stream takes. A transfer stops early only at a fault or at the
+// end of input.
 ghost use Rattle.std.specs.Prelude.{◌≡◌, length};
 ghost use Rattle.ar_frames.specs.Stream.{Filling, Sending};
 
 use crate::stream::{Sink, Source};
 
-// How far a piece was filled.
+// How far a buffer was filled.
 #[derive(Clone, Copy)]
 pub enum Filled {
     Full,
-    // Input ended after so many bytes.
+    // Input ended after this many bytes.
     Ended(usize),
-    // A read faulted after so many bytes.
+    // A read faulted after this many bytes.
     Failed(usize),
 }
 
-// How far a piece was written.
+// How far a buffer was written.
 #[derive(Clone, Copy)]
 pub enum Sent {
     Whole,
-    // A write faulted after so many bytes.
+    // A write faulted after this many bytes.
     Part(usize),
 }
 
-// Reads as many bytes as `into` has. An empty piece takes no call.
+// Fills `into`. An empty one makes no read.
 pub fn fill<R: Source>(reader: &mut R, into: &mut [u8]) -> Filled
     ensures { Filling (R.state reader.old) (R.state reader.new) into.new result }
 {
@@ -37,7 +38,7 @@ pub fn fill<R: Source>(reader: &mut R, into: &mut [u8]) -> Filled
     Filled::Full
 }
 
-// Writes all of `from`. An empty piece takes no call.
+// Writes all of `from`. An empty one makes no write.
 pub fn send<W: Sink>(writer: &mut W, from: &[u8]) -> Sent
     ensures { Sending (W.state writer.old) (W.state writer.new) from.now result }
 {

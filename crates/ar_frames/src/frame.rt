@@ -1,4 +1,7 @@
-// Frames as bytes. Fields are big-endian.
+// Frames as bytes, big-endian. N counts the bytes that follow it; S is 18 with CHECK CONDITION, otherwise 0.
+//
+//     request  | N:4 | tag:8 | LUN:1 | command block:16 | data |          N is 25 to 33,553,945
+//     reply    | N:4 | tag:8 | status:1 | S:1 | sense data:S | payload |  N is 10 to 33,553,930
 ghost use Rattle.std.specs.Prelude.{◌≡◌, ◌≤◌, ◌+◌, ◌++◌, ◌∷◌, [], length, drop, slice_index};
 ghost use Rattle.byteorder.specs.Endian.{big_number, big_bytes};
 ghost use Rattle.ar_frames.specs.Frame.{most_data, status_byte};
@@ -19,7 +22,7 @@ pub struct Request {
     pub payload: Bytes,
 }
 
-// What stands between a request frame's N and its data.
+// The fields of a request frame between N and the data.
 #[derive(Clone, Copy)]
 pub struct Head {
     pub tag: u64,
@@ -27,7 +30,7 @@ pub struct Head {
     pub cdb: [u8; 16],
 }
 
-// The fields of the 25 bytes that follow N.
+// Decodes the 25 bytes that follow N.
 pub fn head_of(bytes: &[u8; 25]) -> Head
     ensures tag { result.tag ≡ big_number 8 bytes.now }
     ensures lun { result.lun ≡ slice_index bytes.now 8 }
@@ -42,7 +45,7 @@ pub fn head_of(bytes: &[u8; 25]) -> Head
     }
 }
 
-// A request frame up to its data, of which there are so many bytes.
+// Encodes a request frame up to its `len` bytes of data.
 pub fn request_head(tag: u64, lun: u8, cdb: &[u8; 16], len: u32) -> [u8; 29]
     requires { len ≤ most_data }
     ensures { result ≡ big_bytes 4 (25 + len) ++ (big_bytes 8 tag ++ (lun ∷ cdb.now)) }
@@ -55,7 +58,7 @@ pub fn request_head(tag: u64, lun: u8, cdb: &[u8; 16], len: u32) -> [u8; 29]
     head
 }
 
-// A reply frame without sense data, up to its payload, of which there are so many bytes.
+// Encodes a reply frame without sense data, up to its `len` bytes of payload.
 pub fn plain_head(tag: u64, status: Status, len: u32) -> [u8; 14]
     requires { len ≤ most_data }
     ensures { result ≡ big_bytes 4 (10 + len) ++ (big_bytes 8 tag ++ (status_byte status ∷ 0x00 ∷ [])) }
@@ -67,7 +70,7 @@ pub fn plain_head(tag: u64, status: Status, len: u32) -> [u8; 14]
     head
 }
 
-// A whole reply frame with sense data.
+// Encodes the whole reply frame of a CHECK CONDITION.
 pub fn sense_frame(tag: u64, sense: &[u8; 18]) -> [u8; 32]
     ensures { result ≡ big_bytes 4 28 ++ (big_bytes 8 tag ++ (0x02 ∷ 0x12 ∷ sense.now)) }
 {
@@ -80,7 +83,7 @@ pub fn sense_frame(tag: u64, sense: &[u8; 18]) -> [u8; 32]
     frame
 }
 
-// The byte of a status.
+// The status code (SAM-3, Status).
 fn byte_of(status: Status) -> u8
     ensures { result ≡ status_byte status }
 {

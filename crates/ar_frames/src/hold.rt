@@ -1,4 +1,5 @@
-// Reads of data into memory of their own, and past it.
+// Reads data into a buffer of exactly their length. If it can't be allocated, they are read and discarded, so that the
+// next read begins at a frame.
 ghost use Rattle.std.specs.Prelude.{◌≡◌, IfOk, length, vec_len, vec_capacity};
 ghost use Rattle.ar_frames.specs.Stream.{Passes, Shares, Holds, Fetches};
 
@@ -7,7 +8,7 @@ use crate::stream::Source;
 use bytes::Bytes;
 use std::alloc::{AllocError, Global};
 
-// How far bytes were passed over.
+// The result of discarding bytes.
 #[derive(Clone, Copy)]
 pub enum Passed {
     All,
@@ -15,19 +16,19 @@ pub enum Passed {
     Failed,
 }
 
-// What came of bytes that memory was asked for.
+// The result of reading bytes into a buffer.
 #[derive(Drop)]
 pub enum Held {
     Kept(Bytes),
-    // Memory was refused, and no byte was read.
+    // The allocation failed, and no byte was read.
     Refused,
-    // All were read, and memory to share them was refused.
+    // All were read, and the allocation for sharing them failed.
     Lost,
     Ended,
     Failed,
 }
 
-// What came of bytes that are kept if memory allows, and read anyway.
+// The result of reading bytes that are kept if they can be allocated, and read in any case.
 #[derive(Drop)]
 pub enum Fetched {
     Kept(Bytes),
@@ -36,10 +37,10 @@ pub enum Fetched {
     Failed,
 }
 
-// The most bytes that are passed over at once.
+// The most bytes that are discarded at once.
 const PIECE: usize = 4096;
 
-// Reads `len` bytes and forgets them.
+// Reads `len` bytes and discards them.
 pub fn pass<R: Source>(reader: &mut R, len: usize) -> Passed
     ensures { Passes (R.state reader.old) (R.state reader.new) len result }
 {
@@ -56,7 +57,7 @@ pub fn pass<R: Source>(reader: &mut R, len: usize) -> Passed
     Passed::All
 }
 
-// Reads `len` bytes into memory of their own. No bytes need none.
+// Reads `len` bytes into a buffer of their own. Zero bytes allocate nothing.
 pub fn hold<R: Source>(alloc: Global, reader: &mut R, len: usize) -> Held
     ensures { Holds (R.state reader.old) (R.state reader.new) len result }
 {
@@ -73,8 +74,8 @@ pub fn hold<R: Source>(alloc: Global, reader: &mut R, len: usize) -> Held
     }
 }
 
-// So many zeros, in just the memory that they take. (Of `resize` std says how much memory it leaves at least. These pushes are
-// compiled to one fill of the whole.)
+// A buffer of `len` zeros with capacity `len`. (std specifies only a lower bound for the capacity after `resize`. These
+// pushes are compiled to one fill of the whole.)
 fn zeros(alloc: Global, len: usize) -> Result<Vec<u8>, AllocError>
     ensures len { IfOk result (λ bytes. vec_len bytes ≡ len) }
     ensures exact { IfOk result (λ bytes. vec_capacity bytes ≡ len) }
@@ -86,7 +87,7 @@ fn zeros(alloc: Global, len: usize) -> Result<Vec<u8>, AllocError>
     Ok(bytes)
 }
 
-// The bytes of a vector that has no more memory than they take, to be shared.
+// Makes the bytes of a vector without spare capacity shareable.
 fn shared(bytes: Vec<u8>) -> Held
     requires exact { vec_capacity bytes ≡ vec_len bytes }
     ensures { Shares bytes.items result }
@@ -97,7 +98,7 @@ fn shared(bytes: Vec<u8>) -> Held
     }
 }
 
-// Reads `len` bytes, into memory of their own where it isn't refused.
+// Reads `len` bytes, and keeps them if they can be allocated.
 pub fn fetch<R: Source>(alloc: Global, reader: &mut R, len: usize) -> Fetched
     ensures { Fetches (R.state reader.old) (R.state reader.new) len result }
 {

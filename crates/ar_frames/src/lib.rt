@@ -1,5 +1,6 @@
-//! Frames over byte streams: a session that serves a port, and the client's side of it. No thread and no socket stands
-//! here: a stream is whatever reads or writes, a port whatever answers commands.
+//! Sessions of a host over byte streams: frames, the server's side and the client's. No frame is a proper prefix of
+//! another, so that a stream has one reading. It uses no thread and no socket: any `Source` and `Sink` will do, and any
+//! `Port` that executes commands.
 #![tactic(auto)]
 
 ghost use Rattle.ar_frames.specs.Frame.{NoneBeginsAnother, NoReplyBeginsAnother};
@@ -29,12 +30,12 @@ pub use port::{Gate, Login, NoGate, Port};
 pub use session::{MOST_FRAMES, serve, serve_gated};
 pub use stream::{Sink, Source};
 
-/// A law on the definitions: no request frame begins another one, and its bytes are those of one request.
+/// Lemma: no request frame is a proper prefix of another, and its bytes determine the request.
 pub fn no_frame_begins_another()
     ensures { NoneBeginsAnother }
 {}
 
-/// A law on the definitions: no reply frame begins another one, and its bytes are those of one tag and reply.
+/// Lemma: no reply frame is a proper prefix of another, and its bytes determine its tag and reply.
 pub fn no_reply_frame_begins_another()
     ensures { NoReplyBeginsAnother }
 {}

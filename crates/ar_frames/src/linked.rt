@@ -1,4 +1,4 @@
-// Streams over those of std.
+// Streams over std's readers and writers. Read faults and write faults are counted apart.
 ghost use Rattle.std.specs.Prelude.{◌≡◌, ◌<◌, ◌≤◌, length, is_none, None, IfSome};
 ghost use Rattle.std.specs.Io.KnownBytes.{IsAtEnd};
 ghost use Rattle.ar_disks.specs.Disk.{counted};
@@ -7,9 +7,9 @@ ghost use Rattle.ar_frames.specs.Stream.{Reading, Writing, moved};
 use crate::stream::{Sink, Source};
 use std::io::{ErrorKind, Read, Write};
 
-/// A source over what std reads from, or a sink over what it writes to. Its faults are an error other than an
-/// interruption, the 1,001st interruption in a row, and a write that takes no byte of a piece that has some. Those of reads
-/// and those of writes are counted apart.
+/// A source over a std reader, or a sink over a std writer. A fault is an error other than an interruption, the 1,001st
+/// interruption in a row, or a write that takes no byte of a piece that isn't empty. Read faults and write faults are
+/// counted apart.
 #[derive(Drop)]
 pub struct Linked<S> {
     stream: S,
@@ -17,11 +17,11 @@ pub struct Linked<S> {
     write_faults: u64,
 }
 
-/// How many interruptions in a row are tried again.
+/// How many interruptions in a row are retried.
 const INTERRUPTIONS: u32 = 1000;
 
 impl<S> Linked<S> {
-    /// A source or sink over this stream.
+    /// A source or sink over `stream`, with no fault counted.
     pub fn new(stream: S) -> Linked<S>
         ensures stream { result.stream ≡ stream }
         ensures sound { (result.read_faults ≡ 0) × (result.write_faults ≡ 0) }
@@ -33,7 +33,7 @@ impl<S> Linked<S> {
         }
     }
 
-    /// The stream below.
+    /// Returns the underlying stream.
     pub fn into_inner(self) -> S
         ensures { result ≡ self.stream }
     {
@@ -41,7 +41,7 @@ impl<S> Linked<S> {
         stream
     }
 
-    // Counts a fault of a read.
+    // Counts a read fault.
     fn read_fault(&mut self) -> Option<usize>
         ensures none { result ≡ None }
         ensures counted { self.new ≡ record self.old { read_faults = counted self.old.read_faults } }
@@ -50,7 +50,7 @@ impl<S> Linked<S> {
         None
     }
 
-    // Counts a fault of a write.
+    // Counts a write fault.
     fn write_fault(&mut self) -> Option<usize>
         ensures none { result ≡ None }
         ensures counted { self.new ≡ record self.old { write_faults = counted self.old.write_faults } }
@@ -68,7 +68,7 @@ impl<R: Read> Source for Linked<R> {
         ensures read { Reading (record { left = R.remaining self.old.stream; faults = self.old.read_faults })
             (record { left = R.remaining self.new.stream; faults = self.new.read_faults }) (moved result into.new) (is_none result) }
         ensures end { IfSome result (λ n. n ≡ 0 → 0 < length into.new → IsAtEnd (R.remaining self.new.stream)) }
-        // No fault of a write is counted, and none forgotten.
+        // The write faults stay.
         ensures apart { self.new.write_faults ≡ self.old.write_faults }
     {
         for _ in 0..=INTERRUPTIONS {
@@ -94,7 +94,7 @@ impl<W: Write> Sink for Linked<W> {
         ensures some { IfSome result (λ n. 0 < length from.now → 0 < n) }
         ensures written { Writing (record { taken = W.contents self.old.stream; faults = self.old.write_faults })
             (record { taken = W.contents self.new.stream; faults = self.new.write_faults }) (moved result from.now) (is_none result) }
-        // No fault of a read is counted, and none forgotten.
+        // The read faults stay.
         ensures apart { self.new.read_faults ≡ self.old.read_faults }
     {
         for _ in 0..=INTERRUPTIONS {

@@ -1,4 +1,6 @@
-// The login of a session.
+// The login of a session. The port is given commands only behind a login that it has accepted.
+//
+//     login  | 'ARAIDHO1':8 | host:1 |  ->  reply  | 00 accepted, 01 refused |
 ghost use Rattle.std.specs.Prelude.{◌≡◌, ◌↔◌, ◌<◌, IsTrue, take, ◌∷◌, [], false, true};
 ghost use Rattle.ar_frames.specs.Session.{Opening, login_name};
 ghost use Rattle.ar_frames.specs.Entry.{Enters, Names, Tells, stage_of, greeting_of, entry_after};
@@ -13,7 +15,7 @@ use ar_disks::Host;
 /// The first eight bytes of a login.
 pub const LOGIN_NAME: [u8; 8] = *b"ARAIDHO1";
 
-// What a whole login brings.
+// The result of a whole login.
 #[derive(Clone, Copy)]
 pub enum Admission {
     Admitted(Host),
@@ -21,14 +23,14 @@ pub enum Admission {
     HostInUse,
 }
 
-// How a session begins.
+// How a session begins: with a host, or with its end.
 #[derive(Clone, Copy)]
 pub enum Entry {
     Admitted(Host),
     Ended(Why),
 }
 
-// Reads a login and answers it.
+// Reads a login and writes the reply to it.
 pub fn enter<R: Source, W: Sink, P: Port>(reader: &mut R, writer: &mut W, port: &mut P) -> Entry
     requires { P.has_login port.old ≡ false }
     ensures enters { Enters P.logins P.commands (R.state reader.old) (R.state reader.new)
@@ -43,7 +45,7 @@ pub fn enter<R: Source, W: Sink, P: Port>(reader: &mut R, writer: &mut W, port: 
     }
 }
 
-// Asks the port, unless the name is another.
+// Gives the login to the port, if it begins with `LOGIN_NAME`.
 fn admit<P: Port>(port: &mut P, login: &[u8; 9]) -> Admission
     requires { P.has_login port.old ≡ false }
     ensures opening { Opening P.logins port.old login.now (greeting_of result ∷ []) (stage_of result) port.new }
@@ -61,14 +63,14 @@ fn admit<P: Port>(port: &mut P, login: &[u8; 9]) -> Admission
     }
 }
 
-// Whether a login begins with the name.
+// Whether a login begins with `LOGIN_NAME`.
 fn has_name(login: &[u8; 9]) -> bool
     ensures { IsTrue result ↔ (take 8 login.now ≡ login_name) }
 {
     login[..8] == LOGIN_NAME[..]
 }
 
-// The host of a number that a port has taken.
+// The host with a number that the port has accepted.
 fn admitted(number: u8) -> Admission
     requires { number < 4 }
     ensures { (host : Host) × (result ≡ Admission.Admitted host) × (host.number ≡ number) }
@@ -79,7 +81,7 @@ fn admitted(number: u8) -> Admission
     }
 }
 
-// Writes the byte that tells an admission.
+// Writes the byte that reports an admission.
 fn tell<W: Sink>(writer: &mut W, admission: Admission) -> Entry
     ensures { Tells (W.state writer.old) (W.state writer.new) admission result }
 {

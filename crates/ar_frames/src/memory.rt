@@ -1,4 +1,4 @@
-// Streams over memory.
+// Streams in memory. A call transfers all that fits, and only a full sink faults.
 ghost use Rattle.std.specs.Prelude.{◌≡◌, ◌<◌, ◌≤◌, ◌+◌, ◌++◌, [], length, take, drop, min, Some, IfSome, is_none, is_some, IsSome, IfNone, ◌↔◌, ◌==◌};
 ghost use Rattle.std.specs.Io.KnownBytes.{IsAtEnd};
 ghost use Rattle.ar_frames.specs.Stream.{Reading, Writing, moved};
@@ -7,7 +7,7 @@ ghost use Rattle.ar_frames.specs.Memory.{mem_source, mem_sink};
 use crate::stream::{Sink, Source};
 use std::marker::Model;
 
-/// A source of the bytes of a vector, which never faults.
+/// A source that reads from a vector and never faults.
 #[derive(Drop)]
 pub struct MemSource {
     bytes: Vec<u8>,
@@ -25,21 +25,21 @@ impl Model for MemSource {
 }
 
 impl MemSource {
-    /// A source of these bytes, from the first on.
+    /// A source that reads `bytes` from the first on.
     pub fn new(bytes: Vec<u8>) -> MemSource
         ensures { result ≡ bytes.items }
     {
         MemSource { bytes, at: 0 }
     }
 
-    /// How many bytes are left.
+    /// The number of bytes that are left.
     pub fn len(&self) -> usize
         ensures { result ≡ length self.now }
     {
         self.bytes.len() - self.at
     }
 
-    /// Whether none is.
+    /// Whether no byte is left.
     pub fn is_empty(&self) -> bool
         ensures { result ≡ (length self.now == 0) }
     {
@@ -54,9 +54,9 @@ impl Source for MemSource {
         ensures bound { IfSome result (λ n. n ≤ length into.new) }
         ensures read { Reading (mem_source self.old) (mem_source self.new) (moved result into.new) (is_none result) }
         ensures end { IfSome result (λ n. n ≡ 0 → 0 < length into.new → IsAtEnd (mem_source self.new).left) }
-        // It never faults, and gives as many bytes as there are and fit.
+        // It never faults, and reads as many bytes as are left and fit.
         ensures all { result ≡ Some (min (length self.old) (length into.old)) }
-        // The piece behind them stays.
+        // The rest of `into` stays.
         ensures behind { IfSome result (λ n. drop n into.new ≡ drop n into.old) }
     {
         let next = (self.bytes.len() - self.at).min(into.len());
@@ -70,7 +70,7 @@ impl Source for MemSource {
     }
 }
 
-/// A sink that writes over the bytes of a vector, from the first on, and faults exactly where none is left.
+/// A sink that overwrites the bytes of a vector, from the first on, and faults exactly if none is left.
 #[derive(Drop)]
 pub struct MemSink {
     bytes: Vec<u8>,
@@ -94,7 +94,7 @@ impl Model for MemSink {
 }
 
 impl MemSink {
-    /// A sink over these bytes.
+    /// A sink that overwrites `bytes`.
     pub fn new(bytes: Vec<u8>) -> MemSink
         ensures { result ≡ record { written = []; room = bytes.items; faults = 0 } }
     {
@@ -112,7 +112,7 @@ impl MemSink {
         &self.bytes[..self.at]
     }
 
-    /// The vector: the bytes that were written, and behind them those that were there.
+    /// Returns the vector: the bytes that were written, then those that weren't overwritten.
     pub fn into_bytes(self) -> Vec<u8>
         ensures { result.items ≡ self.written ++ self.room }
     {
@@ -127,10 +127,10 @@ impl Sink for MemSink {
         ensures bound { IfSome result (λ n. n ≤ length from.now) }
         ensures some { IfSome result (λ n. 0 < length from.now → 0 < n) }
         ensures written { Writing (mem_sink self.old) (mem_sink self.new) (moved result from.now) (is_none result) }
-        // It takes as many bytes as there are and fit, and faults exactly where there is no room.
+        // It writes as many bytes as fit, and faults exactly if there is no room.
         ensures all { IfSome result (λ n. n ≡ min (length self.old.room) (length from.now)) }
         ensures room { IsSome result ↔ (0 < length self.old.room) }
-        // It writes over the first of those that are there, and the others stay.
+        // It overwrites the first bytes of the room; the others stay.
         ensures behind { IfSome result (λ n. self.new.room ≡ drop n self.old.room) }
         ensures full { IfNone result (self.new.room ≡ self.old.room) }
     {

@@ -1,4 +1,4 @@
-// What answers the commands of a session.
+// The interface from a session to the array. A port executes one host's commands, and only behind an accepted login.
 ghost use Rattle.std.specs.Prelude.{◌≡◌, ◌<◌, ◌↔◌, ℕ, Bool, true, false, List};
 ghost use Rattle.ar_scsi.specs.declared.reply.Reply.{Reply};
 ghost use Rattle.ar_frames.specs.Frame.{IsReply};
@@ -9,37 +9,39 @@ use ar_disks::Host;
 use ar_scsi::Reply;
 use bytes::Bytes;
 
-/// What a port answers to a login.
+/// A port's reply to a login.
 #[derive(Clone, Copy, Debug, PartialEq, Eq)]
 pub enum Login {
-    /// The host's commands may come.
+    /// The login is accepted; commands may follow.
     Taken,
-    /// There is no such host: its number is over 3.
+    /// There is no such host: its number is above 3.
     BadHost,
     /// Another session of the host is open.
     InUse,
 }
 
-/// What answers the commands of one host, once its login was taken.
+/// Executes the commands of one host, once its login is accepted.
 pub trait Port {
-    /// Whether a login was taken.
+    /// Whether a login was accepted.
     ghost has_login: { Self → Bool };
 
-    /// The port's own relation of a login: the port before, the host's number, the answer, the port after.
+    /// What a login may do, as the port specifies it: the port before, the host's number, the result, the port after.
     ghost logins: { Logins Self };
 
-    /// The port's own relation of a command: the port before, the LUN, the command block, the data, the reply, the port
-    /// after.
+    /// What a command may do, as the port specifies it: the port before, the LUN, the command block, the data, the
+    /// reply, the port after.
     ghost commands: { Commands Self };
 
-    /// Takes the login of a host, by its number.
+    /// Logs a host in by its number. `BadHost` is returned exactly for a number above 3. Unless the result is `Taken`,
+    /// the port stays without a login.
     fn login(&mut self, host: u8) -> Login
         requires { has_login self.old ≡ false }
         ensures login { logins self.old host result self.new }
         ensures bad_host { result ≡ Login.BadHost ↔ 3 < host }
         ensures taken { has_login self.new ≡ is_taken result };
 
-    /// Answers a command of the host. A reply has at most 33,553,920 bytes.
+    /// Executes a command of the host: its block, and the data that came with it. The reply has 18 bytes of sense data
+    /// with CHECK CONDITION alone, and a payload with GOOD alone, of at most 33,553,920 bytes.
     fn command(&mut self, lun: u8, cdb: &[u8; 16], payload: Bytes) -> Reply
         requires { has_login self.old ≡ true }
         ensures command { commands self.old lun cdb.now payload result self.new }
@@ -47,12 +49,12 @@ pub trait Port {
         ensures stays { has_login self.new ≡ true };
 }
 
-/// What is told of each command of a session that is given to the port.
+/// Observes each command that a session gives to its port.
 pub trait Gate {
-    /// Called before the n-th command of the session, from 1.
+    /// Called before the n-th command of the session; `n` counts from 1.
     fn before(&self, host: Host, n: u64);
 
-    /// Called after its reply was written, or a write of it faulted.
+    /// Called after the reply to that command was written, or its write faulted.
     fn after(&self, host: Host, n: u64);
 }
 

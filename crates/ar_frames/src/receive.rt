@@ -1,4 +1,5 @@
-// A request frame, read off a stream.
+// Receives request frames. N is checked before anything after it is read, and a frame whose data can't be allocated is
+// still read to its end.
 ghost use Rattle.std.specs.Prelude.{◌≡◌, ◌+◌, ◌≤◌, ◌++◌, ℕ, List, [], length};
 ghost use Rattle.byteorder.specs.Endian.{big_number};
 ghost use Rattle.ar_frames.specs.Frame.{most_data};
@@ -12,17 +13,17 @@ use crate::stream::Source;
 use byteorder::{BigEndian, ByteOrder};
 use std::alloc::Global;
 
-// What came where a request frame may begin.
+// What was read where a request frame may begin.
 #[derive(Drop)]
 pub enum Incoming {
     Whole(Request),
-    // A whole frame with this tag, whose data found no memory.
+    // A whole frame with this tag, whose data couldn't be allocated.
     Lost(u64),
-    // No whole frame.
+    // No whole frame, for this reason.
     Ended(Why),
 }
 
-// Reads a request frame. Nothing is read after an N that no frame has.
+// Reads a request frame. After an N that no frame has, nothing is read.
 pub fn receive<R: Source>(alloc: Global, reader: &mut R) -> Incoming
     ensures { Receives [] (R.state reader.old) (R.state reader.new) result }
 {
@@ -50,7 +51,7 @@ fn receive_counted<R: Source>(alloc: Global, reader: &mut R, count: &[u8; 4]) ->
     receive_head(alloc, reader, len)
 }
 
-// Reads what follows the N of a frame with so many bytes of data.
+// Reads what follows N, in a frame with `len` bytes of data.
 fn receive_head<R: Source>(alloc: Global, reader: &mut R, len: u32) -> Incoming
     requires { len ≤ most_data }
     ensures { (count : List ℕ) → length count ≡ 4 → big_number 4 count ≡ 25 + len →
@@ -64,7 +65,7 @@ fn receive_head<R: Source>(alloc: Global, reader: &mut R, len: u32) -> Incoming
     }
 }
 
-// Reads the data of a frame, of which N and these 25 bytes were read.
+// Reads the `len` bytes of data, after N and `head`.
 fn receive_data<R: Source>(alloc: Global, reader: &mut R, head: &[u8; 25], len: u32) -> Incoming
     requires { len ≤ most_data }
     ensures { (count : List ℕ) → length count ≡ 4 → big_number 4 count ≡ 25 + len →

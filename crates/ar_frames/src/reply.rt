@@ -1,4 +1,4 @@
-// Writes of frames: in one piece where memory for it is there, as a stream may send each piece on by itself.
+// Writes frames, each in one piece if memory allows, since a stream may send every piece on by itself.
 ghost use Rattle.std.specs.Prelude.{◌≡◌, ◌<◌, ◌≤◌, ◌+◌, ◌++◌, IsTrue, IsFalse, length, max, take, vec_len, vec_capacity};
 ghost use Rattle.ar_frames.specs.Stream.{Sending};
 ghost use Rattle.ar_frames.specs.Frame.{IsReply, IsReplyFrame};
@@ -10,11 +10,11 @@ use crate::frame::{plain_head, sense_frame};
 use crate::stream::Sink;
 use ar_scsi::Reply;
 
-// Writes a reply frame. The buffer keeps what was joined in it, for the next one to write over, and grows to the frame's length at
-// most.
+// Writes a reply frame. Head and payload are joined in `buffer`, which the next reply overwrites; its capacity grows to
+// the frame's length at most. A reply without payload leaves it unchanged.
 pub fn send_reply<W: Sink>(writer: &mut W, buffer: &mut Vec<u8>, tag: u64, reply: &Reply) -> Sent
     requires { IsReply reply.now }
-    // Where the buffer has the place for a frame with bytes, it was put together there.
+    // If the buffer has capacity for a frame with payload, the frame was assembled there.
     ensures joined { 0 < length reply.now.payload → reply_len reply.now ≤ vec_capacity buffer.new
         → IsReplyFrame tag reply.now (take (reply_len reply.now) buffer.new.items) }
     ensures sends { SendsReply (W.state writer.old) (W.state writer.new) tag reply.now result }
@@ -32,13 +32,13 @@ pub fn send_reply<W: Sink>(writer: &mut W, buffer: &mut Vec<u8>, tag: u64, reply
     }
 }
 
-// Writes two pieces, one after the other: in one write where memory to join them is there.
+// Writes two pieces, one after the other, joined if the buffer can hold both.
 pub fn send_joined<W: Sink>(writer: &mut W, buffer: &mut Vec<u8>, front: &[u8], rest: &[u8]) -> Sent
     ensures sends { Sending (W.state writer.old) (W.state writer.new) (front.now ++ rest.now) result }
     ensures room { vec_capacity buffer.new ≤ max (vec_capacity buffer.old) (length front.now + length rest.now) }
     ensures kept { vec_capacity buffer.old ≤ vec_capacity buffer.new }
     ensures still { length rest.now ≡ 0 → buffer.new ≡ buffer.old }
-    // Where the buffer has the place for them, they were put together there.
+    // If the buffer has capacity for both, they were joined there.
     ensures joined { 0 < length rest.now → length front.now + length rest.now ≤ vec_capacity buffer.new
         → take (length front.now + length rest.now) buffer.new.items ≡ front.now ++ rest.now }
 {
@@ -52,7 +52,8 @@ pub fn send_joined<W: Sink>(writer: &mut W, buffer: &mut Vec<u8>, front: &[u8], 
     }
 }
 
-// Puts two pieces together at the front of the buffer. False: no memory, and it had no place for them and got none.
+// Joins two pieces at the front of the buffer. False: the allocation failed, and the capacity was and is too small for
+// them.
 fn join(buffer: &mut Vec<u8>, front: &[u8], rest: &[u8]) -> bool
     ensures joined { IsTrue result → take (length front.now + length rest.now) buffer.new.items ≡ front.now ++ rest.now }
     ensures long { IsTrue result → length front.now + length rest.now ≤ vec_len buffer.new }
@@ -70,7 +71,7 @@ fn join(buffer: &mut Vec<u8>, front: &[u8], rest: &[u8]) -> bool
     true
 }
 
-// Puts two pieces into the place for them.
+// Copies two pieces into `into`, one after the other.
 fn put(into: &mut [u8], front: &[u8], rest: &[u8])
     requires { length into.old ≡ length front.now + length rest.now }
     ensures { into.new ≡ front.now ++ rest.now }
@@ -80,8 +81,8 @@ fn put(into: &mut [u8], front: &[u8], rest: &[u8])
     second.copy_from_slice(rest);
 }
 
-// Makes the buffer at least so long. It gets as much memory as that takes, and no more. False: no memory, and it had no
-// place for that and got none.
+// Extends the buffer to at least `len` bytes, with no more capacity than that takes. False: the allocation failed, and
+// the capacity was and is below `len`.
 fn lengthen(buffer: &mut Vec<u8>, len: usize) -> bool
     ensures long { IsTrue result → len ≤ vec_len buffer.new }
     ensures room { vec_capacity buffer.new ≤ max (vec_capacity buffer.old) len }

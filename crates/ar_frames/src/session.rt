@@ -1,4 +1,5 @@
-// A whole session.
+// A session from its login to its end, in at most `MOST_FRAMES` steps. Each step begins with the state that the one
+// before left.
 ghost use Rattle.std.specs.Prelude.{◌≡◌, true, false, vec_capacity};
 ghost use Rattle.ar_frames.specs.Session.{Session};
 ghost use Rattle.ar_frames.specs.Turn.{ServesAll, TakesTurns};
@@ -14,9 +15,9 @@ use std::alloc::Global;
 /// The most frames of a session.
 pub const MOST_FRAMES: u64 = 1_000_000;
 
-/// One session over a reader, a writer and a port: reads a login and frames, gives each command to the port, and writes
-/// its reply. A frame whose data finds no memory is read to its end and answered BUSY, the port not being asked. The
-/// end says how many frames were read whole, and why no more were.
+/// Runs one session: reads a login and frames, gives each command to the port, and writes its reply. A frame whose data
+/// can't be allocated is read to its end and gets BUSY, without the port. Returns how many frames were read whole, and
+/// why the session ended.
 pub fn serve<R: Source, W: Sink, P: Port>(
     alloc: Global,
     reader: &mut R,
@@ -30,7 +31,7 @@ pub fn serve<R: Source, W: Sink, P: Port>(
     serve_gated(alloc, reader, writer, port, &NoGate)
 }
 
-/// The same, and tells a gate of each command that is given to the port.
+/// Runs one session as `serve` does, and calls `gate` before and after each command that is given to the port.
 pub fn serve_gated<R: Source, W: Sink, P: Port, G: Gate>(
     alloc: Global,
     reader: &mut R,
@@ -48,7 +49,7 @@ pub fn serve_gated<R: Source, W: Sink, P: Port, G: Gate>(
     }
 }
 
-// Serves frames until one doesn't come whole, its answer can't be written, or as many as may come were answered.
+// Serves frames until one doesn't arrive whole, a reply can't be written, or `MOST_FRAMES` were answered.
 fn serve_frames<R: Source, W: Sink, P: Port, G: Gate>(
     alloc: Global,
     reader: &mut R,
@@ -65,8 +66,8 @@ fn serve_frames<R: Source, W: Sink, P: Port, G: Gate>(
     converse(alloc, reader, writer, port, gate, host, &mut work)
 }
 
-// The same over a work that has counted no command, and whose buffer may have memory already: a chain of turns leads from its first
-// state to its last. As nothing but a turn changes a work, each begins with what the one before left.
+// Serves frames from a state that has counted no command, and whose buffer may have capacity already. Nothing but steps
+// changes the state, so that each begins with what the one before left.
 fn converse<R: Source, W: Sink, P: Port, G: Gate>(
     alloc: Global,
     reader: &mut R,

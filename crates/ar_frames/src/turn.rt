@@ -1,4 +1,5 @@
-// One frame of a session.
+// One step of a session: read a frame, execute it at the port, write the reply. The buffer for replies never has more
+// capacity than the longest frame has bytes.
 ghost use Rattle.std.specs.Prelude.{◌≡◌, ◌<◌, ◌≤◌, ◌+◌, ◌^◌, true, [], vec_capacity};
 ghost use Rattle.ar_frames.specs.Frame.{most_bytes};
 ghost use Rattle.ar_frames.specs.Turn.{AnswersRequest, RefusesRequest, Turns, turn_after};
@@ -14,28 +15,28 @@ use ar_disks::Host;
 use ar_scsi::Reply;
 use std::alloc::Global;
 
-// What became of a frame.
+// The result of a step.
 #[derive(Clone, Copy)]
 pub enum Turn {
     Answered,
-    // The frame was read and asked, and the reply wasn't written whole.
+    // The frame was read, and its reply wasn't written whole.
     Unsent,
-    // No whole frame was read.
+    // No whole frame was read, for this reason.
     Ended(Why),
 }
 
-// What a session keeps from frame to frame. Nothing but a frame changes it.
+// A session's state between frames. Only a step changes it.
 #[derive(Drop)]
 pub struct Work {
-    // Replies are put together in it. It takes no more memory than the longest frame has bytes.
+    // Replies are assembled in it. Its capacity is at most the length of the longest frame.
     buffer: Vec<u8>,
-    // How many commands were given to the port.
+    // The number of commands that were given to the port.
     given: u64,
     ghost small: { vec_capacity buffer ≤ most_bytes },
 }
 
 impl Work {
-    // Of a session that begins: no memory is taken yet, and no command was given.
+    // The state of a new session: nothing is allocated yet, and no command was given.
     pub fn new(alloc: Global) -> Work
         ensures none { result.given ≡ 0 }
         ensures empty { (vec_capacity result.buffer ≡ 0) × (result.buffer.items ≡ []) }
@@ -47,7 +48,7 @@ impl Work {
     }
 }
 
-// Reads a frame, asks the port and writes the reply.
+// Reads a frame, executes it at the port and writes the reply. A frame whose data couldn't be allocated gets BUSY.
 pub fn serve_frame<R: Source, W: Sink, P: Port, G: Gate>(
     alloc: Global,
     reader: &mut R,
@@ -73,7 +74,7 @@ pub fn serve_frame<R: Source, W: Sink, P: Port, G: Gate>(
     }
 }
 
-// Asks the port and writes its reply.
+// Executes a request at the port and writes the reply.
 fn answer<W: Sink, P: Port, G: Gate>(
     writer: &mut W,
     port: &mut P,
@@ -104,7 +105,7 @@ fn answer<W: Sink, P: Port, G: Gate>(
     turn_of(sent)
 }
 
-// Answers BUSY to a frame whose data found no memory.
+// Replies BUSY to a frame whose data couldn't be allocated.
 fn refuse<W: Sink>(writer: &mut W, work: &mut Work, tag: u64) -> Turn
     ensures answers { RefusesRequest (W.state writer.old) (W.state writer.new) tag result
         (record { room = vec_capacity work.old.buffer; bytes = work.old.buffer.items; given = work.old.given })

@@ -26,14 +26,14 @@ block_16 code flags lba count = code ∷ flags ∷ (to_be_bytes w64 lba ++ 0 ∷
 abbrev pub flags_of : Bool → ℕ
 flags_of fua = if fua then 8 else 0
 
--- READ (10) and READ (16) of so many sectors from an address on
+-- READ (10) and READ (16) of `count` sectors from `lba` on
 abbrev pub read_10_block : ℕ → ℕ → List ℕ
 read_10_block lba count = block_10 0x28 0 lba count
 
 abbrev pub read_16_block : ℕ → ℕ → List ℕ
 read_16_block lba count = block_16 0x88 0 lba count
 
--- WRITE (10) and WRITE (16) of them, with FUA or without
+-- WRITE (10) and WRITE (16) of `count` sectors from `lba` on, with FUA or without
 abbrev pub write_10_block : ℕ → ℕ → Bool → List ℕ
 write_10_block lba count fua = block_10 0x2A (flags_of fua) lba count
 

@@ -1,4 +1,4 @@
--- What the words of a line ask for, by the first of them. The words after it are counted from 0.
+-- The grammar of the script language: what a line asks for, by its first word. The words after it are counted from 0.
 use Rattle.std.specs.Prelude.{◌≡◌, ◌⊎◌, ℕ, ◌-◌, ◌*◌, ◌<◌, ◌^◌, ◌++◌, ◌==◌, Bool, true, List, [], ◌∷◌, length, replicate, slice_index_or, codes, Option, Some, None, MatchOption, Result, Ok, Err, MatchResult, MatchBool, bytes_eq, map}
 use Rattle.std.specs.List.{list_any, slice_split}
 use Rattle.std.specs.Borrow.{Bor}
@@ -20,39 +20,39 @@ use Rattle.ar_language.specs.declared.order.Order.{Order}
 use Rattle.ar_language.specs.declared.order.Order.TheVariants.{Act, Ask}
 use Rattle.ar_language.specs.declared.order.Question.TheVariants as questions
 
--- a `&[&str]`
+-- a list of words: a `&[&str]`
 abbrev pub Words : Type 0
 Words = List (Bor (List ℕ))
 
--- a word's text, empty past the end
+-- the text of word `i`, empty past the end
 abbrev pub word : Words → ℕ → List ℕ
 word words i = (slice_index_or words i (record { ref_ptr = (0, 0); now = [] })).now
 
--- the number that digits say
+-- the value of decimal digits
 abbrev pub value : List ℕ → ℕ
 value digits = digits_value 10 digits
 
--- a number that fits so many bits
+-- a number of at most `bits` bits
 pub record IsNumberOf (bits : ℕ) (digits : List ℕ) : Type 0 where
   pub number : IsNumber digits
   pub fits : value digits < 2 ^ bits
 
--- the byte that two digits say
+-- the value of two hexadecimal digits
 abbrev pub IsByte : List ℕ → ℕ → Type 0
 IsByte digits byte = decode_of digits ≡ Ok (byte ∷ [])
 
--- the numbers of a host and of a LUN
+-- the numbers of a host, 0 to 3, and of a LUN, 0 to 255
 pub record AreAddress (host lun : List ℕ) : Type 0 where
   pub host_number : IsNumber host
   pub host_below : value host < 4
   pub lun_number : IsNumberOf 8 lun
 
--- and the address that they are
+-- the address that they are
 pub record IsAddress (host lun : List ℕ) (addr : Addr) : Type 0 where
   pub host_same : addr.host.number ≡ value host
   pub lun_same : addr.lun ≡ value lun
 
--- An answer for words of this form alone, and one that they ask for.
+-- The result is Some exactly for words of this form, and then what they ask for.
 abbrev pub Gives : {T : Type 0} → Type 0 → (T → Type 0) → Option T → Type 0
 Gives Form Asked result = MatchOption result (¬ Form) (λ order. Form × Asked order)
 
@@ -61,7 +61,7 @@ pub record HasUnit (words : Words) : Type 0 where
   pub count : length words ≡ 2
   pub address : AreAddress (word words 0) (word words 1)
 
--- a unit and a number of so many bits
+-- a unit and a number of at most `bits` bits
 pub record HasUnitAndNumber (bits : ℕ) (words : Words) : Type 0 where
   pub count : length words ≡ 3
   pub address : AreAddress (word words 0) (word words 1)
@@ -75,7 +75,7 @@ NamesUnit words addr = IsAddress (word words 0) (word words 1) addr
 abbrev pub AboutUnit : Words → (Addr → Order) → Order → Type 0
 AboutUnit words order_at order = (addr : Addr) × NamesUnit words addr × (order ≡ order_at addr)
 
--- a command to that unit: this block, which says this command, with these data
+-- a command to that unit: this block, which encodes this command, with these data
 abbrev pub Commands : Words → List ℕ → Command → Data → Notation → Order → Type 0
 Commands words cdb command sent notation order =
     (addr : Addr) × NamesUnit words addr × Says cdb command × (order ≡ Act (actions.Command addr cdb sent notation))
@@ -108,7 +108,7 @@ AsksInquiry words = Commands words (inquiry_block (value (word words 2))) (Inqui
 abbrev pub AsksCapacity : Words → Order → Type 0
 AsksCapacity words = Commands words read_capacity_block Capacity nothing Bytes
 
--- a unit, an address and a number of sectors
+-- a unit, a logical block address and a number of sectors
 pub record HasSectors (Lba : List ℕ → Type 0) (words : Words) : Type 0 where
   pub count : length words ≡ 4
   pub address : AreAddress (word words 0) (word words 1)
@@ -120,11 +120,11 @@ abbrev pub AsksRead : (ℕ → ℕ → List ℕ) → Words → Order → Type 0
 AsksRead block words =
     Commands words (block (value (word words 2)) (value (word words 3))) (Read (value (word words 2)) (value (word words 3))) nothing Runs
 
--- the words of a WRITE, which `fua` may end
+-- the words of a WRITE that ends with `fua`
 abbrev pub IsForced : Words → Type 0
 IsForced words = (length words ≡ 6) × (word words 5 ≡ codes "fua")
 
--- a unit, an address, a number of sectors and a byte, and perhaps `fua`
+-- a unit, a logical block address, a number of sectors and a byte, and optionally `fua`
 pub record HasWritten (Lba : List ℕ → Type 0) (words : Words) : Type 0 where
   pub count : (length words ≡ 5) ⊎ IsForced words
   pub address : AreAddress (word words 0) (word words 1)
@@ -132,24 +132,25 @@ pub record HasWritten (Lba : List ℕ → Type 0) (words : Words) : Type 0 where
   pub sectors : IsNumberOf 16 (word words 3)
   pub filled : IsBytePair (word words 4)
 
--- `write H L LBA COUNT BYTE`, and the same with `fua`, by the block of WRITE (10); `write16` likewise, by that of WRITE (16)
+-- `write H L LBA COUNT BYTE` and `write16 H L LBA COUNT BYTE`, with `fua` behind them or without, by the blocks of
+-- WRITE (10) and of WRITE (16)
 abbrev pub AsksWrite : (ℕ → ℕ → Bool → List ℕ) → Words → Order → Type 0
 AsksWrite block words order =
     (byte : ℕ) × IsByte (word words 4) byte
     × Commands words (block (value (word words 2)) (value (word words 3)) (length words == 6))
     (Write (value (word words 2)) (value (word words 3)) (length words == 6)) (record { len = value (word words 3) * 512; byte = byte }) Runs order
 
--- a unit and a command block, and perhaps a number of bytes and their value
+-- a unit and a command block, and optionally a number of bytes and their value
 pub record HasBlock (words : Words) : Type 0 where
   pub count : (length words ≡ 3) ⊎ ((length words ≡ 5) × IsNumberOf 16 (word words 3) × IsBytePair (word words 4))
   pub address : AreAddress (word words 0) (word words 1)
   pub block : IsBlockWord (word words 2)
 
--- the block that a word says, with zeros after its bytes
+-- the block that a word gives, padded with zeros to 16 bytes
 abbrev pub IsBlock : List ℕ → List ℕ → Type 0
 IsBlock digits cdb = (bytes : List ℕ) × (decode_of digits ≡ Ok bytes) × (cdb ≡ bytes ++ replicate (16 - length bytes) 0)
 
--- the data of a command block: none, or so many bytes of one value
+-- the data of a command block: none, or a number of bytes of one value
 abbrev pub IsSent : Words → Data → Type 0
 IsSent words sent =
     ((length words ≡ 3) × (sent ≡ nothing))
@@ -193,20 +194,20 @@ AsksOut words order = order ≡ Act (actions.DiskOut (value (word words 0)))
 abbrev pub AsksReplace : Words → Order → Type 0
 AsksReplace words order = order ≡ Act (actions.Replace (value (word words 0)))
 
--- it is the number of a disk
+-- the number of the disk
 abbrev pub IsDisk : Words → ℕ → Type 0
 IsDisk words disk = disk ≡ value (word words 0)
 
--- What a word and the words after it are answered with: an order that they ask for, where they have this form, and else that they
--- are bad arguments.
+-- The result of parsing the words after a name: an order that they ask for if they have this form, otherwise
+-- `BadArgument`.
 abbrev pub Answers : Type 0 → (Order → Type 0) → Result Order FaultKind → Type 0
 Answers Form Asked result = MatchResult result (λ order. Form × Asked order) (λ kind. (kind ≡ BadArgument) × (¬ Form))
 
--- the same for a word that stands alone
+-- the same for an order without arguments
 abbrev pub Alone : Words → Order → Result Order FaultKind → Type 0
 Alone words order = Answers (length words ≡ 0) (λ given. given ≡ order)
 
--- the words about the whole array and those that ask to see something, and any other
+-- the actions on the whole array and the queries; any other name is unknown
 abbrev pub ReadsArrayOrder : List ℕ → Words → Result Order FaultKind → Type 0
 ReadsArrayOrder name words result =
     MatchBool (bytes_eq name (codes "flush")) (Alone words (Act actions.Flush) result) (
@@ -226,7 +227,7 @@ ReadsArrayOrder name words result =
     MatchBool (bytes_eq name (codes "block")) (Answers (HasRow words) (AsksRow words) result) (
     result ≡ Err UnknownWord)))))))))))))))
 
--- the words of commands, and those
+-- the SCSI commands, and then those
 abbrev pub ReadsCommand : List ℕ → Words → Result Order FaultKind → Type 0
 ReadsCommand name words result =
     MatchBool (bytes_eq name (codes "tur")) (Answers (HasUnit words) (AsksTur words) result) (
@@ -239,7 +240,7 @@ ReadsCommand name words result =
     MatchBool (bytes_eq name (codes "cdb")) (Answers (HasBlock words) (AsksBlock words) result) (
     ReadsArrayOrder name words result))))))))
 
--- the words that there are, and any other
+-- the actions on a unit, and then those
 abbrev pub Reads : List ℕ → Words → Result Order FaultKind → Type 0
 Reads name words result =
     MatchBool (bytes_eq name (codes "make")) (Answers (HasUnitAndNumber 32 words) (AsksMake words) result) (
@@ -247,26 +248,26 @@ Reads name words result =
     MatchBool (bytes_eq name (codes "drop")) (Answers (HasUnit words) (AsksDrop words) result) (
     ReadsCommand name words result)))
 
--- an order is something that is asked for
+-- the result for a line, by that for its order
 abbrev pub asked : Result Order FaultKind → Result (Option Order) FaultKind
 asked (Ok order) = Ok (Some order)
 asked (Err kind) = Err kind
 
--- the words of a line, the first of which names what is asked for
+-- the words of a line, of which the first names the order
 abbrev pub ReadsNamed : Words → Result (Option Order) FaultKind → Type 0
 ReadsNamed [] result = result ≡ Ok None
 ReadsNamed (name ∷ words) result = (read : Result Order FaultKind) × Reads name.now words read × (result ≡ asked read)
 
--- the same, where none may be empty
+-- the same, but an empty word is a bad argument
 abbrev pub ReadsWords : Words → Result (Option Order) FaultKind → Type 0
 ReadsWords words result = MatchBool (list_any (λ text. length text.now == 0) words) (result ≡ Err BadArgument) (ReadsNamed words result)
 
--- an empty line, or one that `#` begins
+-- an empty line, or one that begins with `#`
 abbrev pub is_silent : List ℕ → Bool
 is_silent [] = true
 is_silent (byte ∷ bytes) = byte == 35
 
--- What a line asks for: nothing, or what its words do, which one space parts.
+-- What a line asks for: nothing, or what its words do, which are split at each space.
 abbrev pub ReadsLine : List ℕ → Result (Option Order) FaultKind → Type 0
 ReadsLine line result =
     MatchBool (is_silent line) (result ≡ Ok None)

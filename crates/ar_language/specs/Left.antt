@@ -9,25 +9,25 @@ use Rattle.ar_language.specs.declared.fault.FaultKind.TheVariants.{TooManyLines}
 use Rattle.ar_language.specs.declared.lines.Lines.{Lines}
 use Rattle.ar_language.specs.Lines.{front_of, bytes_left, lines_of, is_given, is_lacking, Took, IsAllTaken, IsFaultFrom, IsOfStream, StopsAt, IsOfNext, IsReached, IsNumbered}
 
--- what was read of the input and is in no line that was given: the front of the next line, and what is buffered
+-- the bytes that were read and are in no returned line: the front of the next line, and what is buffered
 abbrev pub bytes_read : {R : Type 0} {reads : Ghosts R} → Lines R reads → List ℕ
 bytes_read lines = front_of lines.is_begun lines.line.items ++ reader_buffer lines.source
 
--- the lines that are left, where the reader tells its bytes
+-- the lines that are left, if the reader reports its bytes
 abbrev pub lines_left : {R : Type 0} {reads : Ghosts R} → Lines R reads → Option (List (List ℕ))
 lines_left {reads = reads} lines =
     lines_of (prepend_known (front_of lines.is_begun lines.line.items)
     (bytes_left lines.is_at_end (reader_buffer lines.source) (reader_remaining reads.remaining lines.source)))
 
--- how many lines were begun
+-- the number of lines that were begun
 abbrev pub lines_begun : {R : Type 0} {reads : Ghosts R} → Lines R reads → ℕ
 lines_begun lines = lines.given + (if lines.is_begun then 1 else 0)
 
--- a line is begun only where something of it was read
+-- a line is begun only if something of it was read
 pub record IsBegunByByte {R : Type 0} {reads : Ghosts R} (lines : Lines R reads) : Type 0 where
   pub some : lines.is_begun ≡ true → bytes_read lines ≢ []
 
--- no line was read or asked for
+-- nothing was read yet
 pub record IsFresh {R : Type 0} {reads : Ghosts R} (lines : Lines R reads) : Type 0 where
   pub none : lines.given ≡ 0
   pub unbegun : lines.is_begun ≡ false
@@ -36,8 +36,8 @@ pub record IsFresh {R : Type 0} {reads : Ghosts R} (lines : Lines R reads) : Typ
   pub unasked : lines.is_awaited ≡ false
   pub more : lines.is_at_end ≡ false
 
--- Why the next line isn't given: a million were, and something is there behind them, of which no line is begun; or it is begun,
--- and what was read of it has a fault.
+-- Why the next line isn't returned: a million were, and something follows them, of which no line is begun; or it is
+-- begun, and what was read of it has a fault.
 abbrev pub IsRefused : {R : Type 0} {reads : Ghosts R} → Lines R reads → Bool → Fault → Type 0
 IsRefused lines begun Start = ⊥
 IsRefused lines begun (Line n kind) =
@@ -45,33 +45,33 @@ IsRefused lines begun (Line n kind) =
     × (((kind ≡ TooManyLines) × (lines.given ≡ 1000000) × (bytes_read lines ≢ []) × (begun ≡ false))
     ⊎ (IsFaultFrom (bytes_read lines) kind × (begun ≡ true)))
 
--- What ends the reading of lines, whatever the reader tells: a stream faulted while the next line was waited for, as the input hadn't
--- ended, or it is refused.
+-- What ends the reading of lines, even if the reader doesn't report its bytes: a stream faulted while the next line was
+-- awaited and the input hadn't ended, or the line is refused.
 abbrev pub IsStopped : {R : Type 0} {reads : Ghosts R} → Lines R reads → Fault → Type 0
 IsStopped lines Start = ⊥
 IsStopped lines (Line n kind) =
     (IsOfStream kind × (lines.is_awaited ≡ true) × (lines.is_at_end ≡ false)) ⊎ IsRefused lines lines.is_begun (Line n kind)
 
--- The next line has to be waited for: nothing that was read is left but the front of it, and the input hasn't ended.
+-- The next line needs more input: nothing that was read is left but its front, and the input hasn't ended.
 pub record IsAwaited {R : Type 0} {reads : Ghosts R} (lines : Lines R reads) : Type 0 where
   pub awaited : lines.is_awaited ≡ true
   pub more : lines.is_at_end ≡ false
   pub drained : reader_buffer lines.source ≡ []
 
--- What going on to the next line comes to, where it may have to be waited for.
+-- The effect of advancing to the next line, which may need more input.
 pub record GoesOn {R : Type 0} {reads : Ghosts R} (old : Lines R reads) (result : Result Bool Fault) (new : Lines R reads) : Type 0 where
-  -- it is given, the first of those that were left; or none is left; or it stays the first
+  -- it is returned, the first of those that were left; or none is left; or it stays the first
   pub taken : is_given result ≡ true → Took (lines_left old) (lines_left new) (new.line.items ∷ [])
   pub none : is_lacking result ≡ true → IsAllTaken (lines_left new)
   pub kept : is_given result ≡ false → Took (lines_left old) (lines_left new) []
-  -- it has a fault, or is one too many, or a stream faulted while it was waited for
+  -- it has a fault, or is one too many, or a stream faulted while it was awaited
   pub stops : IfErr result (StopsAt (lines_left old))
   pub stopped : IfErr result (IsStopped new)
   -- the lines are counted
   pub count : new.given ≡ old.given + (if is_given result then 1 else 0)
   pub closed : is_given result ≡ true → new.is_begun ≡ false
   pub ended : is_lacking result ≡ true → new.is_at_end ≡ true
-  -- and so are those of which faults are told
+  -- the line at which a fault is reported
   pub next : IfErr result (IsOfNext old.given (lines_begun new))
   pub reached : IfErr result (IsReached (lines_begun new))
   pub numbered : IfErr result IsNumbered

@@ -1,10 +1,10 @@
--- How the bytes of an answer are printed.
+-- How the bytes of a reply are printed.
 use Rattle.ar_language.specs.declared.order.Action.{Action}
 use Rattle.ar_language.specs.declared.order.Action.TheVariants as actions
 use Rattle.ar_language.specs.declared.order.Notation.{Notation}
 use Rattle.ar_language.specs.declared.order.Notation.TheVariants.{Bytes}
 
--- those of the answer to an action
+-- those of the reply to an action
 abbrev pub notation_in : Action → Notation
 notation_in (actions.Make addr sectors) = Bytes
 notation_in (actions.Grow addr sectors) = Bytes

@@ -1,4 +1,4 @@
--- What parts of a line's words say: sectors, and the data of a command.
+-- Parts of a line's words: sectors, and the data of a command.
 use Rattle.std.specs.Prelude.{◌≡◌, ℕ, ◌==◌, List, length}
 use Rattle.ar_disks.specs.declared.address.Addr.{Addr}
 use Rattle.ar_language.specs.Words.{IsNumber, IsBytePair, IsBlockWord}
@@ -11,13 +11,13 @@ use Rattle.ar_language.specs.declared.order.Order.TheVariants.{Act}
 use Rattle.ar_language.specs.declared.parse.Span.{Span}
 use Rattle.ar_language.specs.declared.parse.Written.{Written}
 
--- a unit, an address of any length, and a number of sectors
+-- a unit, a logical block address and a number of sectors
 pub record AreSpan (host lun lba count : List ℕ) : Type 0 where
   pub address : AreAddress host lun
   pub lba_number : IsNumber lba
   pub sectors : IsNumberOf 16 count
 
--- and the sectors that they name
+-- the sectors that they name
 pub record IsSpan (host lun lba count : List ℕ) (span : Span) : Type 0 where
   pub unit : IsAddress host lun span.addr
   pub lba_same : span.lba ≡ value lba
@@ -38,7 +38,7 @@ pub record AreData (count byte : List ℕ) : Type 0 where
   pub number : IsNumberOf 16 count
   pub filled : IsBytePair byte
 
--- and the data that they are
+-- the data that they are
 pub record IsData (count byte : List ℕ) (sent : Data) : Type 0 where
   pub len_same : sent.len ≡ value count
   pub byte_same : IsByte byte sent.byte
@@ -48,7 +48,7 @@ pub record AreBlock (host lun block : List ℕ) : Type 0 where
   pub address : AreAddress host lun
   pub block_word : IsBlockWord block
 
--- that command, with these data
+-- the command with that block, and with these data
 abbrev pub AsksBlockWith : List ℕ → List ℕ → List ℕ → Data → Order → Type 0
 AsksBlockWith host lun block sent order =
     (addr : Addr) × (cdb : List ℕ) × IsAddress host lun addr × IsBlock block cdb × (order ≡ Act (actions.Command addr cdb sent Bytes))

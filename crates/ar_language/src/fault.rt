@@ -1,31 +1,31 @@
-// Why a script ends before its last line.
+// The faults that end a script. Each but that of the start has the number of a line.
 use thiserror::Error;
 
-/// What is wrong with a line, with the input that it comes from or with the output that answers it.
+/// What is wrong with a line, with the input or with the output.
 #[derive(Clone, Copy, Debug, PartialEq, Eq, Error)]
 pub enum FaultKind {
-    /// The line's first word names nothing that a script can ask for.
+    /// The line's first word names no order.
     #[error("unknown word")]
     UnknownWord,
-    /// Too few words or too many, a word of the wrong form or out of its range, or words that more than one space parts.
+    /// Too few or too many words, a word of the wrong form or out of its range, or a space too many.
     #[error("bad argument")]
     BadArgument,
-    /// A line has at most 4,096 bytes.
+    /// The line has more than 4,096 bytes.
     #[error("line too long")]
     LineTooLong,
-    /// A script has at most 1,000,000 lines.
+    /// The script has more than 1,000,000 lines.
     #[error("too many lines")]
     TooManyLines,
-    /// A line is of the printable characters of ASCII, space to `~`.
+    /// The line has a byte other than the printable characters of ASCII, space to `~`.
     #[error("bad character")]
     BadCharacter,
-    /// Memory was refused.
+    /// An allocation failed.
     #[error("no memory")]
     NoMemory,
-    /// The input could not be read. An interruption is such a fault too.
+    /// The input couldn't be read. An interruption is such a fault, too.
     #[error("read fault")]
     ReadFault,
-    /// The answers could not be written.
+    /// The output couldn't be written.
     #[error("write fault")]
     WriteFault,
 }
@@ -33,7 +33,7 @@ pub enum FaultKind {
 /// Why a script ended before its last line.
 #[derive(Clone, Copy, Debug, PartialEq, Eq, Error)]
 pub enum Fault {
-    /// The array could not be started, or there was no memory for its disks or for a row of them. No line was read.
+    /// The array couldn't be started, or its disks or a row of them couldn't be allocated. No line was read.
     #[error("start fault")]
     Start,
     /// What went wrong at a line, by its number from 1.

@@ -1,5 +1,6 @@
-//! What the lines of a script ask for: the lines of a reader, the words of a line, and the order that they are. No array stands here:
-//! an order is plain data, which `ar_script` has an array meet, and a client sends to a server.
+//! The script language: the lines of a reader, the words of a line, and the order that they are parsed to. A line that
+//! is returned has at most 4,096 bytes, all printable ASCII. An order is plain data, without an array: `ar_script`
+//! executes it, and a client sends it to a server.
 #![tactic(auto)]
 
 mod blocks;

@@ -1,4 +1,5 @@
-// The lines of a script, read in large pieces.
+// Splits a buffered input into lines. The lines that are left are those of the input without the ones that were
+// returned, and only `ask` accesses the input.
 ghost use Rattle.std.specs.Prelude.{◌≡◌, ◌+◌, if◌then◌else◌, IfOk, IfSome, IsTrue, is_some, ◌≢◌, ◌==◌, ◌&&◌, ◌||◌, not, true, false, length, ◌-◌, ◌≤◌, ◌<◌, ◌++◌, [], ◌∷◌, None, OnOk, IfErr, OnErr, unwrap_or, vec_len, vec_capacity};
 ghost use Rattle.std.specs.List.{list_all, prefix_len};
 ghost use Rattle.std.specs.Io.Buffered.{reader_buffer, reader_capacity, reader_inner, writer_buffer};
@@ -9,17 +10,17 @@ use std::alloc::Global;
 use std::io::{BufRead, BufReader, BufWriter, Read, Write};
 use std::{io, str};
 
-/// Bytes of a line at most, without the one that ends it.
+/// The most bytes of a line, without its line feed.
 const LINE_MAX: usize = 4_096;
 
-/// Lines of a script at most.
+/// The most lines of a script.
 const LINES_MAX: u32 = 1_000_000;
 
 /// The lines of a script, one at a time.
 #[derive(Drop)]
 pub struct Lines<R: Read + Drop> {
     source: BufReader<R>,
-    /// The line that was given last, or what was taken of the next one, once that is begun.
+    /// The line that was returned last or, once the next one is begun, the part of it that was read.
     line: Vec<u8>,
     given: u32,
     is_begun: bool,
@@ -33,7 +34,8 @@ pub struct Lines<R: Read + Drop> {
 impl<R: Read + Drop> Lines<R> {
     ghost use Rattle.ar_language.specs.Left.{bytes_read, lines_begun, lines_left, IsRefused, IsFresh};
 
-    /// All lines of the reader, of which none is read yet. It fails where memory is refused. No other call takes memory.
+    /// The lines of `reader`, none of them read yet. It allocates room for the longest line and a buffer of 8 KiB, and
+    /// fails if it can't; no other call allocates.
     pub fn new(alloc: Global, reader: R) -> io::Result<Lines<R>>
         ensures fresh { IfOk result IsFresh }
         ensures unasked { IfOk result (λ lines. reader_inner lines.source ≡ reader) }
@@ -53,7 +55,7 @@ impl<R: Read + Drop> Lines<R> {
         })
     }
 
-    /// How many lines were begun: those that were given, and one of which something was read.
+    /// The number of lines begun: those that were returned, and the next one if a part of it was read.
     pub fn number(&self) -> u32
         ensures number { result ≡ lines_begun self.now }
         ensures few { result ≤ 1000000 }
@@ -61,15 +63,16 @@ impl<R: Read + Drop> Lines<R> {
         self.given + u32::from(self.is_begun)
     }
 
-    /// Whether the next line has to be waited for: what was read of it is taken, and hasn't ended it.
+    /// Whether the next line needs more input: all that was read is in it, and doesn't end it.
     pub fn is_awaited(&self) -> bool
         ensures { result ≡ self.now.is_awaited }
     {
         self.is_awaited
     }
 
-    /// Goes on to the next line, if what was read holds it whole, and says whether it does. The input isn't asked. Without a line, it
-    /// has to be waited for (`is_awaited`), or none is left. Where a line is refused, it stays the next one.
+    /// Advances to the next line if it was read whole, and returns whether it was. The input isn't accessed. At false,
+    /// the line needs more input (`is_awaited`), or none is left. A line with a fault, or one too many, is an error,
+    /// and stays the next one.
     pub fn advance(&mut self) -> Result<bool, Fault>
         ensures unasked { IsUnasked self.old.source self.new.source }
         ensures given { is_given result ≡ true
@@ -99,7 +102,7 @@ impl<R: Read + Drop> Lines<R> {
         Ok(self.close(has_end))
     }
 
-    // Begins the next line, if it isn't.
+    // Begins the next line, unless it is begun.
     fn begin(&mut self) -> Result<(), Fault>
         ensures same { (self.new.source ≡ self.old.source) × (self.new.is_at_end ≡ self.old.is_at_end)
             × (self.new.is_awaited ≡ self.old.is_awaited) × (self.new.given ≡ self.old.given) }
@@ -122,7 +125,7 @@ impl<R: Read + Drop> Lines<R> {
         Ok(())
     }
 
-    // Gives the line that was begun, if its end was met: the line end, or the end of the input behind some bytes.
+    // Ends the line that was begun, if its end was met: a line feed, or the end of the input behind at least one byte.
     fn close(&mut self, has_end: bool) -> bool
         requires { self.old.is_begun ≡ true }
         ensures same { (self.new.source ≡ self.old.source) × (self.new.line.items ≡ self.old.line.items)
@@ -141,8 +144,8 @@ impl<R: Read + Drop> Lines<R> {
         is_whole
     }
 
-    /// Asks the input for what comes next, where `advance` said that it has to be waited for. Whoever waits for more has written
-    /// all that was answered, so that nothing is left of it in `out`.
+    /// Reads more input, for a line that is awaited. `out` has been flushed by then, so that no answer is held back
+    /// meanwhile. At `ReadFault`, the only error, the line is still awaited.
     pub fn ask<W: Write + Drop>(&mut self, out: &BufWriter<W>) -> Result<(), Fault>
         requires awaited { self.old.is_awaited ≡ true }
         requires more { self.old.is_at_end ≡ false }
@@ -169,19 +172,19 @@ impl<R: Read + Drop> Lines<R> {
         Ok(())
     }
 
-    /// The line, without the byte that ends it.
+    /// The line, without its line feed.
     pub fn line(&self) -> &str
         ensures { result.now ≡ self.now.line.items }
     {
         match str::from_utf8(self.line.as_slice()) {
             Ok(line) => line,
-            // The characters of ASCII are a text.
+            // ASCII is valid UTF-8.
             Err(_) => unreachable!(),
         }
     }
 }
 
-// Adds what was read of a line to it, and says whether its end is there.
+// Appends what was read of a line to it, and returns whether its line feed was there.
 fn take_part<R: Read + Drop>(
     source: &mut BufReader<R>,
     line: &mut Vec<u8>,
@@ -206,7 +209,7 @@ fn take_part<R: Read + Drop>(
     Ok(has_end)
 }
 
-// The printable characters at the front of what was read, and the byte behind them, where there is one.
+// The printable characters at the front of what was read, and the byte behind them, if there is one.
 fn part_of(bytes: &[u8]) -> (&[u8], Option<u8>)
     ensures parts { IsPart bytes.now result.0.now result.1 }
     ensures room { length result.0.now + (if is_some result.1 then 1 else 0) ≤ length bytes.now }
@@ -215,7 +218,7 @@ fn part_of(bytes: &[u8]) -> (&[u8], Option<u8>)
     (&bytes[..len], bytes.get(len).copied())
 }
 
-// How many bytes at the front are printable characters.
+// The number of printable characters at the front.
 fn printable_len(bytes: &[u8]) -> usize
     ensures { result ≡ prefix_len is_printable bytes.now }
 {
@@ -225,7 +228,7 @@ fn printable_len(bytes: &[u8]) -> usize
         .unwrap_or(bytes.len())
 }
 
-// Adds printable characters to a line. A byte that was read behind them has to be the one that ends it.
+// Appends printable characters to a line. The byte behind them, if one was read, has to be a line feed.
 fn add_part(line: &mut Vec<u8>, part: &[u8], next: Option<u8>) -> Result<(), FaultKind>
     requires whole { IsLine line.old.items }
     requires room { 4096 ≤ vec_capacity line.old }
@@ -246,13 +249,13 @@ fn add_part(line: &mut Vec<u8>, part: &[u8], next: Option<u8>) -> Result<(), Fau
         return Err(FaultKind::LineTooLong);
     }
     let Ok(()) = line.extend_from_slice(part) else {
-        // The longest line has room.
+        // There is room for the longest line.
         unreachable!()
     };
     Ok(())
 }
 
-// What is told of a bad character, which is among the bytes that have room in the line or isn't.
+// The fault of a bad character: its own if the line has room for it, otherwise that the line is too long.
 fn bad_fault(has_room: bool) -> FaultKind
     ensures { result ≡ (if has_room then FaultKind.BadCharacter else FaultKind.LineTooLong) }
 {
@@ -263,7 +266,7 @@ fn bad_fault(has_room: bool) -> FaultKind
     }
 }
 
-// Whether a byte is there, and doesn't end a line.
+// Whether there is a byte, and it is no line feed.
 fn is_bad(next: Option<u8>) -> bool
     ensures { result ≡ is_bad_next next }
 {

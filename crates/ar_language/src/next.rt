@@ -1,4 +1,5 @@
-// The next line, which may have to be waited for.
+// Waits for the next line. The output is flushed before the input is accessed, so that no answer is held back
+// meanwhile.
 ghost use Rattle.std.specs.Prelude.{◌≡◌, ◌≢◌, ◌==◌, ◌⊎◌, IsSome, IfErr, OnOk, true, false, [], length};
 ghost use Rattle.std.specs.List.{position};
 ghost use Rattle.std.specs.Io.Buffered.{reader_buffer, writer_buffer, writer_contents};
@@ -9,10 +10,9 @@ ghost use Rattle.ar_language.specs.Left.{bytes_read, lines_begun, lines_left, Is
 use crate::{Fault, FaultKind, Lines};
 use std::io::{BufWriter, Read, Write};
 
-/// Goes on to the next line, and says whether there is one. The input is asked only where what was read of it tells no line, and
-/// then `out` is written first, so that no answer is held back meanwhile; where a line was read whole, `out` is left alone. No
-/// answer is added to those, and none of them is lost: what couldn't be written is still in the buffer. After a fault the line is
-/// still the next one.
+/// Advances to the next line, and returns whether there is one. Only if no whole line was read yet, `out` is flushed
+/// and then the input accessed. Nothing is added to the output and nothing of it is lost: what couldn't be written is
+/// still in the buffer. After an error the line is still the next one.
 pub fn next_line<R: Read + Drop, W: Write + Drop>(
     lines: &mut Lines<R>,
     out: &mut BufWriter<W>,
@@ -21,20 +21,21 @@ pub fn next_line<R: Read + Drop, W: Write + Drop>(
     ensures begun { IsBegunByByte lines.old → IsBegunByByte lines.new }
     ensures awaited { OnOk result (lines.new.is_awaited ≡ false) }
 
-    // The input isn't asked where the line's end was read, or the end was met.
+    // The input isn't accessed if the line's end was read, or the end of the input was met.
     ensures unasked { IsSome (position (λ byte. byte == 10) (reader_buffer lines.old.source))
         → IsUnasked lines.old.source lines.new.source }
     ensures buffered { IsSome (position (λ byte. byte == 10) (reader_buffer lines.old.source)) → is_given result ≡ true
         → IsFirst lines.old.is_at_end (bytes_read lines.old) lines.new.line.items (bytes_read lines.new) }
     ensures ended { lines.old.is_at_end ≡ true → IsUnasked lines.old.source lines.new.source }
 
-    // Nor are the answers written then; and where it was asked, none is left in the buffer, unless they couldn't be written.
+    // Nor is the output flushed then. If the input was accessed, the buffer of the output is empty, unless the flush
+    // failed.
     ensures answers { Keeps (writer_contents W.contents out.old) (writer_contents W.contents out.new) }
     ensures untouched { IsSome (position (λ byte. byte == 10) (reader_buffer lines.old.source)) → out.new ≡ out.old }
     ensures over { lines.old.is_at_end ≡ true → out.new ≡ out.old }
     ensures written { is_write_fault result ≡ false → IsUnasked lines.old.source lines.new.source ⊎ (writer_buffer out.new ≡ []) }
 
-    // Neither is done where what was read tells a fault: the line's own, or that it is one too many.
+    // Neither is done if what was read has a fault: the line's own, or that it is one too many.
     ensures faulty { (kind : FaultKind) → IsFaultFrom (bytes_read lines.old) kind
         → IsUnasked lines.old.source lines.new.source × (out.new ≡ out.old) }
     ensures too_many { lines.old.given ≡ 1000000 → bytes_read lines.old ≢ []
@@ -47,7 +48,7 @@ pub fn next_line<R: Read + Drop, W: Write + Drop>(
     await_line(lines, out)
 }
 
-// The same, where the line has to be waited for.
+// The same for a line that needs more input.
 fn await_line<R: Read + Drop, W: Write + Drop>(
     lines: &mut Lines<R>,
     out: &mut BufWriter<W>,
@@ -66,18 +67,18 @@ fn await_line<R: Read + Drop, W: Write + Drop>(
             return Ok(is_given);
         }
     }
-    // Each turn adds a byte to the line.
+    // Each round adds a byte to the line, and a line too long is an error.
     unreachable!()
 }
 
-// Writes what was answered, and asks the input once.
+// Flushes the output, and reads more input once.
 fn wait<R: Read + Drop, W: Write + Drop>(
     lines: &mut Lines<R>,
     out: &mut BufWriter<W>,
 ) -> Result<(), Fault>
     requires { IsAwaited lines.old }
     ensures answers { Keeps (writer_contents W.contents out.old) (writer_contents W.contents out.new) }
-    // Where they couldn't be written, the input isn't asked.
+    // If the flush fails, the input isn't accessed.
     ensures written { is_write_fault result ≡ false → writer_buffer out.new ≡ [] }
     ensures unasked { is_write_fault result ≡ true → lines.new ≡ lines.old }
     ensures kept { Took (lines_left lines.old) (lines_left lines.new) [] }

@@ -1,9 +1,9 @@
-// What a line of a script can ask for.
+// The orders of the script language, as plain data that can be copied: executed on an array, or sent to a server.
 ghost use Rattle.std.specs.Prelude.{◌≡◌};
 
 use ar_disks::Addr;
 
-/// The data that go with a command: so many bytes of one value.
+/// The data sent with a command: `len` bytes, each of them `byte`.
 #[derive(Clone, Copy)]
 pub struct Data {
     pub len: u32,
@@ -13,31 +13,31 @@ pub struct Data {
 /// How the bytes of a reply are printed.
 #[derive(Clone, Copy, Debug, PartialEq, Eq)]
 pub enum Notation {
-    /// Two digits for each byte.
+    /// Two hexadecimal digits for each byte.
     Bytes,
     /// The longest runs of equal bytes, each with its length.
     Runs,
 }
 
-/// What a line asks for.
+/// An order: what a line asks for.
 #[derive(Clone, Copy)]
 pub enum Order {
-    /// Something is to be done.
+    /// Execute an action.
     Act(Action),
-    /// Something is to be shown.
+    /// Show the result of a query.
     Ask(Question),
 }
 
-/// What a line has an array do.
+/// An action on the array.
 #[derive(Clone, Copy)]
 pub enum Action {
-    /// Make a unit of so many sectors.
+    /// `make`: create a unit of this many sectors.
     Make(Addr, u32),
-    /// Make a unit longer: so many sectors is its new length.
+    /// `grow`: extend a unit to this many sectors.
     Grow(Addr, u32),
-    /// Remove a unit.
+    /// `drop`: delete a unit.
     Remove(Addr),
-    /// Give a unit a command.
+    /// Send a SCSI command to a unit.
     Command {
         addr: Addr,
         cdb: [u8; 16],
@@ -46,26 +46,26 @@ pub enum Action {
     },
     /// Write the least recently used block of the cache to the disks.
     Flush,
-    /// Move the mirrored block that was written longest ago to a group with parity.
+    /// Move the least recently written mirrored block to a parity group (RAID 5 layout).
     Demote,
     /// Move one block out of the emptiest group that can be emptied.
     Clean,
-    /// Form a group of loose extents, or shift an extent to another disk.
+    /// Form a group of unassigned extents (`loose` in the API), or shift an extent to another disk.
     Balance,
     /// Add a new disk.
     AddDisk,
-    /// Take a disk out, by its number.
+    /// `out`: take a disk out of service, by its number.
     DiskOut(u8),
-    /// Put a new disk in the place of the one that is out, by its number.
+    /// `replace`: put a new disk in the place of the missing one, by its number.
     Replace(u8),
-    /// Rebuild one extent of the disk that was replaced.
+    /// Rebuild one extent of the replaced disk.
     Rebuild,
 }
 
 impl Action {
     ghost use Rattle.ar_language.specs.Notations.{notation_in};
 
-    /// How the bytes of the answer are printed.
+    /// How the bytes of the reply are printed.
     pub fn notation(&self) -> Notation
         ensures { result ≡ notation_in self.now }
     {
@@ -76,21 +76,21 @@ impl Action {
     }
 }
 
-/// What a line wants to see of an array. All numbers count from 0.
+/// A query about the array. All numbers count from 0.
 #[derive(Clone, Copy)]
 pub enum Question {
-    /// The level of each block of a unit.
+    /// The level of each block of a unit: mirrored, parity, or without a home.
     Levels(Addr),
-    /// Where a block of a unit stands.
+    /// The group and slot where a block of a unit is stored.
     Home(Addr, u32),
     /// What each group is used for.
     Groups,
     /// How many more blocks units may have.
     Room,
-    /// Which disk is down, if any.
+    /// Which disk is missing or being rebuilt, if any.
     Health,
-    /// What each extent is used for, and which disk is down.
+    /// What each extent is used for, and the health of the array.
     Picture,
-    /// What stands in a row of an extent.
+    /// The bytes of a row of an extent.
     Block { disk: u8, extent: u16, row: u16 },
 }

@@ -1,4 +1,4 @@
-// The words of a line, read as what they ask for.
+// Parses a line to an order. The first word names the order, and the others must have exactly its form.
 ghost use Rattle.std.specs.Prelude.{◌≡◌, ◌≢◌, ◌⊎◌, true, false, ℕ, ◌+◌, ◌-◌, ◌*◌, ◌<◌, codes, length, IfErr};
 ghost use Rattle.std.specs.Option.{SomeIff};
 ghost use Rattle.ar_language.specs.Blocks.{read_10_block, read_16_block, write_10_block, write_16_block};
@@ -13,7 +13,7 @@ use ar_disks::{Addr, Host};
 
 const NO_DATA: Data = Data { len: 0, byte: 0 };
 
-// Sectors of a unit that lie side by side.
+// Consecutive sectors of a unit.
 #[derive(Clone, Copy)]
 struct Span {
     addr: Addr,
@@ -21,7 +21,7 @@ struct Span {
     count: u16,
 }
 
-// Sectors that are to be written, each byte the same, with FORCE UNIT ACCESS or without.
+// A write of one byte value to sectors, with FORCE UNIT ACCESS or without.
 #[derive(Clone, Copy)]
 struct Written {
     span: Span,
@@ -29,7 +29,8 @@ struct Written {
     fua: bool,
 }
 
-/// Reads a line, of which an empty one and one that begins with `#` ask for nothing. It takes no memory.
+/// Parses a line; an empty one and one that begins with `#` ask for nothing. The errors are `UnknownWord` and
+/// `BadArgument`. It allocates nothing.
 pub fn order_in(line: &str) -> Result<Option<Order>, FaultKind>
     ensures reads { ReadsLine line.now result }
     ensures few { IfErr result (λ kind. (kind ≡ FaultKind.UnknownWord) ⊎ (kind ≡ FaultKind.BadArgument)) }
@@ -44,7 +45,7 @@ pub fn order_in(line: &str) -> Result<Option<Order>, FaultKind>
     order_in_words(&words[..count])
 }
 
-// Reads the words of a line.
+// Parses the words of a line.
 fn order_in_words(words: &[&str]) -> Result<Option<Order>, FaultKind>
     ensures reads { ReadsNamed words.now result }
     ensures few { IfErr result (λ kind. (kind ≡ FaultKind.UnknownWord) ⊎ (kind ≡ FaultKind.BadArgument)) }
@@ -55,7 +56,7 @@ fn order_in_words(words: &[&str]) -> Result<Option<Order>, FaultKind>
     }
 }
 
-// Reads the arguments as those of the order that has this name. (Three functions with a few names each, since a match costs the
+// Parses the arguments of the order with this name. (Three functions with a few names each, since a match costs the
 // proof more than by the number of its arms.)
 fn order_of(name: &str, arguments: &[&str]) -> Result<Order, FaultKind>
     ensures reads { Reads name.now arguments.now result }
@@ -70,7 +71,7 @@ fn order_of(name: &str, arguments: &[&str]) -> Result<Order, FaultKind>
     order.ok_or(FaultKind::BadArgument)
 }
 
-// The same for a name of a command, or one that comes after those.
+// The same for the name of a SCSI command, or one of `array_order_of`.
 fn command_of(name: &str, arguments: &[&str]) -> Result<Order, FaultKind>
     ensures reads { ReadsCommand name.now arguments.now result }
     ensures few { IfErr result (λ kind. (kind ≡ FaultKind.UnknownWord) ⊎ (kind ≡ FaultKind.BadArgument)) }
@@ -89,7 +90,7 @@ fn command_of(name: &str, arguments: &[&str]) -> Result<Order, FaultKind>
     order.ok_or(FaultKind::BadArgument)
 }
 
-// The same for a name that is about the whole array, or asks to see something.
+// The same for the name of an action on the whole array, or of a query.
 fn array_order_of(name: &str, arguments: &[&str]) -> Result<Order, FaultKind>
     ensures reads { ReadsArrayOrder name.now arguments.now result }
     ensures few { IfErr result (λ kind. (kind ≡ FaultKind.UnknownWord) ⊎ (kind ≡ FaultKind.BadArgument)) }
@@ -192,7 +193,7 @@ fn write_16(arguments: &[&str]) -> Option<Order>
     Some(writing(to.span, cdb, to.byte))
 }
 
-// The sectors that a command moves, as the words of a READ name them.
+// Parses the arguments of a READ: the sectors that it transfers.
 fn sectors(arguments: &[&str]) -> Option<Span>
     ensures { Gives (HasSectors IsNumber arguments.now) (NamesSpan arguments.now) result }
 {
@@ -202,7 +203,7 @@ fn sectors(arguments: &[&str]) -> Option<Span>
     span_in(host, lun, lba, count)
 }
 
-// What the words of a WRITE say.
+// Parses the arguments of a WRITE.
 fn written_in(arguments: &[&str]) -> Option<Written>
     ensures { Gives (HasWritten IsNumber arguments.now) (SaysWritten arguments.now) result }
 {
@@ -234,7 +235,7 @@ fn command_block(arguments: &[&str]) -> Option<Order>
     }
 }
 
-// A command whose block a word says, and the data that go with it.
+// A command with the block that a word gives, and with its data.
 fn block_with(host: &str, lun: &str, block: &str, data: Data) -> Option<Order>
     ensures { Gives (AreBlock host.now lun.now block.now) (AsksBlockWith host.now lun.now block.now «data») result }
 {
@@ -248,7 +249,7 @@ fn block_with(host: &str, lun: &str, block: &str, data: Data) -> Option<Order>
     }))
 }
 
-// So many bytes of one value.
+// Data of `count` bytes, each of them `byte`.
 fn data(count: &str, byte: &str) -> Option<Data>
     ensures { Gives (AreData count.now byte.now) (IsData count.now byte.now) result }
 {
@@ -269,7 +270,7 @@ fn replace(arguments: &[&str]) -> Option<Order>
     Some(Order::Act(Action::Replace(disk_number(arguments)?)))
 }
 
-// The number of a disk, alone.
+// Parses the number of a disk, and nothing more.
 fn disk_number(arguments: &[&str]) -> Option<u8>
     ensures { Gives (HasDisk arguments.now) (IsDisk arguments.now) result }
 {
@@ -306,14 +307,14 @@ fn block(arguments: &[&str]) -> Option<Order>
     }))
 }
 
-// An order whose name stands alone.
+// An order without arguments.
 fn alone(arguments: &[&str], order: Order) -> Option<Order>
     ensures { Gives (length arguments.now ≡ 0) (λ given. given ≡ order) result }
 {
     arguments.is_empty().then_some(order)
 }
 
-// Whether the last of the arguments asks for FORCE UNIT ACCESS, and the others.
+// Whether the last argument is `fua`, for FORCE UNIT ACCESS, and the arguments without it.
 fn force_unit_access<'a, 'b>(arguments: &'a [&'b str]) -> (bool, &'a [&'b str])
     ensures forced { result.0 ≡ true → (length arguments.now ≡ length result.1.now + 1) × (word arguments.now (length result.1.now) ≡ codes "fua") }
     ensures others { (i : ℕ) → i < length result.1.now → word result.1.now i ≡ word arguments.now i }
@@ -325,7 +326,7 @@ fn force_unit_access<'a, 'b>(arguments: &'a [&'b str]) -> (bool, &'a [&'b str])
     }
 }
 
-// A command without data, whose bytes are printed one by one.
+// A command without data, whose reply is printed byte by byte.
 fn command(addr: Addr, cdb: [u8; 16]) -> Order
     ensures { result ≡ Order.Act (Action.Command addr cdb nothing Notation.Bytes) }
 {
@@ -337,7 +338,7 @@ fn command(addr: Addr, cdb: [u8; 16]) -> Order
     })
 }
 
-// A command that returns sectors.
+// A command that reads sectors, which are printed as runs.
 fn reading(addr: Addr, cdb: [u8; 16]) -> Order
     ensures { result ≡ Order.Act (Action.Command addr cdb nothing Notation.Runs) }
 {
@@ -349,7 +350,7 @@ fn reading(addr: Addr, cdb: [u8; 16]) -> Order
     })
 }
 
-// A command that takes so many sectors, each byte the same.
+// A command that writes the sectors of `span`, each byte `byte`.
 fn writing(span: Span, cdb: [u8; 16], byte: u8) -> Order
     ensures { result ≡ Order.Act (Action.Command span.addr cdb (record { len = span.count * 512; byte = byte }) Notation.Runs) }
 {
@@ -364,7 +365,7 @@ fn writing(span: Span, cdb: [u8; 16], byte: u8) -> Order
     })
 }
 
-// A unit's address, and nothing more.
+// Parses a unit's address, and nothing more.
 fn unit(arguments: &[&str]) -> Option<Addr>
     ensures { Gives (HasUnit arguments.now) (NamesUnit arguments.now) result }
 {
@@ -374,7 +375,7 @@ fn unit(arguments: &[&str]) -> Option<Addr>
     address(host, lun)
 }
 
-/// Reads three words: a host, a LUN and a number.
+/// Parses three words: a host (0 to 3), a LUN (0 to 255) and a number below 2^32.
 pub fn unit_and_number(arguments: &[&str]) -> Option<(Addr, u32)>
     ensures { Gives (HasUnitAndNumber 32 arguments.now) (λ both. NamesUnit arguments.now both.0 × (both.1 ≡ value (word arguments.now 2))) result }
 {

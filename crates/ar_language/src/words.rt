@@ -1,4 +1,5 @@
-// The words of a line.
+// Splits a line at its spaces and parses the words, without allocating. An empty word is an error, so that spacing is
+// unique.
 ghost use Rattle.std.specs.Prelude.{◌≡◌, ◌∷◌, [], ◌++◌, ◌-◌, ◌↔◌, ℕ, List, length, replicate, true, false, IsSome, IfSome, IfNone, OnSome, Ok, map, take, min, ◌==◌};
 ghost use Rattle.std.specs.List.{list_all, list_any, position_or_len, slice_split};
 ghost use Rattle.std.specs.Char.{is_ascii_digit};
@@ -7,11 +8,11 @@ ghost use Rattle.std.specs.Str.Parse.{digits_value};
 ghost use Rattle.hex.specs.Hex.{decode_of};
 ghost use Rattle.ar_language.specs.Words.{IsNumber, IsBytePair, IsBlockWord};
 
-/// Words that are looked at: no order has more than seven.
+/// The most words that are split off. No order has more than seven, so that an eighth is one too many.
 pub const MOST_WORDS: usize = 8;
 
-/// Puts the first words of a line into `words`, as many as have room, and says how many these are, unless one of all its words is
-/// empty. One space parts two words, so that more spaces, and those at an end, make empty words.
+/// Stores the first words of a line in `words`, up to 8, and returns their number. None: one of the line's words is
+/// empty. Each space separates two words, so that doubled, leading and trailing spaces make empty ones.
 pub fn first_words<'a>(line: &'a str, words: &mut [&'a str; MOST_WORDS]) -> Option<usize>
     ensures none { IfNone result (list_any (λ word. length word == 0) (slice_split (λ byte. byte == 32) line.now) ≡ true) }
     ensures some { OnSome result (list_any (λ word. length word == 0) (slice_split (λ byte. byte == 32) line.now) ≡ false) }
@@ -34,11 +35,11 @@ pub fn first_words<'a>(line: &'a str, words: &mut [&'a str; MOST_WORDS]) -> Opti
         }
         rest = &rest[end + 1..];
     }
-    // Nothing stands behind the last space, or in the line.
+    // The line is empty, or ends with a space.
     None
 }
 
-// Where the first word of a text ends: at a space, or where the text does.
+// The end of a text's first word: a space, or the end of the text.
 fn word_end(text: &str) -> usize
     ensures { result ≡ position_or_len (λ byte. byte == 32) text.now }
 {
@@ -49,7 +50,7 @@ fn word_end(text: &str) -> usize
         .unwrap_or(bytes.len())
 }
 
-/// The number that a word says: 1 to 10 decimal digits.
+/// Parses a number: 1 to 10 decimal digits.
 pub fn number(word: &str) -> Option<u64>
     ensures { SomeIff result (IsNumber word.now) (digits_value 10 word.now) }
 {
@@ -66,7 +67,7 @@ pub fn number(word: &str) -> Option<u64>
     Some(number)
 }
 
-/// The byte that a word says: two hexadecimal digits of either case.
+/// Parses a byte: two hexadecimal digits of either case.
 pub fn byte(word: &str) -> Option<u8>
     ensures valid { IsSome result ↔ IsBytePair word.now }
     ensures value { IfSome result (λ byte. decode_of word.now ≡ Ok (byte ∷ [])) }
@@ -78,7 +79,7 @@ pub fn byte(word: &str) -> Option<u8>
     Some(byte[0])
 }
 
-/// The command block that a word says: 1 to 16 bytes, and zeros after them.
+/// Parses a command block: 1 to 16 bytes as hexadecimal digits, padded with zeros to 16 bytes.
 pub fn block(word: &str) -> Option<[u8; 16]>
     ensures valid { IsSome result ↔ IsBlockWord word.now }
     ensures value { IfSome result (λ cdb. (bytes : List ℕ) × (decode_of word.now ≡ Ok bytes) × (cdb ≡ bytes ++ replicate (16 - length bytes) 0)) }

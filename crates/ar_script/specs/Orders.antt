@@ -1,4 +1,4 @@
--- What an array is asked for, and what answering leaves of it.
+-- Orders on an array: the event of an action, and the effect of a query.
 use Rattle.std.specs.Prelude.{◌≡◌, ◌⊎◌, ◌<◌, ℕ, false, List, Option, Some, None, Result, Ok, Err, IfErr, replicate}
 use Rattle.ar_disks.specs.declared.address.Addr.{Addr}
 use Rattle.ar_disks.specs.declared.address.Place.{Place}
@@ -22,8 +22,8 @@ use Rattle.ar_language.specs.declared.order.Question.TheVariants.{Levels, Home, 
 use Rattle.ar_picture.specs.Writing.{AddsSome}
 use Rattle.ar_script.specs.Setups.{new_disk_for}
 
--- the event that an action is to an array: data are copies of one byte, and a disk that is taken in is new, and of the array's
--- shape
+-- the array's event for an action: data are repetitions of one byte, and a disk that is added is new and of the array's
+-- geometry
 abbrev pub event_in : ArrayState → Action → Event
 event_in s (actions.Make addr sectors) = Make addr sectors
 event_in s (actions.Grow addr sectors) = Grow addr sectors
@@ -38,8 +38,8 @@ event_in s (actions.DiskOut disk) = DiskOut disk
 event_in s (actions.Replace disk) = Replace disk (new_disk_for s)
 event_in s actions.Rebuild = Rebuild
 
--- Reading a row shows what stands there, or why it can't, and leaves the tables, the cache and each unit as they were. It may
--- meet a fault of the row's disk.
+-- Reading a row shows its bytes, or why there are none. It leaves the tables, the cache and, unless the array has
+-- failed, the contents of all units as they were. It may meet a fault of the row's disk.
 pub record ReadsRow (place : Place) (row : ℕ) (old new : ArrayState) : Type 0 where
   pub bytes : List ℕ
   pub shown : Shown
@@ -47,7 +47,7 @@ pub record ReadsRow (place : Place) (row : ℕ) (old new : ArrayState) : Type 0 
   pub looks : LooksAt old new
   pub images : is_broken new ≡ false → (addr : Addr) → image_at new addr ≡ image_at old addr
 
--- what being asked leaves of an array: itself, where no disk is read for it
+-- the effect of a query on an array: none, if no disk is read for it
 abbrev pub Looks : Question → ArrayState → ArrayState → Type 0
 Looks (Levels addr) old new = new ≡ old
 Looks (Home addr rb) old new = new ≡ old
@@ -57,18 +57,18 @@ Looks Health old new = new ≡ old
 Looks Picture old new = new ≡ old
 Looks (Block disk extent row) old new = ReadsRow (record { disk = disk; extent = extent }) row old new
 
--- the array has met one event, the one that the action is
+-- the array has executed one event, that of the action
 pub record Acts (action : Action) (old new : ArrayState) : Type 0 where
   pub outcome : Outcome
   pub steps : Steps old (event_in old action) outcome new
 
--- What an order leaves of an array, whether the answer was written or not. An action for which memory was refused isn't done.
+-- The effect of an order on an array, whether its answer was written or not. At `NoMemory` an action isn't done.
 abbrev pub Leaves : Order → ArrayState → Result (Unit {0}) FaultKind → ArrayState → Type 0
 Leaves (Ask question) old result new = Looks question old new
 Leaves (Act action) old (Err NoMemory) new = new ≡ old
 Leaves (Act action) old result new = Acts action old new
 
--- what an order asks memory for: a command's data, a new disk, or what is shown of many groups
+-- the orders that allocate: for a command's data, for a new disk, or for what is shown of all groups
 abbrev pub TakesMemory : Order → Type 0
 TakesMemory (Act (actions.Command addr cdb d notation)) = 0 < d.len
 TakesMemory (Act actions.AddDisk) = Unit {0}
@@ -77,28 +77,28 @@ TakesMemory (Ask Groups) = Unit {0}
 TakesMemory (Ask Picture) = Unit {0}
 TakesMemory order = ⊥
 
--- an order has an answer, whatever the array is: all but a question for groups, which has a line for each
+-- an order whose answer is never empty: all but the query for groups, which has a line for each
 abbrev pub HasAnswer : Order → Type 0
 HasAnswer (Ask Groups) = ⊥
 HasAnswer order = Unit {0}
 
--- an order fails because its answer can't be written, or for want of memory, if it asks for any
+-- an order fails because its answer can't be written or, if it allocates, because that fails
 abbrev pub IsLost : Order → FaultKind → Type 0
 IsLost order kind = (kind ≡ WriteFault) ⊎ ((kind ≡ NoMemory) × TakesMemory order)
 
--- what a line leaves that was read so: the array as it was, where the line asks for nothing or can't be read
+-- the effect of a line, by its parse: none if the line asks for nothing or has a fault
 abbrev pub Meets : Result (Option Order) FaultKind → ArrayState → Result (Unit {0}) FaultKind → ArrayState → Type 0
 Meets (Ok None) old result new = (result ≡ Ok tt) × (new ≡ old)
 Meets (Ok (Some order)) old result new = Leaves order old result new × IfErr result (IsLost order)
 Meets (Err kind) old result new = (result ≡ Err kind) × (new ≡ old)
 
--- some bytes were added for a line that asks for what has an answer
+-- some bytes were appended for a line whose answer is never empty
 pub record AnswersLine (line : List ℕ) (old new : Option (List ℕ)) : Type 0 where
   pub read : Result (Option Order) FaultKind
   pub reads : ReadsLine line read
   pub some : (order : Order) → read ≡ Ok (Some order) → HasAnswer order → AddsSome old new
 
--- what a line without a fault leaves of an array
+-- the effect of a line on an array, whose bytes have no fault
 pub record MeetsLine (line : List ℕ) (old : ArrayState) (result : Result (Unit {0}) FaultKind) (new : ArrayState) : Type 0 where
   pub sound : IsLine line
   pub read : Result (Option Order) FaultKind

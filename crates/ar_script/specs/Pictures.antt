@@ -42,15 +42,15 @@ group_in view = record { class = class_shown view.class; members = view.members;
 abbrev pub groups_in : Tables → List Group
 groups_in t = map group_in (map (view_of t.geometry) t.groups)
 
--- the place of an address among all that there can be: unit L of host H has place 8 H + L
+-- the place of an address among all possible ones: unit L of host H has place 8 H + L
 abbrev pub place_of : Addr → ℕ
 place_of addr = 8 * addr.host.number + addr.lun
 
--- the address that has a place
+-- the address with a place
 abbrev pub addr_at : ℕ → Addr
 addr_at place = record { host = record { number = place / 8 % 4; in_range = mod-lt (place / 8) (lit< tt) }; lun = place % 8 }
 
--- the unit at an address, as pictures have it, where there is one: how many blocks it has, and how many of them have a home
+-- the unit at an address, as pictures have it, if it exists: the number of its blocks, and of those that have a home
 abbrev pub unit_at : Tables → Addr → Option PictureUnit
 unit_at t addr =
     let unit = unit_in t.units addr in
@@ -71,35 +71,36 @@ abbrev pub is_in : ℕ → Option Slot → Bool
 is_in group None = false
 is_in group (Some slot) = slot.group == group
 
--- how many blocks of the unit at an address have their home in a group
+-- the number of blocks of the unit at an address that have their home in a group
 abbrev pub blocks_in : Tables → ℕ → Addr → ℕ
 blocks_in t group addr = count_by (is_in group) (unit_in t.units addr).homes
 
--- how many blocks of the unit with a place are counted in a group
+-- the number of blocks of the unit with a place that are counted at a group
 abbrev pub held_at : List Held → ℕ → ℕ → ℕ
 held_at held group place = slice_index (slice_index_or held group (record { blocks = [] })).blocks place
 
--- the count of one place of one group is one more, where there is the group, and all others are as they were
+-- one more block is counted for one place at one group, if the group exists, and all other counts stay
 pub record AddsOne (group place : ℕ) (old new : List Held) : Type 0 where
   pub groups : length new ≡ length old
   pub one : group < length old → held_at new group place ≡ held_at old group place + 1
   pub other_groups : (other at : ℕ) → other ≢ group → held_at new other at ≡ held_at old other at
   pub other_places : (at : ℕ) → at ≢ place → held_at new group at ≡ held_at old group at
 
--- blocks with these homes were counted for one place, each at the group of its home, and the counts of others are as they were
+-- blocks with these homes were counted for one place, each at the group of its home, and the counts of other places
+-- stay
 pub record AddsHomes (homes : List (Option Slot)) (place : ℕ) (old new : List Held) : Type 0 where
   pub groups : length new ≡ length old
   pub counted : (group : ℕ) → group < length old → held_at new group place ≡ held_at old group place + count_by (is_in group) homes
   pub other_places : (group at : ℕ) → at ≢ place → held_at new group at ≡ held_at old group at
 
--- for each group it is counted how many blocks of each unit stand in it
+-- for each group, the number of blocks of each unit that it holds is counted
 pub record HoldsBlocks (t : Tables) (held : List Held) : Type 0 where
   pub groups : length held ≡ length t.groups
   pub blocks : (group : ℕ) (addr : Addr) → group < length t.groups → addr.lun < 8 → held_at held group (place_of addr) ≡ blocks_in t group addr
 
--- The picture has the array's disks, their health, and its groups: their classes, their extents, and how many blocks each holds. It
--- has the units, in the order of their hosts and LUNs, each with the number of its blocks and of those that have a home, and says of
--- each group how many blocks of each unit stand in it.
+-- The picture has the array's disks, their health, and its groups: their classes, their extents, and how many blocks
+-- each holds. It has the units, in order of host and LUN, each with the number of its blocks and of those that have a
+-- home, and for each group the number of blocks of each unit that it holds.
 pub record IsPicture (array : ArrayState) (picture : Picture) : Type 0 where
   pub disks : picture.disks ≡ length array.store.disks.disks
   pub extents : picture.extents ≡ array.store.disks.extents

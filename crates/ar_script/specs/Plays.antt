@@ -1,4 +1,4 @@
--- What a script has an array meet, line by line.
+-- The run of a script on an array, line by line.
 use Rattle.std.specs.Prelude.{◌≡◌, ◌⊎◌, ⊤, ℕ, ◌+◌, ◌<◌, ◌≤◌, max, List, [], ◌∷◌, length, take, Option, Some, None, Result, Ok, Err, OnOk, IfErr}
 use Rattle.ar_disks.specs.Disk.{DiskState}
 use Rattle.ar_volume.specs.Image.{ArrayState, geometry_of}
@@ -18,13 +18,14 @@ use Rattle.ar_language.specs.Left.{IsStopped}
 use Rattle.ar_language.specs.Lines.{line_fault, line_at, IsLine, IsOfStream, Took}
 use Rattle.ar_script.specs.Orders.{event_in, Looks, TakesMemory}
 
--- the order is met in this turn, which left the array so: an action is its event, and a question a look at what it asks for alone
+-- the order is executed in this step of a run, to this state: an action as its event, a query as a look at what it asks
+-- for alone
 abbrev pub IsTurn : Order → ArrayState → Turn → ArrayState → Type 0
 IsTurn (Act action) old (Did event outcome) new = event ≡ event_in old action
 IsTurn (Ask question) old Looked new = Looks question old new
 IsTurn order old turn new = ⊥
 
--- the line has no fault and asks for something, and that is met in this turn
+-- the line has no fault and asks for something, which is executed in this step
 pub record AsksFor (line : List ℕ) (old : ArrayState) (turn : Turn) (new : ArrayState) : Type 0 where
   pub sound : IsLine line
   pub order : Order
@@ -36,13 +37,13 @@ pub record AsksNothing (line : List ℕ) : Type 0 where
   pub sound : IsLine line
   pub reads : ReadsLine line (Ok None)
 
--- the line says what can't be asked for: its bytes have no fault, but its words this one
+-- the line's bytes have no fault, but its words have this one
 pub record SaysWrong (line : List ℕ) (kind : FaultKind) : Type 0 where
   pub sound : IsLine line
   pub reads : ReadsLine line (Err kind)
 
--- These lines are met in these turns, in their order: each that asks for something in one turn, and no other turn is there. The
--- array, as it was at first, is left in these states in turn.
+-- These lines are executed in these steps, in order: each that asks for something in one step, and there is no other
+-- step. From its first state the array goes through these states.
 abbrev pub AreMet : List (List ℕ) → ArrayState → List Turn → List ArrayState → Type 0
 AreMet [] old [] [] = Unit {0}
 AreMet (line ∷ lines) old [] [] = AsksNothing line × AreMet lines old [] []
@@ -50,8 +51,9 @@ AreMet (line ∷ lines) old (turn ∷ turns) (new ∷ states) =
     (AsksNothing line × AreMet lines old (turn ∷ turns) (new ∷ states)) ⊎ (AsksFor line old turn new × AreMet lines new turns states)
 AreMet lines old turns states = ⊥
 
--- The array met these lines, one after another, and was left so. The isolation theorem holds of their turns (`IsRun`): each unit
--- answered as one plain list of sectors that its own lines alone change. The shape of its disks stays.
+-- The array executed these lines, one after another, from its old state to its new one. The isolation theorem holds of
+-- their steps (`IsRun`): each unit replied as one plain list of sectors that only its own lines change. The geometry of
+-- its disks stays.
 pub record Plays (lines : List (List ℕ)) (old new : ArrayState) : Type 0 where
   pub turns : List Turn
   pub run : IsRun old turns new
@@ -64,37 +66,37 @@ abbrev pub AreFirst : Option (List (List ℕ)) → List (List ℕ) → Type 0
 AreFirst None lines = ⊤
 AreFirst (Some script) lines = lines ≡ take (length lines) script
 
--- and all of them
+-- these are all lines of the script
 abbrev pub AreAll : Option (List (List ℕ)) → List (List ℕ) → Type 0
 AreAll None lines = ⊤
 AreAll (Some script) lines = lines ≡ script
 
--- the line asks for something that takes memory
+-- the line's order allocates
 pub record NeedsMemory (line : List ℕ) : Type 0 where
   pub order : Order
   pub reads : ReadsLine line (Ok (Some order))
   pub takes : TakesMemory order
 
--- a fault that the line by this number doesn't have: a stream faulted, or memory was refused, before the first line or for what
--- the line asks for
+-- a fault that isn't in line `n`: a stream faulted, or an allocation failed, before the first line or for the line's
+-- order
 abbrev pub IsOutside : List ℕ → ℕ → FaultKind → Type 0
 IsOutside line n kind = IsOfStream kind ⊎ ((kind ≡ NoMemory) × ((n ≡ 1) ⊎ NeedsMemory line))
 
--- What may be told at a line: that a stream faulted or memory was refused, else only a fault that the line has, by its bytes or by
--- what it says, or that there are too many lines.
+-- What may be reported at a line: that a stream faulted or an allocation failed, otherwise only a fault that the line
+-- has, in its bytes or its words, or that there are too many lines.
 abbrev pub IsSo : Option (List (List ℕ)) → ℕ → FaultKind → Type 0
 IsSo None n kind = ⊤
 IsSo (Some script) n kind =
     IsOutside (line_at script n) n kind ⊎ (line_fault (line_at script n) ≡ Some kind) ⊎ SaysWrong (line_at script n) kind
     ⊎ ((kind ≡ TooManyLines) × (1000000 < length script))
 
--- what the line asks for is a question that takes memory, no action
+-- the line's order is a query that allocates
 pub record AsksToSee (line : List ℕ) : Type 0 where
   pub question : Question
   pub reads : ReadsLine line (Ok (Some (Ask question)))
   pub takes : TakesMemory (Ask question)
 
--- the answer to a line that was met is lost so: it could not be written, or memory for it was refused, to such a question alone
+-- why the answer to an executed line is lost: it couldn't be written or, for such a query alone, an allocation failed
 abbrev pub IsLostAt : List ℕ → FaultKind → Type 0
 IsLostAt line kind = (kind ≡ WriteFault) ⊎ ((kind ≡ NoMemory) × AsksToSee line)
 
@@ -103,60 +105,60 @@ pub record AsksSomething (line : List ℕ) : Type 0 where
   pub order : Order
   pub reads : ReadsLine line (Ok (Some order))
 
--- a line is answered with no answer so: what it asks for could not be written, or memory for that was refused
+-- why a line that asks for something has no answer: that couldn't be written, or an allocation for the order failed
 abbrev pub IsUnanswered : List ℕ → FaultKind → Type 0
 IsUnanswered line kind = ((kind ≡ WriteFault) × AsksSomething line) ⊎ ((kind ≡ NoMemory) × NeedsMemory line)
 
--- What is told where lines are answered: a fault of the next line, which couldn't be gone on to (`IsStopped`), or of the last that
--- was given, which has no answer or says what can't be asked for.
+-- The fault that ends the loop over the lines: of the next line, which wasn't returned (`IsStopped`), or of the last
+-- one that was, which has no answer or whose words have a fault.
 abbrev pub IsToldAt : {R : Type 0} {reads : Ghosts R} → Lines R reads → Fault → Type 0
 IsToldAt lines Start = ⊥
 IsToldAt lines (Line n kind) =
     IsStopped lines (Line n kind) ⊎ ((n ≡ lines.given) × (IsUnanswered lines.line.items kind ⊎ SaysWrong lines.line.items kind))
 
--- and in the end, unless that answers couldn't be written
+-- the same for the end of a run, which may also be a write fault
 abbrev pub IsToldOf : {R : Type 0} {reads : Ghosts R} → Lines R reads → Fault → Type 0
 IsToldOf lines Start = ⊥
 IsToldOf lines (Line n kind) = (kind ≡ WriteFault) ⊎ IsToldAt lines (Line n kind)
 
--- it is told at the line after the last that was met, or at that one, where an answer was lost
+-- a fault is reported at the line after the last that was executed, or at that one if its answer is lost
 abbrev pub IsToldAfter : Option (List (List ℕ)) → List (List ℕ) → Fault → Type 0
 IsToldAfter script met Start = ⊥
 IsToldAfter script met (Line n kind) =
     ((n ≡ length met + 1) ⊎ ((n ≡ length met) × IsLostAt (line_at met n) kind)) × IsSo script n kind
 
--- The line of which a fault is told is there, or is the first. But the input may not be read where no line is left, and that there are
--- too many lines is told where there are (`IsSo`).
+-- The line at which a fault is reported exists, or is the first. But `ReadFault` may be reported where no line is left,
+-- and `TooManyLines` is where there are too many (`IsSo`).
 abbrev pub IsThere : Option (List (List ℕ)) → Fault → Type 0
 IsThere script Start = Unit {0}
 IsThere None (Line n kind) = ⊤
 IsThere (Some lines) (Line n kind) = (kind ≡ ReadFault) ⊎ (kind ≡ TooManyLines) ⊎ (n ≤ max (length lines) 1)
 
--- The array met the first lines of a script, each once and in their order: all of them, where the script ended without a fault.
+-- The array executed the first lines of a script, each once and in order: all of them if the script ended without a
+-- fault.
 pub record PlaysScript (script : Option (List (List ℕ))) (result : Result (Unit {0}) Fault) (old new : ArrayState) : Type 0 where
   pub lines : List (List ℕ)
   pub plays : Plays lines old new
-  -- no more than a million lines are met
+  -- no more than a million lines are executed
   pub few : length lines ≤ 1000000
   pub first : AreFirst script lines
   pub whole : OnOk result (AreAll script lines)
   pub told : IfErr result (IsToldAfter script lines)
 
--- so many lines were taken from a script, and the array met each; these are left
+-- `begun` lines were taken from a script, and the array executed each; `left` are left
 pub record PlaysAll (script left : Option (List (List ℕ))) (old new : ArrayState) (begun : ℕ) : Type 0 where
   pub lines : List (List ℕ)
   pub plays : Plays lines old new
   pub all : length lines ≡ begun
   pub took : Took script left lines
 
--- So many lines were begun, and the array met each, but that a fault may have come before the last was met: it could not be read,
--- or memory for its data was refused.
+-- `begun` lines were begun, and the array executed each, but for the last if a fault came before that.
 pub record PlaysTo (script : Option (List (List ℕ))) (result : Result (Unit {0}) Fault) (old new : ArrayState) (begun : ℕ) : Type 0 where
   pub plays : PlaysScript script result old new
   pub few : length plays.lines ≤ begun
   pub most : begun ≤ length plays.lines + 1
 
--- an array that began on these disks met the script
+-- an array that was started on these disks executed the script
 pub record HasPlayed (disks : List DiskState) (cache : ℕ) (script : Option (List (List ℕ))) (result : Result (Unit {0}) Fault) : Type 0 where
   pub first : ArrayState
   pub last : ArrayState

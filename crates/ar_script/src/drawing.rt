@@ -1,4 +1,5 @@
-// An array as its pictures show it.
+// The data of an array's pictures. Each block that has a home is counted once: for its unit, at the group that holds
+// it.
 ghost use Rattle.std.specs.Prelude.{◌≡◌, ◌≢◌, ℕ, ◌+◌, ◌^◌, ◌<◌, ◌++◌, length, map, IfOk, IfErr, OnOk, Err};
 ghost use Rattle.std.specs.Option.{option_to_list};
 ghost use Rattle.ar_book.specs.Book.{TablesAgree};
@@ -16,12 +17,12 @@ use ar_picture::{Group, Held, Picture, UNITS_MAX, Unit, write_map};
 use std::alloc::{AllocError, Global};
 use std::io::Write;
 
-/// What a group holds before blocks are counted.
+/// The counts of a group before blocks are counted.
 const NOTHING: Held = Held {
     blocks: [0; UNITS_MAX],
 };
 
-/// Writes the text map of an array. Where memory is refused, nothing is written.
+/// Writes the text map of an array. At `NoMemory` nothing is written.
 pub fn write_picture<W: Write, D: Disk>(
     alloc: Global,
     array: &Array<D>,
@@ -38,8 +39,8 @@ pub fn write_picture<W: Write, D: Disk>(
     write_map(out, &picture, &folds).map_err(|_| FaultKind::WriteFault)
 }
 
-/// The data of an array that its pictures show, also where it is broken. The units are in the order of their hosts and LUNs. It
-/// fails where memory is refused.
+/// The data of an array's pictures, which a failed array (`Broken`) has, too. The units are in order of host and LUN.
+/// It fails if they can't be allocated.
 pub fn picture_of<D: Disk>(alloc: Global, array: &Array<D>) -> Result<Picture, AllocError>
     ensures { IfOk result (IsPicture array.now) }
 {
@@ -103,7 +104,7 @@ fn health_of(health: Health) -> ar_picture::Health
     }
 }
 
-// The units that there are. Their blocks are counted at the groups that hold them.
+// The existing units. Their blocks are counted in `held`, each at the group that holds it.
 fn units_of<D: Disk>(
     alloc: Global,
     array: &Array<D>,
@@ -123,7 +124,7 @@ fn units_of<D: Disk>(
     Ok(units)
 }
 
-// Lists a unit, where there is one.
+// Appends a unit, if there is one.
 fn list(units: &mut Vec<Unit>, unit: Option<Unit>) -> Result<(), AllocError>
     ensures { OnOk result (units.new.items ≡ units.old.items ++ option_to_list unit) }
 {
@@ -133,7 +134,8 @@ fn list(units: &mut Vec<Unit>, unit: Option<Unit>) -> Result<(), AllocError>
     Ok(())
 }
 
-// The unit that has this place among all that there can be. Its blocks are counted, each at the group that holds it.
+// The unit with this place among all possible ones, if it exists. Its blocks are counted, each at the group that holds
+// it.
 fn unit_at<D: Disk>(array: &Array<D>, place: usize, held: &mut Vec<Held>) -> Option<Unit>
     requires place { place < 32 }
     requires tables { TablesAgree array.now.store.book }
@@ -157,7 +159,7 @@ fn unit_at<D: Disk>(array: &Array<D>, place: usize, held: &mut Vec<Held>) -> Opt
     unreachable!()
 }
 
-// The address that has a place.
+// The address with a place: that of LUN L of host H is 8 H + L.
 fn addr_at(place: usize) -> Addr
     requires { place < 32 }
     ensures { result ≡ addr_at place }
@@ -171,7 +173,7 @@ fn addr_at(place: usize) -> Addr
     }
 }
 
-// A unit with so many blocks, of which so many have a home.
+// A unit with `blocks` blocks, of which `placed` have a home.
 fn shown(addr: Addr, blocks: u32, placed: u32) -> Unit
     ensures { result ≡ record { host = addr.host.number; lun = addr.lun; blocks = blocks; placed = placed } }
 {

@@ -1,4 +1,5 @@
-// The data of commands.
+// The data of commands, each a repetition of one byte. The last ones are kept, and shared with commands that repeat
+// them.
 ghost use Rattle.std.specs.Prelude.{◌≡◌, ◌<◌, IfOk, OnOk, OnErr, length, replicate};
 
 use ar_language::Data;
@@ -6,7 +7,7 @@ use bytes::{Bytes, BytesMut};
 use std::alloc::{AllocError, Global};
 use std::mem;
 
-/// The data that a command had last. They are kept, since commands that follow one another often have the same.
+/// The data of the last command. They are kept, since consecutive commands often have the same.
 #[derive(Drop)]
 pub struct Filled {
     bytes: Bytes,
@@ -15,7 +16,7 @@ pub struct Filled {
 }
 
 impl Filled {
-    /// None yet.
+    /// No data yet.
     pub fn new() -> Filled {
         Filled {
             bytes: Bytes::new(),
@@ -23,7 +24,7 @@ impl Filled {
         }
     }
 
-    /// The data of a command: where the last ones are the same, those are shared. No data take no memory.
+    /// The data of a command: the last ones are shared if they are the same. Zero bytes allocate nothing.
     pub fn with(&mut self, alloc: Global, data: Data) -> Result<Bytes, AllocError>
         ensures bytes { IfOk result (λ bytes. bytes ≡ replicate «data».len «data».byte) }
         ensures some { OnErr result (0 < «data».len) }
@@ -37,7 +38,7 @@ impl Filled {
         self.bytes.clone()
     }
 
-    // Makes these data of the last ones, in their memory where no one else holds them.
+    // Replaces the last data by these, in the same buffer if nothing else holds it.
     fn fill(&mut self, alloc: Global, data: Data) -> Result<(), AllocError>
         ensures bytes { OnOk result (self.new.bytes ≡ replicate «data».len «data».byte) }
         ensures byte { OnOk result (self.new.byte ≡ «data».byte) }

@@ -1,5 +1,5 @@
-//! Scripts: lines that make, change, command and show the units of an array and its disks, and the text that answers them. What a
-//! line asks for is told by `ar_language`.
+//! Runs scripts on an array. The lines that were executed are the first of the script, each once and in order, and each
+//! is one event of the array, one query or nothing. The answers are text. `ar_language` parses the lines.
 #![tactic(auto)]
 
 mod drawing;

@@ -1,4 +1,5 @@
-// Runs a script.
+// Runs a script, from its first line to its end or its first fault. The output is flushed before more input is
+// accessed.
 ghost use Rattle.std.specs.Prelude.{◌≡◌, ◌≢◌, ◌≤◌, ◌⊎◌, max, true, false, [], None, Err, IfErr, OnOk};
 ghost use Rattle.std.specs.Io.Buffered.{writer_buffer, writer_contents};
 ghost use Rattle.std.specs.Io.KnownBytes.{Keeps};
@@ -18,24 +19,24 @@ use ar_language::{Fault, FaultKind, Lines, next_line, order_in};
 use std::alloc::Global;
 use std::io::{BufWriter, Read, Write};
 
-/// What an array is made of.
+/// The configuration of a new array.
 #[derive(Clone, Copy, Debug, PartialEq, Eq)]
 pub struct Setup {
-    /// The shape of the disks.
+    /// The geometry of the disks.
     pub geometry: Geometry,
-    /// How many disks, 4 to 12.
+    /// The number of disks, 4 to 12.
     pub disks: u8,
     /// Extents of each disk, 1 to 1,024.
     pub extents: u16,
-    /// How many blocks may wait in the cache to be written, 0 to 65,536. With 0 each block is written through.
+    /// The capacity of the cache in blocks, 0 to 65,536. With 0 each block is written through.
     pub cache: u32,
 }
 
-/// Runs a script on a new array whose disks are in memory: reads the lines and writes text for each that asks for
-/// something. The first fault ends it, and all answers to the lines before it are written. Both sides are buffered;
-/// what was answered is written before more is read. So a write fault names the line that was reached, and the answers
-/// that were lost may be those of earlier lines. What the array met are the first of the reader's lines, each once and in
-/// their order, and without a fault all of them; a line's fault is one that the line has.
+/// Runs a script on a new array whose disks are in memory: executes the lines in order and writes a text for each that
+/// asks for something. The first fault ends it. Output is buffered and flushed before more input is accessed, so that a
+/// write fault names the last line that was reached, and may have lost answers to earlier lines; at any other fault
+/// these are written. The executed lines are the first of the reader's, each once and in order, and without a fault all
+/// of them; a line's fault is one that the line has. At `Start` no line was read.
 pub fn run_script<R: Read + Drop, W: Write + Drop>(
     alloc: Global,
     reader: R,
@@ -51,8 +52,8 @@ pub fn run_script<R: Read + Drop, W: Write + Drop>(
     run_on(alloc, &mut runner, reader, writer)
 }
 
-/// Runs a script on the array of a runner, as `run_script` does. (Apart from `run_script`, so that no function owns more than one
-/// of array, lines and output: with all three the proof of its exits took a quarter of the crate's.)
+/// Runs a script on the array of a runner, as `run_script` does. (Separate from it, so that no function owns more than
+/// one of array, lines and output: with all three the proof of its exits took a quarter of the crate's.)
 pub fn run_on<R: Read + Drop, W: Write + Drop>(
     alloc: Global,
     runner: &mut Runner,
@@ -69,7 +70,7 @@ pub fn run_on<R: Read + Drop, W: Write + Drop>(
     write_answers(alloc, runner, &mut lines, writer)
 }
 
-// Answers all lines through a buffer, and lets that go.
+// Executes all lines with a buffer for the output, and drops the buffer.
 fn write_answers<R: Read + Drop, W: Write + Drop>(
     alloc: Global,
     runner: &mut Runner,
@@ -81,7 +82,8 @@ fn write_answers<R: Read + Drop, W: Write + Drop>(
     ensures numbered { IfErr result IsNumbered }
     ensures there { IfErr result (IsThere (lines_left lines.old)) }
     ensures ended { OnOk result (lines.new.is_at_end ≡ true) }
-    // Behind a fault no more is read. Want of memory is told of the first line with nothing read, or of a line that takes memory.
+    // After a fault nothing more is read. `NoMemory` is reported at line 1 with nothing read, or at a line that
+    // allocates.
     ensures told { IfErr result (λ fault. ((fault ≡ Fault.Line 1 FaultKind.NoMemory) × (lines.new ≡ lines.old))
         ⊎ (IsReached (lines_begun lines.new) fault × IsToldOf lines.new fault)) }
 {
@@ -93,7 +95,7 @@ fn write_answers<R: Read + Drop, W: Write + Drop>(
     done
 }
 
-// Answers all lines, and writes what is left in the buffer.
+// Executes all lines, and flushes the output.
 fn answer_all<R: Read + Drop, W: Write + Drop>(
     alloc: Global,
     runner: &mut Runner,
@@ -107,7 +109,7 @@ fn answer_all<R: Read + Drop, W: Write + Drop>(
     ensures ended { OnOk result (lines.new.is_at_end ≡ true) }
     ensures reached { IfErr result (IsReached (lines_begun lines.new)) }
     ensures told { IfErr result (IsToldOf lines.new) }
-    // Unless a write fault is told, all answers are with the writer, behind what it had, each behind those before it.
+    // Unless a write fault is reported, all answers are written, in order, behind what the writer had.
     ensures written { tells_write_fault result ≡ false → writer_buffer out.new ≡ [] }
     ensures grows { tells_write_fault result ≡ false → AddsBytes (writer_contents W.contents out.old) (writer_contents W.contents out.new) }
 {
@@ -115,7 +117,7 @@ fn answer_all<R: Read + Drop, W: Write + Drop>(
     finish(out, lines.number(), done)
 }
 
-// A fault at a line, or at the first where none was begun.
+// A fault at a line, or at the first if none was begun.
 fn fault_at(line: u32, kind: FaultKind) -> Fault
     requires known { line ≤ 1000000 }
     requires few { kind ≢ FaultKind.TooManyLines }
@@ -126,7 +128,7 @@ fn fault_at(line: u32, kind: FaultKind) -> Fault
     Fault::Line { line, kind }
 }
 
-// Answers all lines, each once.
+// Executes all lines, each once.
 fn run_lines<R: Read + Drop, W: Write + Drop>(
     alloc: Global,
     runner: &mut Runner,
@@ -138,10 +140,10 @@ fn run_lines<R: Read + Drop, W: Write + Drop>(
     ensures there { AreThere (lines_left lines.old) (lines_begun lines.new) }
     ensures ended { OnOk result (lines.new.is_at_end ≡ true) }
     ensures reached { IfErr result (IsReached (lines_begun lines.new)) }
-    // That the input couldn't be read is told only while a line is waited for, and no fault of a line as another.
+    // `ReadFault` is reported only while a line is awaited, and a fault of a line only if the line has it.
     ensures told { IfErr result (IsToldAt lines.new) }
     ensures numbered { IfErr result IsNumbered }
-    // Each answer is added behind those before it.
+    // Each answer is appended to those before it.
     ensures grows { tells_write_fault result ≡ false → AddsBytes (writer_contents W.contents out.old) (writer_contents W.contents out.new) }
 {
     for _ in 0..u32::MAX {
@@ -155,7 +157,7 @@ fn run_lines<R: Read + Drop, W: Write + Drop>(
     Ok(())
 }
 
-// Does what the present line asks for, and writes the answer.
+// Executes the current line, and writes the answer.
 fn answer_line<R: Read + Drop, W: Write + Drop>(
     alloc: Global,
     runner: &mut Runner,
@@ -169,7 +171,7 @@ fn answer_line<R: Read + Drop, W: Write + Drop>(
     ensures adds { OnOk result
         (AnswersLine lines.now.line.items (writer_contents W.contents out.old) (writer_contents W.contents out.new)) }
     ensures memory { result ≡ Err FaultKind.NoMemory → out.new ≡ out.old }
-    // A line that asks for nothing is answered with nothing, and so is one that says what can't be asked for.
+    // A line that asks for nothing writes nothing, and neither does one with an unknown word or a bad argument.
     ensures silent { is_silent lines.now.line.items ≡ true → out.new ≡ out.old }
     ensures unknown { result ≡ Err FaultKind.UnknownWord → out.new ≡ out.old }
     ensures wrong { result ≡ Err FaultKind.BadArgument → out.new ≡ out.old }
@@ -180,8 +182,8 @@ fn answer_line<R: Read + Drop, W: Write + Drop>(
     }
 }
 
-// Writes what is not yet written: unless a write fault is told, nothing is left in the buffer. After a write fault the rest is
-// let go.
+// Flushes the output: unless a write fault is reported, nothing is left in the buffer. After an earlier write fault
+// nothing more is written.
 fn finish<W: Write + Drop>(
     out: &mut BufWriter<W>,
     line: u32,

@@ -1,4 +1,5 @@
-// What a script runs on: an array, and how it answers an order.
+// Executes orders on an array. An action is exactly one event of the array; a query changes no table and, unless the
+// array has failed, no unit's contents.
 ghost use Rattle.std.specs.Prelude.{◌≡◌, ◌≢◌, ◌≤◌, IfOk, IfErr, OnOk, OnErr, None, Err};
 ghost use Rattle.ar_extents.specs.Changes.{start_fault};
 ghost use Rattle.ar_volume.specs.Start.{IsStarted};
@@ -20,11 +21,11 @@ use std::alloc::{AllocError, Global};
 use std::io::Write;
 use std::marker::Model;
 
-/// What stands in every byte of a new disk.
+/// The value of every byte of a new disk.
 const NEW_BYTE: u8 = 0xEE;
 
-/// An array on disks in memory, a block into which their rows are read, and the data of the last command. Contracts see it as the
-/// array.
+/// An array on disks in memory, with a buffer for one of their rows and the data of the last command. In contracts a
+/// runner is its array.
 #[derive(Drop)]
 pub struct Runner {
     array: Array<MemDisk>,
@@ -45,7 +46,7 @@ impl Model for Runner {
 }
 
 impl Runner {
-    /// A runner on a new array, as `start_array` makes it.
+    /// A runner on a new array, as `start_array` makes it. It fails with `Start`.
     pub fn start(alloc: Global, setup: Setup) -> Result<Runner, Fault>
         ensures refused { IfErr result (λ fault. fault ≡ Fault.Start) }
         ensures few { OnOk result (setup.cache ≤ 65536) }
@@ -58,8 +59,8 @@ impl Runner {
         Ok(Runner { array, row, filled })
     }
 
-    /// Does or shows what a line asks for, and writes the answer behind what was written before. Where memory is refused, nothing is
-    /// written.
+    /// Executes an order, and appends its answer to the output. At `NoMemory` nothing is written and an action isn't
+    /// done; at `WriteFault` an action is done.
     pub fn answer<W: Write>(
         &mut self,
         alloc: Global,
@@ -82,14 +83,14 @@ impl Runner {
         }
     }
 
-    /// What pictures of the array show. It fails where memory is refused.
+    /// The data of the array's pictures. It fails if they can't be allocated.
     pub fn picture(&self, alloc: Global) -> Result<Picture, AllocError>
         ensures { IfOk result (IsPicture self.now) }
     {
         picture_of(alloc, &self.array)
     }
 
-    // Does one action. Where memory for its data is refused, it is not done.
+    // Executes one action. If its data or its new disk can't be allocated, it isn't done.
     fn act(&mut self, alloc: Global, action: Action) -> Result<Outcome<MemDisk>, AllocError>
         ensures done { IfOk result (λ outcome. Steps self.old (event_in self.old action) outcome self.new) }
         ensures refused { OnErr result (self.new ≡ self.old) }
@@ -99,7 +100,7 @@ impl Runner {
         Ok(self.array.step(alloc, event))
     }
 
-    // The event that an action is.
+    // The array's event for an action.
     fn event_of(&mut self, alloc: Global, action: Action) -> Result<Event<MemDisk>, AllocError>
         ensures event { IfOk result (λ event. event ≡ event_in self.old action) }
         ensures takes { OnErr result (TakesMemory (Order.Act action)) }
@@ -131,7 +132,7 @@ impl Runner {
         }
     }
 
-    // A disk that the array can take in.
+    // A new disk of the array's geometry.
     fn new_disk(&self, alloc: Global) -> Result<NewDisk<MemDisk>, AllocError>
         ensures { IfOk result (λ disk. disk ≡ new_disk_for self.now) }
     {
@@ -139,7 +140,7 @@ impl Runner {
         Ok(NewDisk::new(disk))
     }
 
-    // Writes what is asked.
+    // Writes the answer to a query.
     fn show<W: Write>(
         &mut self,
         alloc: Global,
@@ -175,7 +176,8 @@ impl Runner {
     }
 }
 
-/// A new array on new disks. A cache of more than 65,536 blocks is refused, as are disks of which no array can be made.
+/// Makes a new array on new disks. `Start` is returned for a cache of more than 65,536 blocks, for disks of which no
+/// array can be made, and if an allocation fails.
 pub fn start_array(alloc: Global, setup: Setup) -> Result<Array<MemDisk>, Fault>
     ensures refused { IfErr result (λ fault. fault ≡ Fault.Start) }
     ensures few { OnOk result (setup.cache ≤ 65536) }

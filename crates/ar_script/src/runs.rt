@@ -1,13 +1,13 @@
-// Runs of equal bytes.
+// The length of a run of equal bytes. A long run is compared in chunks, which the compiler can do many bytes at a time.
 ghost use Rattle.std.specs.Prelude.{◌≡◌, ◌≢◌, ◌<◌, ◌≤◌, ◌↔◌, ℕ, length, slice_index, EachIndex, IsTrue};
 
-/// How many bytes are looked at one by one before whole chunks are.
+/// The number of bytes that are compared one by one before whole chunks are.
 const NEAR: usize = 8;
 
 /// Bytes of a chunk.
 const CHUNK: usize = 256;
 
-/// How many bytes at the front are equal.
+/// The length of the run of equal bytes at the front.
 pub fn run_len(bytes: &[u8]) -> usize
     requires { 0 < length bytes.now }
     ensures some { 0 < result }
@@ -24,7 +24,8 @@ pub fn run_len(bytes: &[u8]) -> usize
     far_len(bytes, first)
 }
 
-// How many bytes at the front are this one, where many may be: whole chunks as long as all of them is, and then one by one.
+// The number of `byte`s at the front, of which there may be many: whole chunks while all of a chunk is equal, then one
+// by one.
 fn far_len(bytes: &[u8], byte: u8) -> usize
     ensures few { result ≤ length bytes.now }
     ensures equal { (k : ℕ) → k < result → slice_index bytes.now k ≡ byte }
@@ -37,7 +38,7 @@ fn far_len(bytes: &[u8], byte: u8) -> usize
     equal + count_of(&bytes[equal..], byte)
 }
 
-// Whether all bytes are this one. None ends the search, so that they are compared many at a time.
+// Whether all bytes are `byte`. There is no early exit, so that they are compared many at a time.
 fn is_all_of(bytes: &[u8], byte: u8) -> bool
     ensures { IsTrue result ↔ EachIndex bytes.now (λ k. slice_index bytes.now k ≡ byte) }
 {
@@ -48,7 +49,7 @@ fn is_all_of(bytes: &[u8], byte: u8) -> bool
     same
 }
 
-// How many bytes at the front are this one.
+// The number of `byte`s at the front.
 fn count_of(bytes: &[u8], byte: u8) -> usize
     ensures few { result ≤ length bytes.now }
     ensures equal { (k : ℕ) → k < result → slice_index bytes.now k ≡ byte }

@@ -1,4 +1,4 @@
-// Answers as text.
+// Answers as text, appended to the output. The wording is tested, not proved.
 ghost use Rattle.std.specs.Prelude.{◌≡◌, ◌<◌, OnOk};
 ghost use Rattle.ar_picture.specs.Writing.{AddsBytes, AddsSome};
 
@@ -13,10 +13,10 @@ use ar_scsi::{Reply, Status};
 use std::io;
 use std::io::Write;
 
-/// What is answered where there is no unit to look at.
+/// The answer to a query about a unit that doesn't exist.
 const NO_UNIT: Refusal = Refusal::Unit(UnitRefusal::Absent);
 
-/// Writes the answer to an event, as a line.
+/// Writes the outcome of an event, as a line.
 pub fn write_outcome<W: Write, N>(
     out: &mut W,
     outcome: &OutcomeOf<N>,
@@ -38,7 +38,7 @@ pub fn write_outcome<W: Write, N>(
     }
 }
 
-// Writes whether a disk was taken in.
+// Writes whether a new disk was accepted.
 fn write_taken<W: Write, N>(out: &mut W, done: &Result<(), (Refusal, N)>) -> io::Result<()>
     ensures adds { OnOk result (AddsSome (W.contents out.old) (W.contents out.new)) }
 {
@@ -70,7 +70,7 @@ fn write_reply<W: Write>(out: &mut W, reply: &Reply, notation: Notation) -> io::
     }
 }
 
-// Writes `good` and the bytes that came with it.
+// Writes `good` and the bytes of the reply.
 fn write_good<W: Write>(out: &mut W, bytes: &[u8], notation: Notation) -> io::Result<()>
     ensures adds { OnOk result (AddsSome (W.contents out.old) (W.contents out.new)) }
 {
@@ -82,7 +82,7 @@ fn write_good<W: Write>(out: &mut W, bytes: &[u8], notation: Notation) -> io::Re
     out.write_all(b"\n")
 }
 
-// Writes a reply's bytes, as its command has them written.
+// Writes a reply's bytes, in the notation of its command.
 fn write_data<W: Write>(out: &mut W, bytes: &[u8], notation: Notation) -> io::Result<()>
     ensures grows { OnOk result (AddsBytes (W.contents out.old) (W.contents out.new)) }
 {
@@ -147,7 +147,8 @@ fn write_rebuild<W: Write>(out: &mut W, answer: Rebuild) -> io::Result<()>
     }
 }
 
-/// Writes the level of each block of a unit, as one line with a character for each.
+/// Writes the level of each block of a unit, as a line with a character for each: `M` mirrored, `P` parity, `-` without
+/// a home.
 pub fn write_levels<W: Write, D: Disk>(out: &mut W, array: &Array<D>, addr: Addr) -> io::Result<()>
     ensures adds { OnOk result (AddsSome (W.contents out.old) (W.contents out.new)) }
 {
@@ -163,7 +164,7 @@ pub fn write_levels<W: Write, D: Disk>(out: &mut W, array: &Array<D>, addr: Addr
     writeln!(out)
 }
 
-// The character for the level of a block that there is.
+// The character for the level of an existing block.
 fn level_mark(level: LevelOf) -> Option<char> {
     match level {
         LevelOf::Absent | LevelOf::Outside => None,
@@ -173,7 +174,7 @@ fn level_mark(level: LevelOf) -> Option<char> {
     }
 }
 
-/// Writes where a block of a unit stands, as a line.
+/// Writes the group and slot where a block of a unit is stored, as a line.
 pub fn write_home<W: Write>(out: &mut W, home: HomeOf) -> io::Result<()>
     ensures adds { OnOk result (AddsSome (W.contents out.old) (W.contents out.new)) }
 {
@@ -208,7 +209,8 @@ fn class_name(class: Class) -> &'static str {
     }
 }
 
-/// Writes which disk is down, if any, as a line.
+/// Writes the health of an array, as a line: `whole` (all disks present), `out` with the missing disk, `rebuilding` with
+/// the replaced one, or `broken` (failed: two disks missing at once).
 pub fn write_health<W: Write>(out: &mut W, health: Health) -> io::Result<()>
     ensures adds { OnOk result (AddsSome (W.contents out.old) (W.contents out.new)) }
 {
@@ -220,7 +222,7 @@ pub fn write_health<W: Write>(out: &mut W, health: Health) -> io::Result<()>
     }
 }
 
-/// Writes the bytes of a row, where they were shown, as a line.
+/// Writes the bytes of a row, or why there are none, as a line.
 pub fn write_row<W: Write>(out: &mut W, shown: Shown, bytes: &[u8]) -> io::Result<()>
     ensures adds { OnOk result (AddsSome (W.contents out.old) (W.contents out.new)) }
 {
@@ -235,7 +237,7 @@ pub fn write_row<W: Write>(out: &mut W, shown: Shown, bytes: &[u8]) -> io::Resul
     }
 }
 
-// Writes each byte, with a space between two.
+// Writes each byte, separated by spaces.
 fn write_bytes<W: Write>(out: &mut W, bytes: &[u8]) -> io::Result<()>
     ensures grows { OnOk result (AddsBytes (W.contents out.old) (W.contents out.new)) }
 {
@@ -246,7 +248,7 @@ fn write_bytes<W: Write>(out: &mut W, bytes: &[u8]) -> io::Result<()>
     Ok(())
 }
 
-// Writes the longest runs of equal bytes, with a space between two.
+// Writes the longest runs of equal bytes, separated by spaces.
 fn write_runs<W: Write>(out: &mut W, bytes: &[u8]) -> io::Result<()>
     ensures grows { OnOk result (AddsBytes (W.contents out.old) (W.contents out.new)) }
 {
@@ -279,7 +281,7 @@ fn hex_digit(number: u8) -> u8
     b"0123456789ABCDEF"[usize::from(number)]
 }
 
-// Writes the space that parts a word from the one before it.
+// Writes the space between a word and the one before it.
 fn write_gap<W: Write>(out: &mut W, place: usize) -> io::Result<()>
     ensures grows { OnOk result (AddsBytes (W.contents out.old) (W.contents out.new)) }
 {

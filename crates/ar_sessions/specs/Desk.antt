@@ -1,22 +1,22 @@
--- What lies on a desk.
+-- The seats on a desk.
 use Rattle.std.specs.Prelude.{◌≡◌, ℕ, List, length, get_or, Option, Some, None, option_map}
 use Rattle.ar_disks.specs.declared.address.Host.{Host}
 use Rattle.ar_history.specs.Seat.{SeatState}
 
--- the places of the hosts in their order: in each a seat, or none where it is out
+-- a place for each host, in order: its seat, or none while that is missing
 abbrev pub Places : Type 0
 Places = List (Option SeatState)
 
--- what lies in the place of a host, by its number
+-- what is in a host's place, by the host's number
 abbrev pub place_of : Places → ℕ → Option SeatState
 place_of places number = get_or places number None
 
--- there are four places, and in each lies its own host's seat, or none
+-- there are four places, each with its own host's seat or none
 pub record AreOwn (places : Places) : Type 0 where
   pub four : length places ≡ 4
   pub own : (number : ℕ) (seat : SeatState) → place_of places number ≡ Some seat → seat.host.number ≡ number
 
--- a receipt: whose seat was given back, and how many commands its transcript had then
+-- a receipt: whose seat was returned, and the number of commands in its transcript then
 pub record ReceiptState : Type 0 where
   pub host : Host
   pub commands : ℕ
@@ -25,6 +25,6 @@ pub record ReceiptState : Type 0 where
 abbrev pub receipt_of : SeatState → ReceiptState
 receipt_of seat = record { host = seat.host; commands = length seat.transcript }
 
--- the receipt for what a port has of seats: for its seat, or none where it has none
+-- the receipt for a port's seat, or none for a port without one
 abbrev pub receipt_for : Option SeatState → Option ReceiptState
 receipt_for port = option_map receipt_of port

@@ -13,29 +13,30 @@ use Rattle.ar_sessions.specs.declared.sessions.Pending.TheVariants as pending
 use Rattle.ar_sessions.specs.Desk.{ReceiptState, receipt_for}
 use Rattle.ar_sessions.specs.Port.{TakesSeat, AsksKept}
 
--- A session over streams in these states ended so: from a port without a seat, whose answers were those of a port to the kept array.
+-- A session over streams in these states ended with `end`. It began at a port without a seat, and its logins and
+-- commands were those of a port to the shared array.
 pub record IsServed (source : SourceState) (sink : SinkState) (end : SessionEnd) : Type 0 where
   pub source' : SourceState
   pub sink' : SinkState
   pub port : Option SeatState
   pub session : Session TakesSeat AsksKept source source' sink sink' None port end
 
--- The same, and the seat that the port had in the end is on the desk again: this is the receipt for it, none where it had none.
+-- The same, and this is the receipt for the seat that the port had in the end, or none if it had none.
 pub record GivesBack (source : SourceState) (sink : SinkState) (end : SessionEnd) (receipt : Option ReceiptState) : Type 0 where
   pub served : IsServed source sink end
   pub receipt_is : receipt ≡ receipt_for served.port
 
--- The same, and these are the states in which the session left the streams: nobody has touched them since.
+-- The same, and these are the states in which the session left the streams: nothing has used them since.
 pub record LeavesOff (source source' : SourceState) (sink sink' : SinkState) (end : SessionEnd) (receipt : Option ReceiptState) : Type 0 where
   pub port : Option SeatState
   pub session : Session TakesSeat AsksKept source source' sink sink' None port end
   pub receipt_is : receipt ≡ receipt_for port
 
--- A session over a connection's two streams, as they were when it was opened, ended so.
+-- A session over a connection's two streams, as they were when it was opened, ended with `end`.
 abbrev pub IsServedOver : {S W : Type 0} → (S → SourceState) → (W → SinkState) → S × W → SessionEnd → Type 0
 IsServedOver source sink pair end = IsServed (source pair.0) (sink pair.1) end
 
--- a session ended so over the two streams of which a session's thread has promised an end
+-- a session over the two streams in its thread's promise ended with `end`
 abbrev pub IsPromised : {S W : Type 0} → (S → SourceState) → (W → SinkState) → AsServed S W → SessionEnd → Type 0
 IsPromised source sink promise end = IsServed (source promise.reader.value) (sink promise.writer.value) end
 
@@ -43,7 +44,7 @@ IsPromised source sink promise end = IsServed (source promise.reader.value) (sin
 abbrev pub unopened : SessionEnd
 unopened = record { frames = 0; why = Read }
 
--- a door opened its next connection, in the way in which it says that it does
+-- a door opened its next connection, as its own `opens` specifies
 pub record HasOpened {D P : Type 0} (opens : D → Option P → D → Type 0) (old new : D) : Type 0 where
   pub pair : P
   pub opened : opens old (Some pair) new
@@ -55,28 +56,28 @@ pub record HasEnded {D P : Type 0} (opens : D → Option P → D → Type 0) (se
   pub opened : opens old (Some pair) new
   pub ended : served pair end
 
--- a door opened its next connection, and whatever end its thread keeps is one of a session over it
+-- a door opened its next connection, and any end that its thread may return is one of a session over it
 pub record HasThread {D P H : Type 0} (opens : D → Option P → D → Type 0) (keeps : H → SessionEnd → Type 0)
     (served : P → SessionEnd → Type 0) (old : D) (handle : H) (new : D) : Type 0 where
   pub pair : P
   pub opened : opens old (Some pair) new
   pub kept : (end : SessionEnd) → keeps handle end → served pair end
 
--- a connection was begun: it has a thread of which this is so, or none could be started
+-- a connection's thread was started, and this holds of its handle, or no thread could be started
 abbrev pub IsBegun : {H : Type 0} → (H → Type 0) → Pending H → Type 0
 IsBegun is (pending.Served handle) = is handle
 IsBegun is pending.Unopened = ⊥
 IsBegun is pending.NoThread = Unit {0}
 
--- what became of a door's next connection: it was opened, and had a thread or none, or it couldn't be opened
+-- the state of a door's next connection: opened, with a thread or without one, or not opened
 abbrev pub Becomes : {D P H : Type 0} → (D → Option P → D → Type 0) → (H → SessionEnd → Type 0) → (P → SessionEnd → Type 0) → D
     → Pending H → D → Type 0
 Becomes opens keeps served old (pending.Served handle) new = HasThread opens keeps served old handle new
 Becomes opens keeps served old pending.Unopened new = opens old None new
 Becomes opens keeps served old pending.NoThread new = HasOpened opens old new
 
--- How a door's next connection ended: with a session over it where it was opened, or as one that couldn't be opened where it couldn't; or
--- it was opened and had no thread.
+-- How a door's next connection ended: with a session over it if it was opened, and with `unopened` if it couldn't be;
+-- or it was opened and got no thread.
 abbrev pub ConnectionEnds : {D P : Type 0} → (D → Option P → D → Type 0) → (P → SessionEnd → Type 0) → D → ConnectionEnd → D → Type 0
 ConnectionEnds opens served old (Served end) new = HasEnded opens served old end new ⊎ (opens old None new × (end ≡ unopened))
 ConnectionEnds opens served old NoThread new = HasOpened opens old new
@@ -86,7 +87,7 @@ abbrev pub IsOfSession : (SessionEnd → Type 0) → ConnectionEnd → Type 0
 IsOfSession served (Served end) = served end
 IsOfSession served NoThread = ⊥
 
--- how a connection ended, by what became of it: it had a thread, couldn't be opened, or had none
+-- how a connection ended, by its state: with a thread, not opened, or without a thread
 abbrev pub EndOf : {H : Type 0} → (H → SessionEnd → Type 0) → Pending H → ConnectionEnd → Type 0
 EndOf keeps (pending.Served handle) end = IsOfSession (keeps handle) end
 EndOf keeps pending.Unopened end = end ≡ Served unopened

@@ -2,7 +2,7 @@ pub mod Desk
 pub mod Ends
 pub mod Port
 pub mod Work
--- the words of lower crates that clauses of this crate cite
+-- definitions of lower crates that clauses of this crate cite
 pub use Rattle.ar_history.specs.Seat
 pub use Rattle.ar_history.specs.Kept
 pub use Rattle.ar_history.specs.Serving

@@ -1,4 +1,4 @@
--- How a port that has a seat answers.
+-- Logins and commands at a port to the shared array.
 use Rattle.std.specs.Prelude.{◌≡◌, ◌⊎◌, ℕ, Bool, true, false, ◌&&◌, List, [], ◌∷◌, ◌++◌, length, Option, Some}
 use Rattle.ar_scsi.specs.declared.reply.Reply.{Reply}
 use Rattle.ar_scsi.specs.Reading.{reading}
@@ -10,8 +10,9 @@ use Rattle.ar_history.specs.Serving.{Serves, Begins, DoesCommand, HasPlace, Grow
 use Rattle.ar_frames.specs.declared.port.Login.{Login}
 use Rattle.ar_frames.specs.declared.port.Login.TheVariants.{Taken, BadHost, InUse}
 
--- A host's command was done at one moment by a kept array: there was a state of one before and one after it, between which it is
--- served as `Kept::host` serves it. Which array that was, behind its lock, the transcript's entry alone tells (`Enters`).
+-- A host's command was executed atomically: there are a state of an array before it and one after it, between which it
+-- is served as `Kept::host` serves it. That these are states of the array behind the lock is not specified; the
+-- transcript's entry (`Enters`) is.
 pub record AtOneMoment (before : SeatState) (lun : ℕ) (cdb payload : List ℕ) (reply : Reply) (after : SeatState) : Type 0 where
   pub old : KeptState
   pub new : KeptState
@@ -19,18 +20,18 @@ pub record AtOneMoment (before : SeatState) (lun : ℕ) (cdb payload : List ℕ)
   pub serves : Serves old before lun cdb payload reply position new after
   pub does : DoesCommand old.array before.host lun cdb payload reply new.array
   pub host : after.host ≡ before.host
-  -- want of memory: where both lists have a place, or got one, the command is begun, and where the transcript got none it isn't; one
-  -- that is full asks for as many places again, and a broken array for none
+  -- memory: a command without data is begun if history and transcript have room for it, and without room in the
+  -- transcript none is; the transcript's capacity stays or doubles, and nothing grows for a failed array
   pub begun : HasPlace old new before after payload → Begins old.array before.host lun cdb payload reply new.array
   pub unbegun : after.room ≡ length before.transcript → is_broken old.array ≡ false → new.array ≡ old.array
   pub grown : MayDouble before.room after.room
   pub lost : is_broken old.array ≡ true → GrowsNothing old before new after
 
--- a command that needs the unit's blocks, or asks whether they can be had, was done
+-- a command that needs the unit's blocks, or tests whether they are accessible, ended with GOOD
 abbrev pub is_done : List ℕ → Reply → Bool
 is_done cdb reply = is_good reply.status && needs_blocks (reading cdb)
 
--- The transcript has grown by the command and its reply, or is as it was; where the command was done, it has grown.
+-- The transcript has grown by the command and its reply, or is unchanged; after a command that `is_done` it has grown.
 pub record Enters (before : SeatState) (lun : ℕ) (cdb payload : List ℕ) (reply : Reply) (after : SeatState) : Type 0 where
   pub one :
       (after.transcript ≡ before.transcript ++ exchange_of lun cdb payload reply ∷ []) ⊎ (after.transcript ≡ before.transcript)
@@ -42,13 +43,13 @@ pub record HasSeat (port : Option SeatState) (host : ℕ) : Type 0 where
   pub is : port ≡ Some seat
   pub own : seat.host.number ≡ host
 
--- a login brings the host's seat, or nothing
+-- an accepted login brings the host's seat, a refused one nothing
 abbrev pub TakesSeat : Option SeatState → ℕ → Login → Option SeatState → Type 0
 TakesSeat old host Taken new = HasSeat new host
 TakesSeat old host BadHost new = new ≡ old
 TakesSeat old host InUse new = new ≡ old
 
--- a command is done by the seat that the port has
+-- a command is executed with the port's seat
 pub record AsksKept (old : Option SeatState) (lun : ℕ) (cdb payload : List ℕ) (reply : Reply) (new : Option SeatState) : Type 0 where
   pub before : SeatState
   pub after : SeatState

@@ -1,4 +1,4 @@
--- Work in the background.
+-- Background maintenance, step by step.
 use Rattle.std.specs.Prelude.{◌≡◌, ℕ, ◌+◌, ◌*◌, Bool, true, false, not, nat_lt, min, if◌then◌else◌, Option, Some, None}
 use Rattle.ar_book.specs.Tables.{free_groups}
 use Rattle.ar_volume.specs.Image.{is_broken, image}
@@ -16,7 +16,7 @@ use Rattle.ar_history.specs.Kept.{KeptState}
 use Rattle.ar_history.specs.Operations.{event_in}
 use Rattle.ar_sessions.specs.declared.background.Idleness.{Idleness}
 
--- what comes after a task, round and round
+-- the next task of the rotation
 abbrev pub task_after : Task → Task
 task_after Flush = Rebuild
 task_after Rebuild = Clean
@@ -24,7 +24,7 @@ task_after Clean = Balance
 task_after Balance = Demote
 task_after Demote = Flush
 
--- whether a task's turn is used: blocks are demoted only while fewer than three groups are free
+-- whether a task is due: blocks are demoted only while fewer than three groups are free
 abbrev pub is_due : Task → ℕ → Bool
 is_due Flush free = true
 is_due Rebuild free = true
@@ -32,19 +32,19 @@ is_due Clean free = true
 is_due Balance free = true
 is_due Demote free = nat_lt free 3
 
--- how long nothing was done, behind a turn: a round of five in which nothing was done makes the next pause twice as long, up to 16
--- milliseconds
+-- how long the maintenance has been idle, after a step: five idle steps in a row make the next pause twice as long, up
+-- to 16 milliseconds, and a step that did something begins anew
 abbrev pub idle_after : Idleness → Bool → Idleness
 idle_after idle true = record { turns = 0; pause = 1 }
 idle_after idle false =
     if nat_lt (idle.turns + 1) 5 then record idle { turns = idle.turns + 1 } else record { turns = 0; pause = min (idle.pause * 2) 16 }
 
--- for how many milliseconds the work pauses behind a turn, if at all
+-- the milliseconds of the pause after a step, if there is one
 abbrev pub pause_after : Idleness → Bool → Option ℕ
 pause_after idle true = None
 pause_after idle false = if nat_lt (idle.turns + 1) 5 then None else Some idle.pause
 
--- whether a task found nothing to do, or could do nothing, by what it answers
+-- whether a task had nothing to do, or could do nothing, by its outcome
 abbrev pub is_idle : Outcome → Bool
 is_idle (outcomes.Flush flush.Idle) = true
 is_idle (outcomes.Flush flush.Broken) = true
@@ -59,14 +59,14 @@ is_idle (outcomes.Rebuild rebuild.Idle) = true
 is_idle (outcomes.Rebuild rebuild.Broken) = true
 is_idle outcome = false
 
--- the task's event was one step of the array, and that it did something is told exactly where its answer says so
+-- the task's event was one step of the array, and `told` says whether its outcome did something
 pub record DoesTask (old : KeptState) (task : Task) (told : Bool) (new : KeptState) : Type 0 where
   pub outcome : Outcome
   pub steps : Steps old.array (event_in task) outcome new.array
   pub worked : told ≡ not (is_idle outcome)
 
--- A turn, and whether it is told to have done something: a task that is due is one step, one that isn't is nothing. The history
--- stays, with the places that it has, and until the data are lost every unit.
+-- A step, and whether it returns that it did something: a task that is due is one step of the array, one that isn't
+-- changes nothing. The history and its capacity stay, and so do the contents of all units, unless the array has failed.
 pub record TakesTurn (old : KeptState) (task : Task) (told : Bool) (new : KeptState) : Type 0 where
   pub due : is_due task (free_groups old.array.store.book) ≡ true → DoesTask old task told new
   pub idle : is_due task (free_groups old.array.store.book) ≡ false → (told ≡ false) × (new ≡ old)

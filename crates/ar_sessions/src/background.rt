@@ -1,4 +1,5 @@
-// The work in the background.
+// Background maintenance, one step of the array at a time. A step leaves the history as it is and, unless the array has
+// failed, the contents of all units.
 ghost use Rattle.std.specs.Prelude.{◌≡◌, nat_lt};
 ghost use Rattle.ar_sessions.specs.Work.{idle_after, pause_after, task_after, is_due, is_idle, TakesTurn};
 ghost use Rattle.ar_book.specs.Tables.{free_groups};
@@ -12,30 +13,31 @@ use std::sync::{Mutex, Wait};
 use std::thread;
 use std::time::{Clock, Duration};
 
-/// Below so many free groups blocks are demoted.
+/// Blocks are demoted while fewer groups than this are free.
 const FEW_GROUPS: u32 = 3;
 
-/// How many turns a round has.
+/// The steps of a round: one for each task.
 const ROUND: u32 = 5;
 
-/// For how many milliseconds the lock is left alone after the first round in which nothing was done.
+/// Milliseconds of the pause after the first round in which nothing was done.
 const SHORTEST_PAUSE: u64 = 1;
 
-/// And at most, after many of them in a row. So long may blocks of the cache wait, too, when hosts write again.
+/// Milliseconds of the longest pause, after many such rounds in a row. When hosts write again, blocks in the cache may
+/// wait this long, too.
 const LONGEST_PAUSE: u64 = 16;
 
-// How long nothing was done.
+// How long the maintenance has been idle.
 #[derive(Clone, Copy)]
 struct Idleness {
-    // For how many turns since the last pause.
+    // Idle steps in a row since the last pause.
     turns: u32,
-    // For how many milliseconds the next pause is.
+    // Milliseconds of the next pause.
     pause: u64,
 }
 
-/// Works in the background until `stop` is set: one task a turn, in the rotation Flush, Rebuild, Clean, Balance, Demote. Each
-/// turn takes the lock once. After a round in which there was nothing to do it sleeps, so that it costs the sessions little,
-/// and twice as long after the next such round, up to a bound.
+/// Runs background maintenance until `stop` is set: one task a step, in the rotation Flush, Rebuild, Clean, Balance,
+/// Demote. Each step takes the lock once. After a round in which there was nothing to do it sleeps for 1 ms, so that it
+/// costs the sessions little, and twice as long after each further one, up to 16 ms.
 pub fn run_background<R: Wait + Clock, D: Disk + Drop, L: Ledger>(
     rt: &R,
     kept: &Mutex<Kept<D, L>>,
@@ -62,7 +64,7 @@ impl Idleness {
         pause: SHORTEST_PAUSE,
     };
 
-    // Counts a turn, and says for how many milliseconds to pause before the next one, if at all.
+    // Counts a step, and returns for how many milliseconds to pause before the next one, if at all.
     fn after_turn(&mut self, has_worked: bool) -> Option<u64>
         ensures next { self.new ≡ idle_after self.old has_worked }
         ensures pause { result ≡ pause_after self.old has_worked }
@@ -82,7 +84,7 @@ impl Idleness {
     }
 }
 
-// What comes after a task.
+// The task after `task` in the rotation.
 fn next(task: Task) -> Task
     ensures { result ≡ task_after task }
 {
@@ -95,7 +97,7 @@ fn next(task: Task) -> Task
     }
 }
 
-// Does a task if it is due, and says whether it did anything.
+// Performs a task if it is due, and returns whether it did anything.
 fn take_turn<D: Disk + Drop, L: Ledger>(kept: &mut Kept<D, L>, task: Task) -> bool
     ensures { TakesTurn kept.old task result kept.new }
 {
@@ -116,7 +118,7 @@ fn is_due(task: Task, free: u32) -> bool
     }
 }
 
-// Whether nothing was done.
+// Whether a task had nothing to do, or could do nothing.
 fn is_idle<D: Disk>(outcome: &Outcome<D>) -> bool
     ensures { result ≡ is_idle outcome.now }
 {

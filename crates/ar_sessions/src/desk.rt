@@ -1,4 +1,4 @@
-// The seats of the hosts, while no session has them.
+// The seats that no session holds. A place has its own host's seat or none, so that a host has one session at a time.
 ghost use Rattle.std.specs.Prelude.{◌≡◌, ◌<◌, [], ◌∷◌, map, set, Some, None, is_some, true, false, IfOk, IfErr, OnErr, IfSome};
 ghost use Rattle.std.specs.List.{list_all};
 ghost use Rattle.ar_history.specs.Seat.{SeatState};
@@ -9,7 +9,7 @@ use ar_history::Seat;
 use std::marker::Model;
 use std::sync::ledger::Ledger;
 
-/// The seats of hosts 0 to 3: each lies in its own place, or is out with a session.
+/// The seats of hosts 0 to 3: each is in its own place, or held by a session.
 #[derive(Drop)]
 pub struct Desk<L: Ledger> {
     places: [Option<Seat<L>>; 4],
@@ -25,8 +25,8 @@ impl<L: Ledger> Model for Desk<L> {
     ghost invariant = { λ desk. AreOwn desk.places };
 }
 
-/// What a desk hands out for a seat that was given back: that it has the seat of this host again, and how many commands its
-/// transcript had then. Nothing else makes one.
+/// Proof that a seat was returned to a desk: its host, and the number of commands in its transcript then. Only
+/// `Desk::give` makes one.
 #[derive(Drop)]
 pub struct Receipt {
     host: Host,
@@ -42,7 +42,7 @@ impl Model for Receipt {
 }
 
 impl<L: Ledger> Desk<L> {
-    /// A desk with all seats, which stand in order of host.
+    /// A desk with all four seats, in order of host.
     pub fn new(seats: [Seat<L>; 4]) -> Desk<L>
         requires { map (λ (s : SeatState). s.host.number) seats ≡ 0 ∷ 1 ∷ 2 ∷ 3 ∷ [] }
         ensures { result ≡ map Some seats }
@@ -52,7 +52,7 @@ impl<L: Ledger> Desk<L> {
         }
     }
 
-    /// Takes a host's seat, if it lies in its place.
+    /// Takes a host's seat. None: its place is empty.
     pub fn take(&mut self, host: Host) -> Option<Seat<L>>
         ensures seat { result ≡ place_of self.old host.number }
         ensures own { IfSome result (λ seat. seat.host.number ≡ host.number) }
@@ -61,8 +61,8 @@ impl<L: Ledger> Desk<L> {
         self.places[usize::from(host.number())].take()
     }
 
-    /// Gives a seat back into its host's place, and hands out the receipt for it. A seat that lies there is let go; of one kept array
-    /// there is none.
+    /// Returns a seat to its host's place, for a receipt. A seat that is in the place already is dropped; of one array
+    /// there is no second.
     pub fn give(&mut self, seat: Seat<L>) -> Receipt
         ensures place { self.new ≡ set self.old seat.host.number (Some seat) }
         ensures receipt { result ≡ receipt_of seat }
@@ -73,7 +73,7 @@ impl<L: Ledger> Desk<L> {
         Receipt { host, commands }
     }
 
-    /// The four seats in order of host. Where one is out, the desk is handed back as it was.
+    /// Returns the four seats in order of host or, if one is missing, the desk as it was.
     pub fn seats(self) -> Result<[Seat<L>; 4], Desk<L>>
         ensures seats { IfOk result (λ seats. self ≡ map Some seats) }
         ensures hosts { IfOk result (λ seats. map (λ (s : SeatState). s.host.number) seats ≡ 0 ∷ 1 ∷ 2 ∷ 3 ∷ []) }
@@ -87,14 +87,14 @@ impl<L: Ledger> Desk<L> {
         Ok([desk.lift(0), desk.lift(1), desk.lift(2), desk.lift(3)])
     }
 
-    // Whether no seat is out.
+    // Whether no seat is missing.
     fn is_whole(&self) -> bool
         ensures { result ≡ list_all is_some self.now }
     {
         self.places.iter().all(|place| place.is_some())
     }
 
-    // Takes a seat that lies in its place.
+    // Takes a seat that is in its place.
     fn lift(&mut self, number: u8) -> Seat<L>
         requires few { number < 4 }
         requires there { is_some (place_of self.old number) ≡ true }

@@ -1,34 +1,35 @@
-// Where connections come from.
+// Sources of connections. A door's own specification says which reader and writer belong together, and what was opened.
 ghost use Rattle.std.specs.Prelude.{◌≡◌, ◌<◌, ◌+◌, ◌++◌, ℕ, Bool, true, length, Option, IfSome};
 ghost use Rattle.std.specs.Option.{option_to_list};
 
 use ar_frames::{Sink, Source};
 use std::collections::VecDeque;
 
-/// Opens connections, so many in all.
+/// Accepts up to `left` connections.
 pub trait Door {
-    /// What a connection is read from.
+    /// The stream that a connection's requests are read from.
     type Reader: Source + Send + Drop;
 
-    /// What it is written to.
+    /// The stream that its replies are written to.
     type Writer: Sink + Send + Drop;
 
-    /// How many connections are still to come.
+    /// The number of connections still to come.
     ghost to_come: { Self → ℕ };
 
-    /// Whether both are of one connection. A door alone says when they are, so that nobody else pairs the reader of one with the
-    /// writer of another.
+    /// Whether both are of one connection. Only a door defines it, so that no other code can pair the reader of one
+    /// with the writer of another.
     ghost are_one: { Self.Reader → Self.Writer → Bool };
 
-    /// What it is for the next connection to be opened, or not: the door before, what came, and the door after. A door alone says
-    /// that, too, so that nobody else tells one that was opened as one that couldn't be.
+    /// What opening the next connection may do: the door before, the connection, if it could be opened, and the door
+    /// after. Only a door defines it, so that no other code can report a connection that was opened as one that
+    /// couldn't be.
     ghost opens: { Self → Option (Self.Reader × Self.Writer) → Self → Type 0 };
 
-    /// How many connections are still to come.
+    /// The number of connections still to come.
     fn left(&self) -> usize
         ensures { result ≡ to_come self.now };
 
-    /// Waits for the next connection. None: it could not be opened.
+    /// Waits for the next connection. None: it couldn't be opened; it counts all the same.
     fn accept(&mut self) -> Option<(Self::Reader, Self::Writer)>
         requires { 0 < to_come self.old }
         ensures count { to_come self.new + 1 ≡ to_come self.old }
@@ -36,14 +37,14 @@ pub trait Door {
         ensures one { IfSome result (λ pair. are_one pair.0 pair.1 ≡ true) };
 }
 
-/// A door to connections that are there from the start, each a reader and a writer.
+/// A door to connections that exist from the start, each a reader and a writer.
 #[derive(Drop)]
 pub struct MemDoor<R: Source + Send + Drop, W: Sink + Send + Drop> {
     pairs: VecDeque<(R, W)>,
 }
 
 impl<R: Source + Send + Drop, W: Sink + Send + Drop> MemDoor<R, W> {
-    /// A door that opens these connections in their order.
+    /// A door that opens `pairs` in their order.
     pub fn new(pairs: VecDeque<(R, W)>) -> MemDoor<R, W>
         ensures { result.pairs ≡ pairs }
     {
@@ -60,7 +61,7 @@ impl<R: Source + Send + Drop, W: Sink + Send + Drop> Door for MemDoor<R, W> {
 
     ghost are_one = { λ _ _. true };
 
-    // The first of them.
+    // The next connection is the first of the queue.
     ghost opens = { λ old pair new. old.pairs.items ≡ option_to_list pair ++ new.pairs.items };
 
     fn left(&self) -> usize {

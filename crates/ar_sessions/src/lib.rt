@@ -1,5 +1,7 @@
-//! Sessions of hosts on a kept array, each in a thread of its own: the desk where the hosts' seats lie, the port of one
-//! session, the doors that connections come through, and the work in the background.
+//! Hosts' sessions on one array, each in a thread of its own, with maintenance in the background. The array and its
+//! history (`Kept`) are behind one lock, which each command and each maintenance step holds. A host has one session at
+//! a time: a login takes the host's right to issue commands (`Seat`) from the pool of those that are free (`Desk`), and
+//! the end of the session puts it back.
 #![tactic(auto)]
 
 mod background;

@@ -1,4 +1,5 @@
-// The port of a session: a seat, and the way to the kept array.
+// A session's port to the shared array. Each command is executed under the array's lock, between one state of the array
+// and the next.
 ghost use Rattle.std.specs.Prelude.{◌≡◌, None};
 ghost use Rattle.ar_frames.specs.Frame.{IsReply};
 ghost use Rattle.ar_sessions.specs.Desk.{receipt_for};
@@ -14,8 +15,8 @@ use std::marker::Model;
 use std::sync::ledger::Ledger;
 use std::sync::{Mutex, Wait};
 
-/// The port of a session to a kept array under a lock. A login takes the host's seat from the desk, which has a lock of its
-/// own; each command holds the array's lock for as long as it is done.
+/// A session's port to an array behind a lock. A login takes the host's seat from the desk, which has a lock of its
+/// own; a command holds the array's lock while it is executed.
 #[derive(Drop)]
 pub struct LockPort<'a, R: Wait, D: Disk + Drop, L: Ledger> {
     rt: &'a R,
@@ -34,7 +35,7 @@ impl<'a, R: Wait, D: Disk + Drop, L: Ledger> Model for LockPort<'a, R, D, L> {
 }
 
 impl<'a, R: Wait, D: Disk + Drop, L: Ledger> LockPort<'a, R, D, L> {
-    /// A port without a seat.
+    /// A port without a seat: no host is logged in.
     pub fn new(
         rt: &'a R,
         kept: &'a Mutex<Kept<D, L>>,
@@ -50,7 +51,7 @@ impl<'a, R: Wait, D: Disk + Drop, L: Ledger> LockPort<'a, R, D, L> {
         }
     }
 
-    /// Gives the seat back to the desk, where the port has one, and answers the desk's receipt for it.
+    /// Returns the seat to the desk, if the port has one, and returns the receipt for it.
     pub fn finish(self) -> Option<Receipt>
         ensures { result ≡ receipt_for self.entry }
     {
@@ -90,7 +91,7 @@ impl<'a, R: Wait, D: Disk + Drop, L: Ledger> Port for LockPort<'a, R, D, L> {
     }
 }
 
-// Has a command done under the lock.
+// Executes a command under the lock.
 fn ask_kept<R: Wait, D: Disk + Drop, L: Ledger>(
     rt: &R,
     kept: &Mutex<Kept<D, L>>,

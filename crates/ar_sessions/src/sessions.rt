@@ -1,4 +1,5 @@
-// Sessions in threads.
+// A thread for each connection. The ends are returned in the order in which the door opened the connections, and each
+// is that of a session over the connection's own two streams.
 ghost use Rattle.std.specs.Prelude.{◌≡◌, ◌≢◌, ◌+◌, ◌<◌, ◌≤◌, true, IfOk, OnOk, OnErr, vec_len, vec_capacity, length};
 ghost use Rattle.std.specs.List.{AllZip};
 ghost use Rattle.std.specs.VecDeque.{deque_len, deque_capacity};
@@ -22,17 +23,17 @@ use std::time::Clock;
 /// How a connection ended.
 #[derive(Clone, Copy, Debug, PartialEq, Eq)]
 pub enum ConnectionEnd {
-    /// With its session. One that could not be opened counts as a session whose first read faulted.
+    /// With its session. A connection that couldn't be opened counts as a session whose first read faulted.
     Served(SessionEnd),
     /// No thread could be started for it.
     NoThread,
 }
 
-/// Memory was refused.
+/// Out of memory, or the thread for the background maintenance couldn't be started.
 #[derive(Clone, Copy, Debug, PartialEq, Eq)]
 pub struct NoMemory;
 
-// What all sessions share.
+// The state that all sessions share.
 #[derive(Drop)]
 struct Hall<'a, R: Wait, D: Disk + Drop, L: Ledger, G: Gate> {
     rt: &'a R,
@@ -42,7 +43,7 @@ struct Hall<'a, R: Wait, D: Disk + Drop, L: Ledger, G: Gate> {
     gate: &'a G,
 }
 
-// A connection, and what its session shares with the others.
+// A connection, with the state that its session shares with the others.
 #[derive(Drop)]
 struct Connection<
     'a,
@@ -58,7 +59,8 @@ struct Connection<
     writer: W,
 }
 
-// What a session's thread promises of its end, and of the receipt for its seat: by the streams that it was given.
+// The promise of a session's thread: it returns the end of a session over these streams, in the states in which it was
+// given them, and the receipt for the session's seat.
 #[derive(Drop)]
 struct AsServed<S: Source, W: Sink> {
     reader: Snapshot<S>,
@@ -71,10 +73,10 @@ impl<S: Source, W: Sink> Promise<(SessionEnd, Option<Receipt>)> for AsServed<S, 
     ghost kept_by = { λ promise ended. GivesBack (S.state promise.reader.value) (W.state promise.writer.value) ended.0 ended.1 };
 }
 
-// A session's thread.
+// The handle of a session's thread.
 type Handle<S, W> = PromisedHandle<(SessionEnd, Option<Receipt>), AsServed<S, W>>;
 
-// A connection whose end isn't known yet, or which had none.
+// A connection that has a thread, couldn't be opened, or got no thread.
 #[derive(Drop)]
 enum Pending<H> {
     Served(H),
@@ -82,7 +84,7 @@ enum Pending<H> {
     NoThread,
 }
 
-// Room for what becomes of so many connections.
+// The threads to join and their ends, both empty, with capacity for `left` connections.
 #[derive(Drop)]
 struct Roll<H> {
     pending: VecDeque<Pending<H>>,
@@ -94,8 +96,9 @@ struct Roll<H> {
     ghost ends_room: { left ≤ vec_capacity ends },
 }
 
-/// Serves each connection that the door opens in a thread of its own, and answers their ends in the order in which they came, with
-/// the door. The gate is told of each command. Where memory for the ends is refused, no connection is opened.
+/// Serves each connection that `door` opens in a thread of its own. Returns the door and their ends, in the order in
+/// which they were opened. `gate` observes each command. At `NoMemory` no connection was opened, and the door is
+/// unchanged.
 pub fn run_sessions<
     R: Threads + Wait + Sync,
     D: Disk + Drop + Send,
@@ -111,7 +114,7 @@ pub fn run_sessions<
     gate: &G,
 ) -> (O, Result<Vec<ConnectionEnd>, NoMemory>)
     ensures count { IfOk result.1 (λ ends. vec_len ends ≡ O.to_come door) }
-    // Each is that of one connection, in the order in which the door opened them, or couldn't.
+    // One end for each connection, in the order in which the door opened them, or couldn't.
     ensures ends { IfOk result.1 (λ ends.
         InTurn (ConnectionEnds O.opens (IsServedOver O.Reader.state O.Writer.state)) ends.items door result.0) }
     ensures opened { OnOk result.1 (O.to_come result.0 ≡ 0) }
@@ -145,8 +148,8 @@ pub fn run_sessions<
     (door, Ok(ends))
 }
 
-/// Serves the door's connections as `run_sessions` does, with one thread beside them that works in the background until all have
-/// ended. Where that thread can't be started, no connection is opened.
+/// Serves connections as `run_sessions` does, beside a thread that runs background maintenance until all have ended. At
+/// `NoMemory`, which also means that this thread couldn't be started, no connection was opened.
 pub fn run_beside_background<
     R: Threads + Wait + Clock + Sync,
     D: Disk + Drop + Send,
@@ -162,7 +165,7 @@ pub fn run_beside_background<
     gate: &G,
 ) -> (O, Result<Vec<ConnectionEnd>, NoMemory>)
     ensures count { IfOk result.1 (λ ends. vec_len ends ≡ O.to_come door) }
-    // Each is that of one connection, in the order in which the door opened them, or couldn't.
+    // One end for each connection, in the order in which the door opened them, or couldn't.
     ensures ends { IfOk result.1 (λ ends.
         InTurn (ConnectionEnds O.opens (IsServedOver O.Reader.state O.Writer.state)) ends.items door result.0) }
     ensures opened { OnOk result.1 (O.to_come result.0 ≡ 0) }
@@ -189,7 +192,7 @@ pub fn run_beside_background<
     )
 }
 
-// Starts a thread for each connection, and waits for all of them.
+// Starts a thread for each connection, and joins all of them.
 fn serve_all<
     's,
     E,
@@ -288,7 +291,7 @@ fn begin<
     }
 }
 
-// Waits for each thread, in order.
+// Joins the threads, in order.
 fn join_all<R: Threads, S: Source, W: Sink>(
     rt: &R,
     mut pending: VecDeque<Pending<Handle<S, W>>>,
@@ -323,7 +326,7 @@ fn end_of<R: Threads, S: Source, W: Sink>(rt: &R, pending: Pending<Handle<S, W>>
 }
 
 impl<H: Drop> Roll<H> {
-    // Room for so many connections.
+    // Allocates capacity for `left` connections.
     fn new(alloc: Global, left: usize) -> Result<Roll<H>, NoMemory>
         ensures { IfOk result (λ roll. roll.left ≡ left) }
     {
@@ -350,8 +353,8 @@ impl<R: Wait, D: Disk + Drop, L: Ledger, G: Gate, S: Source + Drop, W: Sink + Dr
     S,
     W,
 > {
-    // Serves the connection's session, and gives its seat back, for a receipt. The streams are handed back as the session left them,
-    // so that they are let go only when the seat lies on the desk again.
+    // Serves the connection's session, and returns its seat to the desk for a receipt. The streams are returned as the
+    // session left them, so that they are dropped, and so closed, only once the seat is back.
     fn serve(self) -> (SessionEnd, Option<Receipt>, S, W)
         ensures { LeavesOff (S.state self.entry.reader) (S.state result.2) (W.state self.entry.writer) (W.state result.3) result.0 result.1 }
     {

@@ -1,4 +1,4 @@
-// Connections over TCP.
+// Connections over TCP. A door listens at 127.0.0.1, so that only this machine can connect.
 ghost use Rattle.std.specs.Prelude.{◌≡◌, ◌<◌, ◌+◌, IfOk, true, ⊤};
 
 use crate::Door;
@@ -8,11 +8,11 @@ use std::io::{self, BufReader};
 use std::marker::Model;
 use std::net::{Net, TcpListener, TcpStream};
 
-/// No listening at a port: another program has it, or the system refuses it.
+/// The port can't be listened at: another program has it, or the system refuses it.
 #[derive(Clone, Copy, Debug, PartialEq, Eq)]
 pub struct ListenFault;
 
-/// A door to connections at a port of this machine alone.
+/// A door to TCP connections at a port of 127.0.0.1.
 #[derive(Drop)]
 pub struct TcpDoor {
     alloc: Global,
@@ -29,7 +29,7 @@ impl Model for TcpDoor {
 }
 
 impl TcpDoor {
-    /// Listens at a port of 127.0.0.1 for so many connections. Port 0 is one that the system chooses.
+    /// Listens at `port` of 127.0.0.1 for `sessions` connections. With port 0 the system chooses one.
     pub fn listen<R: Net<Listener = TcpListener, Stream = TcpStream>>(
         rt: &R,
         alloc: Global,
@@ -48,7 +48,7 @@ impl TcpDoor {
         }
     }
 
-    /// The port at which it listens.
+    /// The port at which it listens, if the system reports it.
     pub fn port(&self) -> Option<u16> {
         let address = self.listener.local_addr().ok()?;
         Some(address.port())
@@ -64,7 +64,7 @@ impl Door for TcpDoor {
 
     ghost are_one = { λ _ _. true };
 
-    // Of sockets nothing can be said.
+    // What a socket delivers is unspecified.
     ghost opens = { λ _ _ _. ⊤ };
 
     fn left(&self) -> usize {
@@ -77,8 +77,7 @@ impl Door for TcpDoor {
     }
 }
 
-// Waits for a connection. What is read of it goes through a buffer, so that a small frame takes one call of the system; each
-// answer is sent on at once.
+// Waits for a connection. Reads are buffered, so that a small frame takes one system call; writes are sent at once.
 fn opened(
     alloc: Global,
     listener: &TcpListener,
