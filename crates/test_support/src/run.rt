@@ -1,0 +1,40 @@
+// A drawn run, with what plain lists answer.
+use crate::answer::Answer;
+use crate::draw::{Ask, draw};
+use crate::kinds::{Kind, Tally};
+use crate::lists::PlainArray;
+use rand::SeedableRng;
+use rand::rngs::SmallRng;
+use std::alloc::{AllocError, Global};
+
+/// What an array is asked in a run, one after another, with what it has to answer.
+#[derive(Drop)]
+pub struct Run {
+    alloc: Global,
+    rng: SmallRng,
+    pub lists: PlainArray,
+    /// How often an answer of each kind came. Who asks an array for work in the background counts what it did.
+    pub tally: Tally,
+}
+
+impl Run {
+    /// A run by this seed, on an array with room for so many blocks of two sectors.
+    pub fn new(alloc: Global, seed: u64, blocks: u32) -> Run {
+        Run {
+            alloc,
+            rng: SmallRng::seed_from_u64(seed),
+            lists: PlainArray::new(alloc, blocks),
+            tally: Tally::new(),
+        }
+    }
+
+    /// What comes next, and its answer. Where a host is given, each command is its own.
+    pub fn next(&mut self, host: Option<u8>) -> Result<(Ask, Answer), AllocError> {
+        let ask = draw(self.alloc, &mut self.rng, host)?;
+        let answer = self.lists.step(&ask)?;
+        if !matches!(ask, Ask::Work(_)) {
+            self.tally.add(Kind::of(&ask, &answer));
+        }
+        Ok((ask, answer))
+    }
+}
