@@ -1,22 +1,23 @@
 // Drawn events while disks fault, are taken out, replaced, rebuilt and added, one of them down at a time. In the end every block
 // is read back without each of the disks in turn.
-use crate::arrays::{Loss, fused_disk, fused_disks, start};
-use crate::calls::changes;
-use crate::generated::{gain_of, is_answered};
-use ar_agreement::event_of;
-use ar_core::{Array, Balance, EventOf, Health, NewDisk, Outcome, OutcomeOf, Rebuild};
+use crate::calls::{is_in, is_met, play, step};
+use crate::generated::{gain_of, has_room, is_answered};
+use ar_core::{Array, Balance, EventOf, Health, Outcome, OutcomeOf, Rebuild};
 use ar_disks::FuseDisk;
-use ar_witness::{Answer, Ask, Command, Place, Run};
 use rand::rngs::SmallRng;
 use rand::{RngExt, SeedableRng};
 use std::alloc::Global;
 use std::process::Abort;
+use test_support::{Answer, Ask, Call, Command, FOUR_GROUPS, Place, Return, Run, Shape, event_of};
 
 /// The events of a run.
 const EVENTS: u32 = 5_000;
 
-/// Extents of each disk.
-const EXTENTS: u16 = 6;
+/// Disks of six extents.
+const SIX_EXTENTS: Shape = Shape {
+    extents: 6,
+    ..FOUR_GROUPS
+};
 
 /// The most disks of an array.
 const MOST_DISKS: u8 = 12;
@@ -26,19 +27,6 @@ const MOST_DISKS: u8 = 12;
 struct Disks {
     count: u8,
     weak: Option<u8>,
-}
-
-/// What a run is on.
-#[derive(Clone, Copy, Debug)]
-struct Trial {
-    disks: u8,
-    cache: u16,
-    seed: u64,
-}
-
-// A disk for the array, lost after a number of calls.
-fn new_disk<R: Abort + AllocGlobal>(rt: &R, calls: u64) -> NewDisk<FuseDisk> {
-    NewDisk::new(fused_disk(rt.alloc(), EXTENTS, calls).expect(rt, "memory"))
 }
 
 // Asserts what is answered to what an array is asked, which plain lists say.
@@ -51,13 +39,13 @@ fn answers<R: Abort + AllocGlobal>(
 ) {
     let event = event_of(ask).expect(rt, "memory");
     let outcome = array.step(rt.alloc(), event);
-    is_met(rt, &outcome, wanted, array.health());
+    is_served(rt, &outcome, wanted, array.health());
     run.lists.gain(gain_of(&outcome));
     drop(outcome);
 }
 
 // Steps of balancing and rebuilds may be given up where a disk is lost.
-fn is_met(rt: &impl Abort, outcome: &Outcome<FuseDisk>, wanted: &Answer, health: Health) {
+fn is_served(rt: &impl Abort, outcome: &Outcome<FuseDisk>, wanted: &Answer, health: Health) {
     match outcome {
         OutcomeOf::Balance(Balance::GivenUp) | OutcomeOf::Rebuild(Rebuild::GivenUp) => {}
         _ => is_answered(rt, outcome, wanted),
@@ -65,17 +53,21 @@ fn is_met(rt: &impl Abort, outcome: &Outcome<FuseDisk>, wanted: &Answer, health:
     assert!(rt; health != Health::Broken, "{outcome:?}");
 }
 
-// Takes a disk out: the one with a fuse, where there is one.
+// Takes a disk out.
 fn take_out<R: Abort + AllocGlobal>(rt: &R, disk: u8, array: &mut Array<FuseDisk>) {
-    changes(rt, array, EventOf::DiskOut(disk));
+    play(
+        rt,
+        SIX_EXTENTS,
+        array,
+        &[&[(Call::DiskOut(disk), Return::Done)]],
+    );
 }
 
+// Replaces a disk by one that is lost after a number of calls.
 fn replace<R: Abort + AllocGlobal>(rt: &R, disk: u8, calls: u64, array: &mut Array<FuseDisk>) {
-    changes(rt, array, EventOf::Replace(disk, new_disk(rt, calls)));
-}
-
-fn add<R: Abort + AllocGlobal>(rt: &R, array: &mut Array<FuseDisk>) {
-    changes(rt, array, EventOf::AddDisk(new_disk(rt, u64::MAX)));
+    let new = SIX_EXTENTS.new_disk(rt.alloc(), calls).expect(rt, "memory");
+    let met = step(rt, array, EventOf::Replace(disk, new));
+    is_met(rt, SIX_EXTENTS, 0, Call::Replace(disk), met, Return::Done);
 }
 
 // Lets a disk go, come or be replaced, now and then.
@@ -99,7 +91,7 @@ fn disturb<R: Abort + AllocGlobal>(
         _ => {}
     }
     if disks.count < MOST_DISKS && rng.random_ratio(1, 1_000) {
-        add(rt, array);
+        play(rt, SIX_EXTENTS, array, &[&[(Call::AddDisk, Return::Done)]]);
         disks.count = disks.count.saturating_add(1);
     }
 }
@@ -135,14 +127,10 @@ fn lose_any<R: Abort + AllocGlobal>(
 fn renew<R: Abort + AllocGlobal>(rt: &R, disk: u8, array: &mut Array<FuseDisk>) {
     take_out(rt, disk, array);
     replace(rt, disk, u64::MAX, array);
-    for _ in 0..EXTENTS {
-        drop(array.step(rt.alloc(), EventOf::Rebuild));
+    for _ in 0..SIX_EXTENTS.extents {
+        step(rt, array, EventOf::Rebuild);
     }
-    is_whole(rt, array.health());
-}
-
-fn is_whole(rt: &impl Abort, health: Health) {
-    assert!(rt; health == Health::Whole, "{health:?}");
+    is_in(rt, SIX_EXTENTS, array.health(), Health::Whole);
 }
 
 // Makes all disks sound.
@@ -199,14 +187,19 @@ fn read_of_two(alloc: Global, place: Place, lba: u8) -> Ask {
 }
 
 // Draws events and lets disks come and go, and then reads all blocks without each disk in turn.
-fn live<R: Abort + AllocGlobal>(rt: &R, trial: Trial, run: &mut Run, array: &mut Array<FuseDisk>) {
-    let mut rng = SmallRng::seed_from_u64(trial.seed);
+fn live<R: Abort + AllocGlobal>(
+    rt: &R,
+    shape: Shape,
+    rng: &mut SmallRng,
+    run: &mut Run,
+    array: &mut Array<FuseDisk>,
+) {
     let mut disks = Disks {
-        count: trial.disks,
+        count: shape.disks,
         weak: None,
     };
     for _ in 0..EVENTS {
-        disturb(rt, &mut rng, &mut disks, array);
+        disturb(rt, rng, &mut disks, array);
         ask_next(rt, run, array);
     }
     settle(rt, disks, array);
@@ -224,71 +217,46 @@ fn ask_next<R: Abort + AllocGlobal>(rt: &R, run: &mut Run, array: &mut Array<Fus
 }
 
 // As many groups as the disks' extents make, of six blocks each, but for one that stays free.
-fn room_of(disks: u8) -> u32 {
-    (u32::from(disks) * u32::from(EXTENTS) / 4).saturating_sub(1) * 6
+fn room_of(shape: Shape) -> u32 {
+    (u32::from(shape.disks) * u32::from(shape.extents) / 4).saturating_sub(1) * 6
 }
 
-fn run<R: Abort + AllocGlobal>(rt: &R, trial: Trial) {
-    let loss = Loss {
-        extents: EXTENTS,
-        cache: trial.cache,
-        disk: 0,
-        calls: u64::MAX,
-    };
-    let disks = fused_disks(rt.alloc(), trial.disks, loss).expect(rt, "memory");
-    let mut array = start(rt, disks, trial.cache);
-    run_on(rt, trial, &mut array);
-    drop(array);
-}
-
-fn run_on<R: Abort + AllocGlobal>(rt: &R, trial: Trial, array: &mut Array<FuseDisk>) {
-    let room = room_of(trial.disks);
-    has_room(rt, array.free_room(), room, trial);
-    let mut run = Run::new(rt.alloc(), trial.seed, room);
-    live(rt, trial, &mut run, array);
+fn run_on<R: Abort + AllocGlobal>(rt: &R, shape: Shape, seed: u64, array: &mut Array<FuseDisk>) {
+    let room = room_of(shape);
+    has_room(rt, shape, array.free_room(), room);
+    let mut rng = SmallRng::seed_from_u64(seed);
+    let mut run = Run::new(rt.alloc(), seed, room);
+    live(rt, shape, &mut rng, &mut run, array);
     drop(run);
 }
 
-fn has_room(rt: &impl Abort, room: u32, wanted: u32, trial: Trial) {
-    assert!(rt; room == wanted, "room for {room} blocks, {trial:?}");
+fn come_and_go<R: Abort + AllocGlobal>(rt: &R, disks: u8, cache: u16, seed: u64) {
+    let shape = Shape {
+        disks,
+        cache,
+        ..SIX_EXTENTS
+    };
+    let mut array = shape.array(rt.alloc()).expect(rt, "an array");
+    run_on(rt, shape, seed, &mut array);
+    drop(array);
 }
 
 #[test]
 fn four_disks_come_and_go(rt: HostRuntime) {
-    let trial = Trial {
-        disks: 4,
-        cache: 0,
-        seed: 1,
-    };
-    run(&rt, trial);
+    come_and_go(&rt, 4, 0, 1);
 }
 
 #[test]
 fn six_disks_come_and_go(rt: HostRuntime) {
-    let trial = Trial {
-        disks: 6,
-        cache: 2,
-        seed: 2,
-    };
-    run(&rt, trial);
+    come_and_go(&rt, 6, 2, 2);
 }
 
 #[test]
 fn nine_disks_come_and_go(rt: HostRuntime) {
-    let trial = Trial {
-        disks: 9,
-        cache: 0,
-        seed: 3,
-    };
-    run(&rt, trial);
+    come_and_go(&rt, 9, 0, 3);
 }
 
 #[test]
 fn twelve_disks_come_and_go(rt: HostRuntime) {
-    let trial = Trial {
-        disks: 12,
-        cache: 64,
-        seed: 4,
-    };
-    run(&rt, trial);
+    come_and_go(&rt, 12, 64, 4);
 }

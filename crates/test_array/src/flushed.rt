@@ -1,240 +1,220 @@
-// Cached blocks that go to the disks once a disk is lost.
-use crate::arrays::sound_array;
-use crate::calls::{Answer, Call, Row, is_filled, play, unit};
-use ar_core::{Array, Health, HomeOf, Shown, Slot};
+// Cached blocks that go to the disks once a disk is lost, all by one call or one by one.
+use crate::calls::{make_call, play};
+use crate::fuses::{MAKE, THREE_GROUPS, WRITES};
+use ar_core::{Array, HomeOf, Shown};
 use ar_disks::{Block, Completion, FuseDisk};
 use std::process::Abort;
+use test_support::{Call, FOUR_GROUPS, Return, Shape, Work, is_filled, unit_of};
 
-/// What a row of an extent shows.
-#[derive(Clone, Copy, Debug, PartialEq, Eq)]
-enum View {
-    Outside,
-    Broken,
-    Missing,
-    /// One byte throughout.
-    Filled(u8),
-    Mixed,
+/// What is asked.
+#[derive(Clone, Copy)]
+enum Ask {
+    Does(Call),
+    FlushAll,
+    /// What a row of an extent shows: disk, extent, row.
+    Shows(u8, u16, u16),
+    /// Where a block of the first unit stands.
+    Home(u32),
 }
 
-/// A row: the disk's number, the extent's and its own, and what it must show.
-type Place = (u8, u16, u16, View);
+/// What is returned.
+#[derive(Clone, Copy, Debug, PartialEq, Eq)]
+enum Answer {
+    Returns(Return),
+    /// This byte throughout.
+    Byte(u8),
+    Mixed,
+    Missing,
+    Outside,
+    Lost,
+    At(u32, u16),
+    Unplaced,
+}
 
-fn view_of(bytes: &[u8]) -> View {
+type Step = (Ask, Answer);
+
+fn done_or_broken(completion: Completion) -> Answer {
+    Answer::Returns(match completion {
+        Completion::Done => Return::Done,
+        Completion::Broken => Return::Broken,
+    })
+}
+
+fn bytes_of(bytes: &[u8]) -> Answer {
     match bytes.first() {
-        Some(first) if is_filled(bytes, *first) => View::Filled(*first),
-        _ => View::Mixed,
+        Some(first) if is_filled(bytes) => Answer::Byte(*first),
+        _ => Answer::Mixed,
     }
 }
 
-fn view_at<R: Abort + AllocGlobal>(
+fn shown<R: Abort + AllocGlobal>(
     rt: &R,
     array: &mut Array<FuseDisk>,
-    disk: u8,
-    extent: u16,
-    row: u16,
-) -> View {
+    (disk, extent, row): (u8, u16, u16),
+) -> Answer {
     let mut block = Block::new(rt.alloc(), array.geometry()).expect(rt, "memory");
-    let view = match array.block_at(disk, extent, row, &mut block) {
-        Shown::Outside => View::Outside,
-        Shown::Broken => View::Broken,
-        Shown::Missing => View::Missing,
-        Shown::Bytes => view_of(block.bytes()),
+    let answer = match array.block_at(disk, extent, row, &mut block) {
+        Shown::Outside => Answer::Outside,
+        Shown::Broken => Answer::Lost,
+        Shown::Missing => Answer::Missing,
+        Shown::Bytes => bytes_of(block.bytes()),
     };
     drop(block);
-    view
+    answer
 }
 
-// Asserts what rows show.
-fn show<R: Abort + AllocGlobal>(rt: &R, array: &mut Array<FuseDisk>, places: &[Place]) {
-    for (disk, extent, row, wanted) in places {
-        let view = view_at(rt, array, *disk, *extent, *row);
-        assert!(rt;
-            view == *wanted,
-            "disk {disk}, extent {extent}, row {row}: {view:?}"
-        );
+fn home_of(array: &Array<FuseDisk>, rb: u32) -> Answer {
+    match array.home_of(unit_of(0, 0), rb) {
+        HomeOf::At(slot) => Answer::At(slot.group, slot.slot),
+        HomeOf::Unplaced => Answer::Unplaced,
+        _ => Answer::Outside,
     }
 }
 
-// Asserts where a block of the first unit stands.
-fn stands(rt: &impl Abort, array: &Array<FuseDisk>, rb: u32, wanted: HomeOf) {
-    let home = array.home_of(unit(0), rb);
-    assert!(rt; home == wanted, "block {rb}: {home:?}");
+fn go_on<R: Abort + AllocGlobal>(
+    rt: &R,
+    shape: Shape,
+    array: &mut Array<FuseDisk>,
+    parts: &[&[Step]],
+) {
+    for steps in parts {
+        for (number, (ask, wanted)) in steps.iter().enumerate() {
+            let met = match *ask {
+                Ask::Does(call) => Answer::Returns(make_call(rt, shape, array, call)),
+                Ask::FlushAll => done_or_broken(array.flush_all()),
+                Ask::Shows(disk, extent, row) => shown(rt, array, (disk, extent, row)),
+                Ask::Home(rb) => home_of(array, rb),
+            };
+            is_met(rt, number, met, *wanted);
+        }
+    }
 }
 
-// Flushes all blocks, and asserts the answer.
-fn flush_all(rt: &impl Abort, array: &mut Array<FuseDisk>, wanted: Completion) {
-    let stored = array.flush_all();
-    assert!(rt; stored == wanted, "{stored:?}");
+fn is_met(rt: &impl Abort, number: usize, met: Answer, wanted: Answer) {
+    assert!(rt; met == wanted, "row {number}: {met:?}, not {wanted:?}");
 }
 
-/// Four blocks of a unit are written, one byte each, and a disk is taken out.
-const WAITING: [Row; 6] = [
-    (Call::Make(0, 8), Answer::Done),
-    (Call::Write(0, 0, 2, 0xA1), Answer::Good(&[])),
-    (Call::Write(0, 2, 2, 0xA2), Answer::Good(&[])),
-    (Call::Write(0, 4, 2, 0xA3), Answer::Good(&[])),
-    (Call::Write(0, 6, 2, 0xA4), Answer::Good(&[])),
-    (Call::DiskOut(1), Answer::Done),
+fn run<R: Abort + AllocGlobal>(rt: &R, shape: Shape, parts: &[&[Step]]) {
+    let mut array = shape.array(rt.alloc()).expect(rt, "an array");
+    go_on(rt, shape, &mut array, parts);
+    drop(array);
+}
+
+const GOOD: Answer = Answer::Returns(Return::Good);
+
+const DONE: Answer = Answer::Returns(Return::Done);
+
+const BROKEN: Answer = Answer::Returns(Return::Broken);
+
+/// Four blocks of a unit are written, one byte each, and a disk is taken out. They wait in the cache: none is placed, and nothing
+/// is written.
+const WAITING: [Step; 9] = [
+    (Ask::Does(Call::Make(0, 0, 8)), DONE),
+    (Ask::Does(Call::Write(0, 0, 0, 2, 0xA1)), GOOD),
+    (Ask::Does(Call::Write(0, 0, 2, 2, 0xA2)), GOOD),
+    (Ask::Does(Call::Write(0, 0, 4, 2, 0xA3)), GOOD),
+    (Ask::Does(Call::Write(0, 0, 6, 2, 0xA4)), GOOD),
+    (Ask::Does(Call::DiskOut(1)), DONE),
+    (Ask::Home(0), Answer::Unplaced),
+    (Ask::Shows(0, 0, 0), Answer::Byte(0xEE)),
+    (Ask::Shows(1, 0, 0), Answer::Missing),
 ];
 
-// They wait in the cache: none is placed, and nothing is written.
-fn wait<R: Abort + AllocGlobal>(rt: &R, array: &mut Array<FuseDisk>) {
-    play(rt, &"four blocks wait", array, &WAITING);
-    stands(rt, array, 0, HomeOf::Unplaced);
-    show(
-        rt,
-        array,
-        &[(0, 0, 0, View::Filled(0xEE)), (1, 0, 0, View::Missing)],
-    );
-}
+/// The block that was written longest ago is placed, and no other.
+const FIRST: [Step; 3] = [
+    (
+        Ask::Does(Call::Work(Work::Flush)),
+        Answer::Returns(Return::Flushed(0, 0)),
+    ),
+    (Ask::Home(0), Answer::At(0, 0)),
+    (Ask::Home(1), Answer::Unplaced),
+];
 
-// The least recently written block is placed, and no other.
-fn flush_first<R: Abort + AllocGlobal>(rt: &R, array: &mut Array<FuseDisk>) {
-    play(
-        rt,
-        &"the first is flushed",
-        array,
-        &[(Call::Flush, Answer::Flushed(0, 0))],
-    );
-    stands(rt, array, 0, HomeOf::At(Slot { group: 0, slot: 0 }));
-    stands(rt, array, 1, HomeOf::Unplaced);
-}
-
-// Each of the four stands on both disks of a pair, but on the one that is out. The next group is as it was.
-fn flush_others<R: Abort + AllocGlobal>(rt: &R, array: &mut Array<FuseDisk>) {
-    flush_all(rt, array, Completion::Done);
-    show(
-        rt,
-        array,
-        &[
-            (0, 0, 0, View::Filled(0xA1)),
-            (1, 0, 0, View::Missing),
-            (0, 0, 1, View::Filled(0xA2)),
-            (1, 0, 1, View::Missing),
-            (2, 0, 0, View::Filled(0xA3)),
-            (3, 0, 0, View::Filled(0xA3)),
-            (2, 0, 1, View::Filled(0xA4)),
-            (3, 0, 1, View::Filled(0xA4)),
-            (0, 1, 0, View::Filled(0xEE)),
-            (0, 0, 2, View::Outside),
-            (0, 4, 0, View::Outside),
-            (4, 0, 0, View::Outside),
-        ],
-    );
-    play(rt, &"none is left", array, &[(Call::Flush, Answer::Idle)]);
-}
-
-fn flush_past_a_lost_disk<R: Abort + AllocGlobal>(rt: &R, array: &mut Array<FuseDisk>) {
-    wait(rt, array);
-    flush_first(rt, array);
-    flush_others(rt, array);
-}
+/// Each of the four stands on both disks of a pair, but on the one that is out. The next group is as it was.
+const OTHERS: [Step; 14] = [
+    (Ask::FlushAll, DONE),
+    (Ask::Shows(0, 0, 0), Answer::Byte(0xA1)),
+    (Ask::Shows(1, 0, 0), Answer::Missing),
+    (Ask::Shows(0, 0, 1), Answer::Byte(0xA2)),
+    (Ask::Shows(1, 0, 1), Answer::Missing),
+    (Ask::Shows(2, 0, 0), Answer::Byte(0xA3)),
+    (Ask::Shows(3, 0, 0), Answer::Byte(0xA3)),
+    (Ask::Shows(2, 0, 1), Answer::Byte(0xA4)),
+    (Ask::Shows(3, 0, 1), Answer::Byte(0xA4)),
+    (Ask::Shows(0, 1, 0), Answer::Byte(0xEE)),
+    (Ask::Shows(0, 0, 2), Answer::Outside),
+    (Ask::Shows(0, 4, 0), Answer::Outside),
+    (Ask::Shows(4, 0, 0), Answer::Outside),
+    (
+        Ask::Does(Call::Work(Work::Flush)),
+        Answer::Returns(Return::Idle),
+    ),
+];
 
 #[test]
 fn mirrored_blocks_are_flushed_past_a_lost_disk(rt: HostRuntime) {
-    let mut array = sound_array(&rt, 4, 4);
-    flush_past_a_lost_disk(&rt, &mut array);
-    drop(array);
+    let shape = Shape {
+        cache: 4,
+        ..FOUR_GROUPS
+    };
+    run(&rt, shape, &[&WAITING, &FIRST, &OTHERS]);
 }
 
-/// A unit takes all the room of three groups, and each of its blocks is written with a byte of its own.
-const FILLED: [Row; 13] = [
-    (Call::Make(0, 24), Answer::Done),
-    (Call::Write(0, 0, 2, 0x01), Answer::Good(&[])),
-    (Call::Write(0, 2, 2, 0x02), Answer::Good(&[])),
-    (Call::Write(0, 4, 2, 0x03), Answer::Good(&[])),
-    (Call::Write(0, 6, 2, 0x04), Answer::Good(&[])),
-    (Call::Write(0, 8, 2, 0x05), Answer::Good(&[])),
-    (Call::Write(0, 10, 2, 0x06), Answer::Good(&[])),
-    (Call::Write(0, 12, 2, 0x07), Answer::Good(&[])),
-    (Call::Write(0, 14, 2, 0x08), Answer::Good(&[])),
-    (Call::Write(0, 16, 2, 0x09), Answer::Good(&[])),
-    (Call::Write(0, 18, 2, 0x0A), Answer::Good(&[])),
-    (Call::Write(0, 20, 2, 0x0B), Answer::Good(&[])),
-    (Call::Write(0, 22, 2, 0x0C), Answer::Good(&[])),
+/// Block 8, the parity of its row, and blocks 3 and 9 beside it. Block 8 is written once more and its disk is taken out: while it
+/// waits, the parity is the old one. Flushed, it stands in the parity alone, from which it is read.
+const INTO_PARITY: [Step; 15] = [
+    (Ask::FlushAll, DONE),
+    (Ask::Shows(2, 2, 1), Answer::Byte(0x09)),
+    (Ask::Shows(1, 2, 1), Answer::Byte(0x07)),
+    (Ask::Shows(0, 2, 1), Answer::Byte(0x04)),
+    (Ask::Shows(3, 2, 1), Answer::Byte(0x0A)),
+    (Ask::Does(Call::Write(0, 0, 16, 2, 0xBB)), GOOD),
+    (Ask::Does(Call::DiskOut(2)), DONE),
+    (Ask::Shows(2, 2, 1), Answer::Missing),
+    (Ask::Shows(1, 2, 1), Answer::Byte(0x07)),
+    (Ask::FlushAll, DONE),
+    (Ask::Shows(2, 2, 1), Answer::Missing),
+    (Ask::Shows(1, 2, 1), Answer::Byte(0xB5)),
+    (Ask::Shows(0, 2, 1), Answer::Byte(0x04)),
+    (Ask::Shows(3, 2, 1), Answer::Byte(0x0A)),
+    (
+        Ask::Does(Call::Read(0, 0, 16)),
+        Answer::Returns(Return::Sectors(0xBB, 0xBB)),
+    ),
 ];
 
-// Block 8, the parity of its row, and blocks 3 and 9 beside it.
-fn fill<R: Abort + AllocGlobal>(rt: &R, array: &mut Array<FuseDisk>) {
-    play(rt, &"a full array", array, &FILLED);
-    flush_all(rt, array, Completion::Done);
-    show(
-        rt,
-        array,
-        &[
-            (2, 2, 1, View::Filled(0x09)),
-            (1, 2, 1, View::Filled(0x07)),
-            (0, 2, 1, View::Filled(0x04)),
-            (3, 2, 1, View::Filled(0x0A)),
-        ],
-    );
+fn flush_into_parity<R: Abort + AllocGlobal>(rt: &R, shape: Shape, array: &mut Array<FuseDisk>) {
+    play(rt, shape, array, &[&MAKE, &WRITES]);
+    go_on(rt, shape, array, &[&INTO_PARITY]);
 }
 
-// Block 8 is written once more and its disk is taken out: while it waits, the parity is the old one.
-fn rewrite<R: Abort + AllocGlobal>(rt: &R, array: &mut Array<FuseDisk>) {
-    let again = [
-        (Call::Write(0, 16, 2, 0xBB), Answer::Good(&[])),
-        (Call::DiskOut(2), Answer::Done),
-    ];
-    play(rt, &"block 8 waits", array, &again);
-    show(
-        rt,
-        array,
-        &[(2, 2, 1, View::Missing), (1, 2, 1, View::Filled(0x07))],
-    );
-}
-
-// Flushed, it stands in the parity alone, from which it is read.
-fn flush_into_parity<R: Abort + AllocGlobal>(rt: &R, array: &mut Array<FuseDisk>) {
-    flush_all(rt, array, Completion::Done);
-    show(
-        rt,
-        array,
-        &[
-            (2, 2, 1, View::Missing),
-            (1, 2, 1, View::Filled(0xB5)),
-            (0, 2, 1, View::Filled(0x04)),
-            (3, 2, 1, View::Filled(0x0A)),
-        ],
-    );
-    let read = [(Call::Read(0, 16), Answer::Sectors(0xBB, 0xBB))];
-    play(rt, &"block 8 is read", array, &read);
-}
-
-fn flush_a_block_of_a_lost_disk<R: Abort + AllocGlobal>(rt: &R, array: &mut Array<FuseDisk>) {
-    fill(rt, array);
-    rewrite(rt, array);
-    flush_into_parity(rt, array);
-}
-
+// A unit takes all the room of three groups.
 #[test]
 fn a_block_of_a_lost_disk_is_flushed_into_parity(rt: HostRuntime) {
-    let mut array = sound_array(&rt, 3, 2);
-    flush_a_block_of_a_lost_disk(&rt, &mut array);
+    let shape = Shape {
+        cache: 2,
+        ..THREE_GROUPS
+    };
+    let mut array = shape.array(rt.alloc()).expect(&rt, "an array");
+    flush_into_parity(&rt, shape, &mut array);
     drop(array);
 }
 
-// Two disks are out: no block is flushed, neither alone nor with the others, and no row is shown.
-fn flush_past_two_lost_disks<R: Abort + AllocGlobal>(rt: &R, array: &mut Array<FuseDisk>) {
-    wait(rt, array);
-    let lost = [
-        (Call::DiskOut(2), Answer::Done),
-        (Call::Flush, Answer::Broken),
-    ];
-    let ending = play(rt, &"two disks are out", array, &lost);
-    assert!(rt; ending.health == Health::Broken, "two disks are out");
-    flush_all(rt, array, Completion::Broken);
-    stands(rt, array, 0, HomeOf::Unplaced);
-    show(
-        rt,
-        array,
-        &[(0, 0, 0, View::Broken), (4, 0, 0, View::Outside)],
-    );
-}
+/// Two disks are out: no block is flushed, neither alone nor with the others, and no row is shown.
+const TWO_OUT: [Step; 6] = [
+    (Ask::Does(Call::DiskOut(2)), DONE),
+    (Ask::Does(Call::Work(Work::Flush)), BROKEN),
+    (Ask::FlushAll, BROKEN),
+    (Ask::Home(0), Answer::Unplaced),
+    (Ask::Shows(0, 0, 0), Answer::Lost),
+    (Ask::Shows(4, 0, 0), Answer::Outside),
+];
 
 #[test]
 fn nothing_is_flushed_past_two_lost_disks(rt: HostRuntime) {
-    let mut array = sound_array(&rt, 4, 4);
-    flush_past_two_lost_disks(&rt, &mut array);
-    drop(array);
+    let shape = Shape {
+        cache: 4,
+        ..FOUR_GROUPS
+    };
+    run(&rt, shape, &[&WAITING, &TWO_OUT]);
 }

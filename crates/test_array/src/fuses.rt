@@ -1,168 +1,199 @@
 // Disks that are lost at any of their calls: one that no host ever notices, and two with which the data are lost.
-use crate::arrays::{Loss, fused_array};
-use crate::calls::{Answer, Call, Ending, INQUIRY, READ_CAPACITY, READ_PAST_END, Row, play};
+use crate::calls::{Ending, is_in, play};
 use ar_core::Health;
 use ar_scsi::Sense;
 use std::process::Abort;
+use test_support::{Call, FOUR_GROUPS, Return, Row, Shape, Work};
 
 /// More calls than any disk gets in a run.
-const MOST_CALLS: u64 = 1_000;
+pub const MOST_CALLS: u64 = 2_000;
 
-/// What an array answers without its blocks. The first three questions need no data, the last one does.
-const QUESTIONS: [Row; 4] = [
-    (Call::Command(0, INQUIRY), Answer::Good(&[0, 0, 5, 2, 0x1F])),
-    (
-        Call::Command(0, READ_CAPACITY),
-        Answer::Good(&[0, 0, 0, 23, 0, 0, 2, 0]),
-    ),
-    (
-        Call::Command(0, READ_PAST_END),
-        Answer::Check(Sense::LOGICAL_BLOCK_ADDRESS_OUT_OF_RANGE),
-    ),
-    (Call::Ready(0), Answer::Good(&[])),
+/// Three groups.
+pub const THREE_GROUPS: Shape = Shape {
+    extents: 3,
+    ..FOUR_GROUPS
+};
+
+/// A unit takes all the room of three groups.
+pub const MAKE: [Row; 1] = [(Call::Make(0, 0, 24), Return::Done)];
+
+/// Each of its blocks is written with a byte of its own.
+pub const WRITES: [Row; 12] = [
+    (Call::Write(0, 0, 0, 2, 0x01), Return::Good),
+    (Call::Write(0, 0, 2, 2, 0x02), Return::Good),
+    (Call::Write(0, 0, 4, 2, 0x03), Return::Good),
+    (Call::Write(0, 0, 6, 2, 0x04), Return::Good),
+    (Call::Write(0, 0, 8, 2, 0x05), Return::Good),
+    (Call::Write(0, 0, 10, 2, 0x06), Return::Good),
+    (Call::Write(0, 0, 12, 2, 0x07), Return::Good),
+    (Call::Write(0, 0, 14, 2, 0x08), Return::Good),
+    (Call::Write(0, 0, 16, 2, 0x09), Return::Good),
+    (Call::Write(0, 0, 18, 2, 0x0A), Return::Good),
+    (Call::Write(0, 0, 20, 2, 0x0B), Return::Good),
+    (Call::Write(0, 0, 22, 2, 0x0C), Return::Good),
 ];
 
-/// Writes each block of a unit of twelve with a byte of its own, counted up from the first.
-pub fn push_writes(rt: &impl Abort, rows: &mut Vec<Row>, first: u8) {
-    for block in 0..12u8 {
-        let call = Call::Write(0, block * 2, 2, first.wrapping_add(block));
-        push(rt, rows, (call, Answer::Good(&[])));
-    }
-}
+/// Each is read.
+pub const READS: [Row; 12] = [
+    (Call::Read(0, 0, 0), Return::Sectors(0x01, 0x01)),
+    (Call::Read(0, 0, 2), Return::Sectors(0x02, 0x02)),
+    (Call::Read(0, 0, 4), Return::Sectors(0x03, 0x03)),
+    (Call::Read(0, 0, 6), Return::Sectors(0x04, 0x04)),
+    (Call::Read(0, 0, 8), Return::Sectors(0x05, 0x05)),
+    (Call::Read(0, 0, 10), Return::Sectors(0x06, 0x06)),
+    (Call::Read(0, 0, 12), Return::Sectors(0x07, 0x07)),
+    (Call::Read(0, 0, 14), Return::Sectors(0x08, 0x08)),
+    (Call::Read(0, 0, 16), Return::Sectors(0x09, 0x09)),
+    (Call::Read(0, 0, 18), Return::Sectors(0x0A, 0x0A)),
+    (Call::Read(0, 0, 20), Return::Sectors(0x0B, 0x0B)),
+    (Call::Read(0, 0, 22), Return::Sectors(0x0C, 0x0C)),
+];
 
-/// Reads each of them.
-pub fn push_reads(rt: &impl Abort, rows: &mut Vec<Row>, first: u8) {
-    for block in 0..12u8 {
-        let byte = first.wrapping_add(block);
-        push(
-            rt,
-            rows,
-            (Call::Read(0, block * 2), Answer::Sectors(byte, byte)),
-        );
-    }
-}
+/// Each is written once more.
+pub const WRITES_AGAIN: [Row; 12] = [
+    (Call::Write(0, 0, 0, 2, 0x11), Return::Good),
+    (Call::Write(0, 0, 2, 2, 0x12), Return::Good),
+    (Call::Write(0, 0, 4, 2, 0x13), Return::Good),
+    (Call::Write(0, 0, 6, 2, 0x14), Return::Good),
+    (Call::Write(0, 0, 8, 2, 0x15), Return::Good),
+    (Call::Write(0, 0, 10, 2, 0x16), Return::Good),
+    (Call::Write(0, 0, 12, 2, 0x17), Return::Good),
+    (Call::Write(0, 0, 14, 2, 0x18), Return::Good),
+    (Call::Write(0, 0, 16, 2, 0x19), Return::Good),
+    (Call::Write(0, 0, 18, 2, 0x1A), Return::Good),
+    (Call::Write(0, 0, 20, 2, 0x1B), Return::Good),
+    (Call::Write(0, 0, 22, 2, 0x1C), Return::Good),
+];
 
-/// Adds a row.
-pub fn push(rt: &impl Abort, rows: &mut Vec<Row>, row: Row) {
-    rows.push(row).ok().expect(rt, "memory");
-}
+/// Each is read then.
+pub const READS_AGAIN: [Row; 12] = [
+    (Call::Read(0, 0, 0), Return::Sectors(0x11, 0x11)),
+    (Call::Read(0, 0, 2), Return::Sectors(0x12, 0x12)),
+    (Call::Read(0, 0, 4), Return::Sectors(0x13, 0x13)),
+    (Call::Read(0, 0, 6), Return::Sectors(0x14, 0x14)),
+    (Call::Read(0, 0, 8), Return::Sectors(0x15, 0x15)),
+    (Call::Read(0, 0, 10), Return::Sectors(0x16, 0x16)),
+    (Call::Read(0, 0, 12), Return::Sectors(0x17, 0x17)),
+    (Call::Read(0, 0, 14), Return::Sectors(0x18, 0x18)),
+    (Call::Read(0, 0, 16), Return::Sectors(0x19, 0x19)),
+    (Call::Read(0, 0, 18), Return::Sectors(0x1A, 0x1A)),
+    (Call::Read(0, 0, 20), Return::Sectors(0x1B, 0x1B)),
+    (Call::Read(0, 0, 22), Return::Sectors(0x1C, 0x1C)),
+];
 
-// A unit takes all the room of three groups. Its blocks are written, and then read.
-fn push_full_array(rt: &impl Abort, rows: &mut Vec<Row>) {
-    push(rt, rows, (Call::Make(0, 24), Answer::Done));
-    push_writes(rt, rows, 0x01);
-    push_reads(rt, rows, 0x01);
-}
+/// What needs no block: INQUIRY for five bytes, READ CAPACITY, a READ past the end; and TEST UNIT READY, which fails where the
+/// data are lost.
+const QUESTIONS: [Row; 4] = [
+    (
+        Call::Command(0, 0, [0x12, 0, 0, 0, 5, 0, 0, 0, 0, 0]),
+        Return::Five([0, 0, 5, 2, 0x1F]),
+    ),
+    (
+        Call::Command(0, 0, [0x25, 0, 0, 0, 0, 0, 0, 0, 0, 0]),
+        Return::Eight([0, 0, 0, 23, 0, 0, 2, 0]),
+    ),
+    (
+        Call::Command(0, 0, [0x28, 0, 0, 0, 0, 24, 0, 0, 1, 0]),
+        Return::Check(Sense::LOGICAL_BLOCK_ADDRESS_OUT_OF_RANGE),
+    ),
+    (Call::Ready(0, 0), Return::Good),
+];
 
-// A full array whose first disk is taken out once it is written. All blocks are written once more, and then read.
-fn push_rewritten_array(rt: &impl Abort, rows: &mut Vec<Row>) {
-    push(rt, rows, (Call::Make(0, 24), Answer::Done));
-    push_writes(rt, rows, 0x01);
-    push(rt, rows, (Call::DiskOut(0), Answer::Done));
-    push_questions(rt, rows);
-    push_writes(rt, rows, 0x11);
-    push_reads(rt, rows, 0x11);
-    push_questions(rt, rows);
-}
+const OUT: [Row; 1] = [(Call::DiskOut(0), Return::Done)];
 
-fn push_questions(rt: &impl Abort, rows: &mut Vec<Row>) {
-    for row in &QUESTIONS {
-        push(rt, rows, *row);
-    }
-}
+/// A full array whose first disk is taken out once it is written. All blocks are written once more, and then read.
+const REWRITTEN: [&[Row]; 7] = [
+    &MAKE,
+    &WRITES,
+    &OUT,
+    &QUESTIONS,
+    &WRITES_AGAIN,
+    &READS_AGAIN,
+    &QUESTIONS,
+];
 
 // Two hosts have a unit each. One of them writes a block, which is on the disks before both units are read.
-fn two_hosts(flushed: Answer) -> [Row; 6] {
+fn two_hosts(flushed: Return) -> [Row; 6] {
     [
-        (Call::Make(0, 4), Answer::Done),
-        (Call::Make(1, 4), Answer::Done),
-        (Call::Write(1, 0, 2, 0xAA), Answer::Good(&[])),
-        (Call::Flush, flushed),
-        (Call::Read(0, 0), Answer::Sectors(0x00, 0x00)),
-        (Call::Read(1, 0), Answer::Sectors(0xAA, 0xAA)),
+        (Call::Make(0, 0, 4), Return::Done),
+        (Call::Make(1, 0, 4), Return::Done),
+        (Call::Write(1, 0, 0, 2, 0xAA), Return::Good),
+        (Call::Work(Work::Flush), flushed),
+        (Call::Read(0, 0, 0), Return::Sectors(0x00, 0x00)),
+        (Call::Read(1, 0, 0), Return::Sectors(0xAA, 0xAA)),
     ]
 }
 
-/// A run on a new array, of which one disk has a fuse.
-pub fn ending<R: Abort + AllocGlobal>(rt: &R, loss: Loss, rows: &[Row]) -> Ending {
-    let mut array = fused_array(rt, loss);
-    let ending = play(rt, &loss, &mut array, rows);
+/// Plays a table on a new array.
+pub fn ending<R: Abort + AllocGlobal>(rt: &R, shape: Shape, parts: &[&[Row]]) -> Ending {
+    let mut array = shape.array(rt.alloc()).expect(rt, "an array");
+    let ending = play(rt, shape, &mut array, parts);
     drop(array);
     ending
 }
 
-// How many calls a disk gets in a run: with each shorter fuse it is lost, and no answer shows it.
-fn calls_in<R: Abort + AllocGlobal>(rt: &R, loss: Loss, rows: &[Row]) -> u64 {
+/// How many calls the weak disk gets: with each shorter fuse it is lost, and nothing that the array returns shows it. At least
+/// `least`.
+pub fn calls_in<R: Abort + AllocGlobal>(rt: &R, shape: Shape, parts: &[&[Row]], least: u64) -> u64 {
     for calls in 0..MOST_CALLS {
-        let loss = Loss { calls, ..loss };
-        if is_whole(rt, loss, ending(rt, loss, rows)) {
+        let shape = Shape { calls, ..shape };
+        if is_whole(rt, shape, ending(rt, shape, parts)) {
+            are_at_least(rt, shape, calls, least);
             return calls;
         }
     }
-    ever_lost(rt);
+    is_ever_lost(rt, shape);
     MOST_CALLS
 }
 
 /// No fuse was long enough.
-pub fn ever_lost(rt: &impl Abort) {
-    assert!(rt; false, "the disk is lost in each run");
+pub fn is_ever_lost(rt: &impl Abort, shape: Shape) {
+    assert!(rt; false, "the disk is lost in each run: {shape:?}");
 }
 
-// Whether no disk was lost. If one was it is the one with the fuse, and the data are there.
-fn is_whole(rt: &impl Abort, loss: Loss, ending: Ending) -> bool {
-    assert!(rt; ending.lost_after.is_none(), "{loss:?}");
-    if ending.health == Health::Whole {
-        return true;
+/// The disk was called so often.
+pub fn are_at_least(rt: &impl Abort, shape: Shape, calls: u64, least: u64) {
+    assert!(rt; calls >= least, "{calls} calls: {shape:?}");
+}
+
+// Whether no disk was lost. If one was it is the weak one, and the data are there.
+fn is_whole(rt: &impl Abort, shape: Shape, ending: Ending) -> bool {
+    assert!(rt; ending.lost_by.is_none(), "{shape:?}");
+    if ending.health != Health::Whole {
+        is_in(rt, shape, ending.health, Health::Out(shape.weak));
     }
-    assert!(rt; ending.health == Health::Out(loss.disk), "{loss:?}");
-    false
+    ending.health == Health::Whole
 }
 
-// Any one disk is lost at any of its calls.
-fn outlive_any_disk<R: Abort + AllocGlobal>(rt: &R, rows: &[Row]) {
+// Any one disk is lost at any of its calls. Two groups are in use, and both rows of each are written to every disk.
+#[test]
+fn a_full_array_outlives_any_disk(rt: HostRuntime) {
     for cache in [0, 2] {
-        for disk in [2, 0, 1, 3] {
-            let loss = Loss {
-                extents: 3,
+        for weak in [2, 0, 1, 3] {
+            let shape = Shape {
                 cache,
-                disk,
-                calls: 0,
+                weak,
+                ..THREE_GROUPS
             };
-            // Two groups are in use, and both rows of each were written to every disk.
-            are_at_least(rt, calls_in(rt, loss, rows), 4, loss);
+            calls_in(&rt, shape, &[&MAKE, &WRITES, &READS], 4);
         }
     }
 }
 
-/// A disk was called so often.
-pub fn are_at_least(rt: &impl Abort, calls: u64, least: u64, loss: Loss) {
-    assert!(rt; calls >= least, "{calls} calls, {loss:?}");
-}
-
-#[test]
-fn a_full_array_outlives_any_disk(rt: HostRuntime) {
-    let mut rows = Vec::new(rt.alloc());
-    push_full_array(&rt, &mut rows);
-    outlive_any_disk(&rt, &rows);
-    drop(rows);
-}
-
+// The block is written to the disk, and read from it.
 #[test]
 fn units_of_two_hosts_outlive_a_disk(rt: HostRuntime) {
-    for (cache, flushed) in [(0, Answer::Idle), (2, Answer::Flushed(1, 0))] {
-        let loss = Loss {
-            extents: 4,
+    for (cache, flushed) in [(0, Return::Idle), (2, Return::Flushed(1, 0))] {
+        let shape = Shape {
             cache,
-            disk: 0,
-            calls: 0,
+            ..FOUR_GROUPS
         };
-        // The block is written to the disk, and read from it.
-        are_two(&rt, calls_in(&rt, loss, &two_hosts(flushed)), loss);
+        are_two(&rt, shape, calls_in(&rt, shape, &[&two_hosts(flushed)], 2));
     }
 }
 
-fn are_two(rt: &impl Abort, calls: u64, loss: Loss) {
-    assert!(rt; calls == 2, "{calls} calls, {loss:?}");
+fn are_two(rt: &impl Abort, shape: Shape, calls: u64) {
+    assert!(rt; calls == 2, "{calls} calls: {shape:?}");
 }
 
 /// The calls by which the data were lost, in runs with fuses of each length.
@@ -185,56 +216,47 @@ impl Breaks {
 }
 
 // The calls by which the data were lost, where a second disk had a fuse: one for each fuse that is too short for the run.
-fn breaks_in<R: Abort + AllocGlobal>(rt: &R, loss: Loss, rows: &[Row]) -> Breaks {
+fn breaks_in<R: Abort + AllocGlobal>(rt: &R, shape: Shape) -> Breaks {
     let mut breaks = Breaks {
         by_taking_out: false,
         by_write: false,
         by_read: false,
     };
     for calls in 0..MOST_CALLS {
-        let loss = Loss { calls, ..loss };
-        match broken_by(rt, loss, ending(rt, loss, rows), rows) {
+        let shape = Shape { calls, ..shape };
+        match broken_by(rt, shape, ending(rt, shape, &REWRITTEN)) {
             Some(call) => breaks.add(call),
             None => return breaks,
         }
     }
-    ever_lost(rt);
+    is_ever_lost(rt, shape);
     breaks
 }
 
 // The call by which the data were lost. Where they are not, only the disk that was taken out is out.
-fn broken_by(rt: &impl Abort, loss: Loss, ending: Ending, rows: &[Row]) -> Option<Call> {
-    let Some(number) = ending.lost_after else {
-        assert!(rt; ending.health == Health::Out(0), "{loss:?}");
-        return None;
+fn broken_by(rt: &impl Abort, shape: Shape, ending: Ending) -> Option<Call> {
+    let wanted = match ending.lost_by {
+        Some(_) => Health::Broken,
+        None => Health::Out(0),
     };
-    assert!(rt; ending.health == Health::Broken, "{loss:?}");
-    let (call, _) = rows.get(number)?;
-    Some(*call)
+    is_in(rt, shape, ending.health, wanted);
+    ending.lost_by
 }
 
 // The second disk goes before the first one is taken out, in a write after that, and in a read.
-fn lose_a_second_disk<R: Abort + AllocGlobal>(rt: &R, rows: &[Row]) {
+#[test]
+fn a_second_loss_is_told(rt: HostRuntime) {
     for cache in [0, 2] {
-        let loss = Loss {
-            extents: 3,
+        let shape = Shape {
             cache,
-            disk: 1,
-            calls: 0,
+            weak: 1,
+            ..THREE_GROUPS
         };
-        are_all(rt, breaks_in(rt, loss, rows), cache);
+        are_all(&rt, shape, breaks_in(&rt, shape));
     }
 }
 
-fn are_all(rt: &impl Abort, breaks: Breaks, cache: u16) {
+fn are_all(rt: &impl Abort, shape: Shape, breaks: Breaks) {
     let are_all = breaks.by_taking_out && breaks.by_write && breaks.by_read;
-    assert!(rt; are_all, "{breaks:?}, cache {cache}");
-}
-
-#[test]
-fn a_second_loss_is_told(rt: HostRuntime) {
-    let mut rows = Vec::new(rt.alloc());
-    push_rewritten_array(&rt, &mut rows);
-    lose_a_second_disk(&rt, &rows);
-    drop(rows);
+    assert!(rt; are_all, "{breaks:?}: {shape:?}");
 }

@@ -168,15 +168,32 @@ fn reads_that_fail(rt: HostRuntime) {
     }
 }
 
-// Takes so many bytes, and then fails.
+// Takes bytes and counts its calls, of which one fails.
 #[derive(Clone, Copy)]
 struct FailingWriter {
+    /// The bytes that it takes before each write fails.
     room: usize,
+    /// The write that fails, and the flush, by their numbers from 0.
+    bad_write: u32,
+    bad_flush: u32,
+    writes: u32,
+    flushes: u32,
 }
+
+/// None of its calls fails.
+const SOUND: FailingWriter = FailingWriter {
+    room: usize::MAX,
+    bad_write: u32::MAX,
+    bad_flush: u32::MAX,
+    writes: 0,
+    flushes: 0,
+};
 
 impl Write for FailingWriter {
     fn write(&mut self, buf: &[u8]) -> io::Result<usize> {
-        if self.room == 0 {
+        let call = self.writes;
+        self.writes = self.writes.saturating_add(1);
+        if self.room == 0 || call == self.bad_write {
             return Err(io::Error::from(io::ErrorKind::BrokenPipe));
         }
         let count = buf.len().min(self.room);
@@ -185,21 +202,47 @@ impl Write for FailingWriter {
     }
 
     fn flush(&mut self) -> io::Result<()> {
+        let call = self.flushes;
+        self.flushes = self.flushes.saturating_add(1);
+        if call == self.bad_flush {
+            return Err(io::Error::from(io::ErrorKind::BrokenPipe));
+        }
         Ok(())
     }
 }
 
-// Asserts how a script ends whose answers have so much room.
+// Asserts how a script ends whose answers go to such a writer. Returns the number of its writes.
 fn ends<R: Abort + AllocGlobal, S: Read + Drop>(
     rt: &R,
-    name: &impl Debug,
+    setup: Setup,
+    script: S,
+    writer: FailingWriter,
+    end: Result<(), Fault>,
+) -> u32 {
+    let FailingWriter {
+        room,
+        bad_write,
+        bad_flush,
+        ..
+    } = writer;
+    let mut writer = writer;
+    let done = run_script(rt.alloc(), script, &mut writer, setup);
+    assert!(rt;
+        done == end,
+        "room {room}, bad write {bad_write}, bad flush {bad_flush}: {done:?}, not {end:?}"
+    );
+    writer.writes
+}
+
+// Asserts the same of a writer with room for `room` bytes.
+fn ends_within<R: Abort + AllocGlobal, S: Read + Drop>(
+    rt: &R,
     setup: Setup,
     script: S,
     room: usize,
     end: Result<(), Fault>,
 ) {
-    let done = run_script(rt.alloc(), script, FailingWriter { room }, setup);
-    assert!(rt; done == end, "{name:?}, room {room}: {done:?}");
+    ends(rt, setup, script, FailingWriter { room, ..SOUND }, end);
 }
 
 #[test]
@@ -213,7 +256,7 @@ fn writes_that_fail(rt: HostRuntime) {
         (b"tur 0 0\nbogus\n", 15, at(2, FaultKind::UnknownWord)),
         (b"bogus\n", 0, at(1, FaultKind::UnknownWord)),
     ] {
-        ends(&rt, &script, SMALL, script, room, end);
+        ends_within(&rt, SMALL, script, room, end);
     }
 }
 
@@ -221,36 +264,7 @@ fn writes_that_fail(rt: HostRuntime) {
 #[test]
 fn answers_are_written_before_more_is_read(rt: HostRuntime) {
     let reader = FailingReader::new(b"tur 00 00\nbogus", io::ErrorKind::Other);
-    ends(
-        &rt,
-        &reader.bytes,
-        SMALL,
-        reader,
-        0,
-        at(1, FaultKind::WriteFault),
-    );
-}
-
-// Takes all bytes, and fails to pass them on in one call, by its number from 0.
-#[derive(Clone, Copy)]
-struct HoldingWriter {
-    fails: u32,
-    calls: u32,
-}
-
-impl Write for HoldingWriter {
-    fn write(&mut self, buf: &[u8]) -> io::Result<usize> {
-        Ok(buf.len())
-    }
-
-    fn flush(&mut self) -> io::Result<()> {
-        let call = self.calls;
-        self.calls = self.calls.saturating_add(1);
-        if call == self.fails {
-            return Err(io::Error::from(io::ErrorKind::BrokenPipe));
-        }
-        Ok(())
-    }
+    ends_within(&rt, SMALL, reader, 0, at(1, FaultKind::WriteFault));
 }
 
 // They come before the first read, before the one that finds the end, and last of all. One that fails is told, though the next
@@ -263,36 +277,11 @@ fn flushes_that_fail(rt: HostRuntime) {
         (2, at(2, FaultKind::WriteFault)),
         (3, Ok(())),
     ] {
-        ends_flushed(&rt, fails, end);
-    }
-}
-
-fn ends_flushed<R: Abort + AllocGlobal>(rt: &R, fails: u32, end: Result<(), Fault>) {
-    let script = b"tur 0 0\n# done\n".as_slice();
-    let writer = HoldingWriter { fails, calls: 0 };
-    let done = run_script(rt.alloc(), script, writer, SMALL);
-    assert!(rt; done == end, "flush {fails}: {done:?}");
-}
-
-// Takes all bytes, but none of those of one call, by its number from 0, which fails.
-#[derive(Clone, Copy)]
-struct RefusingWriter {
-    fails: u32,
-    calls: u32,
-}
-
-impl Write for RefusingWriter {
-    fn write(&mut self, buf: &[u8]) -> io::Result<usize> {
-        let call = self.calls;
-        self.calls = self.calls.saturating_add(1);
-        if call == self.fails {
-            return Err(io::Error::from(io::ErrorKind::BrokenPipe));
-        }
-        Ok(buf.len())
-    }
-
-    fn flush(&mut self) -> io::Result<()> {
-        Ok(())
+        let writer = FailingWriter {
+            bad_flush: fails,
+            ..SOUND
+        };
+        ends(&rt, SMALL, b"tur 0 0\n# done\n".as_slice(), writer, end);
     }
 }
 
@@ -305,48 +294,18 @@ fn single_writes_that_fail(rt: HostRuntime) {
         (1, at(3, FaultKind::WriteFault)),
         (2, Ok(())),
     ] {
-        ends_refused(&rt, fails, end);
-    }
-}
-
-fn ends_refused<R: Abort + AllocGlobal>(rt: &R, fails: u32, end: Result<(), Fault>) {
-    let script = b"make 0 0 20000\nlevels 0 0\ntur 0 0\n".as_slice();
-    let mut writer = RefusingWriter { fails, calls: 0 };
-    let done = run_script(rt.alloc(), script, &mut writer, LARGE);
-    assert!(rt; done == end, "write {fails}: {done:?}");
-    // There are two, and none is tried behind one that failed.
-    assert!(rt;
-        writer.calls == fails.min(1) + 1,
-        "write {fails}: {} calls",
-        writer.calls
-    );
-}
-
-#[test]
-fn arrays_that_do_not_start(rt: HostRuntime) {
-    for (disks, extents, cache) in [
-        (3, 4, 0),
-        (13, 4, 0),
-        (4, 0, 0),
-        (4, 1_025, 0),
-        (4, 4, 65_537),
-        (4, 4, u32::MAX),
-    ] {
-        let setup = Setup {
-            geometry: Geometry::SMALL,
-            disks,
-            extents,
-            cache,
+        let writer = FailingWriter {
+            bad_write: fails,
+            ..SOUND
         };
-        answers(
-            &rt,
-            &setup,
-            setup,
-            b"tur 0 0\n".as_slice(),
-            b"",
-            Err(Fault::Start),
-        );
+        let script = b"make 0 0 20000\nlevels 0 0\ntur 0 0\n".as_slice();
+        are_written(&rt, fails, ends(&rt, LARGE, script, writer, end));
     }
+}
+
+// There are two writes, and none is tried behind one that failed.
+fn are_written(rt: &impl Abort, fails: u32, writes: u32) {
+    assert!(rt; writes == fails.min(1) + 1, "write {fails} fails: {writes}");
 }
 
 /// Two groups of extents for each of 1,024.
@@ -360,14 +319,7 @@ const LARGE: Setup = Setup {
 #[test]
 fn long_answers(rt: HostRuntime) {
     let script = b"make 0 0 20000\nlevels 0 0\n".as_slice();
-    ends(
-        &rt,
-        &"a long answer",
-        LARGE,
-        script,
-        100,
-        at(2, FaultKind::WriteFault),
-    );
+    ends_within(&rt, LARGE, script, 100, at(2, FaultKind::WriteFault));
     are_long(&rt, script);
 }
 

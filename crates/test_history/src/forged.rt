@@ -1,15 +1,12 @@
 // Transcripts that were tampered with, beside the history of which they were a part.
-ghost use Rattle.std.specs.Prelude.{◌≡◌, []};
-
-use crate::calls::{Answer, Call, filled, make_calls};
-use crate::rig::{FOUR_GROUPS, Rig, array};
-use ar_core::Array;
-use ar_disks::{FuseDisk, Host};
+use crate::calls::{After, plays_rows};
+use crate::rig::{Play, Rig, plays};
+use ar_disks::Host;
 use ar_history::{Entry, Exchange, first_difference};
 use ar_scsi::{Reply, Sense};
-use std::marker::Brand;
 use std::process::Abort;
-use std::sync::ledger::{Blank, Ledger};
+use std::sync::ledger::Ledger;
+use test_support::{Call, FOUR_GROUPS, Return, Row, Shape, filled};
 
 /// What is done to a line of a transcript.
 #[derive(Clone, Copy, Debug)]
@@ -57,40 +54,28 @@ const OTHERS: [(u8, u8, Option<u64>); 4] = [
 
 #[test]
 fn forged_transcripts_are_told(rt: HostRuntime) {
-    forge::<Brand, HostRuntime>(&rt, Blank::new(4), array(&rt, FOUR_GROUPS));
+    plays(&rt, FOUR_GROUPS, Play::Forge);
 }
 
-fn forge<L: Ledger, R: Abort + AllocGlobal>(rt: &R, blank: Blank, array: Array<FuseDisk>)
-    requires name { blank.name ≡ L.name }
-    requires parts { blank.parts ≡ L.parts }
-    requires four { blank.parts ≡ 4 }
-    requires no_unit { array.store.book.units ≡ [] }
-{
-    let mut rig: Rig<L> = Rig::start(rt.alloc(), blank, array);
-    fill(rt, &mut rig);
-    try_forgeries(rt, &rig);
-    drop(rig);
-}
+/// Hosts 1 and 2 send commands.
+const FILLED: [Row; 7] = [
+    (Call::Make(1, 0, 4), Return::Done),
+    (Call::Make(2, 0, 4), Return::Done),
+    (Call::Write(1, 0, 0, 2, 0xA1), Return::Good),
+    (Call::Write(2, 0, 0, 2, 0xA2), Return::Good),
+    (Call::Ready(1, 0), Return::Good),
+    (Call::Read(2, 0, 0), Return::Sectors(0xA2, 0xA2)),
+    (Call::Read(1, 0, 0), Return::Sectors(0xA1, 0xA1)),
+];
 
-fn fill<L: Ledger, R: Abort + AllocGlobal>(rt: &R, rig: &mut Rig<L>) {
-    make_calls(
-        rt,
-        FOUR_GROUPS,
-        rig,
-        &[
-            (Call::Make(1, 0, 4), Answer::Done),
-            (Call::Make(2, 0, 4), Answer::Done),
-            (Call::Write(1, 0, 0, 2, 0xA1), Answer::Good),
-            (Call::Write(2, 0, 0, 2, 0xA2), Answer::Good),
-            (Call::Ready(1, 0), Answer::Good),
-            (Call::Read(2, 0, 0), Answer::Sectors(0xA2, 0xA2)),
-            (Call::Read(1, 0, 0), Answer::Sectors(0xA1, 0xA1)),
-            (Call::Close, Answer::Closed([0, 3, 2, 0])),
-        ],
-    );
-}
-
-fn try_forgeries<L: Ledger, R: Abort + AllocGlobal>(rt: &R, rig: &Rig<L>) {
+/// Tampers with transcripts.
+pub fn try_forgeries<L: Ledger, R: Abort + AllocGlobal>(rt: &R, shape: Shape, rig: &mut Rig<L>) {
+    let after = After {
+        entries: 7,
+        commands: [0, 3, 2, 0],
+        free_groups: 3,
+    };
+    plays_rows(rt, shape, rig, &FILLED, after);
     for (forgery, wanted) in &FORGERIES {
         try_forgery(rt, rig, *forgery, *wanted);
     }

@@ -1,20 +1,21 @@
 // Memory that is refused. Here none is left at all; single allocations are refused in turn by the gate (`.ci/scarce`), and the
 // last test goes on after any one of them.
-ghost use Rattle.std.specs.Prelude.{◌≡◌, []};
-
-use crate::calls::{Answer, answer_of, block, filled, is_filled, reply_answer, unit};
-use crate::rig::{FOUR_GROUPS, Rig, array};
-use ar_core::{Array, Refusal, UnitRefusal};
+use crate::calls::closes;
+use crate::rig::{Play, Rig, plays};
+use ar_core::{Refusal, UnitRefusal};
 use ar_disks::FuseDisk;
-use ar_history::{Operation, OperationOf, Report, Served};
-use ar_scsi::{Sense, Status};
+use ar_history::{Operation, OperationOf, Served};
+use ar_scsi::Sense;
 use bytes::Bytes;
 use std::alloc::Global;
-use std::marker::Brand;
 use std::process::Abort;
-use std::sync::ledger::{Blank, Ledger};
+use std::sync::ledger::Ledger;
+use test_support::{FOUR_GROUPS, Return, filled, returned, returned_of, unit_of};
 
 const TEST_UNIT_READY: [u8; 16] = [0; 16];
+
+/// INQUIRY for five bytes.
+const INQUIRY: [u8; 16] = [0x12, 0, 0, 0, 5, 0, 0, 0, 0, 0, 0, 0, 0, 0, 0, 0];
 
 /// More than is ever given at once.
 const MOST_MEMORY: usize = 1 << 44;
@@ -51,22 +52,11 @@ const UNGROWN: u32 = 10_000;
 
 #[test]
 fn without_memory_commands_are_busy(rt: HostRuntime) {
-    starve::<Brand, HostRuntime>(&rt, Blank::new(4), array(&rt, FOUR_GROUPS));
+    plays(&rt, FOUR_GROUPS, Play::Starve);
 }
 
-fn starve<L: Ledger, R: Abort + AllocGlobal>(rt: &R, blank: Blank, array: Array<FuseDisk>)
-    requires name { blank.name ≡ L.name }
-    requires parts { blank.parts ≡ L.parts }
-    requires four { blank.parts ≡ 4 }
-    requires no_unit { array.store.book.units ≡ [] }
-{
-    let mut rig: Rig<L> = Rig::start(rt.alloc(), blank, array);
-    starve_rig(rt, &mut rig);
-    drop(rig);
-}
-
-// Takes all memory once the history is long, so that its next growth is refused, and gives it back.
-fn starve_rig<L: Ledger, R: Abort + AllocGlobal>(rt: &R, rig: &mut Rig<L>) {
+/// Takes all memory once the history is long, so that its next growth is refused, and gives it back.
+pub fn starve<L: Ledger, R: Abort + AllocGlobal>(rt: &R, rig: &mut Rig<L>) {
     let busy = ask_until_busy(rig, FILLED);
     holds(rt, !busy, "BUSY with ample memory");
     let starved = see_starved(rt, rig);
@@ -131,24 +121,24 @@ fn ask_until_busy<L: Ledger>(rig: &mut Rig<L>, times: u32) -> bool {
 
 // Whether a making and a removal are refused for want of memory, and two commands BUSY.
 fn are_refused<L: Ledger>(rig: &mut Rig<L>) -> [bool; 4] {
-    let addr = unit(0, 0);
+    let addr = unit_of(0, 0);
     [
         is_no_memory(rig, OperationOf::Make(addr, 4)),
         is_no_memory(rig, OperationOf::Remove(addr)),
         is_busy(rig, TEST_UNIT_READY),
-        is_busy(rig, block([0x12, 0, 0, 0, 5, 0, 0, 0, 0, 0])),
+        is_busy(rig, INQUIRY),
     ]
 }
 
-fn operated<L: Ledger>(rig: &mut Rig<L>, operation: Operation<FuseDisk>) -> Answer {
+fn operated<L: Ledger>(rig: &mut Rig<L>, operation: Operation<FuseDisk>) -> Return {
     let outcome = rig.operate(operation);
-    let answer = answer_of(&outcome);
+    let met = returned(&outcome);
     drop(outcome);
-    answer
+    met
 }
 
 fn is_no_memory<L: Ledger>(rig: &mut Rig<L>, operation: Operation<FuseDisk>) -> bool {
-    operated(rig, operation) == Answer::Refused(Refusal::Unit(UnitRefusal::NoMemory))
+    operated(rig, operation) == Return::Refused(Refusal::Unit(UnitRefusal::NoMemory))
 }
 
 fn is_busy<L: Ledger>(rig: &mut Rig<L>, cdb: [u8; 16]) -> bool {
@@ -159,11 +149,7 @@ fn is_busy<L: Ledger>(rig: &mut Rig<L>, cdb: [u8; 16]) -> bool {
 }
 
 fn is_told_busy(served: &Served) -> bool {
-    let reply = &served.reply;
-    reply.status == Status::Busy
-        && reply.sense.is_none()
-        && reply.payload.is_empty()
-        && served.at.is_none()
+    returned_of(&served.reply) == Return::Busy && served.at.is_none()
 }
 
 // With memory again the same command is answered.
@@ -175,14 +161,8 @@ fn is_served<L: Ledger>(rt: &impl Abort, rig: &mut Rig<L>, entries: u64) {
 }
 
 fn is_absent(rt: &impl Abort, served: &Served, entries: u64) {
-    let answer = reply_answer(&served.reply);
-    let is_told = answer == Answer::Check(Sense::LOGICAL_UNIT_NOT_SUPPORTED);
+    let is_told = returned_of(&served.reply) == Return::Check(Sense::LOGICAL_UNIT_NOT_SUPPORTED);
     assert!(rt; is_told && served.at == Some(entries), "{served:?}");
-}
-
-fn closes<L: Ledger>(rt: &impl Abort, rig: &Rig<L>, commands: [u64; 4]) {
-    let met = rig.close();
-    assert!(rt; met == Ok(Report { commands }), "{met:?}");
 }
 
 /// A command of a host to its first unit.
@@ -194,15 +174,15 @@ struct Ask {
     sectors: u8,
 }
 
-/// What is asked, and the byte throughout the sectors that come back, if any come.
-const ASKS: [(Ask, Option<u8>); 4] = [
+/// What is asked, and what is returned.
+const ASKS: [(Ask, Return); 4] = [
     (
         Ask {
             host: 0,
             cdb: [0x2A, 0, 0, 0, 0, 0, 0, 0, 2, 0, 0, 0, 0, 0, 0, 0],
             sectors: 2,
         },
-        None,
+        Return::Good,
     ),
     (
         Ask {
@@ -210,7 +190,7 @@ const ASKS: [(Ask, Option<u8>); 4] = [
             cdb: [0x28, 0, 0, 0, 0, 0, 0, 0, 2, 0, 0, 0, 0, 0, 0, 0],
             sectors: 0,
         },
-        Some(0xCC),
+        Return::Sectors(0xCC, 0xCC),
     ),
     (
         Ask {
@@ -218,7 +198,7 @@ const ASKS: [(Ask, Option<u8>); 4] = [
             cdb: [0x28, 0, 0, 0, 0, 0, 0, 0, 2, 0, 0, 0, 0, 0, 0, 0],
             sectors: 0,
         },
-        Some(0),
+        Return::Sectors(0, 0),
     ),
     (
         Ask {
@@ -226,32 +206,22 @@ const ASKS: [(Ask, Option<u8>); 4] = [
             cdb: TEST_UNIT_READY,
             sectors: 0,
         },
-        None,
+        Return::Good,
     ),
 ];
 
 #[test]
 fn a_refused_command_is_asked_again(rt: HostRuntime) {
-    ask_all::<Brand, HostRuntime>(&rt, Blank::new(4), array(&rt, FOUR_GROUPS));
+    plays(&rt, FOUR_GROUPS, Play::AskAtLast);
 }
 
-fn ask_all<L: Ledger, R: Abort + AllocGlobal>(rt: &R, blank: Blank, array: Array<FuseDisk>)
-    requires name { blank.name ≡ L.name }
-    requires parts { blank.parts ≡ L.parts }
-    requires four { blank.parts ≡ 4 }
-    requires no_unit { array.store.book.units ≡ [] }
-{
-    let mut rig: Rig<L> = Rig::start(rt.alloc(), blank, array);
-    ask_rig(rt, &mut rig);
-    drop(rig);
-}
-
-fn ask_rig<L: Ledger, R: Abort + AllocGlobal>(rt: &R, rig: &mut Rig<L>) {
+/// Makes two units and sends commands, each once more where memory for it was refused.
+pub fn ask_at_last<L: Ledger, R: Abort + AllocGlobal>(rt: &R, rig: &mut Rig<L>) {
     make_at_last(rt, rig, 0);
     make_at_last(rt, rig, 1);
-    for (ask, byte) in &ASKS {
-        let served = ask_at_last(rt, rig, *ask);
-        is_given(rt, *ask, *byte, &served);
+    for (ask, wanted) in &ASKS {
+        let served = served_at_last(rt, rig, *ask);
+        is_given(rt, *ask, *wanted, &served);
         drop(served);
     }
     closes(rt, rig, [2, 2, 0, 0]);
@@ -272,30 +242,24 @@ fn make_at_last<L: Ledger>(rt: &impl Abort, rig: &mut Rig<L>, host: u8) {
 }
 
 fn is_made<L: Ledger>(rig: &mut Rig<L>, host: u8) -> bool {
-    operated(rig, OperationOf::Make(unit(host, 0), 4)) == Answer::Done
+    operated(rig, OperationOf::Make(unit_of(host, 0), 4)) == Return::Done
 }
 
-fn ask_at_last<L: Ledger, R: Abort + AllocGlobal>(rt: &R, rig: &mut Rig<L>, ask: Ask) -> Served {
-    let entries = rig.history().len();
-    let lines = rig.transcript(ask.host).len();
+fn served_at_last<L: Ledger, R: Abort + AllocGlobal>(rt: &R, rig: &mut Rig<L>, ask: Ask) -> Served {
+    let before = [rig.history().len(), rig.transcript(ask.host).len()];
     let served = ask_once(rt, rig, ask);
-    if served.reply.status != Status::Busy {
+    if returned_of(&served.reply) != Return::Busy {
         return served;
     }
-    is_unrecorded(rt, ask, "an entry of a BUSY command", served.at.is_none());
+    let is_unrecorded = served.at.is_none();
     drop(served);
-    is_unrecorded(rt, ask, "the history grew", rig.history().len() == entries);
-    is_unrecorded(
+    let after = [rig.history().len(), rig.transcript(ask.host).len()];
+    holds(
         rt,
-        ask,
-        "the transcript grew",
-        rig.transcript(ask.host).len() == lines,
+        is_unrecorded && after == before,
+        "a BUSY command is recorded",
     );
     ask_once(rt, rig, ask)
-}
-
-fn is_unrecorded(rt: &impl Abort, ask: Ask, told: &str, holds: bool) {
-    assert!(rt; holds, "{ask:?}: {told}");
 }
 
 fn ask_once<L: Ledger, R: Abort + AllocGlobal>(rt: &R, rig: &mut Rig<L>, ask: Ask) -> Served {
@@ -310,16 +274,7 @@ fn filled_at_last<R: Abort + AllocGlobal>(rt: &R, sectors: u8) -> Bytes {
     }
 }
 
-fn is_given(rt: &impl Abort, ask: Ask, byte: Option<u8>, served: &Served) {
-    let is_good = served.reply.status == Status::Good;
-    let is_shown = is_shown(served.reply.payload.as_slice(), byte);
-    assert!(rt; is_good && is_shown, "{ask:?}: {served:?}");
-    assert!(rt; served.at.is_some(), "{ask:?}: no entry");
-}
-
-fn is_shown(bytes: &[u8], byte: Option<u8>) -> bool {
-    match byte {
-        Some(byte) => bytes.len() == 1024 && is_filled(bytes) && bytes[0] == byte,
-        None => bytes.is_empty(),
-    }
+fn is_given(rt: &impl Abort, ask: Ask, wanted: Return, served: &Served) {
+    let is_wanted = returned_of(&served.reply) == wanted && served.at.is_some();
+    assert!(rt; is_wanted, "{ask:?}: {served:?}");
 }

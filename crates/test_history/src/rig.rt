@@ -1,30 +1,22 @@
-// A kept array of small disks, every byte of them EE, and the seats of its four hosts.
-ghost use Rattle.std.specs.Prelude.{◌≡◌, ◌∷◌, [], All, map, IfOk};
-ghost use Rattle.ar_extents.specs.Set.{CanCount};
+// A kept array, and the seats of its four hosts.
+ghost use Rattle.std.specs.Prelude.{◌≡◌, ◌∷◌, [], map};
 ghost use Rattle.ar_history.specs.Seat.{SeatState};
 
+use crate::calls::{After, plays_rows};
+use crate::drawn::ask_commands;
+use crate::forged::try_forgeries;
+use crate::memory::{ask_at_last, starve};
 use ar_core::{Array, Event, EventOf, Outcome, OutcomeOf};
-use ar_disks::{FuseDisk, Geometry, MemDisk};
+use ar_disks::FuseDisk;
 use ar_history::{
     Entry, Exchange, Kept, Mismatch, Operation, OperationOf, Report, Seat, Served, Task,
 };
 use bytes::Bytes;
-use std::alloc::{AllocError, Global};
+use std::alloc::Global;
+use std::marker::Brand;
 use std::process::Abort;
 use std::sync::ledger::{Blank, Ledger};
-
-/// What an array begins with: four disks of so many extents, and a cache of so many blocks.
-#[derive(Clone, Copy, Debug)]
-pub struct Shape {
-    pub extents: u16,
-    pub cache: u16,
-}
-
-/// Four groups, written through.
-pub const FOUR_GROUPS: Shape = Shape {
-    extents: 4,
-    cache: 0,
-};
+use test_support::{Row, Shape};
 
 /// A kept array and its seats.
 #[derive(Drop)]
@@ -101,49 +93,55 @@ impl<L: Ledger> Rig<L> {
     }
 }
 
-/// An array of sound disks, without a unit. Where one allocation for it was refused, it is asked for once more.
-pub fn array<R: Abort + AllocGlobal>(rt: &R, shape: Shape) -> Array<FuseDisk>
-    ensures { result.store.book.units ≡ [] }
-{
-    let cache = u32::from(shape.cache);
-    match Array::start(rt.alloc(), disks(rt, shape.extents), cache) {
-        Ok(array) => array,
-        Err((_, disks)) => Array::start(rt.alloc(), disks, cache)
-            .ok()
-            .expect(rt, "an array"),
-    }
+/// What is done on a new kept array.
+#[derive(Clone, Copy)]
+pub enum Play<'a> {
+    /// A table is played, after which the array holds this.
+    Rows(&'a [Row], After),
+    /// Transcripts are tampered with.
+    Forge,
+    /// All memory is taken, and given back.
+    Starve,
+    /// Commands are sent, each once more where memory for it was refused.
+    AskAtLast,
+    /// Drawn commands are sent.
+    Draw,
 }
 
-fn disks<R: Abort + AllocGlobal>(rt: &R, extents: u16) -> Vec<FuseDisk>
-    ensures { All CanCount (map (λ disk. disk.disk) result.items) }
-{
-    let four = [
-        disk(rt, extents),
-        disk(rt, extents),
-        disk(rt, extents),
-        disk(rt, extents),
-    ];
-    match Vec::from_array(rt.alloc(), four) {
-        Ok(disks) => disks,
-        Err(back) => Vec::from_array(rt.alloc(), back.value)
-            .ok()
-            .expect(rt, "memory"),
-    }
+/// Plays on a new array without a unit.
+pub fn plays<R: Abort + AllocGlobal>(rt: &R, shape: Shape, play: Play<'_>) {
+    let array = shape.array(rt.alloc()).expect(rt, "an array");
+    plays_on::<Brand, R>(rt, Blank::new(4), array, shape, play);
 }
 
-/// A sound disk. Where memory for it was refused, it is asked for once more.
-pub fn disk<R: Abort + AllocGlobal>(rt: &R, extents: u16) -> FuseDisk
-    ensures { CanCount result.disk }
+fn plays_on<L: Ledger, R: Abort + AllocGlobal>(
+    rt: &R,
+    blank: Blank,
+    array: Array<FuseDisk>,
+    shape: Shape,
+    play: Play<'_>,
+)
+    requires name { blank.name ≡ L.name }
+    requires parts { blank.parts ≡ L.parts }
+    requires four { blank.parts ≡ 4 }
+    requires no_unit { array.store.book.units ≡ [] }
 {
-    match sound_disk(rt.alloc(), extents) {
-        Ok(disk) => disk,
-        Err(_) => sound_disk(rt.alloc(), extents).expect(rt, "memory"),
-    }
+    let mut rig: Rig<L> = Rig::start(rt.alloc(), blank, array);
+    play_on(rt, shape, &mut rig, play);
+    drop(rig);
 }
 
-fn sound_disk(alloc: Global, extents: u16) -> Result<FuseDisk, AllocError>
-    ensures { IfOk result (λ disk. CanCount disk.disk) }
-{
-    let disk = MemDisk::filled(alloc, Geometry::SMALL, extents, 0xEE)?;
-    Ok(FuseDisk::new(disk, u64::MAX))
+fn play_on<L: Ledger, R: Abort + AllocGlobal>(
+    rt: &R,
+    shape: Shape,
+    rig: &mut Rig<L>,
+    play: Play<'_>,
+) {
+    match play {
+        Play::Rows(rows, after) => plays_rows(rt, shape, rig, rows, after),
+        Play::Forge => try_forgeries(rt, shape, rig),
+        Play::Starve => starve(rt, rig),
+        Play::AskAtLast => ask_at_last(rt, rig),
+        Play::Draw => ask_commands(rt, shape, rig),
+    }
 }

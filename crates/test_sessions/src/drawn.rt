@@ -1,19 +1,16 @@
 // A drawn run over sessions, one a host and one after another: what stands between two frames is done when the next is read. Each
 // reply is, byte by byte, that of plain lists, which share no code with the array.
-ghost use Rattle.std.specs.Prelude.{◌≡◌, [], None};
+ghost use Rattle.std.specs.Prelude.{None};
 
 use crate::frames::{LOGINS, put_reply, put_request};
-use crate::rig::{Rig, array, closes, copy_rest, serves, sink};
-use ar_agreement::{agrees, kind_of_work, unit_at};
-use ar_core::{Array, Outcome};
-use ar_disks::MemDisk;
+use crate::rig::{Play, Rig, copy_rest, plays, serves, sink};
+use ar_core::Outcome;
+use ar_disks::FuseDisk;
 use ar_frames::{SessionEnd, Source, Why};
-use ar_history::{Operation, OperationOf, Task};
-use ar_witness::{Answer, Ask, Command, Kind, Run, Tally, Work};
-use std::marker::Brand;
 use std::process::Abort;
 use std::sync::Wait;
-use std::sync::ledger::{Blank, Ledger};
+use std::sync::ledger::Ledger;
+use test_support::{Answer, Ask, Command, FOUR_GROUPS, Run, Shape, Tally, agrees, kind_of_work};
 
 /// The frames of a host's session.
 const FRAMES: u64 = 5_000;
@@ -24,8 +21,11 @@ const MOST_BETWEEN: u32 = 1_000;
 /// More bytes than the replies of a session have.
 const MOST_BYTES: usize = 1 << 24;
 
-/// Extents of each disk. All groups but one have room for six blocks each.
-const EXTENTS: u16 = 16;
+/// Sixteen groups. All but one have room for six blocks each.
+const SIXTEEN_GROUPS: Shape = Shape {
+    extents: 16,
+    ..FOUR_GROUPS
+};
 
 const ROOM: u32 = 6 * 15;
 
@@ -35,34 +35,21 @@ const WANTED: u32 = 100;
 #[test]
 fn drawn_sessions_are_answered_as_by_plain_lists(rt: HostRuntime) {
     for cache in [0, 2] {
-        let array = array(&rt, rt.alloc(), EXTENTS, cache);
-        sessions_on::<Brand, HostRuntime>(&rt, Blank::new(4), array, cache);
+        let shape = Shape {
+            cache,
+            ..SIXTEEN_GROUPS
+        };
+        plays(&rt, shape, Play::Draw, &[FRAMES; 4]);
     }
 }
 
-fn sessions_on<L: Ledger, R: Wait + Abort + AllocGlobal>(
-    rt: &R,
-    blank: Blank,
-    array: Array<MemDisk>,
-    cache: u32,
-)
-    requires name { blank.name ≡ L.name }
-    requires parts { blank.parts ≡ L.parts }
-    requires four { blank.parts ≡ 4 }
-    requires no_unit { array.store.book.units ≡ [] }
-{
-    let rig: Rig<L> = Rig::start(rt.alloc(), blank, array);
-    in_turn(rt, &rig, cache);
-    closes(rt, rig, &[FRAMES; 4]);
-}
-
-// The four hosts, one after another.
-fn in_turn<L: Ledger, R: Wait + Abort + AllocGlobal>(rt: &R, rig: &Rig<L>, cache: u32) {
+/// The four hosts, one after another.
+pub fn draw<L: Ledger, R: Wait + Abort + AllocGlobal>(rt: &R, rig: &Rig<L>, shape: Shape) {
     let mut run = Run::new(rt.alloc(), 8, ROOM);
     for host in 0..4 {
         session(rt, rig, host, &mut run);
     }
-    each_kind_came(rt, cache, &run);
+    each_kind_came(rt, shape, &run);
     drop(run);
 }
 
@@ -109,13 +96,11 @@ fn ends(rt: &impl Abort, host: u8, end: SessionEnd) {
 }
 
 fn replies(rt: &impl Abort, host: u8, written: &[u8], wanted: &[u8]) {
-    if written != wanted {
-        let at = first_difference(written, wanted);
-        let (number, begin) = reply_at(wanted, at);
-        let met = part(written, begin);
-        let reply = part(wanted, begin);
-        assert!(rt; false, "host {host}, reply {number}: {met:?} for {reply:?}");
-    }
+    let at = first_difference(written, wanted);
+    assert!(rt;
+        written == wanted,
+        "host {host}: the replies differ at byte {at}"
+    );
 }
 
 // Where two lists differ first: at most the end of the shorter one.
@@ -130,45 +115,10 @@ fn first_difference(one: &[u8], other: &[u8]) -> usize {
     at
 }
 
-// Which reply, from 0, stands at a place behind the login's answer, and where it begins.
-fn reply_at(bytes: &[u8], at: usize) -> (u64, usize) {
-    let mut begin: usize = 1;
-    for number in 0..FRAMES {
-        let end = begin.saturating_add(length_at(bytes, begin));
-        if end > at {
-            return (number, begin);
-        }
-        begin = end;
-    }
-    (FRAMES, begin)
-}
-
-// The length of the reply that begins there, with the field that tells it.
-fn length_at(bytes: &[u8], begin: usize) -> usize {
-    match part(bytes, begin) {
-        [a, b, c, d, ..] => (u32::from_be_bytes([*a, *b, *c, *d]) as usize).saturating_add(4),
-        _ => 0,
-    }
-}
-
-// Some bytes from a place on.
-fn part(bytes: &[u8], from: usize) -> &[u8] {
-    let from = from.min(bytes.len());
-    let rest = &bytes[from..];
-    &rest[..rest.len().min(64)]
-}
-
 // A run that never met an answer would say nothing of it.
-fn each_kind_came(rt: &impl Abort, cache: u32, run: &Run) {
-    let lacking = run.tally.lacks(WANTED);
-    assert!(rt; lacking.is_none(), "{lacking:?} is rare, cache {cache}");
-    let flushed = run.tally.count(Kind::Flushed);
-    assert!(rt;
-        (flushed >= WANTED) == (cache > 0),
-        "{flushed} flushed, cache {cache}"
-    );
-    let other = run.tally.count(Kind::Other);
-    assert!(rt; other == 0, "{other} other answers, cache {cache}");
+fn each_kind_came(rt: &impl Abort, shape: Shape, run: &Run) {
+    let flaw = run.tally.flaw(WANTED, shape.cache > 0);
+    assert!(rt; flaw.is_none(), "{flaw:?}: {shape:?}");
 }
 
 /// The frame that is sent next, and what the session has to write to all that were.
@@ -256,28 +206,14 @@ fn ask_once<R: Wait + Abort, L: Ledger>(
     frames: &mut Frames,
 ) -> bool {
     let (ask, wanted) = run.next(Some(host)).expect(rt, "memory");
-    let is_command = ask_this(rt, rig, tag, &ask, &wanted, &mut run.tally, frames);
+    let is_command = matches!(ask, Ask::Command(_));
+    match &ask {
+        Ask::Command(command) => put_frames(rt, tag, command, &wanted, frames),
+        between => step(rt, rig, between, &wanted, &mut run.tally),
+    }
     drop(ask);
     drop(wanted);
     is_command
-}
-
-// Does what is asked, or puts a command into a frame and says so.
-fn ask_this<R: Wait + Abort, L: Ledger>(
-    rt: &R,
-    rig: &Rig<L>,
-    tag: u8,
-    ask: &Ask,
-    wanted: &Answer,
-    tally: &mut Tally,
-    frames: &mut Frames,
-) -> bool {
-    match ask {
-        Ask::Command(command) => put_frames(rt, tag, command, wanted, frames),
-        Ask::Work(task) => tally.add(work(rt, rig, *task)),
-        change => operate(rt, rig, change, wanted),
-    }
-    matches!(ask, Ask::Command(_))
 }
 
 fn put_frames(rt: &impl Abort, tag: u8, command: &Command, wanted: &Answer, frames: &mut Frames) {
@@ -295,42 +231,22 @@ fn put_frames(rt: &impl Abort, tag: u8, command: &Command, wanted: &Answer, fram
     }
 }
 
-fn work<L: Ledger>(rt: &(impl Wait + Abort), rig: &Rig<L>, work: Work) -> Kind {
-    let outcome = rig.kept.lock(rt).background(task_of(work));
-    does_agree(rt, &outcome, &Answer::Open);
-    let kind = kind_of_work(&outcome);
+// A creation, a resize or a removal, or work in the background.
+fn step<L: Ledger>(
+    rt: &(impl Wait + Abort),
+    rig: &Rig<L>,
+    ask: &Ask,
+    wanted: &Answer,
+    tally: &mut Tally,
+) {
+    let outcome = rig.step(rt, ask);
+    does_agree(rt, &outcome, wanted);
+    if *wanted == Answer::Open {
+        tally.add(kind_of_work(&outcome));
+    }
     drop(outcome);
-    kind
 }
 
-fn does_agree(rt: &impl Abort, outcome: &Outcome<MemDisk>, wanted: &Answer) {
+fn does_agree(rt: &impl Abort, outcome: &Outcome<FuseDisk>, wanted: &Answer) {
     assert!(rt; agrees(outcome, wanted), "{outcome:?} for {wanted:?}");
-}
-
-fn task_of(work: Work) -> Task {
-    match work {
-        Work::Flush => Task::Flush,
-        Work::Demote => Task::Demote,
-        Work::Clean => Task::Clean,
-        Work::Balance => Task::Balance,
-        Work::Rebuild => Task::Rebuild,
-    }
-}
-
-// A making, growth or removal.
-fn operate<L: Ledger>(rt: &(impl Wait + Abort), rig: &Rig<L>, ask: &Ask, wanted: &Answer) {
-    if let Some(operation) = operation_of(ask) {
-        let outcome = rig.kept.lock(rt).operate(operation);
-        does_agree(rt, &outcome, wanted);
-        drop(outcome);
-    }
-}
-
-fn operation_of(ask: &Ask) -> Option<Operation<MemDisk>> {
-    match ask {
-        Ask::Make(place, sectors) => Some(OperationOf::Make(unit_at(*place), *sectors)),
-        Ask::Grow(place, sectors) => Some(OperationOf::Grow(unit_at(*place), *sectors)),
-        Ask::Remove(place) => Some(OperationOf::Remove(unit_at(*place))),
-        _ => None,
-    }
 }

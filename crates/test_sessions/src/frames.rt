@@ -1,6 +1,6 @@
 // Logins, requests and replies as bytes, by the table of the wire format.
-use ar_witness::PlainReply;
 use std::process::Abort;
+use test_support::PlainReply;
 
 /// The login of a host.
 pub const LOGINS: [&[u8]; 4] = [

@@ -1,21 +1,20 @@
 // Sessions at once, behind a gate.
-ghost use Rattle.std.specs.Prelude.{◌≡◌, [], true, None};
+ghost use Rattle.std.specs.Prelude.{◌≡◌, true, None};
 
 use crate::frames::{LOGINS, TUR, put, put_request};
-use crate::rig::{Rig, array, closes, sink};
-use ar_core::Array;
-use ar_disks::{Host, MemDisk};
+use crate::rig::{Play, Rig, plays, sink};
+use ar_disks::Host;
 use ar_frames::{Gate, MemSink, MemSource, NoGate, SessionEnd, Why};
 use ar_sessions::{ConnectionEnd, Door, MemDoor, run_sessions};
 use std::alloc::Global;
 use std::collections::VecDeque;
-use std::marker::Brand;
 use std::process::Abort;
 use std::sync::Wait;
 use std::sync::atomic::{AtomicBool, Ordering};
-use std::sync::ledger::{Blank, Ledger};
+use std::sync::ledger::Ledger;
 use std::thread;
 use std::thread::Threads;
+use test_support::FOUR_GROUPS;
 
 /// How often a flag is looked at before it counts as never set.
 const LOOKS: u32 = 10_000_000;
@@ -94,59 +93,15 @@ fn push(
         .expect(rt, "memory");
 }
 
-// Serves a door on a new array where hosts 0 and 1 have units, and closes it.
-fn serve<O: Door + Drop, G: Gate + Sync, R: Threads + Wait + Abort + Sync>(
+// Serves a door where hosts 0 and 1 have units.
+fn serve<L: Ledger + Send + Sync, O: Door + Drop, G: Gate + Sync, R: Threads + Wait + Abort + Sync>(
     rt: &R,
     alloc: Global,
+    rig: &Rig<L>,
     door: O,
     gate: &G,
     wanted: &[ConnectionEnd],
-    commands: [u64; 4],
 ) {
-    let array = array(rt, alloc, 4, 0);
-    serve_on::<Brand, O, G, R>(
-        rt,
-        alloc,
-        Blank::new(4),
-        array,
-        door,
-        gate,
-        wanted,
-        commands,
-    );
-}
-
-fn serve_on<
-    L: Ledger + Send + Sync,
-    O: Door + Drop,
-    G: Gate + Sync,
-    R: Threads + Wait + Abort + Sync,
->(
-    rt: &R,
-    alloc: Global,
-    blank: Blank,
-    array: Array<MemDisk>,
-    door: O,
-    gate: &G,
-    wanted: &[ConnectionEnd],
-    commands: [u64; 4],
-)
-    requires name { blank.name ≡ L.name }
-    requires parts { blank.parts ≡ L.parts }
-    requires four { blank.parts ≡ 4 }
-    requires no_unit { array.store.book.units ≡ [] }
-{
-    let rig: Rig<L> = Rig::start(alloc, blank, array);
-    run_on(rt, alloc, &rig, door, gate, wanted);
-    closes(rt, rig, &commands);
-}
-
-fn run_on<
-    L: Ledger + Send + Sync,
-    O: Door + Drop,
-    G: Gate + Sync,
-    R: Threads + Wait + Abort + Sync,
->(rt: &R, alloc: Global, rig: &Rig<L>, door: O, gate: &G, wanted: &[ConnectionEnd]) {
     rig.make(rt, 0);
     rig.make(rt, 1);
     let (door, ends) = run_sessions(rt, alloc, door, &rig.kept, &rig.desk, gate);
@@ -166,11 +121,20 @@ const fn served(frames: u64, why: Why) -> ConnectionEnd {
 
 #[test]
 fn two_sessions_at_once(rt: HostRuntime) {
+    plays(&rt, FOUR_GROUPS, Play::MeetHeld, &[1, 1, 0, 0]);
+}
+
+/// Serves two sessions at once, of which the first waits for the second.
+pub fn meet_held<L: Ledger + Send + Sync, R: Threads + Wait + Abort + Sync>(
+    rt: &R,
+    alloc: Global,
+    rig: &Rig<L>,
+) {
     let gate = Held::new();
-    let sessions = [(0, 1), (1, 1)];
+    let door = door(rt, alloc, &[(0, 1), (1, 1)]);
     let wanted = [served(1, Why::End), served(1, Why::End)];
-    meet(&rt, rt.alloc(), &sessions, &gate, &wanted, [1, 1, 0, 0]);
-    is_answered_meanwhile(&rt, &gate);
+    serve(rt, alloc, rig, door, &gate, &wanted);
+    is_answered_meanwhile(rt, &gate);
 }
 
 /// What host 0 was held for came.
@@ -181,28 +145,27 @@ pub fn is_answered_meanwhile(rt: &impl Abort, gate: &Held) {
     );
 }
 
-// Serves sessions of hosts, each with so many commands.
-fn meet<G: Gate + Sync, R: Threads + Wait + Abort + Sync>(
+/// Serves sessions: the host and the number of commands of each.
+pub fn meet<L: Ledger + Send + Sync, R: Threads + Wait + Abort + Sync>(
     rt: &R,
     alloc: Global,
+    rig: &Rig<L>,
     sessions: &[(u8, u8)],
-    gate: &G,
     wanted: &[ConnectionEnd],
-    commands: [u64; 4],
 ) {
     let door = door(rt, alloc, sessions);
-    serve(rt, alloc, door, gate, wanted, commands);
+    serve(rt, alloc, rig, door, &NoGate, wanted);
 }
 
 #[test]
 fn ends_stand_in_order(rt: HostRuntime) {
-    let sessions = [(2, 3), (1, 1), (3, 2)];
     let wanted = [
         served(3, Why::End),
         served(1, Why::End),
         served(2, Why::End),
     ];
-    meet(&rt, rt.alloc(), &sessions, &NoGate, &wanted, [0, 1, 3, 2]);
+    let play = Play::Meet(&[(2, 3), (1, 1), (3, 2)], &wanted);
+    plays(&rt, FOUR_GROUPS, play, &[0, 1, 3, 2]);
 }
 
 // A door that doesn't open.
@@ -234,7 +197,15 @@ impl Door for Jammed {
 
 #[test]
 fn a_connection_that_does_not_open(rt: HostRuntime) {
+    plays(&rt, FOUR_GROUPS, Play::MeetJammed, &[0, 0, 0, 0]);
+}
+
+/// Serves two connections that do not open.
+pub fn meet_jammed<L: Ledger + Send + Sync, R: Threads + Wait + Abort + Sync>(
+    rt: &R,
+    alloc: Global,
+    rig: &Rig<L>,
+) {
     let wanted = [served(0, Why::Read), served(0, Why::Read)];
-    let door = Jammed { left: 2 };
-    serve(&rt, rt.alloc(), door, &NoGate, &wanted, [0, 0, 0, 0]);
+    serve(rt, alloc, rig, Jammed { left: 2 }, &NoGate, &wanted);
 }

@@ -1,20 +1,17 @@
 // Connections, of which one may find no thread, or the work in the background none. The gate refuses each allocation in turn, and
 // so each thread, by `.ci/scarce`; with ample memory all of them start.
-ghost use Rattle.std.specs.Prelude.{◌≡◌, [], true, ⊤};
+ghost use Rattle.std.specs.Prelude.{true, ⊤};
 
-use crate::rig::{Rig, array, closes};
-use ar_core::Array;
-use ar_disks::{Geometry, MemDisk};
+use crate::rig::{Play, Rig, plays};
 use ar_frames::{MemSink, MemSource, NoGate, SessionEnd, Why};
-use ar_script::{Setup, start_array};
 use ar_sessions::{ConnectionEnd, Door, run_beside_background};
 use std::alloc::Global;
-use std::marker::Brand;
 use std::process::Abort;
 use std::sync::Wait;
-use std::sync::ledger::{Blank, Ledger};
+use std::sync::ledger::Ledger;
 use std::thread::Threads;
 use std::time::Clock;
+use test_support::FOUR_GROUPS;
 
 /// How many connections come.
 const CONNECTIONS: usize = 3;
@@ -50,44 +47,11 @@ impl Door for Brief {
 
 #[test]
 fn a_thread_that_does_not_start(rt: HostRuntime) {
-    let alloc = rt.alloc();
-    let array = started(&rt, alloc);
-    serves_on::<Brand, _>(&rt, alloc, Blank::new(4), array);
+    plays(&rt, FOUR_GROUPS, Play::MeetBriefly, &[0, 0, 0, 0]);
 }
 
-// A new array. Where memory for it was refused, it is asked for once more.
-fn started(rt: &impl Abort, alloc: Global) -> Array<MemDisk>
-    ensures { result.store.book.units ≡ [] }
-{
-    let setup = Setup {
-        geometry: Geometry::SMALL,
-        disks: 4,
-        extents: 4,
-        cache: 0,
-    };
-    match start_array(alloc, setup) {
-        Ok(array) => array,
-        Err(_) => array(rt, alloc, 4, 0),
-    }
-}
-
-fn serves_on<L: Ledger + Send + Sync, R: Threads + Wait + Clock + Abort + Sync>(
-    rt: &R,
-    alloc: Global,
-    blank: Blank,
-    array: Array<MemDisk>,
-)
-    requires name { blank.name ≡ L.name }
-    requires parts { blank.parts ≡ L.parts }
-    requires four { blank.parts ≡ 4 }
-    requires no_unit { array.store.book.units ≡ [] }
-{
-    let rig: Rig<L> = Rig::start(alloc, blank, array);
-    serves(rt, alloc, &rig);
-    closes(rt, rig, &[0, 0, 0, 0]);
-}
-
-fn serves<L: Ledger + Send + Sync, R: Threads + Wait + Clock + Abort + Sync>(
+/// Serves connections that end before a login.
+pub fn meet_briefly<L: Ledger + Send + Sync, R: Threads + Wait + Clock + Abort + Sync>(
     rt: &R,
     alloc: Global,
     rig: &Rig<L>,

@@ -1,77 +1,51 @@
 // Sessions over sockets of this machine, with work in the background beside them.
-ghost use Rattle.std.specs.Prelude.{◌≡◌, ◌≤◌, [], length};
+ghost use Rattle.std.specs.Prelude.{◌≤◌, length};
 ghost use Rattle.ar_frames.specs.Frame.{most_data};
 
 use crate::frames::{LOGINS, TUR};
-use crate::rig::{Rig, array, closes};
-use ar_core::Array;
-use ar_disks::MemDisk;
+use crate::rig::{Play, Rig, plays};
 use ar_frames::{Linked, NoGate, SessionEnd, Why, ask, hello};
 use ar_scsi::{Reply, Status};
 use ar_sessions::{ConnectionEnd, ListenFault, TcpDoor, run_beside_background};
 use std::alloc::Global;
 use std::io::{Read, Write};
-use std::marker::Brand;
 use std::net::{Net, Shutdown, TcpListener, TcpStream};
 use std::process::Abort;
 use std::sync::Wait;
-use std::sync::ledger::{Blank, Ledger};
+use std::sync::ledger::Ledger;
 use std::thread;
 use std::thread::{Scope, Threads};
 use std::time::Clock;
+use test_support::{FOUR_GROUPS, Shape};
+
+/// Behind a cache of four blocks.
+const CACHED: Shape = Shape {
+    cache: 4,
+    ..FOUR_GROUPS
+};
 
 /// Who connects.
 #[derive(Clone, Copy)]
-enum Guests {
-    // Two hosts at once, each with so many writes and reads.
+pub enum Guests {
+    /// Two hosts at once, each with so many writes and reads.
     Two(u8),
-    // So many, one after the other, each with one command.
+    /// So many, one after the other, each with one command.
     InTurn(u8),
-    // One that sends garbage, one that leaves inside a frame, one that never reads, and then a host.
+    /// One that sends garbage, one that leaves inside a frame, one that never reads, and then a host.
     Rude,
 }
 
-// Serves guests on a new array, and compares how many commands each host has in the end.
-fn serves<
-    R: Threads + Wait + Clock + Abort + Net<Listener = TcpListener, Stream = TcpStream> + Sync,
->(rt: &R, alloc: Global, guests: Guests, connections: usize, commands: &[u64]) {
-    let array = array(rt, alloc, 4, 4);
-    serves_on::<Brand, R>(
-        rt,
-        alloc,
-        Blank::new(4),
-        array,
-        guests,
-        connections,
-        commands,
-    );
-}
-
-fn serves_on<
+/// Serves guests, each host of whom has a unit, and compares how their connections ended.
+pub fn welcome<
     L: Ledger + Send + Sync,
     R: Threads + Wait + Clock + Abort + Net<Listener = TcpListener, Stream = TcpStream> + Sync,
->(
-    rt: &R,
-    alloc: Global,
-    blank: Blank,
-    array: Array<MemDisk>,
-    guests: Guests,
-    connections: usize,
-    commands: &[u64],
-)
-    requires name { blank.name ≡ L.name }
-    requires parts { blank.parts ≡ L.parts }
-    requires four { blank.parts ≡ 4 }
-    requires no_unit { array.store.book.units ≡ [] }
-{
-    let rig: Rig<L> = Rig::start(alloc, blank, array);
+>(rt: &R, alloc: Global, rig: &Rig<L>, guests: Guests, connections: usize) {
     for host in 0..4 {
         rig.make(rt, host);
     }
-    let ends = meets(rt, alloc, &rig, guests, connections);
+    let ends = meets(rt, alloc, rig, guests, connections);
     compare(rt, guests, ends.as_slice());
     drop(ends);
-    closes(rt, rig, commands);
 }
 
 // Opens a door for guests, and answers how their connections ended.
@@ -82,7 +56,7 @@ fn meets<
     let door = TcpDoor::listen(rt, alloc, 0, connections).expect(rt, "a port");
     let port = door.port().expect(rt, "its number");
     let (door, ends) = thread::scope(thread::scope_env(), rt, move |scope| {
-        welcome(scope, rt, alloc, guests, port);
+        let_in(scope, rt, alloc, guests, port);
         run_beside_background(rt, alloc, door, &rig.kept, &rig.desk, &NoGate)
     });
     drop(door);
@@ -90,7 +64,7 @@ fn meets<
 }
 
 // Starts the guests' thread.
-fn welcome<'s, E, R: Threads + Abort + Net<Listener = TcpListener, Stream = TcpStream> + Sync>(
+fn let_in<'s, E, R: Threads + Abort + Net<Listener = TcpListener, Stream = TcpStream> + Sync>(
     scope: &'s Scope<'s, E>,
     rt: &'s R,
     alloc: Global,
@@ -257,17 +231,27 @@ fn all_ended(rt: &impl Abort, ends: &[ConnectionEnd], frames: u64) {
 
 #[test]
 fn two_hosts_at_once(rt: HostRuntime) {
-    serves(&rt, rt.alloc(), Guests::Two(50), 2, &[100, 100, 0, 0]);
+    plays(
+        &rt,
+        CACHED,
+        Play::Welcome(Guests::Two(50), 2),
+        &[100, 100, 0, 0],
+    );
 }
 
 #[test]
 fn a_hundred_connections(rt: HostRuntime) {
-    serves(&rt, rt.alloc(), Guests::InTurn(100), 100, &[25, 25, 25, 25]);
+    plays(
+        &rt,
+        CACHED,
+        Play::Welcome(Guests::InTurn(100), 100),
+        &[25, 25, 25, 25],
+    );
 }
 
 #[test]
 fn rude_guests(rt: HostRuntime) {
-    serves(&rt, rt.alloc(), Guests::Rude, 4, &[0, 0, 2]);
+    plays(&rt, CACHED, Play::Welcome(Guests::Rude, 4), &[0, 0, 2]);
 }
 
 #[test]

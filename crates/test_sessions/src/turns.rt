@@ -1,22 +1,20 @@
 // Sessions one after another.
-ghost use Rattle.std.specs.Prelude.{◌≡◌, [], None};
+ghost use Rattle.std.specs.Prelude.{None};
 
 use crate::frames::{
     LOGINS, READ, READ_16, TUR, WRITE, WRITE_16, put, put_check, put_good, put_request,
 };
-use crate::rig::{Rig, array, closes, copy_rest, serves, sink};
-use ar_core::Array;
-use ar_disks::MemDisk;
+use crate::rig::{Play, Rig, copy_rest, plays, serves, sink};
 use ar_frames::{SessionEnd, Source, Why};
 use std::alloc::Global;
-use std::marker::Brand;
 use std::process::Abort;
 use std::sync::Wait;
-use std::sync::ledger::{Blank, Ledger};
+use std::sync::ledger::Ledger;
+use test_support::FOUR_GROUPS;
 
 /// A part of a session.
 #[derive(Clone, Copy)]
-enum Part {
+pub enum Part {
     /// A host logs in.
     LogIn(u8),
     /// A command that is GOOD: its tag and its block, what is sent with it and what comes back.
@@ -32,11 +30,11 @@ enum Part {
 
 /// A session: its parts, of whose bytes at most so many are sent and so many come back, and how it ends.
 #[derive(Clone, Copy)]
-struct Turn {
-    parts: &'static [Part],
-    sent: usize,
-    got: usize,
-    end: SessionEnd,
+pub struct Turn {
+    pub parts: &'static [Part],
+    pub sent: usize,
+    pub got: usize,
+    pub end: SessionEnd,
 }
 
 // A session of which all is sent.
@@ -88,38 +86,8 @@ impl Session {
     }
 }
 
-// Plays sessions one after another on a new array, where host 0 has a unit if that is asked.
-fn plays<R: Wait + Abort>(
-    rt: &R,
-    alloc: Global,
-    with_unit: bool,
-    turns: &[Turn],
-    commands: [u64; 4],
-) {
-    let array = array(rt, alloc, 4, 0);
-    plays_on::<Brand, R>(rt, alloc, Blank::new(4), array, with_unit, turns, commands);
-}
-
-fn plays_on<L: Ledger, R: Wait + Abort>(
-    rt: &R,
-    alloc: Global,
-    blank: Blank,
-    array: Array<MemDisk>,
-    with_unit: bool,
-    turns: &[Turn],
-    commands: [u64; 4],
-)
-    requires name { blank.name ≡ L.name }
-    requires parts { blank.parts ≡ L.parts }
-    requires four { blank.parts ≡ 4 }
-    requires no_unit { array.store.book.units ≡ [] }
-{
-    let rig: Rig<L> = Rig::start(alloc, blank, array);
-    play_all(rt, alloc, &rig, with_unit, turns);
-    closes(rt, rig, &commands);
-}
-
-fn play_all<L: Ledger, R: Wait + Abort>(
+/// Plays sessions one after another, where host 0 has a unit if that is asked.
+pub fn play_turns<L: Ledger, R: Wait + Abort>(
     rt: &R,
     alloc: Global,
     rig: &Rig<L>,
@@ -219,7 +187,7 @@ const NO_UNIT: [u8; 3] = [0x05, 0x25, 0x00];
 #[test]
 fn a_short_length_ends_the_session(rt: HostRuntime) {
     let turns = [sends_all(&SHORT, 1, Why::TooShort(24))];
-    plays(&rt, rt.alloc(), false, &turns, [1, 0, 0, 0]);
+    plays(&rt, FOUR_GROUPS, Play::Turns(false, &turns), &[1, 0, 0, 0]);
 }
 
 const SHORT: [Part; 3] = [
@@ -235,7 +203,7 @@ fn a_seat_is_back_after_each_end(rt: HostRuntime) {
         sends_all(&LONG, 0, Why::TooLong(33_553_946)),
         sends_all(&ENDED, 1, Why::End),
     ];
-    plays(&rt, rt.alloc(), false, &turns, [0, 0, 1, 0]);
+    plays(&rt, FOUR_GROUPS, Play::Turns(false, &turns), &[0, 0, 1, 0]);
 }
 
 const CUT: [Part; 2] = [Part::LogIn(2), Part::Sent(&[0])];
@@ -250,7 +218,7 @@ fn other_logins_take_no_seat(rt: HostRuntime) {
         sends_all(&OTHER_LOGIN, 0, Why::BadLogin),
         sends_all(&CUT_LOGIN, 0, Why::Cut),
     ];
-    plays(&rt, rt.alloc(), false, &turns, [0, 0, 0, 0]);
+    plays(&rt, FOUR_GROUPS, Play::Turns(false, &turns), &[0, 0, 0, 0]);
 }
 
 const OTHER_LOGIN: [Part; 2] = [Part::Sent(b"ARAIDHO1\x04"), Part::Got(&[0x01])];
@@ -260,7 +228,7 @@ const CUT_LOGIN: [Part; 1] = [Part::Sent(b"ARAIDHO1")];
 #[test]
 fn blocks_of_sixteen_bytes(rt: HostRuntime) {
     let turns = [sends_all(&SIXTEEN, 4, Why::End)];
-    plays(&rt, rt.alloc(), true, &turns, [4, 0, 0, 0]);
+    plays(&rt, FOUR_GROUPS, Play::Turns(true, &turns), &[4, 0, 0, 0]);
 }
 
 const SIXTEEN: [Part; 5] = [
@@ -274,7 +242,7 @@ const SIXTEEN: [Part; 5] = [
 #[test]
 fn a_unit_grows_between_two_frames(rt: HostRuntime) {
     let turns = [sends_all(&GROWING, 5, Why::End)];
-    plays(&rt, rt.alloc(), true, &turns, [5, 0, 0, 0]);
+    plays(&rt, FOUR_GROUPS, Play::Turns(true, &turns), &[5, 0, 0, 0]);
 }
 
 const GROWING: [Part; 7] = [
@@ -310,10 +278,20 @@ fn written_of(cut: usize) -> usize {
     }
 }
 
+// After a session that was cut a whole one reads what stands: the WRITE was done if its frame had come.
 #[test]
 fn input_cut_at_each_byte(rt: HostRuntime) {
     for cut in 0..=1091 {
-        plays_cut(&rt, rt.alloc(), cut);
+        let end = end_of(cut);
+        let part = Turn {
+            parts: &WHOLE,
+            sent: cut,
+            got: written_of(cut),
+            end,
+        };
+        let turns = [part, sends_all(read_after(end.frames), 1, Why::End)];
+        let commands = [end.frames.saturating_add(1), 0, 0, 0];
+        plays(&rt, FOUR_GROUPS, Play::Turns(true, &turns), &commands);
     }
 }
 
@@ -326,20 +304,6 @@ const WHOLE: [Part; 3] = [
 const READS_ZEROS: [Part; 2] = [Part::LogIn(0), Part::Good(1, READ, &[], ZEROS)];
 
 const READS_AA: [Part; 2] = [Part::LogIn(0), Part::Good(1, READ, &[], AA)];
-
-// After a session that was cut a whole one reads what stands: the WRITE was done if its frame had come.
-fn plays_cut<R: Wait + Abort>(rt: &R, alloc: Global, cut: usize) {
-    let end = end_of(cut);
-    let part = Turn {
-        parts: &WHOLE,
-        sent: cut,
-        got: written_of(cut),
-        end,
-    };
-    let after = sends_all(read_after(end.frames), 1, Why::End);
-    let commands = [end.frames.saturating_add(1), 0, 0, 0];
-    plays(rt, alloc, true, &[part, after], commands);
-}
 
 fn read_after(frames: u64) -> &'static [Part] {
     if frames == 0 { &READS_ZEROS } else { &READS_AA }

@@ -1,4 +1,4 @@
-use Rattle.test_sessions.proofs.turns.plays.Given as goal
+use Rattle.test_sessions.proofs.rig.plays.Given as goal
 
 abbrev pub ghosts-plays_on : goal.ghosts-plays_on
 ghosts-plays_on g a = record { name = a.blank.name; parts = a.blank.parts }

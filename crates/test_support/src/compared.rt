@@ -1,7 +1,8 @@
-// An array's answers beside those of plain lists.
+// An array's answers beside those of the model.
+use crate::answer::{Answer, PlainReply, Refused};
+use crate::kinds::Kind;
 use ar_core::{Balance, Flush, Move, OutcomeOf, Rebuild, Refusal, UnitRefusal};
 use ar_scsi::{Reply, Status};
-use ar_witness::{Answer, Kind, PlainReply, Refused};
 
 /// Whether an array answered as plain lists did. What its work did is its own affair, but no loss and no want of memory may be
 /// met.

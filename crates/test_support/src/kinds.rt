@@ -159,8 +159,20 @@ impl Tally {
         self.counts.get(kind as usize).copied().unwrap_or(0)
     }
 
-    /// The first kind that whole disks and any cache give, of which fewer came than this.
-    pub fn lacks(&self, wanted: u32) -> Option<Kind> {
+    /// What makes a run show too little, or a wrong answer, with its count: a kind that sound disks and any cache give, if fewer
+    /// than `wanted` came; `Flushed`, if as many came without a cache or fewer with one; and any `Other`.
+    pub fn flaw(&self, wanted: u32, is_cached: bool) -> Option<(Kind, u32)> {
+        let kind = match self.lacks(wanted) {
+            Some(kind) => kind,
+            None if (self.count(Kind::Flushed) >= wanted) != is_cached => Kind::Flushed,
+            None if self.count(Kind::Other) > 0 => Kind::Other,
+            None => return None,
+        };
+        Some((kind, self.count(kind)))
+    }
+
+    // The first kind that sound disks and any cache give, of which fewer came than this.
+    fn lacks(&self, wanted: u32) -> Option<Kind> {
         for kind in KINDS {
             if self.count(kind) < wanted {
                 return Some(kind);

@@ -1,17 +1,14 @@
-// What the witness asks, in the words of the array.
+// What the model is asked, as events of the array.
+use crate::calls::unit_of;
+use crate::draw::{Ask, Command, Place, Work};
 use ar_core::EventOf;
-use ar_disks::{Addr, Host};
-use ar_witness::{Ask, Command, Place, Work};
+use ar_disks::Addr;
 use bytes::Bytes;
 use std::alloc::AllocError;
 
-/// The unit at a place. There are four hosts.
+/// The unit at a place.
 pub fn unit_at(place: Place) -> Addr {
-    let host = Host::new(place.host % 4).unwrap();
-    Addr {
-        host,
-        lun: place.lun,
-    }
+    unit_of(place.host, place.lun)
 }
 
 /// The event that is asked for.
@@ -25,7 +22,8 @@ pub fn event_of<N>(ask: Ask) -> Result<EventOf<N>, AllocError> {
     })
 }
 
-fn event_of_work<N>(work: Work) -> EventOf<N> {
+/// The event that work in the background is.
+pub(crate) fn event_of_work<N>(work: Work) -> EventOf<N> {
     match work {
         Work::Flush => EventOf::Flush,
         Work::Demote => EventOf::Demote,
