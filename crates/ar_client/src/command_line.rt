@@ -1,7 +1,10 @@
 // What the words of a command line ask for.
-use ar_cli::{Arguments, CommandLineFault, Syntax, arguments_in};
+use ar_cli::CommandLineFault;
 use ar_disks::Host;
-use std::alloc::Global;
+use clap::error::ErrorKind;
+use clap::{Arg, ArgMatches, Command, Error as ParseError, value_parser};
+use std::alloc::{AllocError, Global};
+use std::convert::AsStr;
 
 /// Whom the client speaks for, and where.
 #[derive(Clone, Copy)]
@@ -10,24 +13,47 @@ pub struct Account {
     pub host: Host,
 }
 
-static OPTIONS: [&str; 2] = ["port", "host"];
-
-/// What the words of a command line ask for.
-pub fn account_in(alloc: Global, words: &[String]) -> Result<Account, CommandLineFault> {
-    let syntax = Syntax {
-        options: OPTIONS.as_slice(),
-        flags: &[],
-        takes_operands: false,
-    };
-    let arguments = arguments_in(alloc, words, syntax)?;
-    account_of(&arguments).ok_or(CommandLineFault::Bad)
+/// What all words of the command line ask for, the program's name first.
+pub fn account_in<S: AsStr>(alloc: Global, words: &[S]) -> Result<Account, CommandLineFault> {
+    let matches = matches_of(alloc, words).map_err(|error| fault_of(&error))?;
+    account_of(&matches).ok_or(CommandLineFault::Bad)
 }
 
-fn account_of(arguments: &Arguments<'_>) -> Option<Account> {
-    let port = arguments.number("port", 1, 65_535)?;
-    let host = arguments.number("host", 0, 3)?;
+fn fault_of(error: &ParseError) -> CommandLineFault {
+    match error.kind() {
+        ErrorKind::OutOfMemory => CommandLineFault::NoMemory,
+        _ => CommandLineFault::Bad,
+    }
+}
+
+fn matches_of<'a, S: AsStr>(alloc: Global, words: &'a [S]) -> Result<ArgMatches<'a>, ParseError> {
+    command(alloc)?.try_get_matches_from(words)
+}
+
+fn command<'a>(alloc: Global) -> Result<Command<'a>, AllocError> {
+    Command::new(alloc, "ar_client")
+        .arg(port(alloc))?
+        .arg(host(alloc))
+}
+
+fn port<'a>(alloc: Global) -> Arg<'a> {
+    Arg::new(alloc, "port")
+        .long("port")
+        .value_parser(value_parser!(u16).range(1..=65_535))
+        .required(true)
+}
+
+fn host<'a>(alloc: Global) -> Arg<'a> {
+    Arg::new(alloc, "host")
+        .long("host")
+        .value_parser(value_parser!(u8).range(0..=3))
+        .required(true)
+}
+
+fn account_of(matches: &ArgMatches<'_>) -> Option<Account> {
+    let host = Host::new(matches.get_one("host")?)?;
     Some(Account {
-        port: port as u16,
-        host: Host::new(host as u8)?,
+        port: matches.get_one("port")?,
+        host,
     })
 }

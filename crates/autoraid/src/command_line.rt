@@ -1,10 +1,13 @@
 // What the words of a command line ask for.
 use crate::failure::Failure;
 use crate::unit::Unit;
-use ar_cli::{Arguments, CommandLineFault, Syntax, arguments_in};
+use ar_cli::CommandLineFault;
 use ar_disks::Geometry;
 use ar_script::Setup;
-use std::alloc::Global;
+use clap::error::ErrorKind;
+use clap::{Arg, ArgAction, ArgMatches, Command, Error as ParseError, value_parser};
+use std::alloc::{AllocError, Global};
+use std::convert::AsStr;
 
 /// What a command line asks for.
 #[derive(Drop)]
@@ -27,50 +30,130 @@ pub struct Service {
     pub units: Vec<Unit>,
 }
 
-static RUN: [&str; 5] = ["geometry", "disks", "extents", "cache", "picture"];
+static GEOMETRIES: [&str; 2] = ["small", "paper"];
 
-static SERVE: [&str; 6] = ["geometry", "disks", "extents", "cache", "port", "sessions"];
-
-/// What the words of a command line ask for.
-pub fn order_in(alloc: Global, words: &[String]) -> Result<Order, Failure> {
-    let [command, words @ ..] = words else {
-        return Err(Failure::CommandLine(CommandLineFault::Bad));
-    };
-    match command.as_str() {
-        "run" => run_in(alloc, words),
-        "serve" => serve_in(alloc, words),
+/// What all words of the command line ask for, the program's name first.
+pub fn order_in<S: AsStr>(alloc: Global, words: &[S]) -> Result<Order, Failure> {
+    let matches = matches_of(alloc, words).map_err(|error| fault_of(&error))?;
+    match matches.subcommand() {
+        Some(("run", options)) => {
+            let setup = setup_of(options).ok_or(CommandLineFault::Bad)?;
+            Ok(Order::Run(setup, picture_of(alloc, options)?))
+        }
+        Some(("serve", options)) => Ok(Order::Serve(service_of(alloc, options)?)),
         _ => Err(Failure::CommandLine(CommandLineFault::Bad)),
     }
 }
 
-fn run_in(alloc: Global, words: &[String]) -> Result<Order, Failure> {
-    let syntax = Syntax {
-        options: RUN.as_slice(),
-        flags: &[],
-        takes_operands: false,
-    };
-    let arguments = arguments_in(alloc, words, syntax)?;
-    let setup = setup_of(&arguments).ok_or(CommandLineFault::Bad)?;
-    Ok(Order::Run(setup, picture_of(alloc, &arguments)?))
+fn fault_of(error: &ParseError) -> CommandLineFault {
+    match error.kind() {
+        ErrorKind::OutOfMemory => CommandLineFault::NoMemory,
+        _ => CommandLineFault::Bad,
+    }
 }
 
-fn serve_in(alloc: Global, words: &[String]) -> Result<Order, Failure> {
-    let syntax = Syntax {
-        options: SERVE.as_slice(),
-        flags: &[],
-        takes_operands: true,
-    };
-    let arguments = arguments_in(alloc, words, syntax)?;
-    Ok(Order::Serve(service_of(alloc, &arguments)?))
+fn matches_of<'a, S: AsStr>(alloc: Global, words: &'a [S]) -> Result<ArgMatches<'a>, ParseError> {
+    let run = run_command(alloc)?;
+    let serve = serve_command(alloc)?;
+    let program = Command::new(alloc, "autoraid")
+        .subcommand_required(true)
+        .subcommand(run)?
+        .subcommand(serve)?;
+    program.try_get_matches_from(words)
 }
 
-fn setup_of(arguments: &Arguments<'_>) -> Option<Setup> {
+// `run` and its options, each with one value.
+fn run_command<'a>(alloc: Global) -> Result<Command<'a>, AllocError> {
+    with_setup(alloc, Command::new(alloc, "run"))?.arg(picture(alloc))
+}
+
+// `serve`, its options, and the units.
+fn serve_command<'a>(alloc: Global) -> Result<Command<'a>, AllocError> {
+    with_setup(alloc, Command::new(alloc, "serve"))?
+        .arg(port(alloc))?
+        .arg(sessions(alloc))?
+        .arg(units(alloc))
+}
+
+// A command with the options that say what the array is made of.
+fn with_setup<'a>(alloc: Global, command: Command<'a>) -> Result<Command<'a>, AllocError> {
+    command
+        .arg(geometry(alloc))?
+        .arg(disks(alloc))?
+        .arg(extents(alloc))?
+        .arg(cache(alloc))
+}
+
+fn geometry<'a>(alloc: Global) -> Arg<'a> {
+    Arg::new(alloc, "geometry")
+        .long("geometry")
+        .value_parser(GEOMETRIES.as_slice())
+        .default_value("small")
+}
+
+fn disks<'a>(alloc: Global) -> Arg<'a> {
+    Arg::new(alloc, "disks")
+        .long("disks")
+        .value_parser(value_parser!(u8).range(4..=12))
+        .default_value("4")
+}
+
+fn extents<'a>(alloc: Global) -> Arg<'a> {
+    Arg::new(alloc, "extents")
+        .long("extents")
+        .value_parser(value_parser!(u16).range(1..=1024))
+        .default_value("4")
+}
+
+fn cache<'a>(alloc: Global) -> Arg<'a> {
+    Arg::new(alloc, "cache")
+        .long("cache")
+        .value_parser(value_parser!(u32).range(0..=65_536))
+        .default_value("0")
+}
+
+fn picture<'a>(alloc: Global) -> Arg<'a> {
+    Arg::new(alloc, "picture").long("picture")
+}
+
+fn port<'a>(alloc: Global) -> Arg<'a> {
+    Arg::new(alloc, "port")
+        .long("port")
+        .value_parser(value_parser!(u16).range(1..=65_535))
+        .required(true)
+}
+
+fn sessions<'a>(alloc: Global) -> Arg<'a> {
+    Arg::new(alloc, "sessions")
+        .long("sessions")
+        .value_parser(value_parser!(u8).range(1..=64))
+        .required(true)
+}
+
+fn units<'a>(alloc: Global) -> Arg<'a> {
+    Arg::new(alloc, "units")
+        .num_args(0..)
+        .action(ArgAction::Append)
+}
+
+fn setup_of(options: &ArgMatches<'_>) -> Option<Setup> {
     Some(Setup {
-        geometry: geometry_of(arguments.value("geometry").unwrap_or("small"))?,
-        disks: arguments.number_or("disks", 4, 12, 4)? as u8,
-        extents: arguments.number_or("extents", 1, 1_024, 4)? as u16,
-        cache: arguments.number_or("cache", 0, 65_536, 0)?,
+        geometry: geometry_of(options.get_str("geometry")?)?,
+        disks: options.get_one("disks")?,
+        extents: options.get_one("extents")?,
+        cache: options.get_one("cache")?,
     })
+}
+
+// The file that a picture is to be written to.
+fn picture_of(alloc: Global, options: &ArgMatches<'_>) -> Result<Option<String>, CommandLineFault> {
+    match options.get_str("picture") {
+        Some(file) => match String::from_str(alloc, file) {
+            Ok(file) => Ok(Some(file)),
+            Err(_) => Err(CommandLineFault::NoMemory),
+        },
+        None => Ok(None),
+    }
 }
 
 fn geometry_of(name: &str) -> Option<Geometry> {
@@ -81,30 +164,16 @@ fn geometry_of(name: &str) -> Option<Geometry> {
     }
 }
 
-// The file that a picture is to be written to.
-fn picture_of(
-    alloc: Global,
-    arguments: &Arguments<'_>,
-) -> Result<Option<String>, CommandLineFault> {
-    match arguments.value("picture") {
-        Some(file) => Ok(Some(String::from_str(alloc, file)?)),
-        None => Ok(None),
-    }
-}
-
-fn service_of(alloc: Global, arguments: &Arguments<'_>) -> Result<Service, Failure> {
-    let setup = setup_of(arguments).ok_or(CommandLineFault::Bad)?;
-    let port = arguments
-        .number("port", 1, 65_535)
-        .ok_or(CommandLineFault::Bad)?;
-    let sessions = arguments
-        .number("sessions", 1, 64)
-        .ok_or(CommandLineFault::Bad)?;
+fn service_of(alloc: Global, options: &ArgMatches<'_>) -> Result<Service, Failure> {
+    let setup = setup_of(options).ok_or(CommandLineFault::Bad)?;
+    let port = options.get_one("port").ok_or(CommandLineFault::Bad)?;
+    let sessions = options.get_one("sessions").ok_or(CommandLineFault::Bad)?;
+    let words = options.get_strs("units").unwrap_or(&[]);
     Ok(Service {
         setup,
-        port: port as u16,
-        sessions: sessions as u8,
-        units: units_of(alloc, arguments.operands())?,
+        port,
+        sessions,
+        units: units_of(alloc, words)?,
     })
 }
 

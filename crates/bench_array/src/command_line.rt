@@ -1,8 +1,11 @@
 // What the words of a command line ask for.
 use crate::failure::Failure;
-use ar_cli::{Arguments, Syntax, arguments_in};
+use ar_cli::CommandLineFault;
 use bench_workloads::{Scripted, Workload};
+use clap::error::ErrorKind;
+use clap::{Arg, ArgAction, ArgMatches, Command, Error as ParseError, value_parser};
 use std::alloc::Global;
+use std::convert::AsStr;
 
 /// What a name on the command line means.
 #[derive(Clone, Copy, Debug, PartialEq, Eq)]
@@ -27,38 +30,14 @@ pub struct Options {
     pub is_check: bool,
 }
 
-static OPTIONS: [&str; 3] = ["workload", "seconds", "seed"];
-
-static FLAGS: [&str; 2] = ["progress", "check"];
-
-/// What the words of a command line ask for.
-pub fn options_in(alloc: Global, words: &[String]) -> Result<Options, Failure> {
-    let syntax = Syntax {
-        options: OPTIONS.as_slice(),
-        flags: FLAGS.as_slice(),
-        takes_operands: false,
-    };
-    let arguments = arguments_in(alloc, words, syntax)?;
-    let options = options_of(&arguments).ok_or(Failure::CommandLine)?;
-    let workload = match arguments.value("workload") {
+/// The options among all words of the command line, the program's name first.
+pub fn options_in<S: AsStr>(alloc: Global, words: &[S]) -> Result<Options, Failure> {
+    let matches = matches_of(alloc, words).map_err(|error| fault_of(&error))?;
+    let workload = match matches.get_str("workload") {
         Some(name) => Some(asked(name).ok_or(Failure::NoSuchWorkload)?),
         None => None,
     };
-    Ok(Options {
-        workload,
-        ..options
-    })
-}
-
-// All but the workload.
-fn options_of(arguments: &Arguments<'_>) -> Option<Options> {
-    Some(Options {
-        workload: None,
-        seconds: arguments.number_or("seconds", 1, 600, 2)?,
-        seed: arguments.value("seed").unwrap_or("1").parse().ok()?,
-        shows_progress: arguments.has("progress"),
-        is_check: arguments.has("check"),
-    })
+    options_of(&matches, workload).ok_or(Failure::CommandLine)
 }
 
 fn asked(name: &str) -> Option<Named> {
@@ -66,4 +45,53 @@ fn asked(name: &str) -> Option<Named> {
         Some(scripted) => Some(Named::ByLines(scripted)),
         None => Some(Named::ByEvents(Workload::of_name(name)?)),
     }
+}
+
+fn fault_of(error: &ParseError) -> CommandLineFault {
+    match error.kind() {
+        ErrorKind::OutOfMemory => CommandLineFault::NoMemory,
+        _ => CommandLineFault::Bad,
+    }
+}
+
+fn matches_of<'a, S: AsStr>(alloc: Global, words: &'a [S]) -> Result<ArgMatches<'a>, ParseError> {
+    let command = Command::new(alloc, "bench_array")
+        .arg(workload(alloc))?
+        .arg(seconds(alloc))?
+        .arg(seed(alloc))?
+        .arg(flag(alloc, "progress"))?
+        .arg(flag(alloc, "check"))?;
+    command.try_get_matches_from(words)
+}
+
+fn workload<'a>(alloc: Global) -> Arg<'a> {
+    Arg::new(alloc, "workload").long("workload")
+}
+
+fn seconds<'a>(alloc: Global) -> Arg<'a> {
+    Arg::new(alloc, "seconds")
+        .long("seconds")
+        .value_parser(value_parser!(u32).range(1..=600))
+        .default_value("2")
+}
+
+fn seed<'a>(alloc: Global) -> Arg<'a> {
+    Arg::new(alloc, "seed")
+        .long("seed")
+        .value_parser(value_parser!(u64))
+        .default_value("1")
+}
+
+fn flag<'a>(alloc: Global, name: &'a str) -> Arg<'a> {
+    Arg::new(alloc, name).long(name).action(ArgAction::SetTrue)
+}
+
+fn options_of(matches: &ArgMatches<'_>, workload: Option<Named>) -> Option<Options> {
+    Some(Options {
+        workload,
+        seconds: matches.get_one("seconds")?,
+        seed: matches.get_one("seed")?,
+        shows_progress: matches.get_flag("progress"),
+        is_check: matches.get_flag("check"),
+    })
 }

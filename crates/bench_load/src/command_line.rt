@@ -1,7 +1,11 @@
 // What the words of a command line ask for.
 use crate::failure::Failure;
-use ar_cli::{Arguments, Syntax, arguments_in};
-use std::alloc::Global;
+use ar_cli::CommandLineFault;
+use clap::builder::ValueParser;
+use clap::error::ErrorKind;
+use clap::{Arg, ArgAction, ArgMatches, Command, Error as ParseError, value_parser};
+use std::alloc::{AllocError, Global};
+use std::convert::AsStr;
 
 /// What is to be measured.
 #[derive(Clone, Copy)]
@@ -20,38 +24,89 @@ pub struct Options {
     pub seconds: u32,
 }
 
-static OPTIONS: [&str; 5] = ["port", "echo-port", "hosts", "bytes", "seconds"];
+static SIZES: [&str; 3] = ["512", "4096", "65536"];
 
-static FLAGS: [&str; 1] = ["echo"];
-
-/// What the words of a command line ask for.
-pub fn options_in(alloc: Global, words: &[String]) -> Result<Options, Failure> {
-    let syntax = Syntax {
-        options: OPTIONS.as_slice(),
-        flags: FLAGS.as_slice(),
-        takes_operands: false,
-    };
-    let arguments = arguments_in(alloc, words, syntax)?;
-    options_of(&arguments).ok_or(Failure::CommandLine)
+/// The options among all words of the command line, the program's name first.
+pub fn options_in<S: AsStr>(alloc: Global, words: &[S]) -> Result<Options, Failure> {
+    let matches = matches_of(alloc, words).map_err(|error| fault_of(&error))?;
+    options_of(&matches).ok_or(Failure::CommandLine)
 }
 
-fn options_of(arguments: &Arguments<'_>) -> Option<Options> {
+fn fault_of(error: &ParseError) -> CommandLineFault {
+    match error.kind() {
+        ErrorKind::OutOfMemory => CommandLineFault::NoMemory,
+        _ => CommandLineFault::Bad,
+    }
+}
+
+fn matches_of<'a, S: AsStr>(alloc: Global, words: &'a [S]) -> Result<ArgMatches<'a>, ParseError> {
+    command(alloc)?.try_get_matches_from(words)
+}
+
+fn command<'a>(alloc: Global) -> Result<Command<'a>, AllocError> {
+    let command = with_ports(alloc, Command::new(alloc, "bench_load"))?;
+    with_load(alloc, command)
+}
+
+// Adds what says where the array and the bare echo are.
+fn with_ports<'a>(alloc: Global, command: Command<'a>) -> Result<Command<'a>, AllocError> {
+    command
+        .arg(port(alloc))?
+        .arg(echo(alloc))?
+        .arg(echo_port(alloc))
+}
+
+// Adds what says how much is asked of them.
+fn with_load<'a>(alloc: Global, command: Command<'a>) -> Result<Command<'a>, AllocError> {
+    command
+        .arg(hosts(alloc))?
+        .arg(bytes(alloc))?
+        .arg(seconds(alloc))
+}
+
+fn port<'a>(alloc: Global) -> Arg<'a> {
+    option(alloc, "port", value_parser!(u16).range(1..)).required(true)
+}
+
+fn echo<'a>(alloc: Global) -> Arg<'a> {
+    Arg::new(alloc, "echo")
+        .long("echo")
+        .action(ArgAction::SetTrue)
+}
+
+fn echo_port<'a>(alloc: Global) -> Arg<'a> {
+    option(alloc, "echo-port", value_parser!(u16).range(1..)).default_value("7118")
+}
+
+fn hosts<'a>(alloc: Global) -> Arg<'a> {
+    option(alloc, "hosts", value_parser!(u8).range(1..=4)).default_value("4")
+}
+
+fn bytes<'a>(alloc: Global) -> Arg<'a> {
+    option(alloc, "bytes", ValueParser::from(SIZES.as_slice())).default_value("512")
+}
+
+fn seconds<'a>(alloc: Global) -> Arg<'a> {
+    option(alloc, "seconds", value_parser!(u32).range(1..=10)).default_value("2")
+}
+
+// An option with a value.
+fn option<'a>(alloc: Global, name: &'a str, parser: ValueParser<'a>) -> Arg<'a> {
+    Arg::new(alloc, name).long(name).value_parser(parser)
+}
+
+fn options_of(matches: &ArgMatches<'_>) -> Option<Options> {
     Some(Options {
-        port: arguments.number("port", 1, 65_535)? as u16,
-        is_echo: arguments.has("echo"),
-        echo_port: arguments.number_or("echo-port", 1, 65_535, 7_118)? as u16,
-        hosts: arguments.number_or("hosts", 1, 4, 4)? as u8,
-        sectors: sectors_of(arguments.value("bytes").unwrap_or("512"))?,
-        seconds: arguments.number_or("seconds", 1, 10, 2)?,
+        port: matches.get_one("port")?,
+        is_echo: matches.get_flag("echo"),
+        echo_port: matches.get_one("echo-port")?,
+        hosts: matches.get_one("hosts")?,
+        sectors: sectors_of(matches.get_one("bytes")?)?,
+        seconds: matches.get_one("seconds")?,
     })
 }
 
-// How many sectors a request of this size is.
-fn sectors_of(bytes: &str) -> Option<u16> {
-    match bytes {
-        "512" => Some(1),
-        "4096" => Some(8),
-        "65536" => Some(128),
-        _ => None,
-    }
+// How many sectors so many bytes are.
+fn sectors_of(bytes: u32) -> Option<u16> {
+    u16::try_from(bytes / 512).ok()
 }

@@ -35,8 +35,8 @@ fn main(rt: HostRuntime) -> ExitCode {
 fn run(rt: &HostRuntime) -> Result<bool, Failure> {
     let words = words_of(rt, rt.alloc())?;
     match words.as_slice() {
-        [] => Err(Failure::CommandLine),
-        files => run_files(rt, files),
+        [_, files @ ..] if !files.is_empty() => run_files(rt, files),
+        _ => Err(Failure::CommandLine),
     }
 }
 
