@@ -1,21 +1,10 @@
 // What the words of a command line ask for.
+use ar_cli::CommandLineFault;
 use ar_disks::Host;
 use clap::error::ErrorKind;
 use clap::{Arg, ArgMatches, Command, Error as ParseError, value_parser};
 use std::alloc::{AllocError, Global};
 use std::convert::AsStr;
-use thiserror::Error;
-
-/// Why a command line asks for nothing that the program does.
-#[derive(Clone, Copy, Debug, PartialEq, Eq, Error)]
-pub enum CommandLineFault {
-    /// The words are not the program's options and their values. A call for help is none either.
-    #[error("bad command line")]
-    Bad,
-    /// Memory was refused.
-    #[error("no memory")]
-    NoMemory,
-}
 
 /// Whom the client speaks for, and where.
 #[derive(Clone, Copy)]

@@ -1,5 +1,5 @@
 // Why the client ends before its input does.
-use crate::command_line::CommandLineFault;
+use ar_cli::{CommandLineFault, ExitStatus};
 use ar_frames::AskFault;
 use ar_language::{Fault, FaultKind};
 use thiserror::Error;
@@ -26,15 +26,20 @@ pub enum Failure {
     Line(Fault),
 }
 
-impl Failure {
-    /// 2 for a bad command line, else 1.
-    pub fn status(self) -> u8 {
+impl ExitStatus for Failure {
+    ghost use Rattle.ar_client.specs.Failures.{status_of_failure};
+
+    ghost status_of = { status_of_failure };
+
+    fn status(&self) -> u8 {
         match self {
-            Failure::CommandLine(CommandLineFault::Bad) => 2,
+            Failure::CommandLine(fault) => fault.status(),
             _ => 1,
         }
     }
+}
 
+impl Failure {
     /// What went wrong at a line.
     pub fn at(line: u32, kind: FaultKind) -> Failure {
         let line = line.max(1);

@@ -6,12 +6,12 @@ mod client;
 mod command_line;
 mod fault;
 
+use ar_cli::{CommandLineFault, end_with, words_of};
 use ar_frames::Linked;
 use client::Client;
-use command_line::{Account, CommandLineFault, account_in};
+use command_line::{Account, account_in};
 use fault::Failure;
 use std::alloc::Global;
-use std::env;
 use std::io::{self, BufReader, Read, Write};
 use std::net::{Net, TcpListener, TcpStream};
 use std::process::ExitCode;
@@ -22,17 +22,6 @@ fn main(rt: HostRuntime) -> ExitCode {
         Err(fault) => Err(Failure::CommandLine(fault)),
     };
     end_with(&rt, done)
-}
-
-// The status of what was done. A failure is told on standard error, and by the status alone where that takes nothing.
-fn end_with(rt: &HostRuntime, done: Result<(), Failure>) -> ExitCode {
-    match done {
-        Ok(()) => ExitCode::SUCCESS,
-        Err(failure) => {
-            let _ = eprintln!(rt; "{failure}");
-            ExitCode::from(failure.status())
-        }
-    }
 }
 
 // Whom the command line names.
@@ -68,13 +57,4 @@ fn connect<R: Net<Listener = TcpListener, Stream = TcpStream>>(
     stream.set_nodelay(true)?;
     let writer = stream.try_clone()?;
     Ok((BufReader::new(alloc, stream)?, writer))
-}
-
-// The words that the program was started with. One that is no text is in no command line.
-fn words_of(rt: &HostRuntime, alloc: Global) -> Result<Vec<String>, CommandLineFault> {
-    match env::args(rt) {
-        Ok(words) => words.collect(alloc).map_err(|_| CommandLineFault::NoMemory),
-        Err(error) if error.kind() == io::ErrorKind::OutOfMemory => Err(CommandLineFault::NoMemory),
-        Err(_) => Err(CommandLineFault::Bad),
-    }
 }

@@ -1,26 +1,13 @@
 // What the words of a command line ask for.
+use crate::failure::Failure;
 use crate::unit::Unit;
+use ar_cli::CommandLineFault;
 use ar_disks::Geometry;
 use ar_script::Setup;
 use clap::error::ErrorKind;
 use clap::{Arg, ArgAction, ArgMatches, Command, Error as ParseError, value_parser};
 use std::alloc::{AllocError, Global};
 use std::convert::AsStr;
-use thiserror::Error;
-
-/// Why a command line asks for nothing that the program does.
-#[derive(Debug, Drop, Error)]
-pub enum CommandLineFault {
-    /// The words are not those of a command, its options and their values. A call for help is no command either.
-    #[error("bad command line")]
-    Bad,
-    /// This word names no unit.
-    #[error("bad unit {0}")]
-    BadUnit(String),
-    /// Memory was refused.
-    #[error("no memory")]
-    NoMemory,
-}
 
 /// What a command line asks for.
 #[derive(Drop)]
@@ -46,7 +33,7 @@ pub struct Service {
 static GEOMETRIES: [&str; 2] = ["small", "paper"];
 
 /// What all words of the command line ask for, the program's name first.
-pub fn order_in<S: AsStr>(alloc: Global, words: &[S]) -> Result<Order, CommandLineFault> {
+pub fn order_in<S: AsStr>(alloc: Global, words: &[S]) -> Result<Order, Failure> {
     let matches = matches_of(alloc, words).map_err(|error| fault_of(&error))?;
     match matches.subcommand() {
         Some(("run", options)) => {
@@ -54,7 +41,7 @@ pub fn order_in<S: AsStr>(alloc: Global, words: &[S]) -> Result<Order, CommandLi
             Ok(Order::Run(setup, picture_of(alloc, options)?))
         }
         Some(("serve", options)) => Ok(Order::Serve(service_of(alloc, options)?)),
-        _ => Err(CommandLineFault::Bad),
+        _ => Err(Failure::CommandLine(CommandLineFault::Bad)),
     }
 }
 
@@ -177,7 +164,7 @@ fn geometry_of(name: &str) -> Option<Geometry> {
     }
 }
 
-fn service_of(alloc: Global, options: &ArgMatches<'_>) -> Result<Service, CommandLineFault> {
+fn service_of(alloc: Global, options: &ArgMatches<'_>) -> Result<Service, Failure> {
     let setup = setup_of(options).ok_or(CommandLineFault::Bad)?;
     let port = options.get_one("port").ok_or(CommandLineFault::Bad)?;
     let sessions = options.get_one("sessions").ok_or(CommandLineFault::Bad)?;
@@ -191,7 +178,7 @@ fn service_of(alloc: Global, options: &ArgMatches<'_>) -> Result<Service, Comman
 }
 
 // The units that these words name.
-fn units_of(alloc: Global, words: &[&str]) -> Result<Vec<Unit>, CommandLineFault> {
+fn units_of(alloc: Global, words: &[&str]) -> Result<Vec<Unit>, Failure> {
     let mut units = Vec::new(alloc);
     for word in words {
         let unit = unit_of(alloc, word)?;
@@ -200,7 +187,7 @@ fn units_of(alloc: Global, words: &[&str]) -> Result<Vec<Unit>, CommandLineFault
     Ok(units)
 }
 
-fn unit_of(alloc: Global, word: &str) -> Result<Unit, CommandLineFault> {
+fn unit_of(alloc: Global, word: &str) -> Result<Unit, Failure> {
     let text = String::from_str(alloc, word).map_err(|_| CommandLineFault::NoMemory)?;
     match Unit::named(word) {
         Some((addr, sectors)) => Ok(Unit {
@@ -208,6 +195,6 @@ fn unit_of(alloc: Global, word: &str) -> Result<Unit, CommandLineFault> {
             sectors,
             word: text,
         }),
-        None => Err(CommandLineFault::BadUnit(text)),
+        None => Err(Failure::BadUnit(text)),
     }
 }

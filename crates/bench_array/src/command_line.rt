@@ -1,10 +1,11 @@
 // What the words of a command line ask for.
+use crate::failure::Failure;
+use ar_cli::CommandLineFault;
 use bench_workloads::{Scripted, Workload};
 use clap::error::ErrorKind;
 use clap::{Arg, ArgAction, ArgMatches, Command, Error as ParseError, value_parser};
 use std::alloc::Global;
 use std::convert::AsStr;
-use thiserror::Error;
 
 /// What a name on the command line means.
 #[derive(Clone, Copy, Debug, PartialEq, Eq)]
@@ -29,28 +30,14 @@ pub struct Options {
     pub is_check: bool,
 }
 
-/// Why a command line asks for nothing that the program does.
-#[derive(Clone, Copy, Debug, PartialEq, Eq, Error)]
-pub enum CommandLineFault {
-    /// The words are not options and their values. A call for help is no command either.
-    #[error("bad command line: bench_array [--workload NAME] [--seconds 1..600] [--seed N] [--progress] [--check]")]
-    Bad,
-    /// There is no workload of this name.
-    #[error("no such workload; there are: fill overwrite overwrite-cached small-write read small-read parity-read parity-write degraded-read degraded-write demote clean balance rebuild many-groups-64 many-groups-1024 many-groups-3072 script-overwrite script-fill script-read")]
-    Workload,
-    /// Memory was refused.
-    #[error("no memory")]
-    NoMemory,
-}
-
 /// The options among all words of the command line, the program's name first.
-pub fn options_in<S: AsStr>(alloc: Global, words: &[S]) -> Result<Options, CommandLineFault> {
+pub fn options_in<S: AsStr>(alloc: Global, words: &[S]) -> Result<Options, Failure> {
     let matches = matches_of(alloc, words).map_err(|error| fault_of(&error))?;
     let workload = match matches.get_str("workload") {
-        Some(name) => Some(asked(name).ok_or(CommandLineFault::Workload)?),
+        Some(name) => Some(asked(name).ok_or(Failure::NoSuchWorkload)?),
         None => None,
     };
-    options_of(&matches, workload).ok_or(CommandLineFault::Bad)
+    options_of(&matches, workload).ok_or(Failure::CommandLine)
 }
 
 fn asked(name: &str) -> Option<Named> {

@@ -1,13 +1,17 @@
 // Why the program ends with a status other than 0.
-use crate::command_line::CommandLineFault;
+use ar_cli::{CommandLineFault, ExitStatus};
 use bench_workloads::WorkloadFault;
 use thiserror::Error;
 
 /// Why the program ends with a status other than 0.
 #[derive(Clone, Copy, Debug, PartialEq, Eq, Error)]
 pub enum Failure {
-    #[error(transparent)]
-    CommandLine(CommandLineFault),
+    /// The words are not options and their values.
+    #[error("bad command line: bench_array [--workload NAME] [--seconds 1..600] [--seed N] [--progress] [--check]")]
+    CommandLine,
+    /// There is no workload of this name.
+    #[error("no such workload; there are: fill overwrite overwrite-cached small-write read small-read parity-read parity-write degraded-read degraded-write demote clean balance rebuild many-groups-64 many-groups-1024 many-groups-3072 script-overwrite script-fill script-read")]
+    NoSuchWorkload,
     /// Memory was refused.
     #[error("no memory")]
     NoMemory,
@@ -21,12 +25,23 @@ pub enum Failure {
     Write,
 }
 
-impl Failure {
-    /// The status: 2 for a bad command line, else 1.
-    pub fn status(self) -> u8 {
+impl From<CommandLineFault> for Failure {
+    fn from(fault: CommandLineFault) -> Failure {
+        match fault {
+            CommandLineFault::Bad => Failure::CommandLine,
+            CommandLineFault::NoMemory => Failure::NoMemory,
+        }
+    }
+}
+
+impl ExitStatus for Failure {
+    ghost use Rattle.bench_array.specs.Failures.{status_of_failure};
+
+    ghost status_of = { status_of_failure };
+
+    fn status(&self) -> u8 {
         match self {
-            Failure::CommandLine(CommandLineFault::NoMemory) => 1,
-            Failure::CommandLine(_) => 2,
+            Failure::CommandLine | Failure::NoSuchWorkload => 2,
             _ => 1,
         }
     }

@@ -7,45 +7,29 @@ mod failure;
 mod measure;
 mod scripted;
 
+use ar_cli::{end_with, words_of};
 use ar_disks::Geometry;
 use bench_workloads::{Scripted, Workload, name_of};
 use check::{ReadBack, check, size_of_check};
-use command_line::{CommandLineFault, Named, Options, options_in};
+use command_line::{Named, Options, options_in};
 use failure::Failure;
 use measure::{Budget, measure, measure_machine};
 use scripted::{check_script, measure_script};
 use std::alloc::Global;
 use std::process::ExitCode;
-use std::{env, io};
 
 fn main(rt: HostRuntime) -> ExitCode {
-    match run(&rt) {
-        Ok(()) => ExitCode::SUCCESS,
-        Err(failure) => {
-            // Where standard error takes nothing, the status alone tells.
-            let _ = eprintln!(rt; "{failure}");
-            ExitCode::from(failure.status())
-        }
-    }
+    end_with(&rt, run(&rt))
 }
 
 fn run(rt: &HostRuntime) -> Result<(), Failure> {
     let alloc = rt.alloc();
-    let words = words_of(rt, alloc).map_err(Failure::CommandLine)?;
-    let options = options_in(alloc, words.as_slice()).map_err(Failure::CommandLine)?;
+    let words = words_of(rt, alloc)?;
+    let options = options_in(alloc, words.as_slice())?;
     if options.is_check {
         print_digest(rt, alloc, options)
     } else {
         print_figures(rt, alloc, options)
-    }
-}
-
-// The words that the program was started with. One that is no text is in no command line.
-fn words_of(rt: &HostRuntime, alloc: Global) -> Result<Vec<String>, CommandLineFault> {
-    match env::args(rt) {
-        Ok(words) => words.collect(alloc).map_err(|_| CommandLineFault::NoMemory),
-        Err(error) if error.kind() == io::ErrorKind::OutOfMemory => Err(CommandLineFault::NoMemory),
-        Err(_) => Err(CommandLineFault::Bad),
     }
 }
 

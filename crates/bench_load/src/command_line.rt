@@ -1,21 +1,11 @@
 // What the words of a command line ask for.
+use crate::failure::Failure;
+use ar_cli::CommandLineFault;
 use clap::builder::ValueParser;
 use clap::error::ErrorKind;
 use clap::{Arg, ArgAction, ArgMatches, Command, Error as ParseError, value_parser};
 use std::alloc::{AllocError, Global};
 use std::convert::AsStr;
-use thiserror::Error;
-
-/// Why a command line asks for nothing that the program does.
-#[derive(Clone, Copy, Debug, Error)]
-pub enum CommandLineFault {
-    /// The words are not the program's options and their values. A call for help is none either.
-    #[error("bad command line: bench_load --port PORT [--echo] [--echo-port PORT] [--hosts 1..4] [--bytes 512|4096|65536] [--seconds 1..10]")]
-    Bad,
-    /// Memory was refused.
-    #[error("no memory")]
-    NoMemory,
-}
 
 /// What is to be measured.
 #[derive(Clone, Copy)]
@@ -37,9 +27,9 @@ pub struct Options {
 static SIZES: [&str; 3] = ["512", "4096", "65536"];
 
 /// The options among all words of the command line, the program's name first.
-pub fn options_in<S: AsStr>(alloc: Global, words: &[S]) -> Result<Options, CommandLineFault> {
+pub fn options_in<S: AsStr>(alloc: Global, words: &[S]) -> Result<Options, Failure> {
     let matches = matches_of(alloc, words).map_err(|error| fault_of(&error))?;
-    options_of(&matches).ok_or(CommandLineFault::Bad)
+    options_of(&matches).ok_or(Failure::CommandLine)
 }
 
 fn fault_of(error: &ParseError) -> CommandLineFault {

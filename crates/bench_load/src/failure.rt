@@ -1,12 +1,13 @@
 // Why the program ends with a status other than 0.
-use crate::command_line::CommandLineFault;
+use ar_cli::{CommandLineFault, ExitStatus};
 use thiserror::Error;
 
 /// Why the program ends with a status other than 0.
 #[derive(Clone, Copy, Debug, Error)]
 pub enum Failure {
-    #[error(transparent)]
-    CommandLine(CommandLineFault),
+    /// The words are not the program's options and their values.
+    #[error("bad command line: bench_load --port PORT [--echo] [--echo-port PORT] [--hosts 1..4] [--bytes 512|4096|65536] [--seconds 1..10]")]
+    CommandLine,
     /// Nothing listens at the port.
     #[error("connect fault")]
     Connect,
@@ -33,11 +34,23 @@ pub enum Failure {
     Write,
 }
 
-impl Failure {
-    /// 2 for a bad command line, else 1.
-    pub fn status(self) -> u8 {
+impl From<CommandLineFault> for Failure {
+    fn from(fault: CommandLineFault) -> Failure {
+        match fault {
+            CommandLineFault::Bad => Failure::CommandLine,
+            CommandLineFault::NoMemory => Failure::NoMemory,
+        }
+    }
+}
+
+impl ExitStatus for Failure {
+    ghost use Rattle.bench_load.specs.Failures.{status_of_failure};
+
+    ghost status_of = { status_of_failure };
+
+    fn status(&self) -> u8 {
         match self {
-            Failure::CommandLine(CommandLineFault::Bad) => 2,
+            Failure::CommandLine => 2,
             _ => 1,
         }
     }

@@ -13,7 +13,8 @@ mod plan;
 mod request;
 mod stream;
 
-use command_line::{CommandLineFault, Options, options_in};
+use ar_cli::{end_with, words_of};
+use command_line::{Options, options_in};
 use echo::serve_echo;
 use failure::Failure;
 use figures::Line;
@@ -25,41 +26,20 @@ use std::net::{Net, TcpListener, TcpStream};
 use std::process::ExitCode;
 use std::thread::Threads;
 use std::time::Clock;
-use std::{env, io};
 
 fn main(rt: HostRuntime) -> ExitCode {
     let done = match options(&rt) {
         Ok(options) => run(&rt, rt.alloc(), options),
-        Err(fault) => Err(Failure::CommandLine(fault)),
+        Err(failure) => Err(failure),
     };
     end_with(&rt, done)
 }
 
-// The status of what was done. A failure is told on standard error, and by the status alone where that takes nothing.
-fn end_with(rt: &HostRuntime, done: Result<(), Failure>) -> ExitCode {
-    match done {
-        Ok(()) => ExitCode::SUCCESS,
-        Err(failure) => {
-            let _ = eprintln!(rt; "{failure}");
-            ExitCode::from(failure.status())
-        }
-    }
-}
-
 // What the command line asks for.
-fn options(rt: &HostRuntime) -> Result<Options, CommandLineFault> {
+fn options(rt: &HostRuntime) -> Result<Options, Failure> {
     let alloc = rt.alloc();
     let words = words_of(rt, alloc)?;
     options_in(alloc, words.as_slice())
-}
-
-// The words that the program was started with. One that is no text is in no command line.
-fn words_of(rt: &HostRuntime, alloc: Global) -> Result<Vec<String>, CommandLineFault> {
-    match env::args(rt) {
-        Ok(words) => words.collect(alloc).map_err(|_| CommandLineFault::NoMemory),
-        Err(error) if error.kind() == io::ErrorKind::OutOfMemory => Err(CommandLineFault::NoMemory),
-        Err(_) => Err(CommandLineFault::Bad),
-    }
 }
 
 // Is the echo, or measures reads and then overwrites.

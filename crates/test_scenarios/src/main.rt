@@ -11,14 +11,14 @@ mod report;
 mod scenario;
 mod stage;
 
+use ar_cli::{fail, words_of};
 use failure::Failure;
 use line::is_remark;
 use report::tell_file;
 use scenario::{Scenario, lines_in};
 use stage::run_scenario;
-use std::alloc::Global;
+use std::fs;
 use std::process::ExitCode;
-use std::{env, fs, io};
 
 /// What begins a scenario.
 const BEGINNING: &str = "\n== ";
@@ -27,11 +27,7 @@ fn main(rt: HostRuntime) -> ExitCode {
     match run(&rt) {
         Ok(true) => ExitCode::SUCCESS,
         Ok(false) => ExitCode::FAILURE,
-        Err(failure) => {
-            // Where standard error takes nothing, the status alone tells.
-            let _ = eprintln!(rt; "{failure}");
-            ExitCode::FAILURE
-        }
+        Err(failure) => fail(&rt, &failure),
     }
 }
 
@@ -41,15 +37,6 @@ fn run(rt: &HostRuntime) -> Result<bool, Failure> {
     match words.as_slice() {
         [_, files @ ..] if !files.is_empty() => run_files(rt, files),
         _ => Err(Failure::CommandLine),
-    }
-}
-
-// The words that the program was started with. One that is no text names no file.
-fn words_of(rt: &HostRuntime, alloc: Global) -> Result<Vec<String>, Failure> {
-    match env::args(rt) {
-        Ok(words) => words.collect(alloc).map_err(|_| Failure::NoMemory),
-        Err(error) if error.kind() == io::ErrorKind::OutOfMemory => Err(Failure::NoMemory),
-        Err(_) => Err(Failure::CommandLine),
     }
 }
 

@@ -1,0 +1,9 @@
+-- With which status a failure ends the program.
+use Rattle.std.specs.Prelude.{ℕ}
+use Rattle.bench_load.specs.declared.failure.Failure.{Failure}
+use Rattle.bench_load.specs.declared.failure.Failure.TheVariants.{CommandLine}
+
+-- 2 for a bad command line, else 1
+abbrev pub status_of_failure : Failure → ℕ
+status_of_failure CommandLine = 2
+status_of_failure _ = 1
