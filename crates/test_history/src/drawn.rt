@@ -1,4 +1,4 @@
-// A drawn run: commands of four hosts, with makings, growths, removals and work in the background between them. Each is answered
+// A drawn run: commands of four hosts, with units created, grown and deleted, and maintenance, between them. Each is answered
 // as plain lists say, which share no code with the array, and the audit tells what was counted.
 ghost use Rattle.std.specs.Prelude.{◌<◌, ◌^◌};
 

@@ -72,7 +72,7 @@ impl<L: Ledger> Rig<L> {
     }
 }
 
-/// Whether a making, a growth, or a disk that is added is done.
+/// Whether a create, a grow, or the addition of a disk is done.
 pub fn is_done<L: Ledger>(
     rt: &impl Wait,
     kept: &Mutex<Kept<FuseDisk, L>>,

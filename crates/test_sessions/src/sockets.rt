@@ -27,9 +27,9 @@ const CACHED: Shape = Shape {
 /// Who connects.
 #[derive(Clone, Copy)]
 pub enum Guests {
-    /// Two hosts at once, each with so many writes and reads.
+    /// Two hosts at once, each with this number of writes and reads.
     Two(u8),
-    /// So many, one after the other, each with one command.
+    /// This number of sessions, one after the other, each with one command.
     InTurn(u8),
     /// One that sends garbage, one that leaves inside a frame, one that never reads, and then a host.
     Rude,
