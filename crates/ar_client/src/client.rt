@@ -1,4 +1,4 @@
-// A host's side of a session: the commands of a script, over streams.
+// The host's side of a session: sends the commands of a script one at a time, each after the reply to the one before.
 use crate::fault::Failure;
 use ar_core::OutcomeOf;
 use ar_disks::Host;
@@ -9,7 +9,7 @@ use ar_scsi::Reply;
 use std::alloc::Global;
 use std::io::{BufWriter, Read, Write};
 
-/// A session that was logged in.
+/// A session after its login.
 #[derive(Drop)]
 pub struct Client<S: Source + Drop, W: Sink + Drop> {
     alloc: Global,
@@ -50,8 +50,8 @@ impl<S: Source + Drop, W: Sink + Drop> Client<S, W> {
         }
     }
 
-    /// Gives the commands of all lines to the server, and writes the answers. What was answered is written before more is
-    /// read, and the first fault ends it.
+    /// Sends the commands of all lines, and writes the answers. Answers are written before more input is read; the
+    /// first fault ends it.
     pub fn run<R: Read + Drop, O: Write + Drop>(
         &mut self,
         input: R,
@@ -86,7 +86,7 @@ impl<S: Source + Drop, W: Sink + Drop> Client<S, W> {
         Ok(())
     }
 
-    // Gives the command of a line to the server, if it has one, and writes the answer.
+    // Sends the command of a line, if it has one, and writes the answer.
     fn answer_line<O: Write>(
         &mut self,
         number: u32,
@@ -105,7 +105,7 @@ impl<S: Source + Drop, W: Sink + Drop> Client<S, W> {
         write_outcome(out, &outcome, asked.notation).map_err(|_| fault(FaultKind::WriteFault))
     }
 
-    // The command that a line asks for. Each other word is unknown here, and another host's commands are out of range.
+    // The command of a line. Any other word is unknown here, and another host's commands are out of range.
     fn asked_by(&self, order: Order) -> Result<Asked, FaultKind> {
         let Order::Act(
             Action::Command {
@@ -129,7 +129,7 @@ impl<S: Source + Drop, W: Sink + Drop> Client<S, W> {
         })
     }
 
-    // Gives a command to the server and waits for the reply.
+    // Sends a command and waits for the reply.
     fn ask(&mut self, asked: Asked) -> Result<Reply, AskFault> {
         let Asked { lun, cdb, data, .. } = asked;
         let len = data.len.min(ar_frames::MOST_DATA) as usize;

@@ -1,4 +1,4 @@
-// What the words of a command line ask for.
+// Parses the command line.
 use ar_cli::CommandLineFault;
 use ar_disks::Host;
 use clap::error::ErrorKind;
@@ -6,14 +6,14 @@ use clap::{Arg, ArgMatches, Command, Error as ParseError, value_parser};
 use std::alloc::{AllocError, Global};
 use std::convert::AsStr;
 
-/// Whom the client speaks for, and where.
+/// The host that the client logs in as, and the port of the server.
 #[derive(Clone, Copy)]
 pub struct Account {
     pub port: u16,
     pub host: Host,
 }
 
-/// What all words of the command line ask for, the program's name first.
+/// Parses the words of a command line, the program's name first.
 pub fn account_in<S: AsStr>(alloc: Global, words: &[S]) -> Result<Account, CommandLineFault> {
     let matches = matches_of(alloc, words).map_err(|error| fault_of(&error))?;
     account_of(&matches).ok_or(CommandLineFault::Bad)

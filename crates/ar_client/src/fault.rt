@@ -1,10 +1,10 @@
-// Why the client ends before its input does.
+// Failures of the client, with their messages and exit status.
 use ar_cli::{CommandLineFault, ExitStatus};
 use ar_frames::AskFault;
 use ar_language::{Fault, FaultKind};
 use thiserror::Error;
 
-/// Why the program ends with a status other than 0.
+/// Why the program exits with a status other than 0.
 #[derive(Clone, Copy, Debug, PartialEq, Eq, Error)]
 pub enum Failure {
     #[error(transparent)]
@@ -15,7 +15,7 @@ pub enum Failure {
     /// A session of this host is open.
     #[error("login refused")]
     Refused,
-    /// The server ended the session, or what it sent is no answer: while the login was answered.
+    /// During login the server closed the connection, or sent no valid answer.
     #[error("session fault")]
     Session,
     /// The same at a line of the input, by its number from 1.

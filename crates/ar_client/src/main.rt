@@ -1,4 +1,4 @@
-//! A host of a served array: `ar_client` gives the commands of a script on standard input to the server, over a socket, and
+//! A host of a served array: `ar_client` sends the commands of a script on standard input to the server over TCP, and
 //! prints the answers as `autoraid run` does.
 #![tactic(auto)]
 
@@ -24,14 +24,14 @@ fn main(rt: HostRuntime) -> ExitCode {
     end_with(&rt, done)
 }
 
-// Whom the command line names.
+// Reads the command line.
 fn account(rt: &HostRuntime) -> Result<Account, CommandLineFault> {
     let alloc = rt.alloc();
     let words = words_of(rt, alloc)?;
     account_in(alloc, words.as_slice())
 }
 
-// Logs in, and gives the commands of the input to the server.
+// Logs in, and sends the commands of the input.
 fn run<R: Net<Listener = TcpListener, Stream = TcpStream>, I: Read + Drop, O: Write + Drop>(
     rt: &R,
     alloc: Global,
@@ -47,7 +47,7 @@ fn run<R: Net<Listener = TcpListener, Stream = TcpStream>, I: Read + Drop, O: Wr
     client.run(input, output)
 }
 
-// A connection to a port of this machine. Each request is sent on at once, and replies are read through a buffer.
+// A connection to a port of 127.0.0.1, without Nagle's delay; replies are read through a buffer.
 fn connect<R: Net<Listener = TcpListener, Stream = TcpStream>>(
     rt: &R,
     alloc: Global,

@@ -1,4 +1,4 @@
-// What the words of a command line ask for.
+// Parses the command line: `run` a script, or `serve` hosts.
 use crate::failure::Failure;
 use crate::unit::Unit;
 use ar_cli::CommandLineFault;
@@ -9,30 +9,30 @@ use clap::{Arg, ArgAction, ArgMatches, Command, Error as ParseError, value_parse
 use std::alloc::{AllocError, Global};
 use std::convert::AsStr;
 
-/// What a command line asks for.
+/// A parsed command line.
 #[derive(Drop)]
 pub enum Order {
-    /// To answer a script with an array of this setup, and then to write a picture of it to a file, where one is named.
+    /// Runs a script on an array of this setup, and then draws it to a file, if one is named.
     Run(Setup, Option<String>),
-    /// To serve hosts.
+    /// Serves hosts.
     Serve(Service),
 }
 
-/// An array that is to be served, and to whom.
+/// The array to serve, and how.
 #[derive(Drop)]
 pub struct Service {
     pub setup: Setup,
-    /// The port to listen at.
+    /// The TCP port to listen at, on 127.0.0.1.
     pub port: u16,
-    /// How many connections are served.
+    /// The number of connections to accept, 1 to 64.
     pub sessions: u8,
-    /// The units that are made first, in order.
+    /// The units to create before listening, in order.
     pub units: Vec<Unit>,
 }
 
 static GEOMETRIES: [&str; 2] = ["small", "paper"];
 
-/// What all words of the command line ask for, the program's name first.
+/// Parses the words of a command line, the program's name first.
 pub fn order_in<S: AsStr>(alloc: Global, words: &[S]) -> Result<Order, Failure> {
     let matches = matches_of(alloc, words).map_err(|error| fault_of(&error))?;
     match matches.subcommand() {
@@ -75,7 +75,7 @@ fn serve_command<'a>(alloc: Global) -> Result<Command<'a>, AllocError> {
         .arg(units(alloc))
 }
 
-// A command with the options that say what the array is made of.
+// Adds the options of the array.
 fn with_setup<'a>(alloc: Global, command: Command<'a>) -> Result<Command<'a>, AllocError> {
     command
         .arg(geometry(alloc))?
@@ -145,7 +145,7 @@ fn setup_of(options: &ArgMatches<'_>) -> Option<Setup> {
     })
 }
 
-// The file that a picture is to be written to.
+// The file for the picture.
 fn picture_of(alloc: Global, options: &ArgMatches<'_>) -> Result<Option<String>, CommandLineFault> {
     match options.get_str("picture") {
         Some(file) => match String::from_str(alloc, file) {

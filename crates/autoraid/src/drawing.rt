@@ -5,19 +5,18 @@ use std::fs;
 use std::rt::Files;
 use thiserror::Error;
 
-/// Why there is no picture.
+/// Why the picture was not written.
 #[derive(Debug, Drop, Error)]
 pub enum DrawingFault {
     /// The file can't be written.
     #[error("the picture can't be written")]
     Write,
-    /// Memory was refused.
+    /// An allocation failed.
     #[error("no memory for the picture")]
     NoMemory,
 }
 
-/// Writes a picture of the array to a file, as an SVG, in the place of what stands there. Where memory is refused, the file is
-/// left as it was.
+/// Writes a picture of the array to a file, as an SVG, and replaces its content. Out of memory, the file is unchanged.
 pub fn draw<R: Files + AllocGlobal>(
     rt: &R,
     runner: &Runner,

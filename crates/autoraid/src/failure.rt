@@ -5,7 +5,7 @@ use ar_cli::{CommandLineFault, ExitStatus};
 use ar_language::Fault;
 use thiserror::Error;
 
-/// Why the program ends with a status other than 0.
+/// Why the program exits with a status other than 0.
 #[derive(Debug, Drop, Error)]
 pub enum Failure {
     #[error(transparent)]

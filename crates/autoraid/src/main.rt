@@ -1,5 +1,5 @@
-//! The array as a program: `autoraid run` answers a script on standard input and may draw the array, `autoraid serve` serves
-//! hosts over sockets.
+//! The array as a program: `autoraid run` executes a script on standard input and may draw the array, `autoraid serve`
+//! serves hosts over TCP.
 #![tactic(auto)]
 
 mod command_line;
@@ -25,14 +25,14 @@ fn main(rt: HostRuntime) -> ExitCode {
     end_with(&rt, done)
 }
 
-// What the command line asks for.
+// Reads the command line.
 fn order(rt: &HostRuntime) -> Result<Order, Failure> {
     let alloc = rt.alloc();
     let words = words_of(rt, alloc)?;
     order_in(alloc, words.as_slice())
 }
 
-// Runs a script, and draws the array where a file is named for that.
+// Runs a script, and draws the array if a file is named.
 fn run(rt: &HostRuntime, setup: Setup, file: &Option<String>) -> Result<(), Failure> {
     match file {
         Some(file) => run_and_draw(rt, setup, file.as_str()),
@@ -40,7 +40,7 @@ fn run(rt: &HostRuntime, setup: Setup, file: &Option<String>) -> Result<(), Fail
     }
 }
 
-// Runs a script, and draws the array as it then is.
+// Runs a script, and draws the array after it.
 fn run_and_draw(rt: &HostRuntime, setup: Setup, file: &str) -> Result<(), Failure> {
     match Runner::start(rt.alloc(), setup) {
         Ok(mut runner) => {
@@ -52,7 +52,7 @@ fn run_and_draw(rt: &HostRuntime, setup: Setup, file: &str) -> Result<(), Failur
     }
 }
 
-// The same on the array of a runner, which is drawn also where a fault has ended the script. That fault is told before any of drawing.
+// The array is drawn also if a fault has ended the script; that fault takes precedence over one of drawing.
 fn play_and_draw(rt: &HostRuntime, runner: &mut Runner, file: &str) -> Result<(), Failure> {
     let ended = run_on(rt.alloc(), runner, rt.stdin(), rt.stdout());
     let drawn = draw(rt, runner, file);

@@ -19,34 +19,34 @@ use std::thread::Threads;
 use std::time::Clock;
 use thiserror::Error;
 
-/// Why an array was not served, or not to the end.
+/// Why the server failed.
 #[derive(Debug, Drop, Error)]
 pub enum ServeFault {
-    /// No array could be started of the setup, or memory for its disks was refused.
+    /// The array can't be created of this setup, or the allocation of its disks failed.
     #[error("start fault")]
     Start,
-    /// A unit can't be made.
+    /// A unit can't be created.
     #[error("unit {word} refused {refusal}")]
     Unit { word: String, refusal: Refusal },
-    /// The port can't be listened at.
+    /// Listening at the port failed.
     #[error("listen fault")]
     Listen,
-    /// A seat was not given back.
+    /// A session did not return its seat.
     #[error("seat out")]
     SeatOut,
     /// A transcript isn't its host's part of the history.
     #[error("mismatch")]
     Mismatch,
-    /// Standard output takes nothing.
+    /// Standard output can't be written.
     #[error("write fault")]
     Write,
-    /// Memory was refused.
+    /// An allocation failed.
     #[error("no memory")]
     NoMemory,
 }
 
-/// Makes the units, listens, serves the connections with one thread in the background beside them, and then compares the hosts'
-/// transcripts with the history.
+/// Creates the units, listens, serves the connections with one maintenance thread beside them, and then compares the
+/// hosts' transcripts with the history.
 pub fn serve<
     R: Threads + Wait + Clock + Net<Listener = TcpListener, Stream = TcpStream> + Print + Sync,
 >(rt: &R, alloc: Global, service: &Service) -> Result<(), ServeFault> {
@@ -77,7 +77,7 @@ fn serve_array<
     done
 }
 
-// Makes the units, listens, tells so, and serves as many connections.
+// Creates the units, listens, prints `listening PORT`, and serves `sessions` connections.
 fn serve_hosts<
     L: Ledger + Send + Sync,
     D: Disk + Drop + Send,
@@ -98,7 +98,7 @@ fn serve_hosts<
     Ok(())
 }
 
-// Makes the units in their order.
+// Creates the units in their order.
 fn make_units<L: Ledger, D: Disk + Drop>(
     alloc: Global,
     kept: &mut Kept<D, L>,
@@ -113,7 +113,7 @@ fn make_units<L: Ledger, D: Disk + Drop>(
     Ok(())
 }
 
-// The fault of a unit that can't be made.
+// The failure of a unit that can't be created.
 fn refused(alloc: Global, unit: &Unit, refusal: Refusal) -> ServeFault {
     match String::from_str(alloc, unit.word.as_str()) {
         Ok(word) => ServeFault::Unit { word, refusal },
@@ -121,7 +121,7 @@ fn refused(alloc: Global, unit: &Unit, refusal: Refusal) -> ServeFault {
     }
 }
 
-// Compares each host's transcript with the history, once the hosts were served, and tells what comes of it.
+// Compares each host's transcript with the history after the sessions, and prints the result.
 fn audit<L: Ledger, D: Disk + Drop>(
     rt: &impl Print,
     served: Result<(), ServeFault>,
@@ -135,7 +135,7 @@ fn audit<L: Ledger, D: Disk + Drop>(
     }
 }
 
-// Tells what comes of an audit.
+// Prints the result of an audit.
 fn tell(rt: &impl Print, audited: Result<Report, Mismatch>) -> Result<(), ServeFault> {
     match audited {
         Ok(report) => tell_report(rt, &report).map_err(|_| ServeFault::Write),

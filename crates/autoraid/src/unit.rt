@@ -2,7 +2,7 @@
 use ar_disks::Addr;
 use ar_language::unit_and_number;
 
-/// A unit that is to be made.
+/// A unit to create.
 #[derive(Drop)]
 pub struct Unit {
     pub addr: Addr,
