@@ -1,4 +1,4 @@
-// Why the program ends with a status other than 0.
+// Failures of the program, with their messages and exit status.
 use crate::drawing::DrawingFault;
 use crate::serve::ServeFault;
 use ar_cli::{CommandLineFault, ExitStatus};
