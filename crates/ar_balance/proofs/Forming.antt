@@ -6,7 +6,7 @@ use Rattle.std.proofs.lemmas.List.{get_or_past}
 use Rattle.ar_disks.specs.declared.address.Members.{Members}
 use Rattle.ar_disks.specs.declared.address.Place.{Place}
 use Rattle.ar_disks.specs.Members.{member, AreApart}
-use Rattle.ar_extents.specs.Set.{SetState, HasExtent, IsKept, IsSound, content}
+use Rattle.ar_extents.specs.Set.{SetState, HasExtent, IsValidSet, IsSound, content}
 use Rattle.ar_extents.specs.Loose.{is_loose, loose_count, lowest_loose, taken}
 use Rattle.ar_extents.specs.Follows.{Anywhere}
 use Rattle.ar_extents.proofs.Follows.{keeps_disks, follows_loose}
@@ -55,7 +55,7 @@ fullest_below s m fullest =
     four_cases (λ i. (member m i).disk < length s.disks) (omega arith) (omega arith) (omega arith) (omega arith)
 
 -- they are in no group
-pub fullest_unused : (s : SetState) (t : Tables) (m : Members) → IsKept s → IsSpace (store_of s t) → AreFullest s m → AreUnused t m
+pub fullest_unused : (s : SetState) (t : Tables) (m : Members) → IsValidSet s → IsSpace (store_of s t) → AreFullest s m → AreUnused t m
 fullest_unused s t m kept space fullest j lt =
     let p = member m j in
     loose_unused (store_of s t) p space (lowest_there s p kept (fullest_below s m fullest j lt) (fullest.lowest j lt)).loose
@@ -65,7 +65,7 @@ record IsUsed (s : SetState) (p : Place) : Type 0 where
   there : HasExtent s p
   used : is_loose s p ≡ false
 
-module _ (s : SetState) (t : Tables) (m : Members) (kept : IsKept s) (space : IsSpace (store_of s t)) (fullest : AreFullest s m) where
+module _ (s : SetState) (t : Tables) (m : Members) (kept : IsValidSet s) (space : IsSpace (store_of s t)) (fullest : AreFullest s m) where
   one : SetState
   one = taken s m.first.disk (Some m.first.extent)
 

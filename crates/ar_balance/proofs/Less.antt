@@ -5,7 +5,7 @@ use Rattle.std.proofs.lemmas.List.Sums.{sum_by-set}
 use Rattle.ar_disks.specs.declared.address.Members.{Members}
 use Rattle.ar_disks.specs.declared.address.Place.{Place}
 use Rattle.ar_disks.specs.Members.{member}
-use Rattle.ar_extents.specs.Set.{SetState, HasExtent, IsKept, marks_of}
+use Rattle.ar_extents.specs.Set.{SetState, HasExtent, IsValidSet, marks_of}
 use Rattle.ar_extents.specs.Loose.{is_loose, loose_count, lowest_loose, marked, taken}
 use Rattle.ar_extents.proofs.LooseLemmas.{lowest_loose-is}
 use Rattle.ar_store.specs.Forming.{AreFullest, HasFewLoose, without}
@@ -97,12 +97,12 @@ mark_other s q p mark other has ne =
       is = ap (λ (marks : List Bool). get_or marks p.extent false) same ∙ has.is;
     }
 
-mark_there : (s : SetState) (p : Place) (mark : Bool) → IsKept s → HasExtent s p → is_loose s p ≡ mark → HasMark s p mark
+mark_there : (s : SetState) (p : Place) (mark : Bool) → IsValidSet s → HasExtent s p → is_loose s p ≡ mark → HasMark s p mark
 mark_there s p mark kept there is =
     let below : p.disk < length s.loose = subst (λ n. p.disk < n) (sym kept.tables) there.disk in
     record { disk = below; extent = subst (λ n. p.extent < n) (sym (kept.marks p.disk below)) there.extent; is = is }
 
-lowest_mark : (s : SetState) (m : Members) → IsKept s → AreFullest s m → (i : ℕ) → i < 4 → HasMark s (member m i) true
+lowest_mark : (s : SetState) (m : Members) → IsValidSet s → AreFullest s m → (i : ℕ) → i < 4 → HasMark s (member m i) true
 lowest_mark s m kept fullest i lt =
     let found = lowest_there s (member m i) kept (fullest_below s m fullest i lt) (fullest.lowest i lt) in
     mark_there s (member m i) true kept found.there found.loose
@@ -123,7 +123,7 @@ not_few s m fullest few =
     (loose_some s m.third.disk m.third.extent (fullest.lowest 2 (omega arith))) (loose_some s m.fourth.disk m.fourth.extent (fullest.lowest 3 (omega arith)))
 
 -- a group is formed
-pub formed_falls : (s : SetState) (m : Members) → IsKept s → AreFullest s m → balance_left (without s m) < balance_left s
+pub formed_falls : (s : SetState) (m : Members) → IsValidSet s → AreFullest s m → balance_left (without s m) < balance_left s
 formed_falls s m kept fullest =
     let ab = fullest.ascending.0 in
     let bc = fullest.ascending.1 in
@@ -148,7 +148,7 @@ formed_falls s m kept fullest =
     omega arith
 
 -- an extent moves to a disk with at least two loose ones more
-pub switched_falls : (s : SetState) (from to : Place) → IsKept s → HasExtent s from → HasExtent s to → is_loose s from ≡ false → is_loose s to ≡ true
+pub switched_falls : (s : SetState) (from to : Place) → IsValidSet s → HasExtent s from → HasExtent s to → is_loose s from ≡ false → is_loose s to ≡ true
     → loose_count s from.disk + 2 ≤ loose_count s to.disk → balance_left (switched s from to) < balance_left s
 switched_falls s from to kept from_there to_there used loose uneven =
     let mid = taken s to.disk (Some to.extent) in

@@ -4,11 +4,12 @@ use Rattle.std.proofs.lemmas.List.{get_or-set_other}
 use Rattle.std.proofs.lemmas.Bool.Decides.{eqb_tells}
 use Rattle.ar_disks.specs.declared.address.Place.{Place}
 use Rattle.ar_disks.specs.Members.{member}
-use Rattle.ar_extents.specs.Set.{SetState, HasExtent, IsKept, marks_of}
+use Rattle.ar_extents.specs.Set.{SetState, HasExtent, IsValidSet, marks_of}
 use Rattle.ar_extents.specs.Loose.{is_loose, lowest_loose, marked, taken}
 use Rattle.ar_extents.proofs.GroupLemmas.{place_is, same_place as tell_place}
 use Rattle.ar_extents.proofs.LooseLemmas.{is_loose-marked_other, is_loose-taken, lowest_loose-is}
-use Rattle.ar_book.specs.Choices.{same_place, IsUnused}
+use Rattle.ar_disks.specs.Addresses.{same_place}
+use Rattle.ar_book.specs.Choices.{IsUnused}
 use Rattle.ar_store.specs.Store.{StoreState, members_of}
 use Rattle.ar_store.specs.Kept.{IsSpace}
 
@@ -17,7 +18,7 @@ pub record IsLooseThere (s : SetState) (p : Place) : Type 0 where
   pub there : HasExtent s p
   pub loose : is_loose s p ≡ true
 
-pub lowest_there : (s : SetState) (p : Place) → IsKept s → p.disk < length s.disks → lowest_loose s p.disk ≡ Some p.extent → IsLooseThere s p
+pub lowest_there : (s : SetState) (p : Place) → IsValidSet s → p.disk < length s.disks → lowest_loose s p.disk ≡ Some p.extent → IsLooseThere s p
 lowest_there s p kept inside lowest =
     let is = lowest_loose-is s p.disk p.extent lowest in
     let below : p.disk < length s.loose = subst (λ n. p.disk < n) (sym kept.tables) inside in

@@ -7,9 +7,9 @@ use Rattle.ar_disks.specs.Geometry.{rows_of}
 use Rattle.ar_disks.specs.Members.{member, with_member}
 use Rattle.ar_extents.specs.declared.health.Health.{Health}
 use Rattle.ar_extents.specs.declared.health.Health.TheVariants.{Whole, Broken}
-use Rattle.ar_extents.specs.Changes.{is_broken}
+use Rattle.ar_extents.specs.Changes.{is_broken_set}
 use Rattle.ar_extents.specs.Health.{is_lost}
-use Rattle.ar_extents.specs.Set.{SetState, HasExtent, IsKept, IsSound, content}
+use Rattle.ar_extents.specs.Set.{SetState, HasExtent, IsValidSet, IsSound, content}
 use Rattle.ar_extents.specs.Loose.{is_loose, taken}
 use Rattle.ar_extents.specs.Follows.{Anywhere}
 use Rattle.ar_extents.proofs.Follows.{keeps_disks, keeps_refl, follows_refl, follows_then, follows_loose, has_extent_then}
@@ -31,7 +31,7 @@ use Rattle.ar_balance.proofs.Loose.{lowest_there, member_not_loose, loose_unused
 use Rattle.ar_balance.proofs.Carrying.{IsCarried, space_carried, all_carried}
 
 whole_not_broken : Whole ≢ Broken
-whole_not_broken e = true≢false (sym (ap is_broken e))
+whole_not_broken e = true≢false (sym (ap is_broken_set e))
 
 -- on whole disks every extent is sound
 whole_sound : (s : SetState) (p : Place) → s.health ≡ Whole → IsSound s p
@@ -57,7 +57,7 @@ record IsUsed (s : SetState) (p : Place) : Type 0 where
   there : HasExtent s p
   used : is_loose s p ≡ false
 
-module _ (a : SetState) (t : Tables) (g p : ℕ) (from to : Place) (kept : IsKept a) (space : IsSpace (store_of a t)) (names : NamesShift (store_of a t) g p from to) where
+module _ (a : SetState) (t : Tables) (g p : ℕ) (from to : Place) (kept : IsValidSet a) (space : IsSpace (store_of a t)) (names : NamesShift (store_of a t) g p from to) where
   -- the new extent is there, loose, and in no group
   pub target_there : HasExtent a to
   target_there = (lowest_there a to kept names.most.below names.to_is).there

@@ -52,7 +52,7 @@ pub record IsExtentShifted (old new : StoreState) (group on off : ℕ) : Type 0 
 
 -- one of the two disks of the shift that the rule chooses faulted: the tables are as they were, and so is which extents
 -- are unassigned
-pub record IsGivenUp (old new : StoreState) : Type 0 where
+pub record IsShiftGivenUp (old new : StoreState) : Type 0 where
   pub group : ℕ
   pub position : ℕ
   pub from : Place
@@ -65,12 +65,12 @@ pub record IsGivenUp (old new : StoreState) : Type 0 where
   pub book : new.book ≡ old.book
 
 -- the rule chooses nothing, and the whole store is as it was
-pub record IsLeft (old new : StoreState) : Type 0 where
+pub record IsBalanceIdle (old new : StoreState) : Type 0 where
   pub nothing : NothingToBalance old
   pub same : new ≡ old
 
 -- the array had failed before, and the store is as it was
-pub record IsRefused (old new : StoreState) : Type 0 where
+pub record IsBalanceRefused (old new : StoreState) : Type 0 where
   pub broken : old.disks.health ≡ AllBroken
   pub same : new ≡ old
 
@@ -78,10 +78,10 @@ pub record IsRefused (old new : StoreState) : Type 0 where
 abbrev pub Balances : StoreState → StoreState → Balance → Type 0
 Balances old new (Formed group) = IsGroupFormed old new group
 Balances old new (Shifted group from to) = IsExtentShifted old new group from to
-Balances old new GivenUp = IsGivenUp old new
+Balances old new GivenUp = IsShiftGivenUp old new
 Balances old new NoMemory = HasNoMemory old new
-Balances old new Idle = IsLeft old new
-Balances old new Broken = IsRefused old new
+Balances old new Idle = IsBalanceIdle old new
+Balances old new Broken = IsBalanceRefused old new
 
 -- Units, homes and stamps are as they were; groups may differ.
 pub record KeepsUnits (t new : Tables) : Type 0 where

@@ -4,7 +4,7 @@ use Rattle.ar_disks.specs.declared.address.Place.{Place}
 use Rattle.ar_disks.specs.Geometry.{rows_of}
 use Rattle.ar_extents.specs.declared.health.Health.TheVariants.{Whole, Out}
 use Rattle.ar_extents.specs.Set.{SetState, faults_of, content}
-use Rattle.ar_extents.specs.Follows.{Follows, Faulted, Keeps, Spares}
+use Rattle.ar_extents.specs.Follows.{Follows, Faulted, Keeps, LeavesDisks}
 use Rattle.ar_book.specs.declared.class.Class.{Class}
 use Rattle.ar_book.specs.declared.class.Class.TheVariants.{Free, Mirrored, Parity}
 
@@ -23,13 +23,13 @@ pub record HasWritten (old new : SetState) (to : Place) : Type 0 where
 -- the rows of an extent below a number are copied to another, and only the disks of the two were accessed
 pub record AreCopied (old new : SetState) (from to : Place) (end : ℕ) : Type 0 where
   pub written : HasWritten old new to
-  pub asks : Spares (IsAside from to) old new
+  pub asks : LeavesDisks (IsAside from to) old new
   pub rows : (row : ℕ) → row < end → content new to row ≡ content old from row
 
 -- one row is copied, and the other rows are as before
 pub record IsRowCopied (old new : SetState) (from to : Place) (row : ℕ) : Type 0 where
   pub written : HasWritten old new to
-  pub asks : Spares (IsAside from to) old new
+  pub asks : LeavesDisks (IsAside from to) old new
   pub here : content new to row ≡ content old from row
   pub others : (r : ℕ) → r ≢ row → content new to r ≡ content old to r
 
@@ -38,7 +38,7 @@ pub record IsCutShort (old new : SetState) (from to : Place) : Type 0 where
   pub follows : Follows old new
   pub loose : new.loose ≡ old.loose
   pub keeps : Keeps (λ p. p ≢ to) old new
-  pub asks : Spares (IsAside from to) old new
+  pub asks : LeavesDisks (IsAside from to) old new
   pub disk : ℕ
   pub which : (disk ≡ from.disk) ⊎ (disk ≡ to.disk)
   pub faulted : Faulted old new disk
@@ -47,8 +47,8 @@ pub record IsCutShort (old new : SetState) (from to : Place) : Type 0 where
 -- the disk of the one extent was accessed, and only then that of the other
 pub record AsksInTurn (from to : Place) (old new : SetState) : Type 0 where
   pub between : SetState
-  pub reads : Spares (λ d. d ≢ from.disk) old between
-  pub writes : Spares (λ d. d ≢ to.disk) between new
+  pub reads : LeavesDisks (λ d. d ≢ from.disk) old between
+  pub writes : LeavesDisks (λ d. d ≢ to.disk) between new
 
 -- one row was copied in that order: the old extent's disk was accessed first, and then the new one's
 pub record CopiesRow (from to : Place) (row : ℕ) (old new : SetState) : Type 0 where
@@ -77,7 +77,7 @@ pub record IsStopped (old new : SetState) (from to : Place) : Type 0 where
   -- accessed
   pub before : SetState
   pub turns : CopiesRows from to row old before
-  pub untouched : new.health ≢ Out to.disk → Spares (λ d. d ≢ from.disk) before new
+  pub untouched : new.health ≢ Out to.disk → LeavesDisks (λ d. d ≢ from.disk) before new
 
 -- what is copied of a group's extent: all rows; of a free group nothing, so that no disk is accessed
 abbrev pub IsFilled : Class → SetState → SetState → Place → Place → Type 0

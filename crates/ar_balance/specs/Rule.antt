@@ -33,7 +33,7 @@ abbrev pub HasMost : SetState → ℕ → Type 0
 HasMost s d = HasMostBelow s (length s.disks) d
 
 -- the extent at a member position is on the disk
-pub record StandsAt (m : Members) (position d : ℕ) : Type 0 where
+pub record IsMemberOn (m : Members) (position d : ℕ) : Type 0 where
   pub range : position < 4
   pub disk : (member m position).disk ≡ d
 
@@ -44,7 +44,7 @@ IsOff m d = (i : ℕ) → i < 4 → (member m i).disk ≢ d
 -- a group has the member at a position on one disk, and none on another
 pub record CanShift (t : Tables) (on off group position : ℕ) : Type 0 where
   pub there : group < length t.groups
-  pub stands : StandsAt (group_in t.groups group).members position on
+  pub stands : IsMemberOn (group_in t.groups group).members position on
   pub apart : IsOff (group_in t.groups group).members off
 
 -- The rule chooses this extent of a group to move to another disk. Fewer than four disks have unassigned extents; the

@@ -5,7 +5,7 @@ ghost use Rattle.ar_extents.specs.Loose.{loose_count, lowest_loose};
 ghost use Rattle.ar_store.specs.Kept.{IsSpace};
 ghost use Rattle.ar_store.specs.Spaces.{store_in};
 ghost use Rattle.ar_store.specs.Forming.{AreFullest, HasFewLoose};
-ghost use Rattle.ar_balance.specs.Rule.{HasFewest, HasFewestBelow, HasMost, HasMostBelow, StandsAt, IsOff, CanShift, NamesShift, IsEven};
+ghost use Rattle.ar_balance.specs.Rule.{HasFewest, HasFewestBelow, HasMost, HasMostBelow, IsMemberOn, IsOff, CanShift, NamesShift, IsEven};
 
 use ar_book::Book;
 use ar_disks::{Disk, Members, Place};
@@ -23,7 +23,7 @@ pub(crate) struct Shift {
 
 // A member position of a group.
 #[derive(Clone, Copy)]
-struct Seat {
+struct GroupMember {
     group: u32,
     position: u8,
 }
@@ -81,11 +81,11 @@ pub(crate) fn next_shift<D: Disk>(space: &Space<D>) -> Option<Shift>
     if !is_uneven(&space.disks, on, off) {
         return None;
     }
-    let seat = lowest_seat(&space.book, on, off)?;
+    let found = lowest_member(&space.book, on, off)?;
     Some(Shift {
-        group: seat.group,
-        position: seat.position,
-        from: space.book.members(seat.group).at(seat.position),
+        group: found.group,
+        position: found.position,
+        from: space.book.members(found.group).at(found.position),
         to: lowest_place(&space.disks, off),
     })
 }
@@ -148,14 +148,14 @@ fn is_uneven<D: Disk>(set: &DiskSet<D>, few: u8, many: u8) -> bool
 }
 
 // The lowest group with a member on disk `on` and none on disk `off`, and that member.
-fn lowest_seat(book: &Book, on: u8, off: u8) -> Option<Seat>
-    ensures can { IfSome result (λ seat. CanShift book.now on off seat.group seat.position) }
-    ensures least { IfSome result (λ seat. (h p : ℕ) → h < seat.group → CanShift book.now on off h p → ⊥) }
+fn lowest_member(book: &Book, on: u8, off: u8) -> Option<GroupMember>
+    ensures can { IfSome result (λ found. CanShift book.now on off found.group found.position) }
+    ensures least { IfSome result (λ found. (h p : ℕ) → h < found.group → CanShift book.now on off h p → ⊥) }
     ensures none { IfNone result ((g p : ℕ) → CanShift book.now on off g p → ⊥) }
 {
     for group in 0..book.groups() {
         if let Some(position) = position_beside(book.members(group), on, off) {
-            return Some(Seat { group, position });
+            return Some(GroupMember { group, position });
         }
     }
     None
@@ -163,9 +163,9 @@ fn lowest_seat(book: &Book, on: u8, off: u8) -> Option<Seat>
 
 // The position of the member on disk `on`, if no member is on disk `off`.
 fn position_beside(members: Members, on: u8, off: u8) -> Option<u8>
-    ensures on { IfSome result (λ position. StandsAt members position on) }
+    ensures on { IfSome result (λ position. IsMemberOn members position on) }
     ensures off { IfSome result (λ _. IsOff members off) }
-    ensures none { IfNone result ((p : ℕ) → StandsAt members p on → IsOff members off → ⊥) }
+    ensures none { IfNone result ((p : ℕ) → IsMemberOn members p on → IsOff members off → ⊥) }
 {
     match position_on(members, off) {
         Some(_) => None,
@@ -175,7 +175,7 @@ fn position_beside(members: Members, on: u8, off: u8) -> Option<u8>
 
 // The position of the member on a disk.
 fn position_on(members: Members, disk: u8) -> Option<u8>
-    ensures found { IfSome result (λ position. StandsAt members position disk) }
+    ensures found { IfSome result (λ position. IsMemberOn members position disk) }
     ensures none { IfNone result (IsOff members disk) }
 {
     for position in 0..4 {

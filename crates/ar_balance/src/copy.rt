@@ -3,7 +3,7 @@ ghost use Rattle.std.specs.Prelude.{◌≡◌, ◌≢◌, ◌<◌, ℕ, length, 
 ghost use Rattle.ar_disks.specs.Geometry.{rows_of, block_len_of};
 ghost use Rattle.ar_extents.specs.declared.health.Health.TheVariants.{Whole, Out};
 ghost use Rattle.ar_extents.specs.Set.{HasExtent, content};
-ghost use Rattle.ar_extents.specs.Follows.{Spares};
+ghost use Rattle.ar_extents.specs.Follows.{LeavesDisks};
 ghost use Rattle.ar_balance.specs.Copies.{IsExtentCopied, IsRowCopied, IsCutShort, IsStopped, AsksInTurn};
 
 use ar_disks::{Block, Disk, Place};
@@ -53,7 +53,7 @@ fn copy_row<D: Disk>(
     // Nothing is written unless the row was read.
     ensures unread { result ≡ false → set.new.health ≢ Out to.disk → content set.new to row ≡ content set.old to row }
     ensures turn { IsTrue result → AsksInTurn from to set.old set.new }
-    ensures untouched { result ≡ false → set.new.health ≢ Out to.disk → Spares (λ d. d ≢ from.disk) set.old set.new }
+    ensures untouched { result ≡ false → set.new.health ≢ Out to.disk → LeavesDisks (λ d. d ≢ from.disk) set.old set.new }
     ensures len { length block.new ≡ length block.old }
 {
     match set.get(from, row, block) {

@@ -3,14 +3,14 @@ ghost use Rattle.std.specs.Prelude.{◌≡◌, ◌<◌, ◌≤◌, ◌+◌, ℕ}
 ghost use Rattle.ar_disks.specs.declared.address.Members.{Members};
 ghost use Rattle.ar_disks.specs.declared.address.Place.{Place};
 ghost use Rattle.ar_extents.specs.declared.health.Health.TheVariants.{Whole};
-ghost use Rattle.ar_extents.specs.Set.{IsKept as IsKeptSet};
+ghost use Rattle.ar_extents.specs.Set.{IsValidSet};
 ghost use Rattle.ar_extents.specs.Loose.{loose_count};
 ghost use Rattle.ar_book.specs.Book.{TablesAgree};
 ghost use Rattle.ar_store.specs.Store.{StoreState};
 ghost use Rattle.ar_store.specs.Kept.{IsSpace};
 ghost use Rattle.ar_balance.specs.declared.step.Balance.{Balance};
 ghost use Rattle.ar_balance.specs.Rule.{NamesForming, NamesShift, HasFewest, HasMost, CanShift, IsOneShift};
-ghost use Rattle.ar_balance.specs.Balance.{Balances, IsLeft, IfChanged};
+ghost use Rattle.ar_balance.specs.Balance.{Balances, IsBalanceIdle, IfChanged};
 ghost use Rattle.ar_balance.specs.Measure.{balance_left};
 
 /// The rule chooses at most one group, or one shift of an extent, and never both: so what balancing returns is what the
@@ -24,7 +24,7 @@ pub fn rule_names_one_action()
 
 /// Balancing ends: each change of a table lowers `balance_left`, a natural number. A call does nothing.
 pub fn balancing_ends()
-    ensures { (old new : StoreState) (answer : Balance) → IsSpace old → IsKeptSet old.disks → Balances old new answer
+    ensures { (old new : StoreState) (answer : Balance) → IsSpace old → IsValidSet old.disks → Balances old new answer
         → IfChanged answer (balance_left new.disks < balance_left old.disks) }
 {}
 
@@ -32,8 +32,8 @@ pub fn balancing_ends()
 /// at most one more than the one with the fewest, if a group is on the latter and not on the former. A call does
 /// nothing.
 pub fn idle_is_even()
-    ensures forming { (old new : StoreState) (m : Members) → IsLeft old new → NamesForming old m → ⊥ }
-    ensures shift { (old new : StoreState) (g p : ℕ) (from to : Place) → IsLeft old new → NamesShift old g p from to → ⊥ }
-    ensures even { (old new : StoreState) (a b g p : ℕ) → IsLeft old new → old.disks.health ≡ Whole → HasFewest old.disks a → HasMost old.disks b
+    ensures forming { (old new : StoreState) (m : Members) → IsBalanceIdle old new → NamesForming old m → ⊥ }
+    ensures shift { (old new : StoreState) (g p : ℕ) (from to : Place) → IsBalanceIdle old new → NamesShift old g p from to → ⊥ }
+    ensures even { (old new : StoreState) (a b g p : ℕ) → IsBalanceIdle old new → old.disks.health ≡ Whole → HasFewest old.disks a → HasMost old.disks b
         → CanShift old.book a b g p → loose_count old.disks b ≤ loose_count old.disks a + 1 }
 {}

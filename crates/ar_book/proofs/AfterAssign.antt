@@ -9,7 +9,7 @@ use Rattle.ar_disks.specs.declared.address.Key.{Key}
 use Rattle.ar_book.specs.declared.class.Class.TheVariants.{Free}
 use Rattle.ar_book.specs.declared.class.Slot.{Slot}
 use Rattle.ar_disks.specs.Addresses.{same_addr}
-use Rattle.ar_book.specs.Tables.{UnitState, Tables, group_in, key_in, unit_in, key_at, home, stamp_of, level, level_in, level_of, class_of, free_groups, reserved, room, HasBlock, HasSlot}
+use Rattle.ar_book.specs.Tables.{UnitTableState, Tables, group_in, key_in, unit_in, key_at, home, stamp_of, level, level_in, level_of, class_of, free_groups, reserved, room, HasBlock, HasSlot}
 use Rattle.ar_book.specs.Changes.{named, vacated, assigned}
 use Rattle.ar_book.specs.Choices.{IsEmpty}
 use Rattle.ar_book.specs.Book.{TablesAgree}
@@ -52,7 +52,7 @@ module _ (t : Tables) (k : Key) (s : Slot) where
       keys-set_value (same_addr k.addr) t.units (record u { homes = set u.homes k.rb (Some s) })
 
   -- what is read of a unit besides its homes stays
-  same_unit : {A : Type 0} (f : UnitState → A)
+  same_unit : {A : Type 0} (f : UnitTableState → A)
       → f (record (unit_in t.units k.addr) { homes = set (unit_in t.units k.addr).homes k.rb (Some s) }) ≡ f (unit_in t.units k.addr)
       → (a : Addr) → f (unit_in (assigned t k s).units a) ≡ f (unit_in t.units a)
   same_unit f e a =

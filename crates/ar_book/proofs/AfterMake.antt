@@ -13,7 +13,7 @@ use Rattle.ar_book.specs.declared.class.Slot.{Slot}
 use Rattle.ar_disks.specs.Addresses.{same_addr}
 use Rattle.ar_book.specs.Tables.{Tables, no_unit, unit_in, home, stamp_of, level, level_in, blocks_of, reserved}
 use Rattle.ar_book.specs.Changes.{new_unit, longer, made, grown, unmarked}
-use Rattle.ar_book.specs.Refusals.{make_refusal, grow_refusal}
+use Rattle.ar_book.specs.Refusals.{unit_make_refusal, unit_grow_refusal}
 use Rattle.ar_book.specs.Book.{TablesAgree}
 use Rattle.ar_disks.proofs.Addresses.{addr_laws, addr_apart, same_addr_self}
 use Rattle.ar_book.proofs.Padding.{nothing, get_replicate, get_padded}
@@ -49,7 +49,7 @@ module _ (t : Tables) (a : Addr) (n : ℕ) where
   made_order = keys_push t.units a (new_unit t.geometry n)
 
   -- the tables still agree where the making is not refused
-  pub made_agrees : TablesAgree t → make_refusal t a n ≡ None → TablesAgree (made t a n)
+  pub made_agrees : TablesAgree t → unit_make_refusal t a n ≡ None → TablesAgree (made t a n)
   made_agrees ok granted =
       let can : CanMake t a n = can_make t a n ok granted in
       let new : IsDistinct same_addr (keys_of t.units ++ a ∷ []) =
@@ -97,7 +97,7 @@ module _ (t : Tables) (a : Addr) (n : ℕ) where
         omega arith
 
   -- the tables still agree where the growth is not refused
-  pub grown_agrees : TablesAgree t → grow_refusal t a n ≡ None → TablesAgree (grown t a n)
+  pub grown_agrees : TablesAgree t → unit_grow_refusal t a n ≡ None → TablesAgree (grown t a n)
   grown_agrees ok granted =
       let can : CanGrow t a n = can_grow t a n ok granted in
       (grown_kept t (reserved t) a n (record { tables = ok; total = refl }) can.there can.longer can.some can.few can.room).tables

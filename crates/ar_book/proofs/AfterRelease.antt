@@ -8,7 +8,7 @@ use Rattle.ar_disks.specs.declared.address.Addr.{Addr}
 use Rattle.ar_disks.specs.declared.address.Key.{Key}
 use Rattle.ar_book.specs.declared.class.Slot.{Slot}
 use Rattle.ar_disks.specs.Addresses.{same_addr}
-use Rattle.ar_book.specs.Tables.{UnitState, Tables, group_in, key_in, unit_in, key_at, home, stamp_of, level, level_in, class_of, free_groups, reserved, room, HasBlock}
+use Rattle.ar_book.specs.Tables.{UnitTableState, Tables, group_in, key_in, unit_in, key_at, home, stamp_of, level, level_in, class_of, free_groups, reserved, room, HasBlock}
 use Rattle.ar_book.specs.Changes.{vacated, released}
 use Rattle.ar_book.specs.Book.{TablesAgree}
 use Rattle.ar_book.proofs.GroupLemmas.{there_group, there_slot, KeepsClass, class_kept, level_stays, vacated_size, vacated_members, vacated_class, vacated_same, vacated_other}
@@ -43,7 +43,7 @@ module _ (t : Tables) (k : Key) where
       keys-set_value (same_addr k.addr) t.units (record u { homes = set u.homes k.rb None })
 
   -- what is read of a unit besides its homes stays
-  same_unit : {A : Type 0} (f : UnitState → A)
+  same_unit : {A : Type 0} (f : UnitTableState → A)
       → f (record (unit_in t.units k.addr) { homes = set (unit_in t.units k.addr).homes k.rb None }) ≡ f (unit_in t.units k.addr)
       → (a : Addr) → f (unit_in (released t k).units a) ≡ f (unit_in t.units a)
   same_unit f e a = let u = unit_in t.units k.addr in unit_keeps f t.units k.addr (record u { homes = set u.homes k.rb None }) e a

@@ -6,7 +6,7 @@ use Rattle.ar_disks.specs.Geometry.{rows_of}
 use Rattle.ar_disks.specs.declared.address.Addr.{Addr}
 use Rattle.ar_disks.specs.declared.address.Key.{Key}
 use Rattle.ar_disks.specs.Addresses.{same_addr}
-use Rattle.ar_book.specs.Tables.{UnitState, Tables, unit_in, home, stamp_of, level, level_in, reserved, room, HasBlock}
+use Rattle.ar_book.specs.Tables.{UnitTableState, Tables, unit_in, home, stamp_of, level, level_in, reserved, room, HasBlock}
 use Rattle.ar_book.specs.Changes.{next_stamp, stamped}
 use Rattle.ar_book.specs.Book.{TablesAgree}
 use Rattle.ar_disks.proofs.Addresses.{addr_tells, make_key}
@@ -15,7 +15,7 @@ use Rattle.ar_book.proofs.UnitChanges.{restamped_kept, stamps_long}
 
 module _ (t : Tables) (k : Key) where
   -- what is read of a unit besides its stamps stays
-  same_unit : {A : Type 0} (f : UnitState → A)
+  same_unit : {A : Type 0} (f : UnitTableState → A)
       → f (record (unit_in t.units k.addr) { stamps = set (unit_in t.units k.addr).stamps k.rb (next_stamp t.puts) }) ≡ f (unit_in t.units k.addr)
       → (a : Addr) → f (unit_in (stamped t k).units a) ≡ f (unit_in t.units a)
   same_unit f e a =
@@ -53,7 +53,7 @@ module _ (t : Tables) (k : Key) (block : HasBlock t k) where
   pub stamped_stamp_other : (j : Key) → j ≢ k → stamp_of (stamped t k) j ≡ stamp_of t j
   stamped_stamp_other j ne =
       let u = unit_in t.units k.addr in
-      let new : UnitState = record u { stamps = set u.stamps k.rb (next_stamp t.puts) } in
+      let new : UnitTableState = record u { stamps = set u.stamps k.rb (next_stamp t.puts) } in
       let there = has_by_block t.units k.addr k.rb block in
       elim (addr_tells k.addr j.addr) [
         | inl e ↦

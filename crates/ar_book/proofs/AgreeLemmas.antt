@@ -5,7 +5,7 @@ use Rattle.std.proofs.lemmas.Option.{none-some, same_Some}
 use Rattle.ar_disks.specs.declared.address.Addr.{Addr}
 use Rattle.ar_disks.specs.declared.address.Key.{Key}
 use Rattle.ar_book.specs.declared.class.Slot.{Slot}
-use Rattle.ar_book.specs.Tables.{GroupState, UnitState, key_in, home_in, used, placed}
+use Rattle.ar_book.specs.Tables.{GroupState, UnitTableState, key_in, home_in, used, placed}
 use Rattle.ar_book.specs.Book.{Agree}
 use Rattle.ar_disks.proofs.Addresses.{key_tells}
 use Rattle.ar_book.proofs.Keys.{slot_tells}
@@ -15,7 +15,7 @@ home_tells None s = inr (λ e. none-some s e)
 home_tells (Some r) s = elim (slot_tells r s) [ inl e ↦ inl (ap Some e) | inr n ↦ inr (λ e. n (same_Some r s e)) ]
 
 -- where no reading changes
-pub agree_same : (gs gs' : List GroupState) (us us' : List (Addr × UnitState)) → Agree gs us
+pub agree_same : (gs gs' : List GroupState) (us us' : List (Addr × UnitTableState)) → Agree gs us
     → ((s : Slot) → key_in gs' s ≡ key_in gs s) → ((k : Key) → home_in us' k ≡ home_in us k)
     → sum_by used gs' ≡ sum_by used gs → sum_by placed (values_of us') ≡ sum_by placed (values_of us) → Agree gs' us'
 agree_same gs gs' us us' ok keys homes count total = record {
@@ -25,7 +25,7 @@ agree_same gs gs' us us' ok keys homes count total = record {
 }
 
 -- where one block has another home, or none, and leaves the one that it had
-module _ (gs gs' : List GroupState) (us us' : List (Addr × UnitState)) (k : Key) (o : Option Slot) where
+module _ (gs gs' : List GroupState) (us us' : List (Addr × UnitTableState)) (k : Key) (o : Option Slot) where
   pub agree_move : Agree gs us
       → ((s : Slot) → o ≡ Some s → key_in gs s ≡ None)
       → home_in us' k ≡ o

@@ -11,8 +11,8 @@ use Rattle.ar_book.specs.declared.class.Class.{Class}
 use Rattle.ar_book.specs.declared.class.Class.TheVariants.{Free, Mirrored, Parity}
 use Rattle.ar_book.specs.declared.class.Slot.{Slot}
 use Rattle.ar_disks.specs.Addresses.{same_addr}
-use Rattle.ar_book.specs.Tables.{GroupState, UnitState, Tables, group_in, unit_in, class_of, is_free, free_groups, used, placed, reserved, slots_of}
-use Rattle.ar_book.specs.Choices.{IsHole, IsWaiting}
+use Rattle.ar_book.specs.Tables.{GroupState, UnitTableState, Tables, group_in, unit_in, class_of, is_free, free_groups, used, placed, reserved, slots_of}
+use Rattle.ar_book.specs.Choices.{IsHole, HasUnplacedBlock}
 use Rattle.ar_book.specs.Book.{TablesAgree}
 use Rattle.ar_book.proofs.UnitLemmas.{has_by_block, found_in}
 
@@ -28,7 +28,7 @@ some_left hs i h e =
     omega arith
 
 -- no more blocks have a home than there are
-all_placed : (us : List (Addr × UnitState)) → sum_by placed (values_of us) ≤ sum_by (λ u. length u.homes) (values_of us)
+all_placed : (us : List (Addr × UnitTableState)) → sum_by placed (values_of us) ≤ sum_by (λ u. length u.homes) (values_of us)
 all_placed [] = omega arith
 all_placed (x ∷ us) =
     let a : sum_by placed (x.1 ∷ values_of us) ≡ placed x.1 + sum_by placed (values_of us) = sum_by-cons placed x.1 (values_of us) in
@@ -38,7 +38,7 @@ all_placed (x ∷ us) =
     omega arith
 
 -- and fewer where a unit has fewer
-fewer_placed : (test : Addr → Bool) (us : List (Addr × UnitState)) (u : UnitState) → lookup test us ≡ Some u → placed u < length u.homes → sum_by placed (values_of us) < sum_by (λ u. length u.homes) (values_of us)
+fewer_placed : (test : Addr → Bool) (us : List (Addr × UnitTableState)) (u : UnitTableState) → lookup test us ≡ Some u → placed u < length u.homes → sum_by placed (values_of us) < sum_by (λ u. length u.homes) (values_of us)
 fewer_placed test [] u e h = absurd (none-some u e)
 fewer_placed test (x ∷ us) u e h = by (fewer_placed test us u) (test x.0) refl
   where
@@ -48,7 +48,7 @@ fewer_placed test (x ∷ us) u e h = by (fewer_placed test us u) (test x.0) refl
         let a : sum_by placed (x.1 ∷ values_of us) ≡ placed x.1 + sum_by placed (values_of us) = sum_by-cons placed x.1 (values_of us) in
         let b : sum_by (λ u. length u.homes) (x.1 ∷ values_of us) ≡ length x.1.homes + sum_by (λ u. length u.homes) (values_of us) = sum_by-cons (λ u. length u.homes) x.1 (values_of us) in
         let same : x.1 ≡ u = same_Some x.1 u (sym (ap (λ c. cond c (Some x.1) (lookup test us)) t) ∙ e) in
-        let c : placed x.1 < length x.1.homes = subst (λ (v : UnitState). placed v < length v.homes) (sym same) h in
+        let c : placed x.1 < length x.1.homes = subst (λ (v : UnitTableState). placed v < length v.homes) (sym same) h in
         let d = all_placed us in
         omega arith
     by rest false t =
@@ -119,7 +119,7 @@ module _ (t : Tables) (ok : TablesAgree t) where
   full_group c h l e never i li = none_then_some (get_or (group_in t.groups h).slots i None) (λ n. never (record { group = h; slot = i }) (record { group = l; class = e; slot = li; empty = n }))
 
   -- some group is mirrored
-  pub some_mirrored : IsWaiting t → ((s : Slot) → IsHole t Parity s → ⊥) → free_groups t ≡ 1 → ((h : ℕ) → h < length t.groups → class_of t h ≡ Mirrored → ⊥) → ⊥
+  pub some_mirrored : HasUnplacedBlock t → ((s : Slot) → IsHole t Parity s → ⊥) → free_groups t ≡ 1 → ((h : ℕ) → h < length t.groups → class_of t h ≡ Mirrored → ⊥) → ⊥
   some_mirrored waiting parity one none =
       let rows : ℕ = 3 * rows_of t.geometry in
       let count : sum_by used t.groups + rows * free_groups t ≡ rows * length t.groups = none_mirrored t.groups rows none

@@ -16,9 +16,9 @@ use Rattle.ar_disks.specs.declared.address.Key.{Key}
 use Rattle.ar_disks.specs.declared.geometry.Geometry.{Geometry}
 use Rattle.ar_book.specs.declared.class.Slot.{Slot}
 use Rattle.ar_disks.specs.Addresses.{same_addr}
-use Rattle.ar_book.specs.Tables.{GroupState, UnitState, Tables, no_unit, group_in, key_in, unit_in, home_in, key_at, home, stamp_of, level_in, level, class_of, free_groups, used, placed, reserved}
+use Rattle.ar_book.specs.Tables.{GroupState, UnitTableState, Tables, no_unit, group_in, key_in, unit_in, home_in, key_at, home, stamp_of, level_in, level, class_of, free_groups, used, placed, reserved}
 use Rattle.ar_book.specs.Changes.{vacated, dropped}
-use Rattle.ar_book.specs.Book.{GroupsStand, IsUnit, AreHomes, TablesAgree, IsKept}
+use Rattle.ar_book.specs.Book.{GroupsStand, IsValidUnit, AreHomes, TablesAgree, BookAgrees}
 use Rattle.ar_disks.proofs.Addresses.{addr_laws, addr_tells, addr_apart, same_addr_of}
 use Rattle.ar_book.proofs.Keys.{slot_tells}
 use Rattle.ar_book.proofs.GroupLemmas.{there_group, there_slot, KeepsClass, class_kept, level_stays, vacated_size, vacated_members, vacated_class, vacated_same, vacated_other, vacated_count, vacated_shape, vacated_stand}
@@ -188,7 +188,7 @@ unit_homes t a ok = record {
 }
 
 -- the other addresses keep their order, and stay distinct
-pub removed_keys : (test : Addr → Bool) (us : List (Addr × UnitState)) → keys_of (remove_entry test us) ≡ remove_key test (keys_of us)
+pub removed_keys : (test : Addr → Bool) (us : List (Addr × UnitTableState)) → keys_of (remove_entry test us) ≡ remove_key test (keys_of us)
 removed_keys test [] = refl
 removed_keys test (x ∷ us) = by (test x.0) (removed_keys test us)
   where
@@ -197,7 +197,7 @@ removed_keys test (x ∷ us) = by (test x.0) (removed_keys test us)
     by true e = refl
     by false e = ap (λ l. x.0 ∷ l) e
 
-pub removed_distinct : (test : Addr → Bool) (us : List (Addr × UnitState)) → IsDistinct same_addr (keys_of us) → IsDistinct same_addr (keys_of (remove_entry test us))
+pub removed_distinct : (test : Addr → Bool) (us : List (Addr × UnitTableState)) → IsDistinct same_addr (keys_of us) → IsDistinct same_addr (keys_of (remove_entry test us))
 removed_distinct test [] distinct = distinct
 removed_distinct test (x ∷ us) distinct =
     by (test x.0) (removed_distinct test us (IsDistinct-tail same_addr x.0 (keys_of us) distinct))
@@ -208,7 +208,7 @@ removed_distinct test (x ∷ us) distinct =
         IsDistinct-cons same_addr x.0 (keys_of (remove_entry test us))
         (still_apart test us (IsDistinct-head same_addr x.0 (keys_of us) distinct)) rest
       where
-        still_apart : (p : Addr → Bool) (vs : List (Addr × UnitState)) → AllByRecursion (λ y. same_addr x.0 y ≡ false) (keys_of vs)
+        still_apart : (p : Addr → Bool) (vs : List (Addr × UnitTableState)) → AllByRecursion (λ y. same_addr x.0 y ≡ false) (keys_of vs)
             → AllByRecursion (λ y. same_addr x.0 y ≡ false) (keys_of (remove_entry p vs))
         still_apart p [] h = h
         still_apart p (v ∷ vs) h = one (p v.0) (still_apart p vs h.1)
@@ -312,7 +312,7 @@ module _ (t : Tables) (a : Addr) (ok : TablesAgree t) where
   dropped_order = removed_keys (same_addr a) t.units
 
   module _ (there : IsSome (lookup (same_addr a) t.units)) where
-    sums : (f : UnitState → ℕ) → sum_by f (values_of (remove_entry (same_addr a) t.units)) + f (unit_in t.units a) ≡ sum_by f (values_of t.units)
+    sums : (f : UnitTableState → ℕ) → sum_by f (values_of (remove_entry (same_addr a) t.units)) + f (unit_in t.units a) ≡ sum_by f (values_of t.units)
     sums f =
         ap (λ o. sum_by f (values_of (remove_entry (same_addr a) t.units)) + unwrap_or (option_map f o) 0) (sym (found_in t.units a there))
         ∙ sum_by-remove_entry f (same_addr a) t.units
@@ -331,7 +331,7 @@ module _ (t : Tables) (a : Addr) (ok : TablesAgree t) where
           groups = after.stand t.geometry ok.groups;
           units = record {
             distinct = removed_distinct (same_addr a) t.units ok.units.distinct;
-            whole = All-map-remove_entry (same_addr a) (λ (x : Addr × UnitState). x.1) (IsUnit t.geometry) t.units ok.units.whole;
+            whole = All-map-remove_entry (same_addr a) (λ (x : Addr × UnitTableState). x.1) (IsValidUnit t.geometry) t.units ok.units.whole;
           };
           agree = record { to_slot = to_slot; to_home = to_home; counted = omega arith };
           room = less (3 * rows_of t.geometry) (length t.groups) _ (reserved t) _ _ after.size total ok.room;
@@ -340,15 +340,15 @@ module _ (t : Tables) (a : Addr) (ok : TablesAgree t) where
         less : (x a b r q h : ℕ) → b ≡ a → q + h ≡ r → r ≤ x * (a - 1) → q ≤ x * (b - 1)
         less x a b r q h e f g = subst (λ c. q ≤ x * (c - 1)) (sym e) (omega arith)
 
-    pub dropped_kept : (n : ℕ) → n ≡ reserved t → IsKept (dropped t a) (n - length (unit_in t.units a).homes)
+    pub dropped_kept : (n : ℕ) → n ≡ reserved t → BookAgrees (dropped t a) (n - length (unit_in t.units a).homes)
     dropped_kept n e = record { tables = dropped_agrees; total = let total = dropped_reserved in omega arith }
 
     pub homes_fit : (n : ℕ) → n ≡ reserved t → length (unit_in t.units a).homes ≤ n
     homes_fit n e = let total = dropped_reserved in omega arith
 
 -- the unit that was found
-pub found_is : (us : List (Addr × UnitState)) (a : Addr) (u : UnitState) → lookup (same_addr a) us ≡ Some u → unit_in us a ≡ u
+pub found_is : (us : List (Addr × UnitTableState)) (a : Addr) (u : UnitTableState) → lookup (same_addr a) us ≡ Some u → unit_in us a ≡ u
 found_is us a u e = ap (λ o. unwrap_or o no_unit) e
 
-pub found_there : (us : List (Addr × UnitState)) (a : Addr) (u : UnitState) → lookup (same_addr a) us ≡ Some u → IsSome (lookup (same_addr a) us)
+pub found_there : (us : List (Addr × UnitTableState)) (a : Addr) (u : UnitTableState) → lookup (same_addr a) us ≡ Some u → IsSome (lookup (same_addr a) us)
 found_there us a u e = ap is_some e

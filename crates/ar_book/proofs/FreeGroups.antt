@@ -8,7 +8,7 @@ use Rattle.ar_book.specs.declared.class.Class.{Class}
 use Rattle.ar_book.specs.declared.class.Class.TheVariants.{Free, Mirrored, Parity}
 use Rattle.ar_book.specs.declared.class.Slot.{Slot}
 use Rattle.ar_book.specs.Tables.{GroupState, no_group, group_in, key_in, is_free}
-use Rattle.ar_book.specs.Changes.{with_key, without_key, named, vacated}
+use Rattle.ar_book.specs.Changes.{with_key, with_hole, named, vacated}
 use Rattle.ar_book.proofs.GroupLemmas.{put_same, freed_keeps, vacated_emptied}
 
 -- how many of these groups are free
@@ -71,7 +71,7 @@ pub vacated_free : (gs : List GroupState) (o : Option Slot) → free_in gs ≤ f
 vacated_free gs None = omega arith
 vacated_free gs (Some s) =
     let old : GroupState = record (group_in gs s.group) { slots = set (group_in gs s.group).slots s.slot None } in
-    let new : GroupState = without_key (group_in gs s.group) s.slot in
+    let new : GroupState = with_hole (group_in gs s.group) s.slot in
     elim (cases_lt s.group (length gs)) [
       | inl inside ↦ elim (freed_keeps old) [
         | inl same ↦ let e : free_in (set gs s.group new) ≡ free_in gs = put_free_same gs s.group new same in omega arith
@@ -89,7 +89,7 @@ pub vacated_free_same : (gs : List GroupState) (s : Slot) → s.group < length g
     → (group_in (vacated gs (Some s)) s.group).class ≡ (group_in gs s.group).class
     → free_in (vacated gs (Some s)) ≡ free_in gs
 vacated_free_same gs s inside e =
-    let new : GroupState = without_key (group_in gs s.group) s.slot in
+    let new : GroupState = with_hole (group_in gs s.group) s.slot in
     put_free_same gs s.group new (sym (ap (λ y. y.class) (put_same gs s.group new inside)) ∙ e)
 
 -- one more is free where an open group has no slot left that names a block
@@ -97,5 +97,5 @@ pub vacated_free_more : (gs : List GroupState) (s : Slot) → s.group < length g
     → ((i : ℕ) → key_in (vacated gs (Some s)) (record { group = s.group; slot = i }) ≡ None)
     → free_in (vacated gs (Some s)) ≡ free_in gs + 1
 vacated_free_more gs s inside taken empty =
-    let new : GroupState = without_key (group_in gs s.group) s.slot in
+    let new : GroupState = with_hole (group_in gs s.group) s.slot in
     put_free_more gs s.group new inside taken (sym (ap (λ y. y.class) (put_same gs s.group new inside)) ∙ vacated_emptied gs s inside empty)

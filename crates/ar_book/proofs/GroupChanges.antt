@@ -8,7 +8,7 @@ use Rattle.std.proofs.lemmas.List.Sums.{sum_by_push, sum_by-set}
 use Rattle.std.proofs.lemmas.Bool.{cases_lt, or_left, or_right, and_from}
 use Rattle.std.proofs.lemmas.Bool.Decides.{eqb_tells}
 use Rattle.ar_disks.specs.Geometry.{rows_of}
-use Rattle.ar_disks.specs.Members.{member, with_member, AreApart, AreDisjoint}
+use Rattle.ar_disks.specs.Members.{member, with_member, AreApart, AreDisjoint, stands_on}
 use Rattle.ar_disks.specs.declared.address.Key.{Key}
 use Rattle.ar_disks.specs.declared.address.Place.{Place}
 use Rattle.ar_disks.specs.declared.address.Members.{Members}
@@ -17,8 +17,9 @@ use Rattle.ar_book.specs.declared.class.Class.TheVariants.{Free}
 use Rattle.ar_book.specs.declared.class.Slot.{Slot}
 use Rattle.ar_book.specs.Tables.{GroupState, Tables, no_group, group_in, key_in, key_at, class_of, used, slots_of, reserved}
 use Rattle.ar_book.specs.Changes.{opened, free_group, formed, shifted}
-use Rattle.ar_book.specs.Choices.{same_place, stands_on, IsUnused, AreUnused}
-use Rattle.ar_book.specs.Book.{GroupsStand, IsKept}
+use Rattle.ar_disks.specs.Addresses.{same_place}
+use Rattle.ar_book.specs.Choices.{IsUnused, AreUnused}
+use Rattle.ar_book.specs.Book.{GroupsStand, BookAgrees}
 use Rattle.ar_book.proofs.Padding.{nothing, get_replicate, count_none}
 use Rattle.ar_book.proofs.GroupLemmas.{put_keeps, stand_put, disjoint_flips}
 use Rattle.ar_book.proofs.AgreeLemmas.{agree_same}
@@ -27,14 +28,14 @@ use Rattle.ar_book.proofs.AgreeLemmas.{agree_same}
 pub put_keys : (gs : List GroupState) (g : ℕ) (x : GroupState) → x.slots ≡ (group_in gs g).slots → (s : Slot) → key_in (set gs g x) s ≡ key_in gs s
 put_keys gs g x same s = ap (λ l. get_or l s.slot None) (put_keeps (λ y. y.slots) gs g x same s.group)
 
-module _ (t : Tables) (n g : ℕ) (x : GroupState) (ok : IsKept t n) (inside : g < length t.groups) (same : x.slots ≡ (group_in t.groups g).slots) where
+module _ (t : Tables) (n g : ℕ) (x : GroupState) (ok : BookAgrees t n) (inside : g < length t.groups) (same : x.slots ≡ (group_in t.groups g).slots) where
   count : sum_by used (set t.groups g x) ≡ sum_by used t.groups
   count =
       let all : sum_by used (set t.groups g x) + used (group_in t.groups g) ≡ sum_by used t.groups + used x = sum_by-set used t.groups g x no_group inside in
       let here : used x ≡ used (group_in t.groups g) = ap (λ l. count_by is_some l) same in
       omega arith
 
-  pub group_kept : GroupsStand t.geometry (set t.groups g x) → IsKept (record t { groups = set t.groups g x }) n
+  pub group_kept : GroupsStand t.geometry (set t.groups g x) → BookAgrees (record t { groups = set t.groups g x }) n
   group_kept stand = record {
     tables = record {
       groups = stand;
@@ -46,7 +47,7 @@ module _ (t : Tables) (n g : ℕ) (x : GroupState) (ok : IsKept t n) (inside : g
   }
 
 -- a free group is opened
-pub opened_kept : (t : Tables) (n g : ℕ) (c : Class) → IsKept t n → g < length t.groups → class_of t g ≡ Free → IsKept (opened t g c) n
+pub opened_kept : (t : Tables) (n g : ℕ) (c : Class) → BookAgrees t n → g < length t.groups → class_of t g ≡ Free → BookAgrees (opened t g c) n
 opened_kept t n g c ok inside free =
     let old = group_in t.groups g in
     let x : GroupState = record old { class = c } in
@@ -97,7 +98,7 @@ pub not_member : (m : Members) (x : Place) → stands_on m x ≡ false → (j : 
 not_member m x unused j d e = true≢false (sym (stands_on_member m x j (and_from _ _ (eq-eqb (member m j).disk x.disk d) (eq-eqb (member m j).extent x.extent e))) ∙ unused)
 
 -- a group with another extent
-module _ (t : Tables) (n g p : ℕ) (x : Place) (ok : IsKept t n) (inside : g < length t.groups) (range : p < 4)
+module _ (t : Tables) (n g p : ℕ) (x : Place) (ok : BookAgrees t n) (inside : g < length t.groups) (range : p < 4)
     (unused : (i : ℕ) → i < length t.groups → stands_on (group_in t.groups i).members x ≡ false)
     (apart : (i : ℕ) → i < 4 → i ≢ p → (member (group_in t.groups g).members i).disk ≢ x.disk)
     (disk : x.disk < 2 ^ 8) (extent : x.extent < 2 ^ 16) where
@@ -137,7 +138,7 @@ module _ (t : Tables) (n g p : ℕ) (x : Place) (ok : IsKept t n) (inside : g < 
   still_first (suc (suc zero)) = ok.tables.groups.first g inside
   still_first (suc (suc (suc q))) = ok.tables.groups.first g inside
 
-  pub shifted_kept : IsKept (shifted t g p x) n
+  pub shifted_kept : BookAgrees (shifted t g p x) n
   shifted_kept =
       let old = group_in t.groups g in
       let new : GroupState = record old { members = with_member old.members p x } in
@@ -175,7 +176,7 @@ formed_keys t m s = elim (cases_lt s.group (length t.groups)) [
 ]
 
 -- one group more
-module _ (t : Tables) (n : ℕ) (m : Members) (ok : IsKept t n) (apart : AreApart m)
+module _ (t : Tables) (n : ℕ) (m : Members) (ok : BookAgrees t n) (apart : AreApart m)
     (fresh : (i : ℕ) → i < length t.groups → AreDisjoint (group_in t.groups i).members m)
     (disk : m.first.disk < 2 ^ 8) (extent : m.first.extent < 2 ^ 16) where
   low : (i : ℕ) → i < length t.groups → group_in (t.groups ++ free_group m (3 * rows_of t.geometry) ∷ []) i ≡ group_in t.groups i
@@ -223,7 +224,7 @@ module _ (t : Tables) (n : ℕ) (m : Members) (ok : IsKept t n) (apart : AreApar
         first = λ i h. each (λ y. (y.members.first.disk < 2 ^ 8) × (y.members.first.extent < 2 ^ 16)) gs.first (disk, extent) i (omega (arith, size, h));
       }
 
-  pub formed_kept : IsKept (formed t m) n
+  pub formed_kept : BookAgrees (formed t m) n
   formed_kept =
       let all = t.groups ++ free_group m (3 * rows_of t.geometry) ∷ [] in
       let none : used (free_group m (3 * rows_of t.geometry)) ≡ 0 = count_none Key (3 * rows_of t.geometry) in

@@ -22,7 +22,7 @@ use Rattle.ar_book.specs.declared.class.Class.{Class}
 use Rattle.ar_book.specs.declared.class.Class.TheVariants.{Free, Mirrored, Parity}
 use Rattle.ar_disks.specs.declared.geometry.Geometry.TheVariants.{Paper, Small}
 use Rattle.ar_book.specs.Tables.{GroupState, no_group, group_in, key_in, level_of, level_in, used, slots_of, is_free}
-use Rattle.ar_book.specs.Changes.{with_key, without_key, freed, named, vacated}
+use Rattle.ar_book.specs.Changes.{with_key, with_hole, freed, named, vacated}
 use Rattle.ar_book.specs.Book.{GroupsStand}
 use Rattle.ar_book.proofs.Keys.{make_slot}
 
@@ -225,7 +225,7 @@ named_size gs s k = length-set gs s.group (with_key (group_in gs s.group) s.slot
 
 pub vacated_size : (gs : List GroupState) (o : Option Slot) → length (vacated gs o) ≡ length gs
 vacated_size gs None = refl
-vacated_size gs (Some s) = length-set gs s.group (without_key (group_in gs s.group) s.slot)
+vacated_size gs (Some s) = length-set gs s.group (with_hole (group_in gs s.group) s.slot)
 
 pub named_members : (gs : List GroupState) (s : Slot) (k : Key) (i : ℕ) → (group_in (named gs s k) i).members ≡ (group_in gs i).members
 named_members gs s k i = put_keeps (λ y. y.members) gs s.group (with_key (group_in gs s.group) s.slot k) refl i
@@ -233,7 +233,7 @@ named_members gs s k i = put_keeps (λ y. y.members) gs s.group (with_key (group
 pub vacated_members : (gs : List GroupState) (o : Option Slot) (i : ℕ) → (group_in (vacated gs o) i).members ≡ (group_in gs i).members
 vacated_members gs None i = refl
 vacated_members gs (Some s) i =
-    put_keeps (λ y. y.members) gs s.group (without_key (group_in gs s.group) s.slot)
+    put_keeps (λ y. y.members) gs s.group (with_hole (group_in gs s.group) s.slot)
     (freed_members (record (group_in gs s.group) { slots = set (group_in gs s.group).slots s.slot None })) i
 
 -- naming a block changes no class
@@ -244,7 +244,7 @@ named_class gs s k i = put_keeps (λ y. y.class) gs s.group (with_key (group_in 
 pub vacated_class : (gs : List GroupState) (o : Option Slot) (i : ℕ) → KeepsClass (group_in gs i).class (group_in (vacated gs o) i)
 vacated_class gs None i = inl refl
 vacated_class gs (Some s) i =
-    put_relates (λ a b. KeepsClass a.class b) (λ y. inl refl) gs s.group (without_key (group_in gs s.group) s.slot)
+    put_relates (λ a b. KeepsClass a.class b) (λ y. inl refl) gs s.group (with_hole (group_in gs s.group) s.slot)
     (freed_keeps (record (group_in gs s.group) { slots = set (group_in gs s.group).slots s.slot None })) i
 
 -- a slot that names another block
@@ -286,25 +286,25 @@ module _ (gs : List GroupState) (s : Slot) (k : Key) (inside : s.group < length 
 
 -- a slot that names nothing
 module _ (gs : List GroupState) (s : Slot) (inside : s.group < length gs) where
-  is : (without_key (group_in gs s.group) s.slot).slots ≡ set (group_in gs s.group).slots s.slot None
+  is : (with_hole (group_in gs s.group) s.slot).slots ≡ set (group_in gs s.group).slots s.slot None
   is = freed_slots (record (group_in gs s.group) { slots = set (group_in gs s.group).slots s.slot None })
 
   pub vacated_same : s.slot < length (group_in gs s.group).slots → key_in (vacated gs (Some s)) s ≡ None
-  vacated_same h = slot_same gs s (without_key (group_in gs s.group) s.slot) None inside is h
+  vacated_same h = slot_same gs s (with_hole (group_in gs s.group) s.slot) None inside is h
 
   pub vacated_other : (r : Slot) → r ≢ s → key_in (vacated gs (Some s)) r ≡ key_in gs r
-  vacated_other r ne = slot_other gs s (without_key (group_in gs s.group) s.slot) None inside is r ne
+  vacated_other r ne = slot_other gs s (with_hole (group_in gs s.group) s.slot) None inside is r ne
 
   pub vacated_count : s.slot < length (group_in gs s.group).slots → (k : Key) → key_in gs s ≡ Some k → sum_by used (vacated gs (Some s)) + 1 ≡ sum_by used gs
   vacated_count h k e =
-      let all = slot_count gs s (without_key (group_in gs s.group) s.slot) None inside is h in
+      let all = slot_count gs s (with_hole (group_in gs s.group) s.slot) None inside is h in
       let one : cond {A = ℕ} (is_some (key_in gs s)) 1 0 ≡ 1 = ap (λ (o : Option Key). cond {A = ℕ} (is_some o) 1 0) e in
       omega arith
 
   -- the group is free where none of its slots names a block any more
   pub vacated_emptied : ((i : ℕ) → key_in (vacated gs (Some s)) (record { group = s.group; slot = i }) ≡ None) → (group_in (vacated gs (Some s)) s.group).class ≡ Free
   vacated_emptied empty =
-      let new : GroupState = without_key (group_in gs s.group) s.slot in
+      let new : GroupState = with_hole (group_in gs s.group) s.slot in
       let here : group_in (vacated gs (Some s)) s.group ≡ new = put_same gs s.group new inside in
       ap (λ y. y.class) here
       ∙ freed_empty (record (group_in gs s.group) { slots = set (group_in gs s.group).slots s.slot None })
@@ -314,18 +314,18 @@ module _ (gs : List GroupState) (s : Slot) (inside : s.group < length gs) where
   vacated_shape i = elim (eqb_tells i s.group) [
     | inl e ↦
         ap (λ j. length (group_in (vacated gs (Some s)) j).slots) e.1
-        ∙ ap (λ y. length y.slots) (put_same gs s.group (without_key (group_in gs s.group) s.slot) inside)
+        ∙ ap (λ y. length y.slots) (put_same gs s.group (with_hole (group_in gs s.group) s.slot) inside)
         ∙ ap length is
         ∙ length-set (group_in gs s.group).slots s.slot None
         ∙ sym (ap (λ j. length (group_in gs j).slots) e.1)
-    | inr n ↦ ap (λ y. length y.slots) (put_other gs s.group (without_key (group_in gs s.group) s.slot) i n.1)
+    | inr n ↦ ap (λ y. length y.slots) (put_other gs s.group (with_hole (group_in gs s.group) s.slot) i n.1)
   ]
 
   pub vacated_stand : (geo : Geometry) → GroupsStand geo gs → GroupsStand geo (vacated gs (Some s))
   vacated_stand geo ok =
       let old = group_in gs s.group in
       let cleared : GroupState = record old { slots = set old.slots s.slot None } in
-      let new : GroupState = without_key old s.slot in
+      let new : GroupState = with_hole old s.slot in
       let members : new.members ≡ old.members = freed_members cleared in
       stand_put geo gs ok s.group new inside
       (ap length is ∙ length-set old.slots s.slot None ∙ ok.long s.group inside)

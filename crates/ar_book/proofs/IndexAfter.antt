@@ -22,8 +22,8 @@ use Rattle.ar_book.specs.declared.class.Class.TheVariants.{Free, Mirrored, Parit
 use Rattle.ar_book.specs.declared.class.Level.TheVariants.{Mirrored as MirroredLevel}
 use Rattle.ar_book.specs.declared.class.Slot.{Slot}
 use Rattle.ar_disks.specs.Addresses.{same_addr}
-use Rattle.ar_book.specs.Tables.{GroupState, UnitState, Tables, group_in, unit_in, key_at, home, level, level_in, level_of, reserved, HasBlock, HasSlot}
-use Rattle.ar_book.specs.Changes.{with_key, without_key, named, vacated, homed, restamped, grown, unmarked, opened, free_group, formed, shifted}
+use Rattle.ar_book.specs.Tables.{GroupState, UnitTableState, Tables, group_in, unit_in, key_at, home, level, level_in, level_of, reserved, HasBlock, HasSlot}
+use Rattle.ar_book.specs.Changes.{with_key, with_hole, named, vacated, homed, restamped, grown, unmarked, opened, free_group, formed, shifted}
 use Rattle.ar_book.specs.Book.{TablesAgree}
 use Rattle.ar_book.specs.Index.{age_of, choices_by, choices_in, choices_of, leaves_from, leaves_of, free_leaf, oldest_by, oldest_in, KeepsOldest, NeedsNoScan}
 use Rattle.ar_disks.proofs.Addresses.{addr_tells, make_key}
@@ -37,7 +37,7 @@ use Rattle.ar_book.proofs.UnitChanges.{stamps_long}
 use Rattle.ar_book.proofs.Stays.{later_stamp, stay_chosen}
 use Rattle.ar_book.proofs.IndexLemmas.{leaves_length, leaf_of, refreshed, same_ages, same_choices, same_leaves, same_leaf, leaves_push}
 
-same_age : (us new : List (Addr × UnitState)) (k : Key) → get_or (unit_in new k.addr).stamps k.rb 0 ≡ get_or (unit_in us k.addr).stamps k.rb 0 → age_of new k ≡ age_of us k
+same_age : (us new : List (Addr × UnitTableState)) (k : Key) → get_or (unit_in new k.addr).stamps k.rb 0 ≡ get_or (unit_in us k.addr).stamps k.rb 0 → age_of new k ≡ age_of us k
 same_age us new k stamp = λ i. record { stamp = stamp i; key = k }
 
 module _ (t : Tables) where
@@ -56,12 +56,12 @@ module _ (t : Tables) where
       ∙ ap (λ n. leaves_of t.geometry t.units t.groups ++ free_leaf n ∷ []) (let e : 0 + length t.groups ≡ length t.groups = omega arith in e)
 
 -- a slot is vacated, where there is one
-pub vacated_leaves : (g : Geometry) (units : List (Addr × UnitState)) (gs new : List GroupState) (index now : List Choices) (o : Option Slot) → ForSome o (λ q. q.group < length gs)
+pub vacated_leaves : (g : Geometry) (units : List (Addr × UnitTableState)) (gs new : List GroupState) (index now : List Choices) (o : Option Slot) → ForSome o (λ q. q.group < length gs)
     → index ≡ leaves_of g units gs → new ≡ vacated gs o
     → MatchOption o (now ≡ index) (λ q. now ≡ set index q.group (choices_of g units q.group (group_in new q.group))) → now ≡ leaves_of g units new
 vacated_leaves g units gs new index now None there before put e = e ∙ before ∙ sym (ap (leaves_of g units) put)
 vacated_leaves g units gs new index now (Some q) there before put e =
-    refreshed g units gs new index now q.group (without_key (group_in gs q.group) q.slot) (there q refl) before put e
+    refreshed g units gs new index now q.group (with_hole (group_in gs q.group) q.slot) (there q refl) before put e
 
 -- a home that may have changed is the home, and its group is there
 changed_home : (o changed : Option Slot) → IfSome changed (λ q. o ≡ Some q) → (q : Slot) → changed ≡ Some q → o ≡ Some q
@@ -112,7 +112,7 @@ kept_still t k n ok index o (Some q) former same needed before keeps =
     absurd (needed (subst (λ x. KeepsOldest x k n) (sym (ap (λ c. c.oldest) leaf ∙ oldest_chosen t q.group q.group)) (keeps q at)))
 
 -- the choices of a group that isn't mirrored have nothing to do with the units
-pub unlooked_choices : (g : Geometry) (units new : List (Addr × UnitState)) (n : ℕ) (x : GroupState) → x.class ≢ Mirrored → choices_of g units n x ≡ choices_of g new n x
+pub unlooked_choices : (g : Geometry) (units new : List (Addr × UnitTableState)) (n : ℕ) (x : GroupState) → x.class ≢ Mirrored → choices_of g units n x ≡ choices_of g new n x
 unlooked_choices g units new n x other = by x.class other
   where
     by : (c : Class) → c ≢ Mirrored → choices_by c g (place_in units) (age_of units) n x ≡ choices_by c g (place_in new) (age_of new) n x
@@ -121,7 +121,7 @@ unlooked_choices g units new n x other = by x.class other
     by Parity ne = refl
 
 -- a block that isn't at the mirrored level gets a stamp: no slot of the group of its home is looked at for that
-pub unlooked_still : (t : Tables) (k : Key) (units : List (Addr × UnitState)) (ok : TablesAgree t) (index : TreeState) (o changed : Option Slot) → o ≡ home t k → IfSome changed (λ q. o ≡ Some q)
+pub unlooked_still : (t : Tables) (k : Key) (units : List (Addr × UnitTableState)) (ok : TablesAgree t) (index : TreeState) (o changed : Option Slot) → o ≡ home t k → IfSome changed (λ q. o ≡ Some q)
     → leaves index ≡ leaves_of t.geometry t.units t.groups → level t k ≢ MirroredLevel → ForSome changed (λ q. NeedsNoScan t.geometry units t.groups index q.group)
 unlooked_still t k units ok index o changed former same before low q e =
     let at : home t k ≡ Some q = sym former ∙ changed_home o changed same q e in
@@ -135,13 +135,13 @@ unlooked_still t k units ok index o changed former same before low q e =
 
 -- a block has another stamp
 module _ (t : Tables) (k : Key) (n : ℕ) (ok : TablesAgree t) (block : HasBlock t k) where
-  abbrev units : List (Addr × UnitState)
+  abbrev units : List (Addr × UnitTableState)
   units = restamped t.units k n
 
   other_age : (j : Key) → j ≢ k → age_of units j ≡ age_of t.units j
   other_age j ne =
       let u = unit_in t.units k.addr in
-      let new : UnitState = record u { stamps = set u.stamps k.rb n } in
+      let new : UnitTableState = record u { stamps = set u.stamps k.rb n } in
       let there = has_by_block t.units k.addr k.rb block in
       same_age t.units units j
       (elim (addr_tells k.addr j.addr) [

@@ -17,7 +17,7 @@ use Rattle.ar_index.specs.Tree.{TreeState, leaves, free_in, IsRight}
 use Rattle.ar_book.specs.declared.class.Class.{Class}
 use Rattle.ar_book.specs.declared.class.Class.TheVariants.{Free, Mirrored, Parity}
 use Rattle.ar_disks.specs.Addresses.{same_addr}
-use Rattle.ar_book.specs.Tables.{GroupState, UnitState, Tables, no_group, group_in, unit_in, is_free, slots_of}
+use Rattle.ar_book.specs.Tables.{GroupState, UnitTableState, Tables, no_group, group_in, unit_in, is_free, slots_of}
 use Rattle.ar_book.specs.Index.{age_of, oldest_named, choices_by, choices_in, choices_of, leaves_from, leaves_of, IsIndexed}
 
 pub leaves_length : (g : Geometry) (place : Addr → ℕ) (age : Key → Age) (n : ℕ) (gs : List GroupState) → length (leaves_from g place age n gs) ≡ length gs
@@ -43,7 +43,7 @@ put_leaf g place age n (suc i) (y ∷ gs) x =
     (put_leaf g place age (suc n) i gs x ∙ ap (λ m. set (leaves_from g place age (suc n) gs) i (choices_in g place age m x)) (let e : suc n + i ≡ n + suc i = omega arith in e))
 
 -- the tree is right again once the leaf of a group that was put is
-pub refreshed : (g : Geometry) (units : List (Addr × UnitState)) (gs new : List GroupState) (index now : List Choices) (i : ℕ) (x : GroupState) → i < length gs
+pub refreshed : (g : Geometry) (units : List (Addr × UnitTableState)) (gs new : List GroupState) (index now : List Choices) (i : ℕ) (x : GroupState) → i < length gs
     → index ≡ leaves_of g units gs → new ≡ set gs i x → now ≡ set index i (choices_of g units i (group_in new i)) → now ≡ leaves_of g units new
 refreshed g units gs new index now i x inside before put e =
     let here : group_in new i ≡ x = ap (λ l. group_in l i) put ∙ get_or-set_same gs i x no_group inside in
@@ -52,7 +52,7 @@ refreshed g units gs new index now i x inside before put e =
     ∙ sym (ap (leaves_of g units) put)
 
 -- the units' order and all stamps stay
-pub same_ages : (g : Geometry) (units new : List (Addr × UnitState)) (gs : List GroupState)
+pub same_ages : (g : Geometry) (units new : List (Addr × UnitTableState)) (gs : List GroupState)
     → ((k : Key) → get_or (unit_in new k.addr).stamps k.rb 0 ≡ get_or (unit_in units k.addr).stamps k.rb 0)
     → keys_of new ≡ keys_of units
     → leaves_of g new gs ≡ leaves_of g units gs
@@ -126,11 +126,11 @@ same_leaf g place age i gs x class slots =
         by Parity = λ j. record { mirrored = None; parity = if nat_lt (count_by is_some (slots j)) (slots_of g (class j)) then Some n else None; free = None; oldest = None }
 
 -- the leaf of a group, among all
-pub leaf_of : (g : Geometry) (units : List (Addr × UnitState)) (gs : List GroupState) (i : ℕ) → i < length gs → get_or (leaves_of g units gs) i nothing ≡ choices_of g units i (group_in gs i)
+pub leaf_of : (g : Geometry) (units : List (Addr × UnitTableState)) (gs : List GroupState) (i : ℕ) → i < length gs → get_or (leaves_of g units gs) i nothing ≡ choices_of g units i (group_in gs i)
 leaf_of g units gs i h = leaf_at g (place_in units) (age_of units) 0 i gs h ∙ ap (λ m. choices_of g units m (group_in gs i)) (let e : 0 + i ≡ i = omega arith in e)
 
 -- a tree with the leaf of each group is right
-pub all_leaves : (g : Geometry) (units : List (Addr × UnitState)) (gs : List GroupState) (index : List Choices) → length index ≡ length gs
+pub all_leaves : (g : Geometry) (units : List (Addr × UnitTableState)) (gs : List GroupState) (index : List Choices) → length index ≡ length gs
     → ((i : ℕ) → i < length gs → get_or index i nothing ≡ choices_of g units i (group_in gs i)) → index ≡ leaves_of g units gs
 all_leaves g units gs index size each =
     ext_get_or nothing index (leaves_of g units gs) (size ∙ sym (leaves_length g (place_in units) (age_of units) 0 gs)) (λ i h. each i (omega arith) ∙ sym (leaf_of g units gs i (omega arith)))
@@ -140,7 +140,7 @@ pub index_length : (t : Tables) (n : ℕ) (index : TreeState) → IsIndexed t n 
 index_length t n index ok = ap length ok.leaves ∙ leaves_length t.geometry (place_in t.units) (age_of t.units) 0 t.groups
 
 -- a tree that is right for units is so for others in the same order
-pub same_order : (units new : List (Addr × UnitState)) (index : TreeState) → keys_of new ≡ keys_of units → IsRight (place_in units) index → IsRight (place_in new) index
+pub same_order : (units new : List (Addr × UnitTableState)) (index : TreeState) → keys_of new ≡ keys_of units → IsRight (place_in units) index → IsRight (place_in new) index
 same_order units new index order ok = subst (λ (f : Addr → ℕ). IsRight f index) (sym places) ok
   where
     places : place_in new ≡ place_in units

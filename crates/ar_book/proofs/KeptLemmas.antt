@@ -5,7 +5,7 @@ use Rattle.ar_disks.specs.declared.address.Key.{Key}
 use Rattle.ar_book.specs.declared.class.Slot.{Slot}
 use Rattle.ar_book.specs.Tables.{Tables, group_in, key_in, key_at, home, HasBlock, HasSlot}
 use Rattle.ar_book.specs.Changes.{named, assigned, released}
-use Rattle.ar_book.specs.Book.{TablesAgree, IsKept}
+use Rattle.ar_book.specs.Book.{TablesAgree, BookAgrees}
 use Rattle.ar_book.proofs.GroupLemmas.{there_group, there_slot, named_other}
 use Rattle.ar_book.proofs.UnitLemmas.{homed_reserved}
 use Rattle.ar_book.proofs.PlaceLemmas.{assigned_agrees, released_agrees}
@@ -22,13 +22,13 @@ former_group t k s ok slot empty q e = there_group (named t.groups s k) q k (for
 pub former_slot : (t : Tables) (k : Key) (s : Slot) → TablesAgree t → HasSlot t s → key_at t s ≡ None → (q : Slot) → home t k ≡ Some q → q.slot < length (group_in (named t.groups s k) q.group).slots
 former_slot t k s ok slot empty q e = there_slot (named t.groups s k) q k (former t k s ok slot empty q e)
 
-pub assigned_kept : (t : Tables) (n : ℕ) (k : Key) (s : Slot) → IsKept t n → HasBlock t k → HasSlot t s → key_at t s ≡ None → IsKept (assigned t k s) n
+pub assigned_kept : (t : Tables) (n : ℕ) (k : Key) (s : Slot) → BookAgrees t n → HasBlock t k → HasSlot t s → key_at t s ≡ None → BookAgrees (assigned t k s) n
 assigned_kept t n k s ok block slot empty = record {
   tables = assigned_agrees t k s ok.tables block slot empty;
   total = ok.total ∙ sym (homed_reserved t.units k (Some s) block);
 }
 
-pub released_kept : (t : Tables) (n : ℕ) (k : Key) → IsKept t n → HasBlock t k → IsKept (released t k) n
+pub released_kept : (t : Tables) (n : ℕ) (k : Key) → BookAgrees t n → HasBlock t k → BookAgrees (released t k) n
 released_kept t n k ok block = record {
   tables = released_agrees t k ok.tables block;
   total = ok.total ∙ sym (homed_reserved t.units k None block);

@@ -12,9 +12,9 @@ use Rattle.ar_book.specs.declared.class.Class.{Class}
 use Rattle.ar_book.specs.declared.class.Class.TheVariants.{Free, Mirrored, Parity}
 use Rattle.ar_book.specs.declared.class.Slot.{Slot}
 use Rattle.ar_disks.specs.Addresses.{same_addr}
-use Rattle.ar_book.specs.Tables.{GroupState, UnitState, Tables, group_in, key_in, unit_in, key_at, home, slots_of, class_of, HasBlock, HasSlot}
+use Rattle.ar_book.specs.Tables.{GroupState, UnitTableState, Tables, group_in, key_in, unit_in, key_at, home, slots_of, class_of, HasBlock, HasSlot}
 use Rattle.ar_book.specs.Changes.{with_key, named, vacated, homed, assigned, released}
-use Rattle.ar_book.specs.Book.{GroupsStand, UnitsStand, IsUnit, Agree, TablesAgree}
+use Rattle.ar_book.specs.Book.{GroupsStand, UnitsStand, IsValidUnit, Agree, TablesAgree}
 use Rattle.ar_book.proofs.GroupLemmas.{there_group, there_slot, named_same, named_other, named_count, named_stand, vacated_size, vacated_same, vacated_other, vacated_count, vacated_stand}
 use Rattle.ar_book.proofs.UnitLemmas.{found_in, has_by_block, units_put, homed_same, homed_other, homed_count, homed_reserved}
 use Rattle.ar_book.proofs.AgreeLemmas.{agree_move}
@@ -30,7 +30,7 @@ slots_within g Mirrored = omega arith
 slots_within g Parity = omega arith
 
 -- what holds of each unit holds of the one that is found
-pub value_found : (P : UnitState → Type 0) (test : Addr → Bool) (us : List (Addr × UnitState)) (u : UnitState) → All P (values_of us) → lookup test us ≡ Some u → P u
+pub value_found : (P : UnitTableState → Type 0) (test : Addr → Bool) (us : List (Addr × UnitTableState)) (u : UnitTableState) → All P (values_of us) → lookup test us ≡ Some u → P u
 value_found P test [] u all e = absurd (none-some u e)
 value_found P test (x ∷ us) u all e = by (value_found P test us u (All-tail P x.1 (values_of us) all)) (test x.0) refl
   where
@@ -39,14 +39,14 @@ value_found P test (x ∷ us) u all e = by (value_found P test us u (All-tail P 
     by rest false h = rest (sym (ap (λ c. cond c (Some x.1) (lookup test us)) h) ∙ e)
 
 -- each unit that is found stands
-pub unit_whole : (geo : Geometry) (us : List (Addr × UnitState)) (a : Addr) → UnitsStand geo us → IsSome (lookup (same_addr a) us) → IsUnit geo (unit_in us a)
-unit_whole geo us a ok h = value_found (IsUnit geo) (same_addr a) us (unit_in us a) ok.whole (found_in us a h)
+pub unit_whole : (geo : Geometry) (us : List (Addr × UnitTableState)) (a : Addr) → UnitsStand geo us → IsSome (lookup (same_addr a) us) → IsValidUnit geo (unit_in us a)
+unit_whole geo us a ok h = value_found (IsValidUnit geo) (same_addr a) us (unit_in us a) ok.whole (found_in us a h)
 
 -- a unit with other homes stands, where they are as many
-pub unit_homes : (geo : Geometry) (u : UnitState) (hs : List (Option Slot)) → IsUnit geo u → length hs ≡ length u.homes → IsUnit geo (record u { homes = hs })
+pub unit_homes : (geo : Geometry) (u : UnitTableState) (hs : List (Option Slot)) → IsValidUnit geo u → length hs ≡ length u.homes → IsValidUnit geo (record u { homes = hs })
 unit_homes geo u hs ok e = record { some = ok.some; few = ok.few; homes = e ∙ ok.homes; stamps = ok.stamps }
 
-pub units_homed : (geo : Geometry) (us : List (Addr × UnitState)) (k : Key) (o : Option Slot) → UnitsStand geo us → k.rb < length (unit_in us k.addr).homes → UnitsStand geo (homed us k o)
+pub units_homed : (geo : Geometry) (us : List (Addr × UnitTableState)) (k : Key) (o : Option Slot) → UnitsStand geo us → k.rb < length (unit_in us k.addr).homes → UnitsStand geo (homed us k o)
 units_homed geo us k o ok h =
     let u = unit_in us k.addr in
     units_put geo us k.addr (record u { homes = set u.homes k.rb o }) ok

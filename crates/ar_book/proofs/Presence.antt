@@ -9,7 +9,7 @@ use Rattle.ar_disks.specs.declared.address.Addr.{Addr}
 use Rattle.ar_disks.specs.Addresses.{same_addr}
 use Rattle.ar_book.specs.Tables.{Tables, has_unit, unit_in, blocks_of, room}
 use Rattle.ar_book.specs.Changes.{new_unit, made, grown, unmarked, dropped}
-use Rattle.ar_book.specs.Refusals.{make_refusal, grow_refusal}
+use Rattle.ar_book.specs.Refusals.{unit_make_refusal, unit_grow_refusal}
 use Rattle.ar_book.specs.Book.{TablesAgree}
 use Rattle.ar_book.specs.declared.refusal.Refusal.{Refusal}
 use Rattle.ar_book.specs.declared.refusal.Refusal.TheVariants.{BadLun, Exists, Size, NoRoom, Absent}
@@ -27,7 +27,7 @@ none_of None e = refl
 none_of (Some x) e = absurd (cc)
 
 -- a unit that can be made isn't there yet
-pub make_fresh : (t : Tables) (a : Addr) (n : ℕ) → make_refusal t a n ≡ None → has_unit t a ≡ false
+pub make_fresh : (t : Tables) (a : Addr) (n : ℕ) → unit_make_refusal t a n ≡ None → has_unit t a ≡ false
 make_fresh t a n granted = by (nat_lt 7 a.lun) (has_unit t a) granted
   where
     rest : Option Refusal
@@ -39,7 +39,7 @@ make_fresh t a n granted = by (nat_lt 7 a.lun) (has_unit t a) granted
     by false false e = refl
 
 -- a unit that can grow is there, and is shorter
-pub grow_there : (t : Tables) (a : Addr) (n : ℕ) → grow_refusal t a n ≡ None → has_unit t a ≡ true
+pub grow_there : (t : Tables) (a : Addr) (n : ℕ) → unit_grow_refusal t a n ≡ None → has_unit t a ≡ true
 grow_there t a n granted = by (has_unit t a) granted
   where
     rest : Option Refusal
@@ -51,7 +51,7 @@ grow_there t a n granted = by (has_unit t a) granted
     by true e = refl
     by false e = absurd (cc)
 
-pub grow_shorter : (t : Tables) (a : Addr) (n : ℕ) → grow_refusal t a n ≡ None → nat_le n (unit_in t.units a).sectors ≡ false
+pub grow_shorter : (t : Tables) (a : Addr) (n : ℕ) → unit_grow_refusal t a n ≡ None → nat_le n (unit_in t.units a).sectors ≡ false
 grow_shorter t a n granted = by (has_unit t a) (nat_le n (unit_in t.units a).sectors) granted
   where
     by : (there small : Bool) → cond (not there) (Some Absent) (cond (small || nat_lt 1048576 n) (Some Size)

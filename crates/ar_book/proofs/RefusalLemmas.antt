@@ -11,9 +11,9 @@ use Rattle.ar_disks.specs.declared.geometry.Geometry.TheVariants.{Paper, Small}
 use Rattle.ar_book.specs.declared.refusal.Refusal.{Refusal}
 use Rattle.ar_book.specs.declared.refusal.Refusal.TheVariants.{BadLun, Exists, Size, NoRoom, Absent}
 use Rattle.ar_disks.specs.Addresses.{same_addr}
-use Rattle.ar_book.specs.Tables.{Tables, UnitState, has_unit, unit_in, blocks_of, reserved, room}
-use Rattle.ar_book.specs.Refusals.{make_refusal, grow_refusal}
-use Rattle.ar_book.specs.Book.{TablesAgree, IsUnit}
+use Rattle.ar_book.specs.Tables.{Tables, UnitTableState, has_unit, unit_in, blocks_of, reserved, room}
+use Rattle.ar_book.specs.Refusals.{unit_make_refusal, unit_grow_refusal}
+use Rattle.ar_book.specs.Book.{TablesAgree, IsValidUnit}
 use Rattle.ar_book.proofs.PlaceLemmas.{unit_whole}
 use Rattle.ar_book.proofs.GroupLemmas.{few_groups, room_fits}
 
@@ -27,7 +27,7 @@ four : (a b c d : Bool) (x y z w : Refusal) → (if a then Some x else if b then
 four true b c d x y z w e = absurd (none-some x (sym e))
 four false b c d x y z w e = let p = three b c d y z w e in (refl, p.0, p.1, p.2)
 
-none_found : (o : Option UnitState) → is_some o ≡ false → o ≡ None
+none_found : (o : Option UnitTableState) → is_some o ≡ false → o ≡ None
 none_found None e = refl
 none_found (Some u) e = absurd (true≢false e)
 
@@ -49,7 +49,7 @@ pub record CanMake (t : Tables) (a : Addr) (n : ℕ) : Type 0 where
   pub few : n ≤ 1048576
   pub room : reserved t + blocks_of t.geometry n ≤ 3 * rows_of t.geometry * (length t.groups - 1)
 
-pub can_make : (t : Tables) (a : Addr) (n : ℕ) → TablesAgree t → make_refusal t a n ≡ None → CanMake t a n
+pub can_make : (t : Tables) (a : Addr) (n : ℕ) → TablesAgree t → unit_make_refusal t a n ≡ None → CanMake t a n
 can_make t a n ok e =
     let p = four (nat_lt 7 a.lun) (has_unit t a) (eqb n 0 || nat_lt 1048576 n) (nat_lt (room t) (blocks_of t.geometry n)) BadLun Exists Size (NoRoom (room t)) e in
     let size = or_parts (eqb n 0) (nat_lt 1048576 n) p.2 in
@@ -78,14 +78,14 @@ blocks_grow : (g : Geometry) (m n : ℕ) → m < n → blocks_of g m ≤ blocks_
 blocks_grow Paper m n h = omega arith
 blocks_grow Small m n h = omega arith
 
-pub can_grow : (t : Tables) (a : Addr) (n : ℕ) → TablesAgree t → grow_refusal t a n ≡ None → CanGrow t a n
+pub can_grow : (t : Tables) (a : Addr) (n : ℕ) → TablesAgree t → unit_grow_refusal t a n ≡ None → CanGrow t a n
 can_grow t a n ok e =
     let u = unit_in t.units a in
     let p = three (not (has_unit t a)) (nat_le n u.sectors || nat_lt 1048576 n) (nat_lt (room t) (blocks_of t.geometry n - length u.homes)) Absent Size (NoRoom (room t)) e in
     let size = or_parts (nat_le n u.sectors) (nat_lt 1048576 n) p.1 in
     let more : u.sectors < n = leb-false n u.sectors size.0 in
     let there : IsSome (lookup (same_addr a) t.units) = not_false (has_unit t a) p.0 in
-    let w : IsUnit t.geometry u = unit_whole t.geometry t.units a ok.units there in
+    let w : IsValidUnit t.geometry u = unit_whole t.geometry t.units a ok.units there in
     let grows : blocks_of t.geometry u.sectors ≤ blocks_of t.geometry n = blocks_grow t.geometry u.sectors n more in
     record {
       there = there;

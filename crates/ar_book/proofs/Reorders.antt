@@ -19,10 +19,10 @@ use Rattle.ar_index.proofs.Orders.{Alike, Names, removed_alike, pushed_alike, sa
 use Rattle.ar_book.specs.declared.class.Class.{Class}
 use Rattle.ar_book.specs.declared.class.Class.TheVariants.{Free, Mirrored, Parity}
 use Rattle.ar_book.specs.declared.class.Slot.{Slot}
-use Rattle.ar_book.specs.Tables.{GroupState, UnitState, Tables, no_group, group_in, unit_in, home_in, HasBlock}
-use Rattle.ar_book.specs.Changes.{vacated, made, without_key}
+use Rattle.ar_book.specs.Tables.{GroupState, UnitTableState, Tables, no_group, group_in, unit_in, home_in, HasBlock}
+use Rattle.ar_book.specs.Changes.{vacated, made, with_hole}
 use Rattle.ar_book.specs.Book.{TablesAgree}
-use Rattle.ar_book.specs.Index.{age_of, choices_by, choices_in, choices_of, leaves_from, leaves_of, leaf, IsOutside, IsAmong, IsBlanked, IsLeafOrBlank, HaveChoices, blanks}
+use Rattle.ar_book.specs.Index.{age_of, choices_by, choices_in, choices_of, leaves_from, leaves_of, leaf, AreOutside, IsAmong, IsBlanked, IsLeafOrBlank, HaveChoices, blanks}
 use Rattle.std.proofs.lemmas.List.Sums.{sum_by-set}
 use Rattle.ar_disks.proofs.Addresses.{addr_same, addr_apart}
 use Rattle.ar_book.proofs.UnitLemmas.{has_by_block}
@@ -41,14 +41,14 @@ abbrev pub IsOther : Addr → Addr → Type 0
 IsOther a b = b ≢ a
 
 -- the order of the others, before and after a unit is there
-pub made_alike : (us : List (Addr × UnitState)) (new : List (Addr × UnitState)) (a b c : Addr) → keys_of new ≡ keys_of us ++ a ∷ [] → IsOther a b → IsOther a c
+pub made_alike : (us : List (Addr × UnitTableState)) (new : List (Addr × UnitTableState)) (a b c : Addr) → keys_of new ≡ keys_of us ++ a ∷ [] → IsOther a b → IsOther a c
     → Alike (place_in us b) (place_in us c) (place_in new b) (place_in new c)
 made_alike us new a b c order p q =
     subst (λ ks. Alike (place_in us b) (place_in us c) (position_or_len (same_addr b) ks) (position_or_len (same_addr c) ks)) (sym order)
     (pushed_alike (same_addr b) (same_addr c) a (addr_apart b a p) (addr_apart c a q) (keys_of us))
 
 -- and before and after it goes
-pub gone_alike : (us : List (Addr × UnitState)) (a b c : Addr) → IsOther a b → IsOther a c
+pub gone_alike : (us : List (Addr × UnitTableState)) (a b c : Addr) → IsOther a b → IsOther a c
     → Alike (place_in us b) (place_in us c) (place_in (remove_entry (same_addr a) us) b) (place_in (remove_entry (same_addr a) us) c)
 gone_alike us a b c p q =
     subst (λ ks. Alike (place_in us b) (place_in us c) (position_or_len (same_addr b) ks) (position_or_len (same_addr c) ks)) (sym (removed_keys (same_addr a) us))
@@ -57,7 +57,7 @@ gone_alike us a b c p q =
     (keys_of us))
 
 -- two orders that tell the same of the units other than one
-module _ (f g : Addr → ℕ) (a : Addr) (alike : (b c : Addr) → IsOther a b → IsOther a c → Alike (f b) (f c) (g b) (g c)) (us : List (Addr × UnitState)) where
+module _ (f g : Addr → ℕ) (a : Addr) (alike : (b c : Addr) → IsOther a b → IsOther a c → Alike (f b) (f c) (g b) (g c)) (us : List (Addr × UnitTableState)) where
   each_other : (slots : List (Option Key)) → NameOthers a slots → (i : ℕ) → Names (IsOther a) (get_or (map (option_map (age_of us)) slots) i None)
   each_other slots others i b e =
       let k = named_key (age_of us) (get_or slots i None) b (sym (slot_age (age_of us) slots i) ∙ e) in
@@ -133,11 +133,11 @@ module _ (t : Tables) (ok : TablesAgree t) (a : Addr) (old index : TreeState) (b
   abbrev homes : List (Option Slot)
   homes = (unit_in t.units a).homes
 
-  abbrev others : List (Addr × UnitState)
+  abbrev others : List (Addr × UnitTableState)
   others = remove_entry (same_addr a) t.units
 
   -- a group without one of its homes names blocks of other units alone
-  outside_others : (i n : ℕ) → length homes ≤ n → IsOutside homes n i → NameOthers a (group_in t.groups i).slots
+  outside_others : (i n : ℕ) → length homes ≤ n → AreOutside homes n i → NameOthers a (group_in t.groups i).slots
   outside_others i n all outside j k e own =
       let at : home_in t.units k ≡ Some (record { group = i; slot = j }) = ok.agree.to_home k (record { group = i; slot = j }) e in
       let is : get_or homes k.rb None ≡ Some (record { group = i; slot = j }) = ap (λ b. get_or (unit_in t.units b).homes k.rb None) (sym own) ∙ at in
@@ -177,12 +177,12 @@ module _ (t : Tables) (ok : TablesAgree t) (a : Addr) (old index : TreeState) (b
       | inr none ↦ inr none
     ]
       where
-        untouched : (hs : List (Option Slot)) (gs : List GroupState) → IsOutside hs (length hs) i → group_in (fold vacated gs hs) i ≡ group_in gs i
+        untouched : (hs : List (Option Slot)) (gs : List GroupState) → AreOutside hs (length hs) i → group_in (fold vacated gs hs) i ≡ group_in gs i
         untouched [] gs outside = refl
         untouched (None ∷ hs) gs outside = untouched hs gs (λ j s h e. outside (suc j) s (omega arith) e)
         untouched (Some q ∷ hs) gs outside =
             untouched hs (vacated gs (Some q)) (λ j s h e. outside (suc j) s (omega arith) e)
-            ∙ get_or-set_other gs q.group i (without_key (group_in gs q.group) q.slot) no_group (λ e. outside 0 q (omega arith) refl (sym e))
+            ∙ get_or-set_other gs q.group i (with_hole (group_in gs q.group) q.slot) no_group (λ e. outside 0 q (omega arith) refl (sym e))
 
 -- the homes from the next place on
 pub further_on : (homes : List (Option Slot)) (n i : ℕ) → ((s : Slot) → get_or homes n None ≡ Some s → s.group ≢ i) → IsAmong homes n i → IsAmong homes (n + 1) i
@@ -194,19 +194,19 @@ further_on homes n i not_here m = elim (cases_lt n m.place) [
 ]
 
 -- the groups of the first homes are blank, and nothing else has changed
-pub record AreBlanked (us : List (Addr × UnitState)) (homes : List (Option Slot)) (n : ℕ) (old index : TreeState) : Type 0 where
+pub record AreBlanked (us : List (Addr × UnitTableState)) (homes : List (Option Slot)) (n : ℕ) (old index : TreeState) : Type 0 where
   pub size : length (leaves index) ≡ length (leaves old)
   pub right : IsRight (place_in us) index
   pub each : (i : ℕ) → IsBlanked homes n old index i
 
 -- the groups of the first homes have their choices
-pub record AreRefreshed (g : Geometry) (us : List (Addr × UnitState)) (gs : List GroupState) (homes : List (Option Slot)) (n : ℕ) (index : TreeState) : Type 0 where
+pub record AreRefreshed (g : Geometry) (us : List (Addr × UnitTableState)) (gs : List GroupState) (homes : List (Option Slot)) (n : ℕ) (index : TreeState) : Type 0 where
   pub size : length (leaves index) ≡ length gs
   pub right : IsRight (place_in us) index
   pub each : (i : ℕ) → i < length gs → IsLeafOrBlank g us gs homes n index i
 
 -- one home more, of which the group is another
-later_outside : (homes : List (Option Slot)) (n i : ℕ) → ((s : Slot) → get_or homes n None ≡ Some s → s.group ≢ i) → IsOutside homes n i → IsOutside homes (n + 1) i
+later_outside : (homes : List (Option Slot)) (n i : ℕ) → ((s : Slot) → get_or homes n None ≡ Some s → s.group ≢ i) → AreOutside homes n i → AreOutside homes (n + 1) i
 later_outside homes n i not_here outside j s h e = elim (cases_lt j n) [
   | inl before ↦ outside j s before e
   | inr last ↦ let same : j ≡ n = omega arith in not_here s (ap (λ m. get_or homes m None) (sym same) ∙ e)
@@ -245,7 +245,7 @@ module _ (homes : List (Option Slot)) (n : ℕ) (old index : TreeState) (each : 
         (λ s e here. other (sym here ∙ ap (λ (r : Slot). r.group) (same_Some s q (sym e ∙ at))))
   ]
 
-module _ (g : Geometry) (us : List (Addr × UnitState)) (gs : List GroupState) (homes : List (Option Slot)) (n : ℕ) (index : TreeState)
+module _ (g : Geometry) (us : List (Addr × UnitTableState)) (gs : List GroupState) (homes : List (Option Slot)) (n : ℕ) (index : TreeState)
     (each : (i : ℕ) → i < length gs → IsLeafOrBlank g us gs homes n index i) where
   right_beside : (now : TreeState) (i : ℕ) → i < length gs → leaf now i ≡ leaf index i → ((s : Slot) → get_or homes n None ≡ Some s → s.group ≢ i) → IsLeafOrBlank g us gs homes (n + 1) now i
   right_beside now i inside same not_here = elim (each i inside) [
@@ -305,6 +305,6 @@ blanks_less index now i c inside put was is =
     omega (arith, all, one, none, same)
 
 -- each blank leaf less took 60 steps at most
-pub record CountsBlanks (g : Geometry) (us : List (Addr × UnitState)) (gs : List GroupState) (homes : List (Option Slot)) (old : TreeState) (before : ℕ)
+pub record CountsBlanks (g : Geometry) (us : List (Addr × UnitTableState)) (gs : List GroupState) (homes : List (Option Slot)) (old : TreeState) (before : ℕ)
     (index : TreeState) (steps : ℕ) : Type 0 where
   pub few : length gs ≤ 4096 → HaveChoices g us gs homes → steps + 60 * blanks index ≤ before + 60 * blanks old

@@ -16,29 +16,29 @@ use Rattle.ar_disks.specs.declared.address.Key.{Key}
 use Rattle.ar_disks.specs.declared.geometry.Geometry.{Geometry}
 use Rattle.ar_book.specs.declared.class.Slot.{Slot}
 use Rattle.ar_disks.specs.Addresses.{same_addr}
-use Rattle.ar_book.specs.Tables.{UnitState, unit_in, no_unit, home_in, placed}
+use Rattle.ar_book.specs.Tables.{UnitTableState, unit_in, no_unit, home_in, placed}
 use Rattle.ar_book.specs.Changes.{homed}
-use Rattle.ar_book.specs.Book.{UnitsStand, IsUnit}
+use Rattle.ar_book.specs.Book.{UnitsStand, IsValidUnit}
 use Rattle.ar_disks.proofs.Addresses.{addr_laws, addr_tells, same_addr_self, addr_apart, make_key}
 
 -- the look-up found this unit
-pub found_in : (us : List (Addr × UnitState)) (a : Addr) → IsSome (lookup (same_addr a) us) → lookup (same_addr a) us ≡ Some (unit_in us a)
+pub found_in : (us : List (Addr × UnitTableState)) (a : Addr) → IsSome (lookup (same_addr a) us) → lookup (same_addr a) us ≡ Some (unit_in us a)
 found_in us a h = by (lookup (same_addr a) us) h
   where
-    by : (o : Option UnitState) → IsSome o → o ≡ Some (unwrap_or o no_unit)
+    by : (o : Option UnitTableState) → IsSome o → o ≡ Some (unwrap_or o no_unit)
     by None e = absurd (true≢false (sym e))
     by (Some u) e = refl
 
 -- a unit with a block is there
-pub has_by_block : (us : List (Addr × UnitState)) (a : Addr) (i : ℕ) → i < length (unit_in us a).homes → IsSome (lookup (same_addr a) us)
+pub has_by_block : (us : List (Addr × UnitTableState)) (a : Addr) (i : ℕ) → i < length (unit_in us a).homes → IsSome (lookup (same_addr a) us)
 has_by_block us a i h = by (lookup (same_addr a) us) h
   where
-    by : (o : Option UnitState) → i < length (unwrap_or o no_unit).homes → IsSome o
+    by : (o : Option UnitTableState) → i < length (unwrap_or o no_unit).homes → IsSome o
     by None l = absurd (omega arith)
     by (Some u) l = refl
 
 -- where there is no such unit nothing is put
-pub put_absent : (test : Addr → Bool) (us : List (Addr × UnitState)) (u : UnitState) → lookup test us ≡ None → set_value test us u ≡ us
+pub put_absent : (test : Addr → Bool) (us : List (Addr × UnitTableState)) (u : UnitTableState) → lookup test us ≡ None → set_value test us u ≡ us
 put_absent test [] u e = refl
 put_absent test (x ∷ us) u e = by (put_absent test us u) (test x.0) refl
   where
@@ -48,7 +48,7 @@ put_absent test (x ∷ us) u e = by (put_absent test us u) (test x.0) refl
         ap (λ c. cond c ((x.0, u) ∷ us) (x ∷ set_value test us u)) h
         ∙ ap (λ l. x ∷ l) (rest (sym (ap (λ c. cond c (Some x.1) (lookup test us)) h) ∙ e))
 
-module _ (us : List (Addr × UnitState)) (a : Addr) (u : UnitState) (there : IsSome (lookup (same_addr a) us)) where
+module _ (us : List (Addr × UnitTableState)) (a : Addr) (u : UnitTableState) (there : IsSome (lookup (same_addr a) us)) where
   lookup_put : (b : Addr) → lookup (same_addr b) (set_value (same_addr a) us u) ≡ cond (same_addr a b) (Some u) (lookup (same_addr b) us)
   lookup_put b = lookup-set_value addr_laws (same_addr a) (addr_laws.congr a) b u us there
 
@@ -61,15 +61,15 @@ module _ (us : List (Addr × UnitState)) (a : Addr) (u : UnitState) (there : IsS
   unit_other b ne = ap (λ o. unwrap_or o no_unit) (lookup_put b ∙ ap (λ c. cond c (Some u) (lookup (same_addr b) us)) (addr_apart a b ne))
 
   -- a sum over the units
-  pub unit_sum : (f : UnitState → ℕ) → sum_by f (values_of (set_value (same_addr a) us u)) + f (unit_in us a) ≡ sum_by f (values_of us) + f u
+  pub unit_sum : (f : UnitTableState → ℕ) → sum_by f (values_of (set_value (same_addr a) us u)) + f (unit_in us a) ≡ sum_by f (values_of us) + f u
   unit_sum f = sum_by-set_value f (same_addr a) us (unit_in us a) u (found_in us a there)
 
 -- what the unit that is put has as the former one stays in all
-pub unit_keeps : {A : Type 0} (f : UnitState → A) (us : List (Addr × UnitState)) (a : Addr) (u : UnitState) → f u ≡ f (unit_in us a)
+pub unit_keeps : {A : Type 0} (f : UnitTableState → A) (us : List (Addr × UnitTableState)) (a : Addr) (u : UnitTableState) → f u ≡ f (unit_in us a)
     → (b : Addr) → f (unit_in (set_value (same_addr a) us u) b) ≡ f (unit_in us b)
 unit_keeps f us a u e b = by (lookup (same_addr a) us) refl
   where
-    by : (o : Option UnitState) → lookup (same_addr a) us ≡ o → f (unit_in (set_value (same_addr a) us u) b) ≡ f (unit_in us b)
+    by : (o : Option UnitTableState) → lookup (same_addr a) us ≡ o → f (unit_in (set_value (same_addr a) us u) b) ≡ f (unit_in us b)
     by None none = ap (λ l. f (unit_in l b)) (put_absent (same_addr a) us u none)
     by (Some v) found =
         let there : IsSome (lookup (same_addr a) us) = ap is_some found in
@@ -83,15 +83,15 @@ unit_keeps f us a u e b = by (lookup (same_addr a) us) refl
         ]
 
 -- the units stand where the one that was put does
-pub units_put : (geo : Geometry) (us : List (Addr × UnitState)) (a : Addr) (u : UnitState) → UnitsStand geo us → IsUnit geo u → UnitsStand geo (set_value (same_addr a) us u)
+pub units_put : (geo : Geometry) (us : List (Addr × UnitTableState)) (a : Addr) (u : UnitTableState) → UnitsStand geo us → IsValidUnit geo u → UnitsStand geo (set_value (same_addr a) us u)
 units_put geo us a u ok new = record {
   distinct = subst (λ ks. IsDistinct same_addr ks) (sym (keys-set_value (same_addr a) us u)) ok.distinct;
-  whole = All-values-set_value (same_addr a) (IsUnit geo) us u ok.whole new;
+  whole = All-values-set_value (same_addr a) (IsValidUnit geo) us u ok.whole new;
 }
 
 -- a block has another home
-module _ (us : List (Addr × UnitState)) (k : Key) (o : Option Slot) (inside : k.rb < length (unit_in us k.addr).homes) where
-  moved_in : UnitState
+module _ (us : List (Addr × UnitTableState)) (k : Key) (o : Option Slot) (inside : k.rb < length (unit_in us k.addr).homes) where
+  moved_in : UnitTableState
   moved_in = record (unit_in us k.addr) { homes = set (unit_in us k.addr).homes k.rb o }
 
   here : IsSome (lookup (same_addr k.addr) us)
@@ -102,7 +102,7 @@ module _ (us : List (Addr × UnitState)) (k : Key) (o : Option Slot) (inside : k
 
   pub homed_other : (j : Key) → j ≢ k → home_in (homed us k o) j ≡ home_in us j
   homed_other j ne =
-      let u : UnitState = record (unit_in us k.addr) { homes = set (unit_in us k.addr).homes k.rb o } in
+      let u : UnitTableState = record (unit_in us k.addr) { homes = set (unit_in us k.addr).homes k.rb o } in
       elim (addr_tells k.addr j.addr) [
         | inl e ↦
             let n : j.rb ≢ k.rb = λ q. ne (make_key j k (sym e.1) q) in
@@ -117,7 +117,7 @@ module _ (us : List (Addr × UnitState)) (k : Key) (o : Option Slot) (inside : k
   pub homed_count : sum_by placed (values_of (homed us k o)) + cond {A = ℕ} (is_some (home_in us k)) 1 0 ≡ sum_by placed (values_of us) + cond {A = ℕ} (is_some o) 1 0
   homed_count =
       let old = unit_in us k.addr in
-      let u : UnitState = record old { homes = set old.homes k.rb o } in
+      let u : UnitTableState = record old { homes = set old.homes k.rb o } in
       let one : count_by is_some (set old.homes k.rb o) + cond {A = ℕ} (is_some (home_in us k)) 1 0 ≡ placed old + cond {A = ℕ} (is_some o) 1 0 =
       sum_by-set (λ h. cond {A = ℕ} (is_some h) 1 0) old.homes k.rb o None inside in
       let all : sum_by placed (values_of (homed us k o)) + placed old ≡ sum_by placed (values_of us) + count_by is_some (set old.homes k.rb o) = unit_sum us k.addr u here placed in
@@ -126,13 +126,13 @@ module _ (us : List (Addr × UnitState)) (k : Key) (o : Option Slot) (inside : k
   pub homed_reserved : sum_by (λ u. length u.homes) (values_of (homed us k o)) ≡ sum_by (λ u. length u.homes) (values_of us)
   homed_reserved =
       let old = unit_in us k.addr in
-      let u : UnitState = record old { homes = set old.homes k.rb o } in
+      let u : UnitTableState = record old { homes = set old.homes k.rb o } in
       let len : length (set old.homes k.rb o) ≡ length old.homes = length-set old.homes k.rb o in
       let all : sum_by (λ x. length x.homes) (values_of (homed us k o)) + length old.homes ≡ sum_by (λ x. length x.homes) (values_of us) + length (set old.homes k.rb o) = unit_sum us k.addr u here (λ x. length x.homes) in
       omega arith
 
 -- the stamp of a block whose unit was looked up
-pub found_stamp : {A : Type 0} (f : A → UnitState) (units : List (Addr × UnitState)) (a : Addr) (rb stamp : ℕ) (o : Option A) → ForSome o (λ x. lookup (same_addr a) units ≡ Some (f x)) → IfNone o (lookup (same_addr a) units ≡ None)
+pub found_stamp : {A : Type 0} (f : A → UnitTableState) (units : List (Addr × UnitTableState)) (a : Addr) (rb stamp : ℕ) (o : Option A) → ForSome o (λ x. lookup (same_addr a) units ≡ Some (f x)) → IfNone o (lookup (same_addr a) units ≡ None)
     → MatchOption o (stamp ≡ 0) (λ x. stamp ≡ get_or (f x).stamps rb 0) → stamp ≡ get_or (unit_in units a).stamps rb 0
 found_stamp f units a rb stamp None found none e = e ∙ sym (get_or_past [] rb 0 (omega arith)) ∙ sym (ap (λ l. get_or (unwrap_or l no_unit).stamps rb 0) none)
 found_stamp f units a rb stamp (Some x) found none e = e ∙ sym (ap (λ l. get_or (unwrap_or l no_unit).stamps rb 0) (found x refl))

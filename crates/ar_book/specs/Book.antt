@@ -9,7 +9,7 @@ use Rattle.ar_disks.specs.declared.address.Key.{Key}
 use Rattle.ar_disks.specs.declared.geometry.Geometry.{Geometry}
 use Rattle.ar_book.specs.declared.class.Slot.{Slot}
 use Rattle.ar_disks.specs.Addresses.{same_addr}
-use Rattle.ar_book.specs.Tables.{GroupState, UnitState, Tables, group_in, key_in, home_in, slots_of, used, placed, blocks_of, reserved}
+use Rattle.ar_book.specs.Tables.{GroupState, UnitTableState, Tables, group_in, key_in, home_in, slots_of, used, placed, blocks_of, reserved}
 
 -- the groups alone
 pub record GroupsStand (g : Geometry) (groups : List GroupState) : Type 0 where
@@ -25,19 +25,19 @@ pub record GroupsStand (g : Geometry) (groups : List GroupState) : Type 0 where
   pub first : (i : ℕ) → i < length groups → ((group_in groups i).members.first.disk < 2 ^ 8) × ((group_in groups i).members.first.extent < 2 ^ 16)
 
 -- a unit alone: its length is allowed, and it has an entry for a home and for a stamp for each block
-pub record IsUnit (g : Geometry) (u : UnitState) : Type 0 where
+pub record IsValidUnit (g : Geometry) (u : UnitTableState) : Type 0 where
   pub some : 0 < u.sectors
   pub few : u.sectors ≤ 1048576
   pub homes : length u.homes ≡ blocks_of g u.sectors
   pub stamps : length u.stamps ≡ blocks_of g u.sectors
 
 -- the units alone: no two have one address
-pub record UnitsStand (g : Geometry) (units : List (Addr × UnitState)) : Type 0 where
+pub record UnitsStand (g : Geometry) (units : List (Addr × UnitTableState)) : Type 0 where
   pub distinct : IsDistinct same_addr (keys_of units)
-  pub whole : All (IsUnit g) (values_of units)
+  pub whole : All (IsValidUnit g) (values_of units)
 
 -- homes and slots are inverse to each other
-pub record Agree (groups : List GroupState) (units : List (Addr × UnitState)) : Type 0 where
+pub record Agree (groups : List GroupState) (units : List (Addr × UnitTableState)) : Type 0 where
   pub to_slot : (k : Key) (s : Slot) → home_in units k ≡ Some s → key_in groups s ≡ Some k
   pub to_home : (k : Key) (s : Slot) → key_in groups s ≡ Some k → home_in units k ≡ Some s
   -- as many slots are occupied as blocks have a home
@@ -56,6 +56,6 @@ pub record TablesAgree (t : Tables) : Type 0 where
   pub room : reserved t ≤ 3 * rows_of t.geometry * (length t.groups - 1)
 
 -- the invariant, and the number of reserved blocks that the book keeps beside its tables
-pub record IsKept (t : Tables) (kept : ℕ) : Type 0 where
+pub record BookAgrees (t : Tables) (kept : ℕ) : Type 0 where
   pub tables : TablesAgree t
   pub total : kept ≡ reserved t

@@ -12,7 +12,7 @@ use Rattle.ar_book.specs.declared.class.Class.{Class}
 use Rattle.ar_book.specs.declared.class.Class.TheVariants.{Free}
 use Rattle.ar_book.specs.declared.class.Slot.{Slot}
 use Rattle.ar_disks.specs.Addresses.{same_addr}
-use Rattle.ar_book.specs.Tables.{GroupState, UnitState, Tables, group_in, unit_in, home, used, blocks_of}
+use Rattle.ar_book.specs.Tables.{GroupState, UnitTableState, Tables, group_in, unit_in, home, used, blocks_of}
 
 -- the group with a block in a slot
 abbrev pub with_key : GroupState → ℕ → Key → GroupState
@@ -23,8 +23,8 @@ abbrev pub freed : GroupState → GroupState
 freed g = if used g == 0 then record g { class = Free } else g
 
 -- the group with a slot emptied; it is free if no slot is occupied then
-abbrev pub without_key : GroupState → ℕ → GroupState
-without_key g i = freed (record g { slots = slice_set g.slots i None })
+abbrev pub with_hole : GroupState → ℕ → GroupState
+with_hole g i = freed (record g { slots = slice_set g.slots i None })
 
 -- the groups with the block in the slot
 abbrev pub named : List GroupState → Slot → Key → List GroupState
@@ -33,10 +33,10 @@ named groups s k = slice_set groups s.group (with_key (group_in groups s.group) 
 -- the groups with the slot, if there is one, emptied
 abbrev pub vacated : List GroupState → Option Slot → List GroupState
 vacated groups None = groups
-vacated groups (Some s) = slice_set groups s.group (without_key (group_in groups s.group) s.slot)
+vacated groups (Some s) = slice_set groups s.group (with_hole (group_in groups s.group) s.slot)
 
 -- the units with this home, or none, for the block
-abbrev pub homed : List (Addr × UnitState) → Key → Option Slot → List (Addr × UnitState)
+abbrev pub homed : List (Addr × UnitTableState) → Key → Option Slot → List (Addr × UnitTableState)
 homed units k o =
     let u = unit_in units k.addr in
     set_value (same_addr k.addr) units (record u { homes = slice_set u.homes k.rb o })
@@ -59,7 +59,7 @@ abbrev pub next_stamp : ℕ → ℕ
 next_stamp puts = min (puts + 1) 18446744073709551615
 
 -- the units with this stamp for the block
-abbrev pub restamped : List (Addr × UnitState) → Key → ℕ → List (Addr × UnitState)
+abbrev pub restamped : List (Addr × UnitTableState) → Key → ℕ → List (Addr × UnitTableState)
 restamped units k n =
     let u = unit_in units k.addr in
     set_value (same_addr k.addr) units (record u { stamps = slice_set u.stamps k.rb n })
@@ -69,7 +69,7 @@ abbrev pub stamped : Tables → Key → Tables
 stamped t k = record t { puts = next_stamp t.puts; units = restamped t.units k (next_stamp t.puts) }
 
 -- a unit of n sectors, without a home or a stamp and without a pending UNIT ATTENTION
-abbrev pub new_unit : Geometry → ℕ → UnitState
+abbrev pub new_unit : Geometry → ℕ → UnitTableState
 new_unit g n = record { sectors = n; homes = replicate (blocks_of g n) None; stamps = replicate (blocks_of g n) 0; attention = false }
 
 -- a new unit of n sectors, the last in order of creation
@@ -77,7 +77,7 @@ abbrev pub made : Tables → Addr → ℕ → Tables
 made t a n = record t { units = t.units ++ (a, new_unit t.geometry n) ∷ [] }
 
 -- the unit resized to n sectors: the blocks past its former end have no home or stamp, and a UNIT ATTENTION is pending
-abbrev pub longer : Geometry → UnitState → ℕ → UnitState
+abbrev pub longer : Geometry → UnitTableState → ℕ → UnitTableState
 longer g u n =
     let more = blocks_of g n - length u.homes in
     record { sectors = n; homes = u.homes ++ replicate more None; stamps = u.stamps ++ replicate more 0; attention = true }

@@ -1,8 +1,8 @@
 -- What each search finds: the first in slot order, the lowest number, or the oldest.
-use Rattle.std.specs.Prelude.{◌≡◌, ℕ, ◌<◌, ◌≤◌, ◌⊎◌, Bool, false, ◌&&◌, ◌||◌, ◌==◌, length, slice_index_or, None, IsSome}
+use Rattle.std.specs.Prelude.{◌≡◌, ℕ, ◌<◌, ◌≤◌, ◌⊎◌, false, length, slice_index_or, None, IsSome}
 use Rattle.std.specs.List.{position_or_len}
 use Rattle.std.specs.Map.{keys_of}
-use Rattle.ar_disks.specs.Members.{member}
+use Rattle.ar_disks.specs.Members.{member, stands_on}
 use Rattle.ar_disks.specs.declared.address.Addr.{Addr}
 use Rattle.ar_disks.specs.declared.address.Key.{Key}
 use Rattle.ar_disks.specs.declared.address.Place.{Place}
@@ -57,7 +57,7 @@ IsNoNewer t k j =
     ⊎ ((stamp_of t k ≡ stamp_of t j) × ((place_of t k.addr < place_of t j.addr) ⊎ ((place_of t k.addr ≡ place_of t j.addr) × (k.rb ≤ j.rb))))
 
 -- some block of a unit has no home
-pub record IsWaiting (t : Tables) : Type 0 where
+pub record HasUnplacedBlock (t : Tables) : Type 0 where
   pub key : Key
   pub block : HasBlock t key
   pub unplaced : home t key ≡ None
@@ -68,14 +68,6 @@ pub record IsFullMirrored (t : Tables) (g : ℕ) : Type 0 where
   pub mirrored : class_of t g ≡ Mirrored
   pub full : (i : ℕ) → i < slots_of t.geometry Mirrored → IsSome (slice_index_or (group_in t.groups g).slots i None)
   pub least : (h : ℕ) → h < g → class_of t h ≡ Mirrored → ⊥
-
--- whether the two are the same extent
-abbrev pub same_place : Place → Place → Bool
-same_place p q = (p.disk == q.disk) && (p.extent == q.extent)
-
--- whether the extent is one of the four
-abbrev pub stands_on : Members → Place → Bool
-stands_on m p = same_place m.first p || same_place m.second p || same_place m.third p || same_place m.fourth p
 
 -- the extent is in no group
 abbrev pub IsUnused : Tables → Place → Type 0

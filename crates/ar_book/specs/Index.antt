@@ -12,11 +12,11 @@ use Rattle.ar_index.specs.Tree.{TreeState, leaves, IsRight}
 use Rattle.ar_book.specs.declared.class.Class.{Class}
 use Rattle.ar_book.specs.declared.class.Class.TheVariants.{Free, Mirrored, Parity}
 use Rattle.ar_book.specs.declared.class.Slot.{Slot}
-use Rattle.ar_book.specs.Tables.{GroupState, UnitState, Tables, group_in, unit_in, used, slots_of}
-use Rattle.ar_book.specs.Book.{IsKept}
+use Rattle.ar_book.specs.Tables.{GroupState, UnitTableState, Tables, group_in, unit_in, used, slots_of}
+use Rattle.ar_book.specs.Book.{BookAgrees}
 
 -- a block's age: its stamp, with its key for ties
-abbrev pub age_of : List (Addr × UnitState) → Key → Age
+abbrev pub age_of : List (Addr × UnitTableState) → Key → Age
 age_of units k = record { stamp = slice_index_or (unit_in units k.addr).stamps k.rb 0; key = k }
 
 -- the oldest block in these slots, where units have these places in order of creation
@@ -42,7 +42,7 @@ abbrev pub choices_in : Geometry → (Addr → ℕ) → (Key → Age) → ℕ �
 choices_in g place age number x = choices_by x.class g place age number x
 
 -- the choices of a group, with these units
-abbrev pub choices_of : Geometry → List (Addr × UnitState) → ℕ → GroupState → Choices
+abbrev pub choices_of : Geometry → List (Addr × UnitTableState) → ℕ → GroupState → Choices
 choices_of g units number x = choices_in g (place_in units) (age_of units) number x
 
 -- the choices of these groups, numbered from this one on
@@ -51,7 +51,7 @@ leaves_from g place age number [] = []
 leaves_from g place age number (x ∷ xs) = choices_in g place age number x ∷ leaves_from g place age (suc number) xs
 
 -- the choices of all groups
-abbrev pub leaves_of : Geometry → List (Addr × UnitState) → List GroupState → List Choices
+abbrev pub leaves_of : Geometry → List (Addr × UnitTableState) → List GroupState → List Choices
 leaves_of g units groups = leaves_from g (place_in units) (age_of units) 0 groups
 
 -- the lowest group of a class that has a hole, by the root of the tree
@@ -73,7 +73,7 @@ oldest_in t g = oldest_by (group_in t.groups g).class (place_in t.units) (age_of
 -- the whole invariant of the book: that of its tables, and the tree has the choices of each group for its leaves,
 -- joined in the units' order
 pub record IsIndexed (t : Tables) (total : ℕ) (index : TreeState) : Type 0 where
-  pub kept : IsKept t total
+  pub kept : BookAgrees t total
   pub leaves : leaves index ≡ leaves_of t.geometry t.units t.groups
   pub right : IsRight (place_in t.units) index
 
@@ -89,13 +89,13 @@ pub record KeepsOldest (chosen : Option Age) (key : Key) (stamp : ℕ) : Type 0 
   pub older : oldest.stamp < stamp
 
 -- the group isn't mirrored, so no slot is scanned for its choices, and its leaf has them already
-pub record NeedsNoScan (g : Geometry) (units : List (Addr × UnitState)) (groups : List GroupState) (index : TreeState) (i : ℕ) : Type 0 where
+pub record NeedsNoScan (g : Geometry) (units : List (Addr × UnitTableState)) (groups : List GroupState) (index : TreeState) (i : ℕ) : Type 0 where
   pub class : (group_in groups i).class ≢ Mirrored
   pub same : leaf index i ≡ choices_of g units i (group_in groups i)
 
 -- none of the first n of these homes is in the group
-abbrev pub IsOutside : List (Option Slot) → ℕ → ℕ → Type 0
-IsOutside homes n group = (j : ℕ) (s : Slot) → j < n → slice_index_or homes j None ≡ Some s → s.group ≢ group
+abbrev pub AreOutside : List (Option Slot) → ℕ → ℕ → Type 0
+AreOutside homes n group = (j : ℕ) (s : Slot) → j < n → slice_index_or homes j None ≡ Some s → s.group ≢ group
 
 -- one of these homes, from a place on, is in the group
 pub record IsAmong (homes : List (Option Slot)) (from group : ℕ) : Type 0 where
@@ -113,10 +113,10 @@ AreInside homes n = (j : ℕ) (s : Slot) → slice_index_or homes j None ≡ Som
 -- group
 abbrev pub IsBlanked : List (Option Slot) → ℕ → TreeState → TreeState → ℕ → Type 0
 IsBlanked homes n old new i =
-    ((leaf new i ≡ leaf old i) × IsOutside homes n i) ⊎ ((is_nothing (leaf new i) ≡ true) × IsAmong homes 0 i)
+    ((leaf new i ≡ leaf old i) × AreOutside homes n i) ⊎ ((is_nothing (leaf new i) ≡ true) × IsAmong homes 0 i)
 
 -- the leaf has the choices of its group; or it is blank, and one of the homes from a place on is in its group
-abbrev pub IsLeafOrBlank : Geometry → List (Addr × UnitState) → List GroupState → List (Option Slot) → ℕ → TreeState → ℕ → Type 0
+abbrev pub IsLeafOrBlank : Geometry → List (Addr × UnitTableState) → List GroupState → List (Option Slot) → ℕ → TreeState → ℕ → Type 0
 IsLeafOrBlank g units groups homes from index i =
     (leaf index i ≡ choices_of g units i (group_in groups i)) ⊎ ((is_nothing (leaf index i) ≡ true) × IsAmong homes from i)
 
@@ -126,6 +126,6 @@ blanks index = count_by is_nothing (leaves index)
 
 -- each group has the slots of a parity group, and the group of each of these homes has a choice, as a group does that a
 -- block has left
-pub record HaveChoices (g : Geometry) (units : List (Addr × UnitState)) (groups : List GroupState) (homes : List (Option Slot)) : Type 0 where
+pub record HaveChoices (g : Geometry) (units : List (Addr × UnitTableState)) (groups : List GroupState) (homes : List (Option Slot)) : Type 0 where
   pub long : (i : ℕ) → i < length groups → length (group_in groups i).slots ≡ 3 * rows_of g
   pub some : (j : ℕ) (s : Slot) → slice_index_or homes j None ≡ Some s → is_nothing (choices_of g units s.group (group_in groups s.group)) ≡ false

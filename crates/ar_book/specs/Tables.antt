@@ -23,7 +23,7 @@ pub record GroupState : Type 0 where
 
 -- a unit: its length in sectors, for each block its home and its write sequence number (stamp), and whether a UNIT
 -- ATTENTION is pending since it was extended
-pub record UnitState : Type 0 where
+pub record UnitTableState : Type 0 where
   pub sectors : ℕ
   pub homes : List (Option Slot)
   pub stamps : List ℕ
@@ -33,7 +33,7 @@ pub record UnitState : Type 0 where
 pub record Tables : Type 0 where
   pub geometry : Geometry
   pub groups : List GroupState
-  pub units : List (Addr × UnitState)
+  pub units : List (Addr × UnitTableState)
   pub puts : ℕ
 
 -- what a number that no group has reads as: a free group without a slot
@@ -43,7 +43,7 @@ no_group =
     record { class = Free; members = record { first = nowhere; second = nowhere; third = nowhere; fourth = nowhere }; slots = [] }
 
 -- what an address that no unit has reads as: a unit without a block
-abbrev pub no_unit : UnitState
+abbrev pub no_unit : UnitTableState
 no_unit = record { sectors = 0; homes = []; stamps = []; attention = false }
 
 -- the group with a number
@@ -55,15 +55,15 @@ abbrev pub key_in : List GroupState → Slot → Option Key
 key_in groups s = slice_index_or (group_in groups s.group).slots s.slot None
 
 -- whether there is a unit at an address
-abbrev pub has_unit_in : List (Addr × UnitState) → Addr → Bool
+abbrev pub has_unit_in : List (Addr × UnitTableState) → Addr → Bool
 has_unit_in units a = is_some (lookup (same_addr a) units)
 
 -- the unit at an address
-abbrev pub unit_in : List (Addr × UnitState) → Addr → UnitState
+abbrev pub unit_in : List (Addr × UnitTableState) → Addr → UnitTableState
 unit_in units a = unwrap_or (lookup (same_addr a) units) no_unit
 
 -- the home of a block
-abbrev pub home_in : List (Addr × UnitState) → Key → Option Slot
+abbrev pub home_in : List (Addr × UnitTableState) → Key → Option Slot
 home_in units k = slice_index_or (unit_in units k.addr).homes k.rb None
 
 -- the block of a slot, or none
@@ -130,7 +130,7 @@ abbrev pub used : GroupState → ℕ
 used g = count_by is_some g.slots
 
 -- the number of a unit's blocks that have a home
-abbrev pub placed : UnitState → ℕ
+abbrev pub placed : UnitTableState → ℕ
 placed u = count_by is_some u.homes
 
 -- the number of blocks that these sectors fill, the last perhaps in part

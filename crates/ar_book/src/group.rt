@@ -1,9 +1,8 @@
 // A group counts its occupied slots, and is free as soon as its last block leaves.
 ghost use Rattle.std.specs.Prelude.{◌≡◌, ℕ, ◌+◌, ◌<◌, ◌≤◌, ◌*◌, is_some, count_by, slice_set, length, slice_index_or, Some, None, IfSome, IfNone, IfOk, IsSome};
-ghost use Rattle.ar_disks.specs.Members.{with_member};
+ghost use Rattle.ar_disks.specs.Members.{with_member, stands_on};
 ghost use Rattle.ar_book.specs.Tables.{used, slots_of, is_free};
-ghost use Rattle.ar_book.specs.Changes.{with_key, without_key, free_group};
-ghost use Rattle.ar_book.specs.Choices.{stands_on};
+ghost use Rattle.ar_book.specs.Changes.{with_key, with_hole, free_group};
 
 use crate::Class;
 use ar_disks::{Geometry, Key, Members, Place};
@@ -153,7 +152,7 @@ impl Group {
     /// Empties a slot. The group is free if no slot is occupied then.
     pub(crate) fn vacate(&mut self, slot: u16)
         requires { slot < length self.old.slots }
-        ensures { self.new ≡ without_key self.old slot }
+        ensures { self.new ≡ with_hole self.old slot }
     {
         self.used = put(&mut self.slots, self.used, slot, None);
         if self.used == 0 {

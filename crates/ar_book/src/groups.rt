@@ -2,10 +2,10 @@
 // for a squeeze, which moves a full mirrored group to parity.
 ghost use Rattle.std.specs.Prelude.{◌≡◌, ◌≢◌, ℕ, ◌+◌, ◌*◌, ◌<◌, ◌≤◌, ◌↔◌, length, IsTrue, IfSome, IfOk, OnErr, IsSome, IfNone};
 ghost use Rattle.ar_disks.specs.Geometry.{rows_of};
-ghost use Rattle.ar_disks.specs.Members.{member, AreApart};
+ghost use Rattle.ar_disks.specs.Members.{member, AreApart, stands_on};
 ghost use Rattle.ar_book.specs.Tables.{group_in, free_groups};
 ghost use Rattle.ar_book.specs.Changes.{opened, formed, shifted};
-ghost use Rattle.ar_book.specs.Choices.{IsLowestFree, IsEmpty, IsUnused, AreUnused, stands_on};
+ghost use Rattle.ar_book.specs.Choices.{IsLowestFree, IsEmpty, IsUnused, AreUnused};
 
 use crate::index::{free_leaf, refresh};
 use crate::tables::{open_class, replace_member};

@@ -23,9 +23,9 @@ pub enum Refusal {
 // Written by hand: no contract states the text that a derived one writes.
 impl Display for Refusal {
     ghost use Rattle.std.specs.Prelude.{Some};
-    ghost use Rattle.ar_book.specs.Texts.{refusal_text};
+    ghost use Rattle.ar_book.specs.Texts.{unit_refusal_text};
 
-    ghost output = { λ refusal. Some (refusal_text refusal) };
+    ghost output = { λ refusal. Some (unit_refusal_text refusal) };
 
     fn fmt<W: fmt::Write>(&self, f: &mut Formatter<W>) -> fmt::Result {
         match *self {

@@ -5,7 +5,7 @@ ghost use Rattle.std.specs.Option.{option_map};
 ghost use Rattle.ar_disks.specs.Geometry.{rows_of};
 ghost use Rattle.ar_book.specs.declared.class.Slot.{Slot};
 ghost use Rattle.ar_book.specs.Tables.{class_of, group_in, free_groups, used};
-ghost use Rattle.ar_book.specs.Choices.{IsHole, IsHoleOf, IsUpTo, IsWaiting, IsFullMirrored};
+ghost use Rattle.ar_book.specs.Choices.{IsHole, IsHoleOf, IsUpTo, HasUnplacedBlock, IsFullMirrored};
 ghost use Rattle.ar_book.specs.Index.{open_in, oldest_in};
 
 use crate::group::slots_of;
@@ -106,7 +106,7 @@ impl Book {
     /// The lowest mirrored group, which is full. It exists if a block has no home, no group has a hole, and one group
     /// is free, as the preconditions say.
     pub fn full_mirrored(&self) -> u32
-        requires waiting { IsWaiting self.now }
+        requires waiting { HasUnplacedBlock self.now }
         requires mirrored { (slot : Slot) → IsHole self.now Class.Mirrored slot → ⊥ }
         requires parity { (slot : Slot) → IsHole self.now Class.Parity slot → ⊥ }
         requires free { free_groups self.now ≡ 1 }

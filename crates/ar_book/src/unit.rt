@@ -27,9 +27,9 @@ pub struct UnitTable {
 }
 
 impl Model for UnitTable {
-    ghost use Rattle.ar_book.specs.Tables.{UnitState};
+    ghost use Rattle.ar_book.specs.Tables.{UnitTableState};
 
-    ghost Value = { UnitState };
+    ghost Value = { UnitTableState };
 
     ghost view = { λ u. record { sectors = u.sectors; homes = u.homes.items; stamps = u.stamps.items; attention = u.attention } };
 }

@@ -9,7 +9,7 @@ ghost use Rattle.ar_book.specs.declared.class.Slot.{Slot};
 ghost use Rattle.ar_disks.specs.Addresses.{same_addr};
 ghost use Rattle.ar_book.specs.Tables.{key_at, home, level, stamp_of, has_unit, room, blocks_of, unit_in};
 ghost use Rattle.ar_book.specs.Changes.{made, grown, dropped};
-ghost use Rattle.ar_book.specs.Refusals.{make_refusal, grow_refusal};
+ghost use Rattle.ar_book.specs.Refusals.{unit_make_refusal, unit_grow_refusal};
 
 use crate::index::{blank_all, refresh_blank};
 use crate::tables::{add_unit, grow_unit, take_unit, vacate_all};
@@ -29,8 +29,8 @@ impl Book {
     /// order, change nothing: `BadLun` for a LUN above 7, `Exists`, `Size`, `NoRoom(room)` if its blocks exceed the
     /// room, and `NoMemory`.
     pub fn make(&mut self, addr: Addr, sectors: u32) -> Result<(), Refusal>
-        ensures granted { OnOk result (make_refusal self.old addr sectors ≡ None) }
-        ensures refused { IfErr result (λ refusal. refusal ≡ unwrap_or (make_refusal self.old addr sectors) Refusal.NoMemory) }
+        ensures granted { OnOk result (unit_make_refusal self.old addr sectors ≡ None) }
+        ensures refused { IfErr result (λ refusal. refusal ≡ unwrap_or (unit_make_refusal self.old addr sectors) Refusal.NoMemory) }
         ensures made { OnOk result (self.new ≡ made self.old addr sectors) }
         ensures unchanged { OnErr result (self.new ≡ self.old) }
     {
@@ -46,7 +46,7 @@ impl Book {
     }
 
     fn make_refusal(&self, addr: Addr, sectors: u32) -> Option<Refusal>
-        ensures { result ≡ make_refusal self.now addr sectors }
+        ensures { result ≡ unit_make_refusal self.now addr sectors }
     {
         if addr.lun > MAX_LUN {
             return Some(Refusal::BadLun);
@@ -76,8 +76,8 @@ impl Book {
     /// Errors, checked in this order, change nothing: `Absent`, `Size` if `sectors` isn't above the present length or
     /// is too great, `NoRoom(room)` if the added blocks exceed the room, and `NoMemory`.
     pub fn grow(&mut self, addr: Addr, sectors: u32) -> Result<(), Refusal>
-        ensures granted { OnOk result (grow_refusal self.old addr sectors ≡ None) }
-        ensures refused { IfErr result (λ refusal. refusal ≡ unwrap_or (grow_refusal self.old addr sectors) Refusal.NoMemory) }
+        ensures granted { OnOk result (unit_grow_refusal self.old addr sectors ≡ None) }
+        ensures refused { IfErr result (λ refusal. refusal ≡ unwrap_or (unit_grow_refusal self.old addr sectors) Refusal.NoMemory) }
         ensures grown { OnOk result (self.new ≡ grown self.old addr sectors) }
         ensures unchanged { OnErr result (self.new ≡ self.old) }
     {
@@ -93,7 +93,7 @@ impl Book {
     }
 
     fn grow_refusal(&self, addr: Addr, sectors: u32) -> Option<Refusal>
-        ensures { result ≡ grow_refusal self.now addr sectors }
+        ensures { result ≡ unit_grow_refusal self.now addr sectors }
     {
         let Some(unit) = self.units.get(&addr) else {
             return Some(Refusal::Absent);

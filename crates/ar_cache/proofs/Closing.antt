@@ -5,7 +5,7 @@ use Rattle.lru.specs.LruCache.{LruCache, lru_cache, put_entries}
 use Rattle.ar_disks.specs.declared.address.Key.{Key}
 use Rattle.ar_disks.specs.declared.geometry.Geometry.{Geometry}
 use Rattle.ar_disks.specs.Geometry.{block_len_of}
-use Rattle.ar_cache.specs.Cache.{same_key, without_key, without_last, with_room, CacheState, with_entries, IsSound}
+use Rattle.ar_cache.specs.Cache.{same_key, without_key, without_last, with_room, CacheState, with_entries, IsValidCache}
 use Rattle.ar_cache.proofs.Sound.{sound_without_key, sound_without_last, sound_replaced, sound_put}
 use Rattle.ar_cache.proofs.Uses.{put_absent}
 
@@ -18,7 +18,7 @@ state_of g n m = record { geometry = g; capacity = n; entries = m.entries }
 
 -- the part of the invariant that speaks of the entries
 abbrev pub IsKept : Geometry → ℕ → LruCache Key (List ℕ) → Type 0
-IsKept g n m = IsSound (state_of g n m) × (m.cap ≡ max n 1)
+IsKept g n m = IsValidCache (state_of g n m) × (m.cap ≡ max n 1)
 
 module _ (g : Geometry) (n : ℕ) (m : LruCache Key (List ℕ)) where
   pub kept_without_key : (m' : LruCache Key (List ℕ)) (k : Key) → IsKept g n m → m' ≡ lru_cache (without_key m.entries k) m.cap → IsKept g n m'

@@ -12,9 +12,9 @@ use Rattle.ar_disks.specs.declared.address.Addr.{Addr}
 use Rattle.ar_disks.specs.declared.address.Key.{Key}
 use Rattle.ar_cache.specs.declared.answers.Flush.{Flush}
 use Rattle.ar_cache.specs.declared.answers.Flush.TheVariants.{Flushed, Idle, Broken}
-use Rattle.ar_cache.specs.Backing.{Writes}
+use Rattle.ar_cache.specs.Backing.{WritesKey}
 use Rattle.ar_disks.specs.Addresses.{same_addr}
-use Rattle.ar_cache.specs.Cache.{same_key, turned, without_key, without_last, with_room, last_key, CacheState, with_entries, cached, seen, SameSeen, Sees, KnowsAll, Gives}
+use Rattle.ar_cache.specs.Cache.{same_key, turned, without_key, without_last, with_room, last_key, CacheState, with_entries, cached, seen, SameReads, Sees, KnowsAll, Destages}
 use Rattle.ar_cache.proofs.Keys.{key_equiv, same_key_true, same_key_false, same_key_refl}
 
 -- the first of different keys differs from each later one
@@ -58,7 +58,7 @@ pub others_without_key : (es : List (Key × List ℕ)) (k q : Key) → IsDistinc
 others_without_key es k q d apart = rw (lookup-without_key es k q d, same_key_false k q apart)
 
 -- Something was written under a key that is cached with it: no key is seen with another block.
-pub seen_written : (c : CacheState) (f g : Key → List ℕ) (k : Key) (b : List ℕ) → cached c k ≡ Some b → Writes f g k b → SameSeen c f c g
+pub seen_written : (c : CacheState) (f g : Key → List ℕ) (k : Key) (b : List ℕ) → cached c k ≡ Some b → WritesKey f g k b → SameReads c f c g
 seen_written c f g k b hit w = record {
   same = λ q.
       (elim (same_key k q) as (λ y. same_key k q ≡ y → seen c g q ≡ seen c f q) [
@@ -68,7 +68,7 @@ seen_written c f g k b hit w = record {
 }
 
 -- A cached block was written under its key, and its entry went: no key is seen with another block.
-pub seen_moved : (c : CacheState) (f g : Key → List ℕ) (k : Key) (b : List ℕ) → IsDistinct same_key (keys_of c.entries) → cached c k ≡ Some b → Writes f g k b → SameSeen c f (with_entries c (without_key c.entries k)) g
+pub seen_moved : (c : CacheState) (f g : Key → List ℕ) (k : Key) (b : List ℕ) → IsDistinct same_key (keys_of c.entries) → cached c k ≡ Some b → WritesKey f g k b → SameReads c f (with_entries c (without_key c.entries k)) g
 seen_moved c f g k b d hit w = record {
   same = λ q.
       (elim (same_key k q) as (λ y. same_key k q ≡ y → seen (with_entries c (without_key c.entries k)) g q ≡ seen c f q) [
@@ -97,19 +97,19 @@ seen_replaced c f k b d = record {
 }
 
 -- A block was written under a key that isn't cached.
-pub seen_through : (c : CacheState) (f g : Key → List ℕ) (k : Key) (b : List ℕ) → cached c k ≡ None → Writes f g k b → Sees c f c g k b
+pub seen_through : (c : CacheState) (f g : Key → List ℕ) (k : Key) (b : List ℕ) → cached c k ≡ None → WritesKey f g k b → Sees c f c g k b
 seen_through c f g k b absent w = record {
   put = rw absent w.written;
   others = λ q apart. rw (w.others q apart);
 }
 
-pub seen_refl : (c : CacheState) (f : Key → List ℕ) → SameSeen c f c f
+pub seen_refl : (c : CacheState) (f : Key → List ℕ) → SameReads c f c f
 seen_refl c f = record { same = λ q. refl }
 
-pub seen_trans : (c d e : CacheState) (f g h : Key → List ℕ) → SameSeen c f d g → SameSeen d g e h → SameSeen c f e h
+pub seen_trans : (c d e : CacheState) (f g h : Key → List ℕ) → SameReads c f d g → SameReads d g e h → SameReads c f e h
 seen_trans c d e f g h x y = record { same = λ q. y.same q ∙ x.same q }
 
-pub sees_after : (c d e : CacheState) (f g h : Key → List ℕ) (k : Key) (b : List ℕ) → SameSeen c f d g → Sees d g e h k b → Sees c f e h k b
+pub sees_after : (c d e : CacheState) (f g h : Key → List ℕ) (k : Key) (b : List ℕ) → SameReads c f d g → Sees d g e h k b → Sees c f e h k b
 sees_after c d e f g h k b x y = record { put = y.put; others = λ q apart. y.others q apart ∙ x.same q }
 
 none_either : (y : Bool) → cond {A = Option (List ℕ)} y None None ≡ None
@@ -178,9 +178,9 @@ room_cases c fits d = elim (room_for (length c.entries) c.capacity fits) [
 ]
 
 -- The least recently used block was written under its key, and its entry went.
-pub seen_without_last : (c : CacheState) (f g : Key → List ℕ) (k : Key) (x : List ℕ) → IsDistinct same_key (keys_of c.entries) → last_entry c.entries ≡ Some (k, x) → Writes f g k x → SameSeen c f (with_entries c (without_last c.entries)) g
+pub seen_without_last : (c : CacheState) (f g : Key → List ℕ) (k : Key) (x : List ℕ) → IsDistinct same_key (keys_of c.entries) → last_entry c.entries ≡ Some (k, x) → WritesKey f g k x → SameReads c f (with_entries c (without_last c.entries)) g
 seen_without_last c f g k x d last w =
-    subst (λ es. SameSeen c f (with_entries c es) g) (sym (without_last_is c.entries (k, x) d last))
+    subst (λ es. SameReads c f (with_entries c es) g) (sym (without_last_is c.entries (k, x) d last))
     (seen_moved c f g k x d (lookup_last c.entries (k, x) d last) w)
 
 pub known_without_last : (p : Key → Bool) (c : CacheState) → IsDistinct same_key (keys_of c.entries) → KnowsAll p c → KnowsAll p (with_entries c (without_last c.entries))
@@ -213,16 +213,16 @@ absent_without_last es q d absent = elim (last_cases es d) [
 ]
 
 -- The least recently used block was given to the backing, if there was one, and its entry went.
-pub seen_given : (r : Flush) (c : CacheState) (f g : Key → List ℕ) → r ≢ Broken → IsDistinct same_key (keys_of c.entries) → Gives r c.entries f g → (r ≡ Idle → g ≡ f)
-    → SameSeen c f (with_entries c (without_last c.entries)) g
+pub seen_given : (r : Flush) (c : CacheState) (f g : Key → List ℕ) → r ≢ Broken → IsDistinct same_key (keys_of c.entries) → Destages r c.entries f g → (r ≡ Idle → g ≡ f)
+    → SameReads c f (with_entries c (without_last c.entries)) g
 seen_given (Flushed k) c f g not_broken d given quiet = seen_without_last c f g k given.0 d given.1 given.2
 seen_given Idle c f g not_broken d given quiet =
-    subst (λ h. SameSeen c f (with_entries c (without_last c.entries)) h) (sym (quiet refl))
-    (subst (λ es. SameSeen c f (with_entries c es) f) (given ∙ sym (ap without_last given)) (seen_refl c f))
+    subst (λ h. SameReads c f (with_entries c (without_last c.entries)) h) (sym (quiet refl))
+    (subst (λ es. SameReads c f (with_entries c es) f) (given ∙ sym (ap without_last given)) (seen_refl c f))
 seen_given Broken c f g not_broken d given quiet = absurd (not_broken refl)
 
 -- The least recently used block was given to the backing, if there was one: the blocks of other keys stay.
-pub others_given : (r : Flush) (es : List (Key × List ℕ)) (f g : Key → List ℕ) (q : Key) → r ≢ Broken → Gives r es f g → (r ≡ Idle → g ≡ f) → last_key es ≢ Some q → g q ≡ f q
+pub others_given : (r : Flush) (es : List (Key × List ℕ)) (f g : Key → List ℕ) (q : Key) → r ≢ Broken → Destages r es f g → (r ≡ Idle → g ≡ f) → last_key es ≢ Some q → g q ≡ f q
 others_given (Flushed k) es f g q not_broken given quiet apart =
     given.2.others q (λ e. apart (ap (option_map (λ e'. e'.0)) given.1 ∙ ap Some (sym e)))
 others_given Idle es f g q not_broken given quiet apart = ap (λ h. h q) (quiet refl)

@@ -9,7 +9,7 @@ use Rattle.std.proofs.lemmas.Option.{slice_get_within, get_or_from_slice_get}
 use Rattle.lru.specs.LruCache.{last_entry}
 use Rattle.ar_disks.specs.declared.address.Key.{Key}
 use Rattle.ar_cache.specs.Backing.{InTurn, StopsInTurn}
-use Rattle.ar_cache.specs.Cache.{CacheState, Flushes, Gives, IsPut, last_key, last_keys}
+use Rattle.ar_cache.specs.Cache.{CacheState, Flushes, Destages, IsPut, last_key, last_keys}
 use Rattle.ar_cache.proofs.Lookups.{last_of_key}
 use Rattle.ar_cache.specs.declared.answers.Flush.{Flush}
 use Rattle.ar_cache.specs.declared.answers.Flush.TheVariants.{Flushed, Idle, Broken}
@@ -50,7 +50,7 @@ module _ {S X : Type 0} (step : S → X → S → Type 0) where
 
 module _ {S : Type 0} (step : S → Key → S → Type 0) where
   -- the least recently used was destaged, if there was one
-  pub in_turn_last : (answer : Flush) (es : List (Key × List ℕ)) (f g : Key → List ℕ) (a b : S) → answer ≢ Broken → Gives answer es f g → IsPut step answer a b → (answer ≡ Idle → b ≡ a)
+  pub in_turn_last : (answer : Flush) (es : List (Key × List ℕ)) (f g : Key → List ℕ) (a b : S) → answer ≢ Broken → Destages answer es f g → IsPut step answer a b → (answer ≡ Idle → b ≡ a)
       → InTurn step (last_keys es) a b
   in_turn_last (Flushed k) es f g a b ok given put quiet = subst (λ ks. InTurn step ks a b) (sym (last_keys_is es (k, given.0) given.1)) (in_turn_one step k a b put)
   in_turn_last Idle es f g a b ok given put quiet = subst (λ ks. InTurn step ks a b) (ap last_keys (sym given)) (quiet refl)

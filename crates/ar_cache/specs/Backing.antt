@@ -17,7 +17,7 @@ IsHonest Done was is = is ≡ was
 
 -- What each call keeps of a backing, whatever it returns: its geometry and the keys that it knows; a failed one stays
 -- failed; and the backing's own relation holds between the two states.
-pub record Keeps {S : Type 0} (geometry : S → Geometry) (knows : S → Key → Bool) (is_broken : S → Bool)
+pub record KeepsBacking {S : Type 0} (geometry : S → Geometry) (knows : S → Key → Bool) (is_broken : S → Bool)
     (follows : S → S → Type 0) (old new : S) : Type 0 where
   pub same_geometry : geometry new ≡ geometry old
   pub same_keys : (key : Key) → knows new key ≡ knows old key
@@ -29,7 +29,7 @@ pub record SameBlocks (old new : Key → List ℕ) : Type 0 where
   pub same : (key : Key) → new key ≡ old key
 
 -- the key reads as this block, and every other key as before
-pub record Writes (old new : Key → List ℕ) (key : Key) (block : List ℕ) : Type 0 where
+pub record WritesKey (old new : Key → List ℕ) (key : Key) (block : List ℕ) : Type 0 where
   pub written : new key ≡ block
   pub others : (other : Key) → other ≢ key → new other ≡ old other
 

@@ -9,7 +9,7 @@ use Rattle.ar_disks.specs.declared.address.Addr.{Addr}
 use Rattle.ar_disks.specs.declared.address.Key.{Key}
 use Rattle.ar_disks.specs.declared.geometry.Geometry.{Geometry}
 use Rattle.ar_disks.specs.Geometry.{block_len_of}
-use Rattle.ar_cache.specs.Backing.{InTurn, StopsInTurn, Writes}
+use Rattle.ar_cache.specs.Backing.{InTurn, StopsInTurn, WritesKey}
 use Rattle.ar_cache.specs.declared.answers.Flush.{Flush}
 use Rattle.ar_cache.specs.declared.answers.Flush.TheVariants.{Flushed, Idle, Broken}
 use Rattle.ar_disks.specs.declared.completion.Completion.{Completion}
@@ -27,7 +27,7 @@ pub record CacheState : Type 0 where
   pub entries : List (Key × List ℕ)
 
 -- the invariant of a cache: at most `capacity` entries, blocks of full length, different keys
-pub record IsSound (cache : CacheState) : Type 0 where
+pub record IsValidCache (cache : CacheState) : Type 0 where
   pub fits : length cache.entries ≤ cache.capacity
   pub whole : All (λ e. length e.1 ≡ block_len_of cache.geometry) cache.entries
   pub distinct : IsDistinct same_key (keys_of cache.entries)
@@ -41,7 +41,7 @@ abbrev pub seen : CacheState → (Key → List ℕ) → Key → List ℕ
 seen cache block_at key = unwrap_or (cached cache key) (block_at key)
 
 -- every key reads as before
-pub record SameSeen (old : CacheState) (old_block_at : Key → List ℕ)
+pub record SameReads (old : CacheState) (old_block_at : Key → List ℕ)
     (new : CacheState) (new_block_at : Key → List ℕ) : Type 0 where
   pub same : (key : Key) → seen new new_block_at key ≡ seen old old_block_at key
 
@@ -108,7 +108,7 @@ TakesIn old new key block =
 
 -- A put changed the backing's blocks at most for the least recently used key of a full cache, and for its own key if
 -- that has no entry afterwards.
-pub record Spares (old : CacheState) (old_block_at : Key → List ℕ)
+pub record KeepsOtherBlocks (old : CacheState) (old_block_at : Key → List ℕ)
     (new : CacheState) (new_block_at : Key → List ℕ) (key : Key) : Type 0 where
   pub others : (other : Key) → other ≢ key → (old.capacity ≤ length old.entries → last_key old.entries ≢ Some other)
       → new_block_at other ≡ old_block_at other
@@ -121,10 +121,10 @@ Flushes Idle old new = new ≡ old
 Flushes Broken old new = new ≡ old
 
 -- the least recently used block was written to the backing, which changed no other, by the result
-abbrev pub Gives : Flush → List (Key × List ℕ) → (Key → List ℕ) → (Key → List ℕ) → Type 0
-Gives (Flushed key) es old new = (block : List ℕ) × (last_entry es ≡ Some (key, block)) × Writes old new key block
-Gives Idle es old new = es ≡ []
-Gives Broken es old new = 0 < length es
+abbrev pub Destages : Flush → List (Key × List ℕ) → (Key → List ℕ) → (Key → List ℕ) → Type 0
+Destages (Flushed key) es old new = (block : List ℕ) × (last_entry es ≡ Some (key, block)) × WritesKey old new key block
+Destages Idle es old new = es ≡ []
+Destages Broken es old new = 0 < length es
 
 -- if a flush destaged an entry, the backing changed as one put of that key specifies
 abbrev pub IsPut : {S : Type 0} → (S → Key → S → Type 0) → Flush → S → S → Type 0
@@ -154,4 +154,4 @@ pub record StopsAt {S : Type 0} (block_at : S → Key → List ℕ) (is_broken :
   pub broke : StopsInTurn puts breaks (last_keys new.entries) reached ended
   pub went_on : follows reached ended
   pub same_broken : is_broken reached ≡ is_broken backing
-  pub unchanged : SameSeen old (block_at backing) new (block_at reached)
+  pub unchanged : SameReads old (block_at backing) new (block_at reached)

@@ -3,7 +3,7 @@ ghost use Rattle.std.specs.Prelude.{◌≡◌, IsTrue, List, ℕ, Bool, length};
 ghost use Rattle.ar_disks.specs.Geometry.{block_len_of};
 ghost use Rattle.ar_disks.specs.declared.address.Key.{Key};
 ghost use Rattle.ar_disks.specs.declared.geometry.Geometry.{Geometry};
-ghost use Rattle.ar_cache.specs.Backing.{stored, Keeps, SameBlocks, Writes};
+ghost use Rattle.ar_cache.specs.Backing.{stored, KeepsBacking, SameBlocks, WritesKey};
 
 use ar_disks::{Block, Completion, Key};
 
@@ -44,7 +44,7 @@ pub trait Backing {
         ensures content { result ≡ Completion.Done → into.new ≡ block_at self.old key }
         ensures len { length into.new ≡ length into.old }
         ensures blocks { result ≡ Completion.Done → SameBlocks (block_at self.old) (block_at self.new) }
-        ensures keeps { Keeps geometry knows is_broken follows self.old self.new }
+        ensures keeps { KeepsBacking geometry knows is_broken follows self.old self.new }
         ensures gets { gets self.old key self.new };
 
     /// Writes the block of a key that the backing knows. After `Broken` its blocks are unspecified.
@@ -52,10 +52,10 @@ pub trait Backing {
         requires known { IsTrue (knows self.old key) }
         requires whole { length from.now ≡ block_len_of (geometry self.old) }
         ensures answer { result ≡ stored (is_broken self.new) }
-        ensures written { result ≡ Completion.Done → Writes (block_at self.old) (block_at self.new) key from.now }
+        ensures written { result ≡ Completion.Done → WritesKey (block_at self.old) (block_at self.new) key from.now }
         ensures puts { result ≡ Completion.Done → puts self.old key self.new }
         ensures breaks { result ≡ Completion.Broken → breaks self.old key self.new }
-        ensures keeps { Keeps geometry knows is_broken follows self.old self.new };
+        ensures keeps { KeepsBacking geometry knows is_broken follows self.old self.new };
 
     /// `follows` is reflexive.
     ghost follows_refl: { (s : Self) → follows s s };

@@ -5,7 +5,7 @@ ghost use Rattle.std.specs.Map.{keys_of};
 ghost use Rattle.std.specs.Bool.{OnTrue, OnFalse};
 ghost use Rattle.ar_disks.specs.Geometry.{block_len_of};
 ghost use Rattle.ar_disks.specs.declared.address.Key.{Key};
-ghost use Rattle.ar_cache.specs.Backing.{InTurn, StopsInTurn, IsHonest, stored, Keeps, SameBlocks, Writes};
+ghost use Rattle.ar_cache.specs.Backing.{InTurn, StopsInTurn, IsHonest, stored, KeepsBacking, SameBlocks, WritesKey};
 
 use crate::answers::Flush;
 use crate::backing::Backing;
@@ -34,19 +34,19 @@ pub struct Cache {
 impl Model for Cache {
     ghost use Rattle.std.specs.Prelude.{◌≡◌, max, IfSome, length};
     ghost use Rattle.ar_disks.specs.Geometry.{block_len_of};
-    ghost use Rattle.ar_cache.specs.Cache.{CacheState, IsSound};
+    ghost use Rattle.ar_cache.specs.Cache.{CacheState, IsValidCache};
 
     ghost Value = { CacheState };
 
     ghost view = { λ c. record { geometry = c.geometry; capacity = c.capacity; entries = c.entries.entries } };
 
-    ghost invariant = { λ c. IsSound (record { geometry = c.geometry; capacity = c.capacity; entries = c.entries.entries })
+    ghost invariant = { λ c. IsValidCache (record { geometry = c.geometry; capacity = c.capacity; entries = c.entries.entries })
         × (c.entries.cap ≡ max c.capacity 1)
         × IfSome c.spare (λ block. length block ≡ block_len_of c.geometry) };
 }
 
 impl Cache {
-    ghost use Rattle.ar_cache.specs.Cache.{CacheState, IsSound, KnowsAll, SameSeen, Sees, Spares, TakesIn, Flushes, Gives, IsPut, StopsAt};
+    ghost use Rattle.ar_cache.specs.Cache.{CacheState, IsValidCache, KnowsAll, SameReads, Sees, KeepsOtherBlocks, TakesIn, Flushes, Destages, IsPut, StopsAt};
     ghost use Rattle.ar_disks.specs.Addresses.{same_addr};
     ghost use Rattle.ar_cache.specs.Cache.{answer_of, cached, giving_way, last_keys, pushed_out, put_through, seen, with_entries, with_room, without_addr, without_key, without_last, turned};
 
@@ -69,7 +69,7 @@ impl Cache {
     /// Returns the number of cached blocks.
     pub fn len(&self) -> usize
         ensures len { result ≡ length self.now.entries }
-        ensures sound { IsSound self.now }
+        ensures sound { IsValidCache self.now }
     {
         self.entries.len()
     }
@@ -99,7 +99,7 @@ impl Cache {
 
         ensures answer { IsHonest result (B.is_broken backing.old) (B.is_broken backing.new) }
         ensures asked { cached self.now key ≡ None → result ≡ stored (B.is_broken backing.new) }
-        ensures keeps { Keeps B.geometry B.knows B.is_broken B.follows backing.old backing.new }
+        ensures keeps { KeepsBacking B.geometry B.knows B.is_broken B.follows backing.old backing.new }
     {
         match self.entries.peek(&key) {
             Some(block) => {
@@ -124,7 +124,7 @@ impl Cache {
         ensures sees { result ≡ Completion.Done
             → Sees self.old (B.block_at backing.old) self.new (B.block_at backing.new) key block.now }
         ensures blocks { result ≡ Completion.Done
-            → Spares self.old (B.block_at backing.old) self.new (B.block_at backing.new) key }
+            → KeepsOtherBlocks self.old (B.block_at backing.old) self.new (B.block_at backing.new) key }
 
         ensures present { IsSome (cached self.old key)
             → (result ≡ Completion.Done) × (backing.new ≡ backing.old)
@@ -144,7 +144,7 @@ impl Cache {
         ensures asked { cached self.old key ≡ None
             → self.old.capacity ≤ length self.old.entries → result ≡ stored (B.is_broken backing.new) }
         ensures through { cached self.new key ≡ None → result ≡ stored (B.is_broken backing.new) }
-        ensures keeps { Keeps B.geometry B.knows B.is_broken B.follows backing.old backing.new }
+        ensures keeps { KeepsBacking B.geometry B.knows B.is_broken B.follows backing.old backing.new }
     {
         if replace(&mut self.entries, key, block) {
             return Completion::Done;
@@ -160,19 +160,19 @@ impl Cache {
 
         ensures entries { Flushes result self.old self.new }
         ensures idle { (result ≡ Flush.Idle) ↔ (self.old.entries ≡ []) }
-        ensures given { Gives result self.old.entries (B.block_at backing.old) (B.block_at backing.new) }
+        ensures given { Destages result self.old.entries (B.block_at backing.old) (B.block_at backing.new) }
         ensures put { IsPut B.puts result backing.old backing.new }
         ensures stopped { result ≡ Flush.Broken
             → StopsInTurn B.puts B.breaks (last_keys self.old.entries) backing.old backing.new }
         ensures quiet { result ≡ Flush.Idle → backing.new ≡ backing.old }
 
         ensures seen { answer_of result ≡ Completion.Done
-            → SameSeen self.old (B.block_at backing.old) self.new (B.block_at backing.new) }
+            → SameReads self.old (B.block_at backing.old) self.new (B.block_at backing.new) }
         ensures all_known { KnowsAll (B.knows backing.new) self.new }
 
         ensures answer { IsHonest (answer_of result) (B.is_broken backing.old) (B.is_broken backing.new) }
         ensures asked { 0 < length self.old.entries → answer_of result ≡ stored (B.is_broken backing.new) }
-        ensures keeps { Keeps B.geometry B.knows B.is_broken B.follows backing.old backing.new }
+        ensures keeps { KeepsBacking B.geometry B.knows B.is_broken B.follows backing.old backing.new }
     {
         let answer = self.destage_last(backing);
         if let Flush::Flushed(_) = answer {
@@ -193,7 +193,7 @@ impl Cache {
             → (other : Key) → other ≢ key → cached self.new other ≡ cached self.old other }
         ensures given { result ≡ Completion.Done
             → IfSome (cached self.old key)
-            (λ block. Writes (B.block_at backing.old) (B.block_at backing.new) key block) }
+            (λ block. WritesKey (B.block_at backing.old) (B.block_at backing.new) key block) }
         ensures put { result ≡ Completion.Done → IsSome (cached self.old key) → B.puts backing.old key backing.new }
         ensures broken { result ≡ Completion.Broken → self.new ≡ self.old }
         ensures broke { result ≡ Completion.Broken → B.breaks backing.old key backing.new }
@@ -201,12 +201,12 @@ impl Cache {
             → (result ≡ Completion.Done) × (backing.new ≡ backing.old) }
 
         ensures seen { result ≡ Completion.Done
-            → SameSeen self.old (B.block_at backing.old) self.new (B.block_at backing.new) }
+            → SameReads self.old (B.block_at backing.old) self.new (B.block_at backing.new) }
         ensures all_known { KnowsAll (B.knows backing.new) self.new }
 
         ensures answer { IsHonest result (B.is_broken backing.old) (B.is_broken backing.new) }
         ensures asked { IsSome (cached self.old key) → result ≡ stored (B.is_broken backing.new) }
-        ensures keeps { Keeps B.geometry B.knows B.is_broken B.follows backing.old backing.new }
+        ensures keeps { KeepsBacking B.geometry B.knows B.is_broken B.follows backing.old backing.new }
     {
         let Some(block) = self.entries.peek(&key) else {
             return Completion::Done;
@@ -234,12 +234,12 @@ impl Cache {
             → StopsAt B.block_at B.is_broken B.follows B.puts B.breaks self.old self.new backing.old backing.new }
 
         ensures seen { result ≡ Completion.Done
-            → SameSeen self.old (B.block_at backing.old) self.new (B.block_at backing.new) }
+            → SameReads self.old (B.block_at backing.old) self.new (B.block_at backing.new) }
         ensures all_known { KnowsAll (B.knows backing.new) self.new }
 
         ensures answer { IsHonest result (B.is_broken backing.old) (B.is_broken backing.new) }
         ensures asked { 0 < length self.old.entries → result ≡ stored (B.is_broken backing.new) }
-        ensures keeps { Keeps B.geometry B.knows B.is_broken B.follows backing.old backing.new }
+        ensures keeps { KeepsBacking B.geometry B.knows B.is_broken B.follows backing.old backing.new }
     {
         while self.len() > 0 {
             if let Flush::Broken = self.flush_one(backing) {
@@ -287,7 +287,7 @@ impl Cache {
         ensures sees { result ≡ Completion.Done
             → Sees self.old (B.block_at backing.old) self.new (B.block_at backing.new) key block.now }
         ensures blocks { result ≡ Completion.Done
-            → Spares self.old (B.block_at backing.old) self.new (B.block_at backing.new) key }
+            → KeepsOtherBlocks self.old (B.block_at backing.old) self.new (B.block_at backing.new) key }
 
         ensures taken { result ≡ Completion.Done → TakesIn self.old self.new key block.now }
         ensures puts { result ≡ Completion.Done
@@ -302,7 +302,7 @@ impl Cache {
         ensures answer { IsHonest result (B.is_broken backing.old) (B.is_broken backing.new) }
         ensures asked { self.old.capacity ≤ length self.old.entries → result ≡ stored (B.is_broken backing.new) }
         ensures through { cached self.new key ≡ None → result ≡ stored (B.is_broken backing.new) }
-        ensures keeps { Keeps B.geometry B.knows B.is_broken B.follows backing.old backing.new }
+        ensures keeps { KeepsBacking B.geometry B.knows B.is_broken B.follows backing.old backing.new }
     {
         if self.capacity == 0 {
             return backing.put(key, block);
@@ -326,7 +326,7 @@ impl Cache {
         ensures sees { result ≡ Completion.Done
             → Sees self.old (B.block_at backing.old) self.new (B.block_at backing.new) key block.now }
         ensures blocks { result ≡ Completion.Done
-            → Spares self.old (B.block_at backing.old) self.new (B.block_at backing.new) key }
+            → KeepsOtherBlocks self.old (B.block_at backing.old) self.new (B.block_at backing.new) key }
 
         ensures taken { result ≡ Completion.Done → TakesIn self.old self.new key block.now }
         ensures puts { result ≡ Completion.Done → InTurn B.puts (put_through self.new key) backing.old backing.new }
@@ -338,7 +338,7 @@ impl Cache {
 
         ensures answer { IsHonest result (B.is_broken backing.old) (B.is_broken backing.new) }
         ensures through { cached self.new key ≡ None → result ≡ stored (B.is_broken backing.new) }
-        ensures keeps { Keeps B.geometry B.knows B.is_broken B.follows backing.old backing.new }
+        ensures keeps { KeepsBacking B.geometry B.knows B.is_broken B.follows backing.old backing.new }
     {
         if self.insert(key, block) {
             return Completion::Done;
@@ -359,7 +359,7 @@ impl Cache {
         ensures sees { result ≡ Completion.Done
             → Sees self.old (B.block_at backing.old) self.new (B.block_at backing.new) key block.now }
         ensures blocks { result ≡ Completion.Done
-            → Spares self.old (B.block_at backing.old) self.new (B.block_at backing.new) key }
+            → KeepsOtherBlocks self.old (B.block_at backing.old) self.new (B.block_at backing.new) key }
 
         ensures taken { result ≡ Completion.Done → TakesIn self.old self.new key block.now }
         ensures puts { result ≡ Completion.Done
@@ -373,7 +373,7 @@ impl Cache {
 
         ensures answer { IsHonest result (B.is_broken backing.old) (B.is_broken backing.new) }
         ensures asked { result ≡ stored (B.is_broken backing.new) }
-        ensures keeps { Keeps B.geometry B.knows B.is_broken B.follows backing.old backing.new }
+        ensures keeps { KeepsBacking B.geometry B.knows B.is_broken B.follows backing.old backing.new }
     {
         if let Flush::Broken = self.destage_last(backing) {
             return Completion::Broken;
@@ -395,8 +395,8 @@ impl Cache {
         requires geometry { B.geometry backing.old ≡ self.now.geometry }
         requires all_known { KnowsAll (B.knows backing.old) self.now }
 
-        ensures sound { IsSound self.now }
-        ensures given { Gives result self.now.entries (B.block_at backing.old) (B.block_at backing.new) }
+        ensures sound { IsValidCache self.now }
+        ensures given { Destages result self.now.entries (B.block_at backing.old) (B.block_at backing.new) }
         ensures put { IsPut B.puts result backing.old backing.new }
         ensures stopped { result ≡ Flush.Broken
             → StopsInTurn B.puts B.breaks (last_keys self.now.entries) backing.old backing.new }
@@ -404,7 +404,7 @@ impl Cache {
 
         ensures answer { IsHonest (answer_of result) (B.is_broken backing.old) (B.is_broken backing.new) }
         ensures asked { 0 < length self.now.entries → answer_of result ≡ stored (B.is_broken backing.new) }
-        ensures keeps { Keeps B.geometry B.knows B.is_broken B.follows backing.old backing.new }
+        ensures keeps { KeepsBacking B.geometry B.knows B.is_broken B.follows backing.old backing.new }
     {
         match self.entries.peek_lru() {
             Some((key, block)) => match backing.put(*key, block.bytes()) {

@@ -16,12 +16,12 @@ use Rattle.ar_scsi.specs.Sense.{capacity_data_has_changed, internal_target_failu
 use Rattle.ar_scsi.specs.declared.reply.Reply.{Reply}
 use Rattle.ar_scsi.specs.declared.reply.Status.{Status}
 use Rattle.ar_scsi.specs.declared.reply.Status.TheVariants.{Good, CheckCondition, Busy}
-use Rattle.ar_unit.specs.Unit.{UnitState, Absent, Present, Answered, Cmd, Entry, answer, absent_reply, obeyed, leaving, after, unit_run, IsGiven, IsServed}
+use Rattle.ar_unit.specs.Unit.{UnitState, Absent, Present, Answered, Cmd, UnitEntry, answer, absent_reply, obeyed, leaving, after, unit_run, IsGiven, IsServed}
 use Rattle.ar_unit.specs.Broken.{Shape, shape_of, shape_after, needs_blocks, broken_answer, broken_obeyed}
 use Rattle.ar_unit.proofs.Failures.{answer_other}
 use Rattle.ar_unit.proofs.Laws.{after-shape, inquiry-needs_none}
 use Rattle.ar_disks.specs.Addresses.{same_addr}
-use Rattle.ar_book.specs.Tables.{UnitState as UnitTable, Tables, no_unit, has_unit, unit_in}
+use Rattle.ar_book.specs.Tables.{UnitTableState, Tables, no_unit, has_unit, unit_in}
 use Rattle.ar_book.specs.Changes.{unmarked}
 use Rattle.ar_book.proofs.AfterMake.{unmarked_sectors}
 use Rattle.ar_disks.proofs.Addresses.{addr_tells}
@@ -37,7 +37,7 @@ use Rattle.ar_volume.specs.Sectors.{address_of, sectors_in, unit_block}
 use Rattle.ar_volume.specs.Image.{ArrayState, is_broken, geometry_of, with_book, seen_at, length_at, attention_at, unit_sectors, image_at}
 use Rattle.ar_volume.specs.Laws.{reads_refl}
 use Rattle.ar_volume.specs.Seen.{IsUnit, SamePlaces, SameSeen, present_at}
-use Rattle.ar_core.specs.Served.{Serves, Settles, Commands}
+use Rattle.ar_core.specs.Served.{Serves, Settles, ExecutesCommand}
 use Rattle.ar_core.specs.Step.{Steps, MovesNothing, addr_in, told, once_told, is_busy, entry_at}
 use Rattle.ar_volume.specs.Storing.{ReadsBlock, ReadsFirst}
 use Rattle.ar_core.proofs.Serving.{first_none}
@@ -131,7 +131,7 @@ moves_told old addr cdb new only =
 -- a command to the unit that is there
 pub commands_served : (old new : ArrayState) (addr : Addr) (n : ℕ) (cdb bytes : List ℕ) (reply : Reply) → IsUnit old addr n → tells old addr cdb ≡ false
     → Serves old addr (obeyed (unit_sectors old addr) (attention_at old.store.book addr) (reading cdb) bytes) (broken_obeyed n (reading cdb) (length bytes)) reply new
-    → Settles old addr (reading cdb) reply new → length reply.payload ≤ 65535 * 512 → Commands old addr cdb bytes reply new
+    → Settles old addr (reading cdb) reply new → length reply.payload ≤ 65535 * 512 → ExecutesCommand old addr cdb bytes reply new
 commands_served old new addr n cdb bytes reply unit quiet serves settles few =
     let mark : Bool = attention_at old.store.book addr in
     let same : SameUnit old.store.book new.store.book addr = unit_follows old.store.book new.store.book addr serves.follows.store.units in
@@ -213,7 +213,7 @@ told_shape old new addr cdb bytes reply was there len gone tells is =
 
 -- a growth that was told
 pub commands_told : (old new : ArrayState) (addr : Addr) (n : ℕ) (cdb bytes : List ℕ) (reply : Reply) → IsUnit old addr n → tells old addr cdb ≡ true
-    → reply ≡ check capacity_data_has_changed → new ≡ with_book old (unmarked old.store.book addr) → SameSeen old new → Commands old addr cdb bytes reply new
+    → reply ≡ check capacity_data_has_changed → new ≡ with_book old (unmarked old.store.book addr) → SameSeen old new → ExecutesCommand old addr cdb bytes reply new
 commands_told old new addr n cdb bytes reply unit tells is cleared seen =
     let mark : Bool = attention_at old.store.book addr in
     let tables : new.store.book ≡ unmarked old.store.book addr = ap (λ (s : ArrayState). s.store.book) cleared in
@@ -222,8 +222,8 @@ commands_told old new addr n cdb bytes reply unit tells is cleared seen =
     let there : has_unit new.store.book addr ≡ true = ap (λ (t : Tables). has_unit t addr) tables ∙ unmarked_there old.store.book addr addr ∙ unit.there in
     let table : unit_in new.store.book.units addr ≡ record (unit_in old.store.book.units addr) { attention = false } =
     ap (λ (t : Tables). unit_in t.units addr) tables ∙ unit_same old.store.book.units addr (record (unit_in old.store.book.units addr) { attention = false }) unit.there in
-    let gone : attention_at new.store.book addr ≡ false = ap (λ (u : UnitTable). u.attention) table in
-    let len : length_at new.store.book addr ≡ length_at old.store.book addr = ap (λ (u : UnitTable). u.sectors) table in
+    let gone : attention_at new.store.book addr ≡ false = ap (λ (u : UnitTableState). u.attention) table in
+    let len : length_at new.store.book addr ≡ length_at old.store.book addr = ap (λ (u : UnitTableState). u.sectors) table in
     let later : image_at new addr ≡ Present (unit_sectors old addr) false =
     image_present new addr there ∙ ap (λ m. Present (unit_sectors new addr) m) gone ∙ ap (λ (l : List (List ℕ)). Present l false) (sectors_after old new addr len shape seen) in
     let before : image_at old addr ≡ present_at old addr = image_present old addr unit.there in
@@ -233,7 +233,7 @@ commands_told old new addr n cdb bytes reply unit tells is cleared seen =
     λ b other. subst (λ (t : Tables). SameUnit old.store.book t b) (sym tables) (record {
       there = unmarked_there old.store.book addr b;
       sectors = unmarked_sectors old.store.book addr b;
-      mark = ap (λ (u : UnitTable). u.attention) (unit_other old.store.book.units addr (record (unit_in old.store.book.units addr) { attention = false }) unit.there b (λ e. other (sym e)));
+      mark = ap (λ (u : UnitTableState). u.attention) (unit_other old.store.book.units addr (record (unit_in old.store.book.units addr) { attention = false }) unit.there b (λ e. other (sym e)));
     }) in
     let untouched : IsAccessed old.store.disks new.store.disks = subst (λ (s : ArrayState). IsAccessed old.store.disks s.store.disks) (sym cleared) (accessed_refl old.store.disks) in
     let sound : is_broken new ≡ false → IsServed (image_at old addr) (answer (image_at old addr) cdb bytes) reply (image_at new addr) =
@@ -278,7 +278,7 @@ commands_told old new addr n cdb bytes reply unit tells is cleared seen =
 absent_mark : (t : Tables) (a : Addr) → has_unit t a ≡ false → attention_at t a ≡ false
 absent_mark t a none = by (lookup (same_addr a) t.units) none
   where
-    by : (o : Option UnitTable) → is_some o ≡ false → (unwrap_or o no_unit).attention ≡ false
+    by : (o : Option UnitTableState) → is_some o ≡ false → (unwrap_or o no_unit).attention ≡ false
     by None e = refl
     by (Some u) e = absurd (cc)
 
@@ -305,7 +305,7 @@ not_busy status e is = let told = sym (ap is_busy is) ∙ e in cc
 
 -- a command where no unit is
 pub commands_absent : (s : ArrayState) (addr : Addr) (cdb bytes : List ℕ) (reply : Reply) → has_unit s.store.book addr ≡ false → IsGiven (absent_reply cdb) reply
-    → Commands s addr cdb bytes reply s
+    → ExecutesCommand s addr cdb bytes reply s
 unfolding answer broken_answer
 commands_absent s addr cdb bytes reply none given =
     let nothing : image_at s addr ≡ Absent = image_absent s addr none in
@@ -346,7 +346,7 @@ commands_absent s addr cdb bytes reply none given =
     }
 
 -- one step by a command
-pub steps_command : (old new : ArrayState) (host : Host) (lun : ℕ) (cdb payload : List ℕ) (reply : Reply) → Commands old (addr_in host lun) cdb payload reply new
+pub steps_command : (old new : ArrayState) (host : Host) (lun : ℕ) (cdb payload : List ℕ) (reply : Reply) → ExecutesCommand old (addr_in host lun) cdb payload reply new
     → Steps old (CmdEvent host lun cdb payload) (CmdOutcome reply) new
 steps_command old new host lun cdb payload reply c = record {
   answers = c.obeys;
@@ -360,7 +360,7 @@ steps_command old new host lun cdb payload reply c = record {
     addr : Addr
     addr = addr_in host lun
 
-    own : List Entry
+    own : List UnitEntry
     own = cond (is_busy reply.status) [] (Cmd cdb payload ∷ [])
 
     image_after : is_broken new ≡ false → (b : Addr) → image_at new b ≡ unit_run (image_at old b) (entry_at (address_of b) (CmdEvent host lun cdb payload) (CmdOutcome reply))

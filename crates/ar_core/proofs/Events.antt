@@ -11,7 +11,7 @@ use Rattle.ar_disks.specs.Block.{zeros}
 use Rattle.ar_disks.specs.Geometry.{sectors_of, block_len_of}
 use Rattle.ar_book.specs.Book.{TablesAgree}
 use Rattle.ar_disks.specs.Addresses.{same_addr}
-use Rattle.ar_book.specs.Tables.{UnitState as UnitTable, Tables, no_unit, has_unit, unit_in, reserved}
+use Rattle.ar_book.specs.Tables.{UnitTableState, Tables, no_unit, has_unit, unit_in, reserved}
 use Rattle.ar_book.specs.Changes.{made, grown, dropped, unmarked}
 use Rattle.ar_book.specs.Refusals as book
 use Rattle.ar_disks.proofs.Addresses.{addr_tells}
@@ -21,7 +21,7 @@ use Rattle.ar_book.proofs.Presence.{make_fresh, grow_there, grow_shorter, made_t
 use Rattle.ar_store.specs.Placing.{SameUnits}
 use Rattle.ar_store.proofs.Changes.{same_units_there}
 use Rattle.ar_unit.specs.Sectors.{zero_sector, zero_sectors}
-use Rattle.ar_unit.specs.Unit.{UnitState, Present, Entry, Make, Grow, Remove, after, unit_run}
+use Rattle.ar_unit.specs.Unit.{UnitState, Present, UnitEntry, Make, Grow, Remove, after, unit_run}
 use Rattle.ar_unit.specs.Broken.{shape_of}
 use Rattle.ar_core.specs.Events.{Event}
 use Rattle.ar_core.specs.declared.event.EventOf.TheVariants.{Make as MakeEvent, Grow as GrowEvent, Remove as RemoveEvent}
@@ -33,7 +33,7 @@ use Rattle.ar_volume.specs.Sectors.{Address, address_of, same_address, sector_in
 use Rattle.ar_volume.specs.Image.{ArrayState, is_broken, geometry_of, with_book, seen_at, length_at, unit_sectors, image_at, IsPadded}
 use Rattle.ar_core.specs.Causes.{HasCause}
 use Rattle.ar_core.specs.Quiet.{IsQuiet}
-use Rattle.ar_volume.specs.Following.{Follows}
+use Rattle.ar_volume.specs.Following.{ArrayFollows}
 use Rattle.ar_volume.specs.Seen.{SameSeen}
 use Rattle.ar_core.specs.Step.{Steps, Answers, entry_at, is_quiet}
 use Rattle.ar_volume.specs.Changes.{Makes, Grows, Removes, removed}
@@ -54,8 +54,8 @@ unit_follows t u b same = record { there = same_units_there t u same b; sectors 
 unit_made : (t : Tables) (a : Addr) (n : ℕ) (b : Addr) → b ≢ a → SameUnit t (made t a n) b
 unit_made t a n b ne = record {
   there = made_there_other t a n b ne;
-  sectors = ap (λ (u : UnitTable). u.sectors) (made_unit_other t a n b ne);
-  mark = ap (λ (u : UnitTable). u.attention) (made_unit_other t a n b ne);
+  sectors = ap (λ (u : UnitTableState). u.sectors) (made_unit_other t a n b ne);
+  mark = ap (λ (u : UnitTableState). u.attention) (made_unit_other t a n b ne);
 }
 
 there_some : (t : Tables) (a : Addr) → has_unit t a ≡ true → IsSome (lookup (same_addr a) t.units)
@@ -64,22 +64,22 @@ there_some t a there = there
 unit_grown : (t : Tables) (a : Addr) (n : ℕ) (b : Addr) → has_unit t a ≡ true → b ≢ a → SameUnit t (grown t a n) b
 unit_grown t a n b there ne = record {
   there = grown_there t a n b;
-  sectors = ap (λ (u : UnitTable). u.sectors) (grown_unit_other t a n (there_some t a there) b ne);
-  mark = ap (λ (u : UnitTable). u.attention) (grown_unit_other t a n (there_some t a there) b ne);
+  sectors = ap (λ (u : UnitTableState). u.sectors) (grown_unit_other t a n (there_some t a there) b ne);
+  mark = ap (λ (u : UnitTableState). u.attention) (grown_unit_other t a n (there_some t a there) b ne);
 }
 
 unit_dropped : (t : Tables) (a : Addr) (b : Addr) → TablesAgree t → b ≢ a → SameUnit t (dropped t a) b
 unit_dropped t a b ok ne = record {
   there = dropped_there_other t a ok b ne;
-  sectors = ap (λ (u : UnitTable). u.sectors) (dropped_unit_other t a ok b ne);
-  mark = ap (λ (u : UnitTable). u.attention) (dropped_unit_other t a ok b ne);
+  sectors = ap (λ (u : UnitTableState). u.sectors) (dropped_unit_other t a ok b ne);
+  mark = ap (λ (u : UnitTableState). u.attention) (dropped_unit_other t a ok b ne);
 }
 
 -- where no unit is its length is 0
 pub absent_length : (t : Tables) (a : Addr) → has_unit t a ≡ false → length_at t a ≡ 0
 absent_length t a none = by (lookup (same_addr a) t.units) none
   where
-    by : (o : Option UnitTable) → is_some o ≡ false → (unwrap_or o no_unit).sectors ≡ 0
+    by : (o : Option UnitTableState) → is_some o ≡ false → (unwrap_or o no_unit).sectors ≡ 0
     by None e = refl
     by (Some u) e = absurd (cc)
 
@@ -94,7 +94,7 @@ quiet_refl old new same = subst (λ (s : ArrayState). IsQuiet old s) (sym same) 
 })
 
 -- reads and writes of blocks that nobody sees are quiet
-pub quiet_follows : (old new : ArrayState) → Follows old new → (is_broken new ≡ false → SameSeen old new) → IsQuiet old new
+pub quiet_follows : (old new : ArrayState) → ArrayFollows old new → (is_broken new ≡ false → SameSeen old new) → IsQuiet old new
 quiet_follows old new follows seen = record {
   units = λ addr. unit_follows old.store.book new.store.book addr follows.store.units;
   seen = seen;
@@ -123,10 +123,10 @@ steps_quiet old new event outcome answers none quiet cause = record {
   answers = answers;
   images = λ now a.
       everywhere (λ (u : UnitState). u) (image_at old) (image_at new) event outcome
-      (λ addr. image_same old new addr (quiet.units addr) cause.geometry (λ k _. (quiet.seen now).same k) ∙ ap (λ (es : List Entry). unit_run (image_at old addr) es) (sym (none (address_of addr)))) a;
+      (λ addr. image_same old new addr (quiet.units addr) cause.geometry (λ k _. (quiet.seen now).same k) ∙ ap (λ (es : List UnitEntry). unit_run (image_at old addr) es) (sym (none (address_of addr)))) a;
   shapes = λ a.
       everywhere shape_of (image_at old) (image_at new) event outcome
-      (λ addr. shape_same old new addr (quiet.units addr) ∙ ap (λ (es : List Entry). shape_of (unit_run (image_at old addr) es)) (sym (none (address_of addr)))) a;
+      (λ addr. shape_same old new addr (quiet.units addr) ∙ ap (λ (es : List UnitEntry). shape_of (unit_run (image_at old addr) es)) (sym (none (address_of addr)))) a;
   disks = cause;
   capacity = quiet.capacity;
   quiet = λ _. quiet;
@@ -140,7 +140,7 @@ steps_nothing old new event outcome answers none same =
     (cause_same event old.store.disks new.store.disks (ap (λ (s : ArrayState). s.store.disks) same))
 
 -- an event that was one entry of one unit
-steps_entry : (old new : ArrayState) (event : Event) (outcome : Outcome) (addr : Addr) (entry : Entry) → Answers old event outcome new
+steps_entry : (old new : ArrayState) (event : Event) (outcome : Outcome) (addr : Addr) (entry : UnitEntry) → Answers old event outcome new
     → ((b : Addr) → entry_at (address_of b) event outcome ≡ cond (same_address (address_of addr) (address_of b)) (entry ∷ []) [])
     → image_at new addr ≡ after (image_at old addr) entry → ((b : Addr) → b ≢ addr → image_at new b ≡ image_at old b)
     → HasCause event old.store.disks new.store.disks → new.cache.capacity ≡ old.cache.capacity → is_quiet event ≡ false
@@ -160,11 +160,11 @@ steps_entry old new event outcome addr entry answers own here others cause capac
           | inl same ↦
               (let one : entry_at (address_of b) event outcome ≡ entry ∷ [] =
               own b ∙ ap (λ t. cond t (entry ∷ []) []) (same_address_of addr b (sym same.1)) in
-              ap (image_at new) same.1 ∙ here ∙ ap (λ (x : Addr). after (image_at old x) entry) (sym same.1) ∙ ap (λ (es : List Entry). unit_run (image_at old b) es) (sym one))
+              ap (image_at new) same.1 ∙ here ∙ ap (λ (x : Addr). after (image_at old x) entry) (sym same.1) ∙ ap (λ (es : List UnitEntry). unit_run (image_at old b) es) (sym one))
           | inr other ↦
               (let none : entry_at (address_of b) event outcome ≡ [] =
               own b ∙ ap (λ t. cond t (entry ∷ []) []) (other_address_of addr b (λ same. other.1 (sym same))) in
-              others b other.1 ∙ ap (λ (es : List Entry). unit_run (image_at old b) es) (sym none))
+              others b other.1 ∙ ap (λ (es : List UnitEntry). unit_run (image_at old b) es) (sym none))
         ]
 
 -- a refusal of the core's own comes before those of the book
@@ -173,7 +173,7 @@ not_refused true r f o none = absurd (cc)
 not_refused false r f None none = (refl, refl)
 not_refused false r f (Some x) none = absurd (cc)
 
-abbrev no_entry : List Entry
+abbrev no_entry : List UnitEntry
 no_entry = []
 
 nothing_either : (b : Bool) → cond b no_entry no_entry ≡ no_entry
@@ -190,7 +190,7 @@ pub steps_made : (old new : ArrayState) (addr : Addr) (n : ℕ) (result : Result
 steps_made old new addr n (Err refusal) padded makes seen =
     steps_nothing old new (MakeEvent addr n) (MakeOutcome (Err refusal)) makes (λ a. nothing_either (same_address (address_of addr) a)) makes.unchanged
 steps_made old new addr n (Ok done) padded makes seen =
-    let granted = not_refused (is_broken old) Broken UnitRefused (book.make_refusal old.store.book addr n) makes.granted in
+    let granted = not_refused (is_broken old) Broken UnitRefused (book.unit_make_refusal old.store.book addr n) makes.granted in
     let fresh : has_unit old.store.book addr ≡ false = make_fresh old.store.book addr n granted.1 in
     let tables : new.store.book ≡ made old.store.book addr n = ap (λ (s : ArrayState). s.store.book) makes.changed in
     let disks : new.store.disks ≡ old.store.disks = ap (λ (s : ArrayState). s.store.disks) makes.changed in
@@ -199,7 +199,7 @@ steps_made old new addr n (Ok done) padded makes seen =
     let table = unit ∙ made_unit old.store.book addr n (none_found (lookup (same_addr addr) old.store.book.units) fresh) in
     let here : image_at new addr ≡ Present (zero_sectors n) false =
     image_present new addr (ap (λ (t : Tables). has_unit t addr) tables ∙ made_there old.store.book addr n fresh)
-    ∙ ap (λ (u : UnitTable). Present (sectors_in (geometry_of new) (unit_block (seen_at new) addr) 0 u.sectors) u.attention) table
+    ∙ ap (λ (u : UnitTableState). Present (sectors_in (geometry_of new) (unit_block (seen_at new) addr) 0 u.sectors) u.attention) table
     ∙ ap (λ l. Present l false)
     (sectors_same old new addr n shape (λ k _. seen.same k)
     ∙ map-constant (sector_in (geometry_of old) (unit_block (seen_at old) addr)) zero_sector 0 n (λ i low. padded.zeros granted.0 addr i (omega (arith, absent_length old.store.book addr fresh)))) in
@@ -216,7 +216,7 @@ pub steps_grown : (old new : ArrayState) (addr : Addr) (n : ℕ) (result : Resul
 steps_grown old new addr n (Err refusal) padded grows seen =
     steps_nothing old new (GrowEvent addr n) (GrowOutcome (Err refusal)) grows (λ a. nothing_either (same_address (address_of addr) a)) grows.unchanged
 steps_grown old new addr n (Ok done) padded grows seen =
-    let granted = not_refused (is_broken old) Broken UnitRefused (book.grow_refusal old.store.book addr n) grows.granted in
+    let granted = not_refused (is_broken old) Broken UnitRefused (book.unit_grow_refusal old.store.book addr n) grows.granted in
     let there : has_unit old.store.book addr ≡ true = grow_there old.store.book addr n granted.1 in
     let tables : new.store.book ≡ grown old.store.book addr n = ap (λ (s : ArrayState). s.store.book) grows.changed in
     let disks : new.store.disks ≡ old.store.disks = ap (λ (s : ArrayState). s.store.disks) grows.changed in
@@ -229,7 +229,7 @@ steps_grown old new addr n (Ok done) padded grows seen =
     ∙ ap (λ m. unit_sectors old addr ++ zero_sectors (n - m)) (sym (length-unit_sectors old addr)) in
     let here : image_at new addr ≡ after (image_at old addr) (Grow n) =
     image_present new addr (ap (λ (t : Tables). has_unit t addr) tables ∙ grown_there old.store.book addr n addr ∙ there)
-    ∙ ap (λ (u : UnitTable). Present (sectors_in (geometry_of new) (unit_block (seen_at new) addr) 0 u.sectors) u.attention) table
+    ∙ ap (λ (u : UnitTableState). Present (sectors_in (geometry_of new) (unit_block (seen_at new) addr) 0 u.sectors) u.attention) table
     ∙ ap (λ l. Present l true) sectors
     ∙ ap (λ (u : UnitState). after u (Grow n)) (sym (image_present old addr there)) in
     steps_entry old new (GrowEvent addr n) (GrowOutcome (Ok done)) addr (Grow n) grows (λ b. refl) here
@@ -263,7 +263,7 @@ pub quiet_kept : (old new : ArrayState) (event : Event) (outcome : Outcome) (n :
 quiet_kept old new event outcome n steps is padded len = (padded_quiet old new event padded (steps.quiet is) steps.disks, len ∙ ap block_len_of (sym steps.disks.geometry))
 
 -- and through reads and writes of blocks that no one sees
-pub padded_follows : (old new : ArrayState) → IsPadded old → Follows old new → (is_broken new ≡ false → SameSeen old new) → IsPadded new
+pub padded_follows : (old new : ArrayState) → IsPadded old → ArrayFollows old new → (is_broken new ≡ false → SameSeen old new) → IsPadded new
 padded_follows old new padded follows seen =
     padded_same old new padded (accessed_sound old.store.disks new.store.disks follows.store.accessed) follows.store.accessed.follows.geometry
     (λ addr. (let same = follows.store.units.sectors addr in omega arith)) (λ now. (seen now).same)
@@ -276,7 +276,7 @@ padded_unchanged old new padded same = subst IsPadded (sym same) padded
 pub padded_made : (old new : ArrayState) (addr : Addr) (n : ℕ) (result : Result (Unit {0}) Refusal) → IsPadded old → Makes old addr n result new → SameSeen old new → IsPadded new
 padded_made old new addr n (Err refusal) padded makes seen = padded_unchanged old new padded makes.unchanged
 padded_made old new addr n (Ok done) padded makes seen =
-    let granted = not_refused (is_broken old) Broken UnitRefused (book.make_refusal old.store.book addr n) makes.granted in
+    let granted = not_refused (is_broken old) Broken UnitRefused (book.unit_make_refusal old.store.book addr n) makes.granted in
     let fresh : has_unit old.store.book addr ≡ false = make_fresh old.store.book addr n granted.1 in
     let tables : new.store.book ≡ made old.store.book addr n = ap (λ (s : ArrayState). s.store.book) makes.changed in
     padded_same old new padded (λ _. granted.0) (ap (λ (s : ArrayState). geometry_of s) makes.changed)
@@ -290,7 +290,7 @@ padded_made old new addr n (Ok done) padded makes seen =
 pub padded_grown : (old new : ArrayState) (addr : Addr) (n : ℕ) (result : Result (Unit {0}) Refusal) → IsPadded old → Grows old addr n result new → SameSeen old new → IsPadded new
 padded_grown old new addr n (Err refusal) padded grows seen = padded_unchanged old new padded grows.unchanged
 padded_grown old new addr n (Ok done) padded grows seen =
-    let granted = not_refused (is_broken old) Broken UnitRefused (book.grow_refusal old.store.book addr n) grows.granted in
+    let granted = not_refused (is_broken old) Broken UnitRefused (book.unit_grow_refusal old.store.book addr n) grows.granted in
     let there : has_unit old.store.book addr ≡ true = grow_there old.store.book addr n granted.1 in
     let tables : new.store.book ≡ grown old.store.book addr n = ap (λ (s : ArrayState). s.store.book) grows.changed in
     let table = ap (λ (t : Tables). unit_in t.units addr) tables ∙ grown_unit old.store.book addr n (there_some old.store.book addr there) in
@@ -299,7 +299,7 @@ padded_grown old new addr n (Ok done) padded grows seen =
     (λ b.
     elim (addr_tells b addr) [
       | inl one ↦
-          (let now : length_at new.store.book b ≡ n = ap (length_at new.store.book) one.1 ∙ ap (λ (u : UnitTable). u.sectors) table in
+          (let now : length_at new.store.book b ≡ n = ap (length_at new.store.book) one.1 ∙ ap (λ (u : UnitTableState). u.sectors) table in
           let was : length_at old.store.book b ≡ length_at old.store.book addr = ap (length_at old.store.book) one.1 in
           omega arith)
       | inr two ↦ (let same = ap (λ (t : Tables). length_at t b) tables ∙ (unit_grown old.store.book addr n b there two.1).sectors in omega arith)

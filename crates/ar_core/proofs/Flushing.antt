@@ -4,14 +4,14 @@ use Rattle.ar_cache.specs.declared.answers.Flush.{Flush}
 use Rattle.ar_volume.specs.Image.{ArrayState, is_broken}
 use Rattle.ar_volume.specs.Seen.{SameSeen}
 use Rattle.ar_volume.specs.Flush.{FlushesOne}
-use Rattle.ar_volume.specs.Following.{Follows}
+use Rattle.ar_volume.specs.Following.{ArrayFollows}
 use Rattle.ar_core.specs.declared.event.EventOf.TheVariants.{Flush as FlushEvent}
 use Rattle.ar_core.specs.declared.event.OutcomeOf.TheVariants.{Flush as FlushOutcome}
 use Rattle.ar_core.specs.Step.{Steps}
 use Rattle.ar_core.proofs.Causes.{cause_follows}
 use Rattle.ar_core.proofs.Events.{steps_quiet, quiet_follows}
 
-pub steps_flushed : (old new : ArrayState) (answer : Flush) → FlushesOne old answer new → (is_broken new ≡ false → SameSeen old new) → Follows old new
+pub steps_flushed : (old new : ArrayState) (answer : Flush) → FlushesOne old answer new → (is_broken new ≡ false → SameSeen old new) → ArrayFollows old new
     → Steps old FlushEvent (FlushOutcome answer) new
 steps_flushed old new answer flushes seen follows =
     steps_quiet old new FlushEvent (FlushOutcome answer) flushes (λ a. refl) (quiet_follows old new follows seen)

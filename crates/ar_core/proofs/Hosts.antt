@@ -11,7 +11,7 @@ use Rattle.ar_scsi.specs.declared.sense.Sense.{Sense}
 use Rattle.ar_scsi.specs.Reading.{reading}
 use Rattle.ar_scsi.specs.Reply.{good}
 use Rattle.ar_unit.specs.Sectors.{Sector, written}
-use Rattle.ar_unit.specs.Unit.{UnitState, Present, Entry, Answered, answer, obeyed, unit_run, is_past_end, leaving, IsServed}
+use Rattle.ar_unit.specs.Unit.{UnitState, Present, UnitEntry, Answered, answer, obeyed, unit_run, is_past_end, leaving, IsServed}
 use Rattle.ar_volume.specs.Image.{ArrayState, is_broken, image, image_at}
 use Rattle.ar_volume.proofs.Images.{image_here}
 use Rattle.ar_core.specs.declared.event.EventOf.TheVariants.{Cmd as CmdEvent}
@@ -32,7 +32,7 @@ pub same_reply : (one other : RunOf) (k j : ℕ) (host : Host) (lun : ℕ) (cdb 
 same_reply one other k j host lun cdb payload reply told isolated apart alike here there =
     let before : unit_before one.first (host.number, lun) one.turns k ≡ unit_before other.first (host.number, lun) other.turns j =
     ap (λ (u : UnitState). unit_run u (own (host.number, lun) (take k one.turns))) alike.begun
-    ∙ ap (λ (es : List Entry). unit_run (image other.first (host.number, lun)) es) alike.met in
+    ∙ ap (λ (es : List UnitEntry). unit_run (image other.first (host.number, lun)) es) alike.met in
     isolated.sound k host lun cdb payload reply here.new here.answered here.after here.sound
     ∙ ap (λ (u : UnitState). (answer u cdb payload).reply) before
     ∙ sym (apart.sound j host lun cdb payload told there.new there.answered there.after there.sound)
@@ -46,7 +46,7 @@ same_broken_reply one other k j host lun cdb payload reply told isolated apart a
     let a : Address = (host.number, lun) in
     let before : shape_of (unit_before one.first a one.turns k) ≡ shape_of (unit_before other.first a other.turns j) =
     unit_run-shape (own a (take k one.turns)) (image one.first a) (image other.first a) alike.begun
-    ∙ ap (λ (es : List Entry). shape_of (unit_run (image other.first a) es)) alike.met in
+    ∙ ap (λ (es : List UnitEntry). shape_of (unit_run (image other.first a) es)) alike.met in
     isolated.broken k host lun cdb payload reply here.new here.answered here.after here.broken
     ∙ sym (broken_answer-is (unit_before one.first a one.turns k) cdb payload)
     ∙ ap (λ (s : Shape). broken_answer s cdb (length payload)) before

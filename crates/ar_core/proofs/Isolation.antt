@@ -3,14 +3,14 @@ use Rattle.std.proofs.Common.{◌≡◌, ℕ, zero, suc, true, false, Some, List
 use Rattle.std.specs.Prelude.{slice_get}
 use Rattle.ar_disks.specs.declared.address.Host.{Host}
 use Rattle.ar_scsi.specs.declared.reply.Reply.{Reply}
-use Rattle.ar_unit.specs.Unit.{UnitState, Entry, answer, after, unit_run}
+use Rattle.ar_unit.specs.Unit.{UnitState, UnitEntry, answer, after, unit_run}
 use Rattle.ar_unit.specs.Broken.{Shape, shape_of, shape_after, broken_answer}
 use Rattle.ar_unit.proofs.Laws.{unit_run-append, after-shape, broken_answer-is}
 use Rattle.ar_core.specs.Events.{Event}
 use Rattle.ar_core.specs.declared.event.EventOf.TheVariants.{Cmd as CmdEvent}
 use Rattle.ar_core.specs.Events.{Outcome}
 use Rattle.ar_core.specs.declared.event.OutcomeOf.TheVariants.{Cmd as CmdOutcome}
-use Rattle.ar_extents.specs.Changes.{is_broken as is_broken_set}
+use Rattle.ar_extents.specs.Changes.{is_broken_set}
 use Rattle.ar_volume.specs.Image.{ArrayState, is_broken, image, image_at}
 use Rattle.ar_core.proofs.Causes.{was_sound}
 use Rattle.ar_core.proofs.Looking.{looked_image, looked_shape}
@@ -21,7 +21,7 @@ use Rattle.ar_core.specs.Step.{Steps, Obeys, addr_in}
 use Rattle.ar_core.specs.Run.{Turn, Did, Looked, Meets, Run, IsRun, TwoMissing, last_of, own, entry_in, turns_of, IsAnswered, IsIsolated, unit_before, AreTwoHitIn}
 
 -- the shape after a run depends on the shape before it
-pub unit_run-shape : (entries : List Entry) (u v : UnitState) → shape_of u ≡ shape_of v → shape_of (unit_run u entries) ≡ shape_of (unit_run v entries)
+pub unit_run-shape : (entries : List UnitEntry) (u v : UnitState) → shape_of u ≡ shape_of v → shape_of (unit_run u entries) ≡ shape_of (unit_run v entries)
 unit_run-shape [] u v same = same
 unit_run-shape (entry ∷ entries) u v same =
     unit_run-shape entries (after u entry) (after v entry)

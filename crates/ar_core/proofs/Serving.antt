@@ -25,9 +25,9 @@ use Rattle.ar_book.specs.Tables.{unit_in, blocks_of as blocks_for}
 use Rattle.ar_cache.specs.Backing.{InTurn, stored}
 use Rattle.ar_volume.specs.Sectors.{sector_in, sectors_in, unit_block, key_of, keys_in}
 use Rattle.ar_volume.specs.Image.{ArrayState, is_broken, geometry_of, seen_at, knows_in, length_at, attention_at, unit_sectors, IsPadded}
-use Rattle.ar_volume.specs.Following.{Follows}
+use Rattle.ar_volume.specs.Following.{ArrayFollows}
 use Rattle.ar_volume.specs.Laws.{follows_refl, places_refl, places_in_turn}
-use Rattle.ar_volume.specs.Seen.{IsUnit, SamePlaces, SameSeen, Writes, present_at, sectors_read}
+use Rattle.ar_volume.specs.Seen.{IsUnit, SamePlaces, SameSeen, WritesSectors, present_at, sectors_read}
 use Rattle.ar_core.specs.Served.{Serves, Settles}
 use Rattle.ar_volume.specs.Seen.{IsForced}
 use Rattle.ar_volume.specs.Storing.{ReadsBlock, ReadsFirst, StopsStoring, StoresBlocks}
@@ -176,7 +176,7 @@ sectors_read-some s addr lba (suc count) whole some = λ none.
     omega (arith, length-append first rest)
 
 -- a unit that was read is as it was
-unit_read : (old new : ArrayState) (addr : Addr) → Follows old new → SameSeen old new → present_at new addr ≡ present_at old addr
+unit_read : (old new : ArrayState) (addr : Addr) → ArrayFollows old new → SameSeen old new → present_at new addr ≡ present_at old addr
 unit_read old new addr follows seen =
     present_same old new addr (follows.store.units.sectors addr) (follows.store.units.attention addr) follows.store.accessed.follows.geometry (λ k _. seen.same k)
 
@@ -186,7 +186,7 @@ lost_broken false is = absurd (cc)
 
 -- how a READ ends
 pub serves_read : (old new : ArrayState) (addr : Addr) (lba count : ℕ) (transfer : Transfer) (out : List ℕ) (reply : Reply)
-    → Follows old new → (transfer ≢ Broken → SameSeen old new) → sectors_read old addr lba count ≢ []
+    → ArrayFollows old new → (transfer ≢ Broken → SameSeen old new) → sectors_read old addr lba count ≢ []
     → (transfer ≢ Broken → is_broken new ≡ false) → (transfer ≡ Broken → IsTrue (is_broken new))
     → (transfer ≡ Done → out ≡ sectors_read old addr lba count)
     → (transfer ≡ Done → IsGiven (good out) reply) → (transfer ≡ Broken → reply ≡ check internal_target_failure) → (transfer ≡ NoMemory → reply ≡ busy)
@@ -226,12 +226,12 @@ serves_read old new addr lba count NoMemory out reply follows blocks some sound 
 
 -- how a WRITE ends
 pub serves_write : (old new : ArrayState) (addr : Addr) (lba count : ℕ) (bytes : List ℕ) (answer : Completion) (reply : Reply)
-    → Follows old new → lba + count ≤ length_at old.store.book addr → answer ≡ stored (is_broken new)
-    → (answer ≡ Kept → Writes old addr lba count bytes new)
+    → ArrayFollows old new → lba + count ≤ length_at old.store.book addr → answer ≡ stored (is_broken new)
+    → (answer ≡ Kept → WritesSectors old addr lba count bytes new)
     → (answer ≡ Kept → reply ≡ good []) → (answer ≡ Lost → reply ≡ check internal_target_failure)
     → Serves old addr (leaving (Present (written (unit_sectors old addr) lba count bytes) (attention_at old.store.book addr)) (good [])) (check internal_target_failure) reply new
 serves_write old new addr lba count bytes Kept reply follows within answer writes done lost =
-    let w : Writes old addr lba count bytes new = writes refl in
+    let w : WritesSectors old addr lba count bytes new = writes refl in
     let sound : is_broken new ≡ false = kept_sound (is_broken new) answer in
     let sectors : unit_sectors new addr ≡ written (unit_sectors old addr) lba count bytes =
     ap (λ (g : Geometry). map (sector_in g (unit_block (seen_at new) addr)) (range_with_len 0 (length_at new.store.book addr))) follows.store.accessed.follows.geometry
@@ -371,7 +371,7 @@ key_known s addr n rb unit within =
 pub range_written : (old new : ArrayState) (addr : Addr) (lba count : ℕ) (bytes : List ℕ) (g : Geometry) → g ≡ geometry_of old
     → ((i : ℕ) → lba ≤ i → i < lba + count → sector_in g (unit_block (seen_at new) addr) i ≡ sectors_at bytes (i - lba) 1)
     → ((i : ℕ) → (i < lba) ⊎ (lba + count ≤ i) → sector_in g (unit_block (seen_at new) addr) i ≡ sector_in g (unit_block (seen_at old) addr) i)
-    → ((k : Key) → k.addr ≢ addr → seen_at new k ≡ seen_at old k) → Writes old addr lba count bytes new
+    → ((k : Key) → k.addr ≢ addr → seen_at new k ≡ seen_at old k) → WritesSectors old addr lba count bytes new
 range_written old new addr lba count bytes g shape inside outside others = record {
   inside = λ i low high. ap (λ (h : Geometry). sector_in h (unit_block (seen_at new) addr) i) (sym shape) ∙ inside i low high;
   outside = λ i apart.
@@ -383,10 +383,10 @@ range_written old new addr lba count bytes g shape inside outside others = recor
 
 -- what was not written past the unit's end is zeros still
 pub padded_written : (old new : ArrayState) (addr : Addr) (n lba count : ℕ) (bytes : List ℕ) (answer : Completion) → IsPadded old → IsUnit old addr n → lba + count ≤ n
-    → is_broken old ≡ false → Follows old new → answer ≡ stored (is_broken new) → (answer ≡ Kept → Writes old addr lba count bytes new) → IsPadded new
+    → is_broken old ≡ false → ArrayFollows old new → answer ≡ stored (is_broken new) → (answer ≡ Kept → WritesSectors old addr lba count bytes new) → IsPadded new
 padded_written old new addr n lba count bytes answer padded unit within sound follows told writes = record {
   zeros = λ now b i past.
-      (let w : Writes old addr lba count bytes new = writes (told ∙ ap stored now) in
+      (let w : WritesSectors old addr lba count bytes new = writes (told ∙ ap stored now) in
       let shape : geometry_of new ≡ geometry_of old = follows.store.accessed.follows.geometry in
       let same : length_at new.store.book b ≡ length_at old.store.book b = follows.store.units.sectors b in
       elim (addr_tells b addr) [
@@ -404,7 +404,7 @@ padded_written old new addr n lba count bytes answer padded unit within sound fo
 }
 
 -- writes that were then forced are the same writes
-pub writes_then : (old mid new : ArrayState) (addr : Addr) (lba count : ℕ) (bytes : List ℕ) → Writes old addr lba count bytes mid → SameSeen mid new → Writes old addr lba count bytes new
+pub writes_then : (old mid new : ArrayState) (addr : Addr) (lba count : ℕ) (bytes : List ℕ) → WritesSectors old addr lba count bytes mid → SameSeen mid new → WritesSectors old addr lba count bytes new
 unfolding sector_in
 writes_then old mid new addr lba count bytes w seen = record {
   inside = λ i low high. same i ∙ w.inside i low high;

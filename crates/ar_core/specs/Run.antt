@@ -5,7 +5,7 @@ use Rattle.ar_disks.specs.declared.address.Host.{Host}
 use Rattle.ar_scsi.specs.declared.reply.Reply.{Reply}
 use Rattle.ar_scsi.specs.declared.reply.Status.TheVariants.{Busy}
 use Rattle.ar_extents.specs.Follows.{TwoHit}
-use Rattle.ar_unit.specs.Unit.{UnitState, Entry, answer, unit_run}
+use Rattle.ar_unit.specs.Unit.{UnitState, UnitEntry, answer, unit_run}
 use Rattle.ar_unit.specs.Broken.{shape_of, where_broken}
 use Rattle.ar_volume.specs.Image.{ArrayState, is_broken, image}
 use Rattle.ar_volume.specs.Sectors.{Address}
@@ -39,12 +39,12 @@ last_of old [] = old
 last_of old (new ∷ states) = last_of new states
 
 -- the entry of a step in the unit at one address; a look has none
-abbrev pub entry_in : Address → Turn → List Entry
+abbrev pub entry_in : Address → Turn → List UnitEntry
 entry_in a (Did event outcome) = entry_at a event outcome
 entry_in a Looked = []
 
 -- the unit's own entries in a run
-abbrev pub own : Address → List Turn → List Entry
+abbrev pub own : Address → List Turn → List UnitEntry
 own a [] = []
 own a (turn ∷ turns) = entry_in a turn ++ own a turns
 

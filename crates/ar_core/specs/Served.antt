@@ -12,7 +12,7 @@ use Rattle.ar_scsi.specs.Sense.{internal_target_failure}
 use Rattle.ar_unit.specs.Unit.{Answered, Cmd, unit_run, IsGiven, IsServed}
 use Rattle.ar_unit.specs.Broken.{shape_of}
 use Rattle.ar_volume.specs.Image.{ArrayState, geometry_of, is_broken, seen_at, image_at}
-use Rattle.ar_volume.specs.Following.{Follows}
+use Rattle.ar_volume.specs.Following.{ArrayFollows}
 use Rattle.ar_store.specs.Calls.{IsAccessed}
 use Rattle.ar_core.specs.Step.{Obeys, is_write, is_busy, moves_sectors}
 use Rattle.ar_volume.specs.Sectors.{keys_in}
@@ -23,7 +23,7 @@ use Rattle.ar_volume.specs.Seen.{IsForced, SamePlaces, present_at}
 -- The reply and the unit's new sectors are those of `table`, from its sectors before the command, and no other unit's
 -- contents change; or the array has failed after it, and the reply is `otherwise`.
 pub record Serves (old : ArrayState) (addr : Addr) (table : Answered) (otherwise reply : Reply) (new : ArrayState) : Type 0 where
-  pub follows : Follows old new
+  pub follows : ArrayFollows old new
   pub sound : is_broken new ≡ false → IsServed (present_at old addr) table reply (present_at new addr)
   pub others : is_broken new ≡ false → (k : Key) → k.addr ≢ addr → seen_at new k ≡ seen_at old k
   pub broken : IsTrue (is_broken new) → IsGiven otherwise reply
@@ -51,7 +51,7 @@ pub record Settles (old : ArrayState) (addr : Addr) (command : Result Command Se
 
 -- What a command does to the array: `Obeys` holds of its unit, until data loss no other unit changes, and the presence,
 -- length and pending UNIT ATTENTION of every unit are what the command makes of them.
-pub record Commands (old : ArrayState) (addr : Addr) (cdb bytes : List ℕ) (reply : Reply) (new : ArrayState) : Type 0 where
+pub record ExecutesCommand (old : ArrayState) (addr : Addr) (cdb bytes : List ℕ) (reply : Reply) (new : ArrayState) : Type 0 where
   pub obeys : Obeys old addr cdb bytes reply new
   pub others : is_broken new ≡ false → (b : Addr) → b ≢ addr → image_at new b ≡ image_at old b
   pub shape : shape_of (image_at new addr) ≡ shape_of (unit_run (image_at old addr) (if is_busy reply.status then [] else Cmd cdb bytes ∷ []))

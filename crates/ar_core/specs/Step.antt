@@ -16,7 +16,7 @@ use Rattle.ar_extents.specs.Follows.{Keeps, Anywhere}
 use Rattle.ar_book.specs.Tables.{Tables}
 use Rattle.ar_book.specs.Changes.{unmarked}
 use Rattle.ar_store.specs.Placing.{SameUnits}
-use Rattle.ar_unit.specs.Unit.{Entry, Make, Grow, Remove, Cmd, answer, unit_run, IsGiven, IsServed}
+use Rattle.ar_unit.specs.Unit.{UnitEntry, Make, Grow, Remove, Cmd, answer, unit_run, IsGiven, IsServed}
 use Rattle.ar_unit.specs.Broken.{shape_of, broken_answer}
 use Rattle.ar_core.specs.Events.{Event}
 use Rattle.ar_core.specs.declared.event.EventOf.TheVariants.{Make as MakeEvent, Grow as GrowEvent, Remove as RemoveEvent, Cmd as CmdEvent, Flush as FlushEvent, Demote as DemoteEvent, Clean as CleanEvent, Balance as BalanceEvent, AddDisk as AddDiskEvent, DiskOut as DiskOutEvent, Replace as ReplaceEvent, Rebuild as RebuildEvent}
@@ -64,7 +64,7 @@ is_busy Good = false
 is_busy CheckCondition = false
 
 -- the entry of an event in its unit: a create, resize or delete that was done, or a command whose reply isn't BUSY
-abbrev pub entry_of : Event → Outcome → List Entry
+abbrev pub entry_of : Event → Outcome → List UnitEntry
 entry_of (MakeEvent addr sectors) (MakeOutcome (Ok done)) = Make sectors ∷ []
 entry_of (GrowEvent addr sectors) (GrowOutcome (Ok done)) = Grow sectors ∷ []
 entry_of (RemoveEvent addr) (RemoveOutcome (Ok done)) = Remove ∷ []
@@ -72,7 +72,7 @@ entry_of (CmdEvent host lun cdb payload) (CmdOutcome reply) = if is_busy reply.s
 entry_of event outcome = []
 
 -- its entry in the unit at one address; none if it is about another
-abbrev pub entry_at : Address → Event → Outcome → List Entry
+abbrev pub entry_at : Address → Event → Outcome → List UnitEntry
 entry_at a event outcome = if is_about event a then entry_of event outcome else []
 
 -- the command is a WRITE

@@ -28,8 +28,8 @@ level_shown AtMirrored = levels.Mirrored
 level_shown AtParity = levels.Parity
 
 -- the level of a unit's block, if both exist
-abbrev pub level_of : Tables → Addr → ℕ → LevelOf
-level_of t addr rb =
+abbrev pub level_at : Tables → Addr → ℕ → LevelOf
+level_at t addr rb =
     if not (has_unit t addr) then levels.Absent else
     if nat_le (length (unit_in t.units addr).homes) rb then levels.Outside else level_shown (level t (key_of addr rb))
 

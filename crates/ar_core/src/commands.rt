@@ -9,12 +9,12 @@ ghost use Rattle.ar_scsi.specs.Reply.{good, check, busy};
 ghost use Rattle.ar_scsi.specs.Sense.{internal_target_failure, logical_block_address_out_of_range, data_phase_error, capacity_data_has_changed};
 ghost use Rattle.ar_unit.specs.Unit.{obeyed, IsGiven, leaving, read_reply, write_answer};
 ghost use Rattle.ar_unit.specs.Broken.{broken_obeyed};
-ghost use Rattle.ar_cache.specs.Backing.{InTurn, Keeps, SameBlocks, StopsInTurn, stored};
+ghost use Rattle.ar_cache.specs.Backing.{InTurn, KeepsBacking, SameBlocks, StopsInTurn, stored};
 ghost use Rattle.ar_cache.specs.Cache.{cached};
 ghost use Rattle.ar_volume.specs.Image.{is_broken, geometry_of, seen_at, unit_sectors, attention_at, with_book};
-ghost use Rattle.ar_volume.specs.Seen.{IsUnit, SameSeen, IsSpared, Writes, present_at, sectors_read};
-ghost use Rattle.ar_core.specs.Served.{Serves, Settles, Commands};
-ghost use Rattle.ar_volume.specs.Following.{Follows};
+ghost use Rattle.ar_volume.specs.Seen.{IsUnit, SameSeen, KeepsCachedBut, WritesSectors, present_at, sectors_read};
+ghost use Rattle.ar_core.specs.Served.{Serves, Settles, ExecutesCommand};
+ghost use Rattle.ar_volume.specs.Following.{ArrayFollows};
 ghost use Rattle.ar_volume.specs.Sectors.{key_of, keys_in, sectors_in, unit_block};
 ghost use Rattle.std.specs.List.{concat};
 ghost use Rattle.ar_volume.specs.Seen.{IsForced};
@@ -38,7 +38,7 @@ impl<D: Disk> Array<D> {
         cdb: &[u8; 16],
         bytes: &[u8],
     ) -> Reply
-        ensures { Commands self.old addr cdb.now bytes.now result self.new }
+        ensures { ExecutesCommand self.old addr cdb.now bytes.now result self.new }
     {
         let Some(sectors) = self.blocks.sectors(addr) else {
             return absent(alloc, cdb);
@@ -46,7 +46,7 @@ impl<D: Disk> Array<D> {
         if self.blocks.attention(addr) && !is_inquiry(cdb) {
             return self.tell_growth(addr);
         }
-        self.serve(alloc, addr, sectors, cdb, bytes)
+        self.execute_present(alloc, addr, sectors, cdb, bytes)
     }
 
     // Reports the pending UNIT ATTENTION, and clears it.
@@ -60,7 +60,7 @@ impl<D: Disk> Array<D> {
     }
 
     // Executes a command to a unit that is present.
-    fn serve(
+    fn execute_present(
         &mut self,
         alloc: Global,
         addr: Addr,
@@ -163,7 +163,7 @@ impl<D: Disk> Array<D> {
             return Reply::good(Bytes::new());
         }
         let geometry = self.blocks.geometry();
-        fetch(
+        fetch_sectors(
             &mut self.blocks,
             alloc,
             geometry,
@@ -222,13 +222,13 @@ impl<D: Disk> Array<D> {
         requires sound { is_broken self.old ≡ false }
 
         ensures answer { result ≡ stored (is_broken self.new) }
-        ensures writes { result ≡ Completion.Done → Writes self.old addr lba count bytes.now self.new }
+        ensures writes { result ≡ Completion.Done → WritesSectors self.old addr lba count bytes.now self.new }
         ensures forced { result ≡ Completion.Done → IsTrue fua → IsForced self.new addr lba count }
 
         ensures stored { result ≡ Completion.Done → StoresBlocks addr lba count fua self.old self.new }
         ensures stopped { result ≡ Completion.Broken → StopsStoring addr lba count fua self.old self.new }
         ensures nothing { count ≡ 0 → self.new ≡ self.old }
-        ensures follows { Follows self.old self.new }
+        ensures follows { ArrayFollows self.old self.new }
     {
         match self.put_range(addr, sectors, lba, count, bytes) {
             Completion::Done if fua => self.force_range(addr, sectors, lba, count),
@@ -251,12 +251,12 @@ impl<D: Disk> Array<D> {
         requires sound { is_broken self.old ≡ false }
 
         ensures answer { result ≡ stored (is_broken self.new) }
-        ensures writes { result ≡ Completion.Done → Writes self.old addr lba count bytes.now self.new }
+        ensures writes { result ≡ Completion.Done → WritesSectors self.old addr lba count bytes.now self.new }
         ensures puts { result ≡ Completion.Done → PutsBlocks addr lba count self.old self.new }
         ensures stopped { result ≡ Completion.Broken → StopsPutting addr lba count self.old self.new }
 
         ensures nothing { count ≡ 0 → self.new ≡ self.old }
-        ensures follows { Follows self.old self.new }
+        ensures follows { ArrayFollows self.old self.new }
     {
         let geometry = self.blocks.geometry();
         write_sectors(
@@ -282,11 +282,11 @@ impl<D: Disk> Array<D> {
         ensures stopped { result ≡ Completion.Broken
             → StopsInTurn ForcesBlock BreaksForced (keys_in (geometry_of self.old) addr lba count) self.old self.new }
 
-        ensures spared { result ≡ Completion.Done → 0 < count → IsSpared self.old.cache self.new.cache addr
+        ensures spared { result ≡ Completion.Done → 0 < count → KeepsCachedBut self.old.cache self.new.cache addr
             (lba / sectors_of (geometry_of self.old)) ((lba + count - 1) / sectors_of (geometry_of self.old) + 1) }
         ensures seen { result ≡ Completion.Done → SameSeen self.old self.new }
         ensures nothing { count ≡ 0 → self.new ≡ self.old }
-        ensures follows { Follows self.old self.new }
+        ensures follows { ArrayFollows self.old self.new }
     {
         if count == 0 {
             return Completion::Done;
@@ -300,7 +300,7 @@ impl<D: Disk> Array<D> {
 
 // The reply to a READ of at least one sector; memory for its bytes is allocated before a block is read. It is generic
 // over the backing, since a read of the array may leave no trace: there, to read one block may equal reading all.
-fn fetch<B: Backing>(
+fn fetch_sectors<B: Backing>(
     blocks: &mut B,
     alloc: Global,
     geometry: Geometry,
@@ -327,7 +327,7 @@ fn fetch<B: Backing>(
     ensures broken { result.status ≡ CheckCondition → IsTrue (B.is_broken blocks.new) }
     ensures sound { result.status ≢ CheckCondition → B.is_broken blocks.new ≡ false }
     ensures blocks { result.status ≢ CheckCondition → SameBlocks (B.block_at blocks.old) (B.block_at blocks.new) }
-    ensures keeps { Keeps B.geometry B.knows B.is_broken B.follows blocks.old blocks.new }
+    ensures keeps { KeepsBacking B.geometry B.knows B.is_broken B.follows blocks.old blocks.new }
     ensures few { length result.payload ≤ 65535 * 512 }
     ensures len { length block.new ≡ length block.old }
 {

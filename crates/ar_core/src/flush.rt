@@ -4,7 +4,7 @@ ghost use Rattle.ar_disks.specs.declared.address.Addr.{Addr};
 ghost use Rattle.std.specs.Map.{keys_of};
 ghost use Rattle.ar_cache.specs.Backing.{InTurn, stored};
 ghost use Rattle.ar_cache.specs.Cache.{with_entries};
-ghost use Rattle.ar_volume.specs.Following.{Follows, PutsStored};
+ghost use Rattle.ar_volume.specs.Following.{ArrayFollows, PutsStored};
 ghost use Rattle.ar_volume.specs.Image.{is_broken, image_at, image_on_disks};
 ghost use Rattle.ar_volume.specs.Storing.{LeavesSome};
 
@@ -33,7 +33,7 @@ impl<D: Disk> Array<D> {
             → InTurn PutsStored (reverse (keys_of self.old.cache.entries)) self.old.store self.new.store }
         ensures quiet { self.old.cache.entries ≡ [] → self.new ≡ self.old }
         ensures stopped { result ≡ Completion.Broken → is_broken self.old ≡ false → LeavesSome self.old self.new }
-        ensures follows { Follows self.old self.new }
+        ensures follows { ArrayFollows self.old self.new }
     {
         self.blocks.flush_all()
     }

@@ -5,11 +5,11 @@ ghost use Rattle.ar_disks.specs.Geometry.{block_len_of, rows_of};
 ghost use Rattle.ar_disks.specs.declared.address.Addr.{Addr};
 ghost use Rattle.ar_book.specs.Tables.{room, reserved, free_groups};
 ghost use Rattle.ar_store.specs.Kept.{IsKept};
-ghost use Rattle.ar_volume.specs.Image.{is_broken, geometry_of, image, image_at, IsPadded, IsJoined};
+ghost use Rattle.ar_volume.specs.Image.{is_broken, geometry_of, image, image_at, IsPadded, CacheAgrees};
 ghost use Rattle.ar_volume.specs.Sectors.{Address};
 ghost use Rattle.ar_unit.specs.Unit.{IsWhole};
 ghost use Rattle.ar_core.specs.Quiet.{LooksAt};
-ghost use Rattle.ar_core.specs.Views.{level_of, home_of, use_of, HasRow, Shows};
+ghost use Rattle.ar_core.specs.Views.{level_at, home_of, use_of, HasRow, Shows};
 
 use crate::{Array, Class, Health, Slot};
 use ar_book::{Book, Level};
@@ -82,7 +82,7 @@ impl<D: Disk> Array<D> {
 
     /// Returns the level of block `rb` (from 0) of the unit at `addr`.
     pub fn level(&self, addr: Addr, rb: u32) -> LevelOf
-        ensures { result ≡ level_of self.now.store.book addr rb }
+        ensures { result ≡ level_at self.now.store.book addr rb }
     {
         level_in(self.blocks.book(), addr, rb)
     }
@@ -128,7 +128,7 @@ impl<D: Disk> Array<D> {
         // The tables are consistent with each other and with the disks, so that a healthy array survives the failure of
         // any one disk (`any_disk_may_go`), and every cached block belongs to a unit.
         ensures kept { IsKept self.now.store }
-        ensures joined { IsJoined self.now }
+        ensures joined { CacheAgrees self.now }
 
         // Until data loss every sector of every unit has its 512 bytes.
         ensures whole { result ≢ Health.Broken → (a : Address) → IsWhole (image self.now a) }
@@ -160,7 +160,7 @@ impl<D: Disk> Array<D> {
 
 // The level of block `rb` of the unit at `addr`.
 fn level_in(book: &Book, addr: Addr, rb: u32) -> LevelOf
-    ensures { result ≡ level_of book.now addr rb }
+    ensures { result ≡ level_at book.now addr rb }
 {
     if book.sectors(addr).is_none() {
         return LevelOf::Absent;

@@ -1,6 +1,6 @@
 -- What stands on a disk behind a fuse.
 use Rattle.std.proofs.Common.{◌≡◌, ℕ, Bool, true, false, IsTrue, List, refl, sym, ◌∙◌}
-use Rattle.ar_disks.specs.Disk.{DiskState, Answers, Reads, Writes, block_at}
+use Rattle.ar_disks.specs.Disk.{DiskState, AccessesDisk, Reads, Writes, block_at}
 use Rattle.ar_disks.specs.Fuse.{FuseState, blown}
 
 -- the disk with its own word on whether it is gone, and its own count of faults
@@ -11,7 +11,7 @@ pub block_at-fused : (disk : DiskState) (gone : Bool) (faults e r : ℕ) → blo
 unfolding block_at
 block_at-fused disk gone faults e r = refl
 
-blown_answers : (old : FuseState) → Answers old.disk (blown old).disk false
+blown_answers : (old : FuseState) → AccessesDisk old.disk (blown old).disk false
 blown_answers old = record { geometry = refl; extents = refl; gone = refl; stays_gone = λ _. refl; faults = refl }
 
 -- a read that the fuse doesn't pass
@@ -33,7 +33,7 @@ blown_writes old false e r from h = record {
 }
 blown_writes old true e r from h = absurd (cc)
 
-passed_answers : (old new : DiskState) (faults : ℕ) → Answers old new true → Answers (fused old false faults) (fused new false faults) true
+passed_answers : (old new : DiskState) (faults : ℕ) → AccessesDisk old new true → AccessesDisk (fused old false faults) (fused new false faults) true
 passed_answers old new faults a =
     record { geometry = a.geometry; extents = a.extents; gone = refl; stays_gone = λ gone. gone; faults = refl }
 

@@ -33,7 +33,7 @@ counted faults = min (faults + 1) (2 ^ 64 - 1)
 
 -- What each access does, whatever it returns: the disk keeps its shape, the access returns false exactly where the
 -- disk has failed after it, a failed disk stays failed, and only a false return counts a fault.
-pub record Answers (old new : DiskState) (answer : Bool) : Type 0 where
+pub record AccessesDisk (old new : DiskState) (answer : Bool) : Type 0 where
   pub geometry : new.geometry ≡ old.geometry
   pub extents : new.extents ≡ old.extents
   pub gone : new.gone ≡ not answer
@@ -42,13 +42,13 @@ pub record Answers (old new : DiskState) (answer : Bool) : Type 0 where
 
 -- a read: no block changes, and where it returns true `into` is the block
 pub record Reads (old new : DiskState) (extent row : ℕ) (answer : Bool) (into : List ℕ) : Type 0 where
-  pub answers : Answers old new answer
+  pub answers : AccessesDisk old new answer
   pub blocks : (e r : ℕ) → block_at new e r ≡ block_at old e r
   pub content : IsTrue answer → into ≡ block_at old extent row
 
 -- a write: where it returns true the place stores the block; whatever it returns, no other place changes
 pub record Writes (old new : DiskState) (extent row : ℕ) (answer : Bool) (from : List ℕ) : Type 0 where
-  pub answers : Answers old new answer
+  pub answers : AccessesDisk old new answer
   pub written : IsTrue answer → block_at new extent row ≡ from
   pub same_extent : (r : ℕ) → r ≢ row → block_at new extent r ≡ block_at old extent r
   pub other_extents : (e r : ℕ) → e ≢ extent → block_at new e r ≡ block_at old e r

@@ -1,7 +1,8 @@
 -- The four members of a group.
-use Rattle.std.specs.Prelude.{◌≡◌, ◌≢◌, ℕ, zero, suc, ◌<◌}
+use Rattle.std.specs.Prelude.{◌≡◌, ◌≢◌, ℕ, zero, suc, ◌<◌, Bool, ◌||◌}
 use Rattle.ar_disks.specs.declared.address.Place.{Place}
 use Rattle.ar_disks.specs.declared.address.Members.{Members}
+use Rattle.ar_disks.specs.Addresses.{same_place}
 
 -- the extent at a member position
 abbrev pub member : Members → ℕ → Place
@@ -9,6 +10,10 @@ member m zero = m.first
 member m (suc zero) = m.second
 member m (suc (suc zero)) = m.third
 member m (suc (suc (suc n))) = m.fourth
+
+-- the extent is one of the four
+abbrev pub stands_on : Members → Place → Bool
+stands_on m p = same_place m.first p || same_place m.second p || same_place m.third p || same_place m.fourth p
 
 -- the members with another extent at a position
 abbrev pub with_member : Members → ℕ → Place → Members

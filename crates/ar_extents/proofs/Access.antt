@@ -2,12 +2,12 @@
 use Rattle.std.proofs.Common.{◌≡◌, ◌≢◌, inl, inr, ℕ, ◌+◌, ◌-◌, ◌^◌, ◌<◌, ◌≤◌, Bool, true, false, cond, List, length, get_or, [], refl, sym, ◌∙◌, ap, subst, arith}
 use Rattle.std.proofs.lemmas.Bool.Decides.{eqb_tells}
 use Rattle.ar_disks.specs.declared.address.Place.{Place}
-use Rattle.ar_disks.specs.Disk.{DiskState, Answers, Reads, Writes, counted, block_at}
+use Rattle.ar_disks.specs.Disk.{DiskState, AccessesDisk, Reads, Writes, counted, block_at}
 use Rattle.ar_extents.specs.declared.health.Health.{Health}
 use Rattle.ar_extents.specs.declared.health.Health.TheVariants.{Whole, Out, Rebuilding, Broken}
 use Rattle.ar_extents.specs.Health.{is_lost, is_out, IsDown, after_fault, HealthFits, rebuilt_disk, next_extent}
-use Rattle.ar_extents.specs.Set.{SetState, IsKept, HasShape, HasExtent, disk_in, faults_of, content, IsSound, IsLost}
-use Rattle.ar_extents.specs.Follows.{Follows, Faulted, TwoHit, Keeps, KeepsBut, Anywhere, IsPlace, HasNoUsed, Spares, WorksOn}
+use Rattle.ar_extents.specs.Set.{SetState, IsValidSet, HasShape, HasExtent, disk_in, faults_of, content, IsSound, IsLost}
+use Rattle.ar_extents.specs.Follows.{Follows, Faulted, TwoHit, Keeps, KeepsBut, Anywhere, IsPlace, HasNoUsed, LeavesDisks, WorksOn}
 use Rattle.ar_extents.specs.declared.answers.Got.{Got}
 use Rattle.ar_extents.specs.declared.answers.Put.{Put}
 use Rattle.ar_extents.specs.Access.{OthersStay, Touches, Accesses, IsRead, IsWritten, next_place, is_read, is_written, lost_got, lost_put}
@@ -25,8 +25,8 @@ counted_faults : (before after : ℕ) (answered : Bool) → before < 2 ^ 64 - 1 
 counted_faults before after true few is = is
 counted_faults before after false few is = is ∙ (omega arith)
 
-pub touches : (s : SetState) (disks : List DiskState) (d : ℕ) (answered : Bool) → IsKept s → d < length s.disks → is_out s.health d ≡ false
-    → Answers (disk_in s.disks d) (disk_in disks d) answered → OthersStay s.disks disks d → Touches s (answered_set s disks d answered) d answered
+pub touches : (s : SetState) (disks : List DiskState) (d : ℕ) (answered : Bool) → IsValidSet s → d < length s.disks → is_out s.health d ≡ false
+    → AccessesDisk (disk_in s.disks d) (disk_in disks d) answered → OthersStay s.disks disks d → Touches s (answered_set s disks d answered) d answered
 touches s disks d answered kept exists used answers others = record {
   geometry = refl;
   extents = refl;
@@ -116,7 +116,7 @@ fits_fault (Rebuilding x done) d count extents exists fits =
     elim (eqb_tells d x) [ inl t ↦ rw t.0 (fits.0) | inr t ↦ rw t.0 tt ]
 fits_fault Broken d count extents exists fits = tt
 
-fits_touched : (old new : SetState) (d : ℕ) (answered : Bool) → IsKept old → d < length old.disks → Touches old new d answered
+fits_touched : (old new : SetState) (d : ℕ) (answered : Bool) → IsValidSet old → d < length old.disks → Touches old new d answered
     → HealthFits new.health (length new.disks) new.extents
 fits_touched old new d true kept exists t =
     let P : Health → Type 0 = λ h. HealthFits h (length new.disks) new.extents in
@@ -129,7 +129,7 @@ fits_touched old new d false kept exists t =
     let R : ℕ → Type 0 = λ n. HealthFits (after_fault old.health d) (length old.disks) n in
     subst P (sym t.health) (subst Q (sym t.others.len) (subst R (sym t.extents) (fits_fault old.health d (length old.disks) old.extents exists kept.health_fits)))
 
-counting_touched : (old new : SetState) (d : ℕ) (answered : Bool) → IsKept old → Touches old new d answered
+counting_touched : (old new : SetState) (d : ℕ) (answered : Bool) → IsValidSet old → Touches old new d answered
     → (x : ℕ) → x < length new.disks → is_out new.health x ≡ false → faults_of new x < 2 ^ 64 - 1
 counting_touched old new d true kept t x exists used =
     let P : Health → Type 0 = λ h. is_out h x ≡ false in
@@ -147,7 +147,7 @@ counting_touched old new d false kept t x exists used =
 abbrev pub KeepsShape : SetState → SetState → ℕ → Type 0
 KeepsShape old new d = HasShape old.geometry old.extents (disk_in new.disks d)
 
-shapes_touched : (old new : SetState) (d : ℕ) (answered : Bool) → IsKept old → KeepsShape old new d → Touches old new d answered
+shapes_touched : (old new : SetState) (d : ℕ) (answered : Bool) → IsValidSet old → KeepsShape old new d → Touches old new d answered
     → (x : ℕ) → x < length new.disks → HasShape new.geometry new.extents (disk_in new.disks x)
 shapes_touched old new d answered kept shape t x exists =
     elim (eqb_tells x d) [
@@ -161,8 +161,8 @@ shapes_touched old new d answered kept shape t x exists =
     ]
 
 -- the type keeps its invariant when one of its disks has answered
-pub kept_touched : (old new : SetState) (d : ℕ) (answered : Bool) → IsKept old → d < length old.disks → KeepsShape old new d → Touches old new d answered
-    → IsKept new
+pub kept_touched : (old new : SetState) (d : ℕ) (answered : Bool) → IsValidSet old → d < length old.disks → KeepsShape old new d → Touches old new d answered
+    → IsValidSet new
 kept_touched old new d answered kept exists shape t =
     let len = t.others.len in
     let extents = t.extents in
@@ -183,8 +183,8 @@ kept_touched old new d answered kept exists shape t =
     }
 
 -- the disk that answered keeps the set's shape
-pub shape_answered : (old : SetState) (disks : List DiskState) (d : ℕ) (answered : Bool) → IsKept old → d < length old.disks
-    → Answers (disk_in old.disks d) (disk_in disks d) answered → HasShape old.geometry old.extents (disk_in disks d)
+pub shape_answered : (old : SetState) (disks : List DiskState) (d : ℕ) (answered : Bool) → IsValidSet old → d < length old.disks
+    → AccessesDisk (disk_in old.disks d) (disk_in disks d) answered → HasShape old.geometry old.extents (disk_in disks d)
 shape_answered old disks d answered kept exists answers =
     let shape = kept.shapes d exists in
     record { geometry_same = answers.geometry ∙ shape.geometry_same; extents_same = answers.extents ∙ shape.extents_same }
@@ -237,7 +237,7 @@ accesses_sound old new place answered sound t = record {
   loose = t.loose;
 }
 
-access_touches : (a b : SetState) (place : Place) (answered : Bool) → Accesses a b place answered → Spares (HasNoUsed a (IsPlace place)) a b
+access_touches : (a b : SetState) (place : Place) (answered : Bool) → Accesses a b place answered → LeavesDisks (HasNoUsed a (IsPlace place)) a b
 access_touches a b place answered access = record {
   disks = λ d none.
       elim (lost_or_sound a place) [
@@ -306,8 +306,8 @@ write_keeps old self disks h place row answered from same others writes =
     subst (λ (s : SetState). KeepsBut place row s new) same (keeps_written old new place row answered from others writes)
 
 -- the disk faulted
-pub fault_access : (old self : SetState) (disks : List DiskState) (h : Health) (place : Place) → old ≡ self → IsKept old → HasExtent self place → IsSound old place
-    → h ≡ after_fault old.health place.disk → Answers (disk_in old.disks place.disk) (disk_in disks place.disk) false → OthersStay old.disks disks place.disk
+pub fault_access : (old self : SetState) (disks : List DiskState) (h : Health) (place : Place) → old ≡ self → IsValidSet old → HasExtent self place → IsSound old place
+    → h ≡ after_fault old.health place.disk → AccessesDisk (disk_in old.disks place.disk) (disk_in disks place.disk) false → OthersStay old.disks disks place.disk
     → Accesses self (record old { disks = disks; health = h }) place false
 fault_access old self disks h place same kept exists sound is answers others =
     let new : SetState = record old { disks = disks; health = h } in

@@ -12,8 +12,8 @@ use Rattle.ar_extents.specs.declared.health.Health.{Health}
 use Rattle.ar_extents.specs.declared.health.Health.TheVariants.{Whole, Out, Rebuilding, Broken}
 use Rattle.ar_extents.specs.declared.refusal.DiskRefusal.TheVariants.{NoSuchDisk, WrongSize, NotOut, Broken as AllBroken}
 use Rattle.ar_extents.specs.Health.{is_out}
-use Rattle.ar_extents.specs.Set.{SetState, IsKept, HasShape, CanCount, disk_in, no_disk}
-use Rattle.ar_extents.specs.Changes.{same_geometry, has_shape, is_broken, replace_refusal, replaced, are_alike}
+use Rattle.ar_extents.specs.Set.{SetState, IsValidSet, HasShape, CanCount, disk_in, no_disk}
+use Rattle.ar_extents.specs.Changes.{same_geometry, has_shape, is_broken_set, replace_refusal, replaced, are_alike}
 
 same_geometry-is : (g h : Geometry) → same_geometry g h ≡ true → g ≡ h
 same_geometry-is Paper Paper e = refl
@@ -40,7 +40,7 @@ none_of false false true true p q r s is = (refl, refl, refl, refl)
 none_of false false true false p q r s is = absurd cc
 none_of false false false e p q r s is = absurd cc
 
-out_is : (h : Health) (d : ℕ) → is_broken h ≡ false → is_out h d ≡ true → h ≡ Out d
+out_is : (h : Health) (d : ℕ) → is_broken_set h ≡ false → is_out h d ≡ true → h ≡ Out d
 out_is Whole d broken out = absurd cc
 out_is (Out x) d broken out = ap Out (sym (eqb-true d x out))
 out_is (Rebuilding x done) d broken out = absurd cc
@@ -49,12 +49,12 @@ out_is Broken d broken out = absurd cc
 -- where a disk is taken, the one in whose place it goes is out
 pub taken_out : (s : SetState) (d : ℕ) (disk : DiskState) → replace_refusal s d disk ≡ None → s.health ≡ Out d
 taken_out s d disk taken =
-    let why = none_of (is_broken s.health) (leb (length s.disks) d) (is_out s.health d) (has_shape s.geometry s.extents disk) AllBroken NoSuchDisk WrongSize NotOut taken in
+    let why = none_of (is_broken_set s.health) (leb (length s.disks) d) (is_out s.health d) (has_shape s.geometry s.extents disk) AllBroken NoSuchDisk WrongSize NotOut taken in
     out_is s.health d why.0 why.2
 
-pub kept_replaced : (s : SetState) (d : ℕ) (disk : DiskState) → IsKept s → replace_refusal s d disk ≡ None → CanCount disk → IsKept (replaced s d disk)
+pub kept_replaced : (s : SetState) (d : ℕ) (disk : DiskState) → IsValidSet s → replace_refusal s d disk ≡ None → CanCount disk → IsValidSet (replaced s d disk)
 kept_replaced s d disk kept taken few =
-    let why = none_of (is_broken s.health) (leb (length s.disks) d) (is_out s.health d) (has_shape s.geometry s.extents disk) AllBroken NoSuchDisk WrongSize NotOut taken in
+    let why = none_of (is_broken_set s.health) (leb (length s.disks) d) (is_out s.health d) (has_shape s.geometry s.extents disk) AllBroken NoSuchDisk WrongSize NotOut taken in
     let exists : d < length s.disks = let b = why.1 in grind (arith, nat_tests) in
     let was_out = out_is s.health d why.0 why.2 in
     let len = length-set s.disks d disk in
@@ -88,12 +88,12 @@ kept_replaced s d disk kept taken few =
 
 -- the same, told of the disks themselves and of the state `self` that the call began with: `old` is what its fields show
 pub kept_replacing : {D : Type 0} (state : D → DiskState) (disks : List D) (d : ℕ) (x : D) (old self : SetState) → old.disks ≡ map state disks → old ≡ self
-    → IsKept old → replace_refusal self d (state x) ≡ None → CanCount (state x)
-    → IsKept (record old { disks = map state (set disks d x); health = Rebuilding d 0 })
+    → IsValidSet old → replace_refusal self d (state x) ≡ None → CanCount (state x)
+    → IsValidSet (record old { disks = map state (set disks d x); health = Rebuilding d 0 })
 kept_replacing state disks d x old self is same kept taken few =
     let taken_old = subst (λ (s : SetState). replace_refusal s d (state x) ≡ None) (sym same) taken in
     let replaced_disks : set old.disks d (state x) ≡ map state (set disks d x) = ap (λ l. set l d (state x)) is ∙ sym (map-set state disks d x) in
-    subst (λ (l : List DiskState). IsKept (record old { disks = l; health = Rebuilding d 0 })) replaced_disks (kept_replaced old d (state x) kept taken_old few)
+    subst (λ (l : List DiskState). IsValidSet (record old { disks = l; health = Rebuilding d 0 })) replaced_disks (kept_replaced old d (state x) kept taken_old few)
 
 pub replacing : {D : Type 0} (state : D → DiskState) (disks : List D) (d : ℕ) (x : D) (old self : SetState) → old.disks ≡ map state disks → old ≡ self
     → record old { disks = map state (set disks d x); health = Rebuilding d 0 } ≡ replaced self d (state x)

@@ -4,7 +4,7 @@ use Rattle.ar_extents.specs.declared.health.Health.{Health}
 use Rattle.ar_extents.specs.declared.health.Health.TheVariants.{Whole, Out, Rebuilding, Broken as AllBroken}
 use Rattle.ar_disks.specs.declared.completion.Completion.{Completion}
 use Rattle.ar_disks.specs.declared.completion.Completion.TheVariants.{Done, Broken}
-use Rattle.ar_extents.specs.Changes.{is_broken}
+use Rattle.ar_extents.specs.Changes.{is_broken_set}
 use Rattle.ar_extents.specs.Groups.{outcome_of}
 
 -- whether an answer says that the set is broken
@@ -15,9 +15,9 @@ told Broken = true
 -- a call that is done leaves no broken set
 pub done_sound : (h : Health) → Done ≡ outcome_of h → h ≢ AllBroken
 unfolding told
-done_sound Whole done broken = true≢false (sym (ap is_broken broken))
-done_sound (Out x) done broken = true≢false (sym (ap is_broken broken))
-done_sound (Rebuilding x d) done broken = true≢false (sym (ap is_broken broken))
+done_sound Whole done broken = true≢false (sym (ap is_broken_set broken))
+done_sound (Out x) done broken = true≢false (sym (ap is_broken_set broken))
+done_sound (Rebuilding x d) done broken = true≢false (sym (ap is_broken_set broken))
 done_sound AllBroken done broken = true≢false (sym (ap told done))
 
 -- one that isn't leaves one

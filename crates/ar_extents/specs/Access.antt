@@ -55,10 +55,10 @@ pub record IsWritten (old new : SetState) (place : Place) (row : ℕ) (bytes : L
   pub sound : IsSound new place
 
 -- what each outcome of a write means
-abbrev pub Puts : SetState → SetState → Place → ℕ → List ℕ → Put → Type 0
-Puts old new place row bytes Written = IsWritten old new place row bytes
-Puts old new place row bytes PutMissing = IsMissing new place
-Puts old new place row bytes PutBroken = new.health ≡ Broken
+abbrev pub PutsRow : SetState → SetState → Place → ℕ → List ℕ → Put → Type 0
+PutsRow old new place row bytes Written = IsWritten old new place row bytes
+PutsRow old new place row bytes PutMissing = IsMissing new place
+PutsRow old new place row bytes PutBroken = new.health ≡ Broken
 
 -- the extent that is rebuilt next: the lowest of the new disk that isn't done
 abbrev pub next_place : SetState → Place

@@ -25,11 +25,11 @@ abbrev pub has_shape : Geometry → ℕ → DiskState → Bool
 has_shape geometry extents disk = same_geometry disk.geometry geometry && (disk.extents == extents)
 
 -- the set has failed: two disks missing at once
-abbrev pub is_broken : Health → Bool
-is_broken Whole = false
-is_broken (Out x) = false
-is_broken (Rebuilding x done) = false
-is_broken AllBroken = true
+abbrev pub is_broken_set : Health → Bool
+is_broken_set Whole = false
+is_broken_set (Out x) = false
+is_broken_set (Rebuilding x done) = false
+is_broken_set AllBroken = true
 
 -- all disks have the shape of the first, with 1 to 1,024 extents
 abbrev pub are_alike : List DiskState → Bool
@@ -56,7 +56,7 @@ started disks = record {
 -- why the disk isn't added, if it isn't
 abbrev pub add_refusal : SetState → DiskState → Option DiskRefusal
 add_refusal s disk =
-    if is_broken s.health then Some Broken
+    if is_broken_set s.health then Some Broken
     else (if nat_le 12 (length s.disks) then Some TooManyDisks
     else (if has_shape s.geometry s.extents disk then None else Some WrongSize))
 
@@ -67,7 +67,7 @@ added s disk = record s { disks = s.disks ++ disk ∷ []; loose = s.loose ++ rep
 -- why `disk` doesn't replace disk `d`, if it doesn't
 abbrev pub replace_refusal : SetState → ℕ → DiskState → Option DiskRefusal
 replace_refusal s d disk =
-    if is_broken s.health then Some Broken
+    if is_broken_set s.health then Some Broken
     else (if nat_le (length s.disks) d then Some NoSuchDisk
     else (if is_out s.health d then (if has_shape s.geometry s.extents disk then None else Some WrongSize)
     else Some NotOut))

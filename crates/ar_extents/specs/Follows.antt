@@ -50,7 +50,7 @@ pub record KeepsBut (place : Place) (row : ℕ) (old new : SetState) : Type 0 wh
   pub other_places : Keeps (λ p. p ≢ place) old new
 
 -- none of these disks has changed
-pub record Spares (these : ℕ → Type 0) (old new : SetState) : Type 0 where
+pub record LeavesDisks (these : ℕ → Type 0) (old new : SetState) : Type 0 where
   pub disks : (d : ℕ) → these d → disk_in new.disks d ≡ disk_in old.disks d
 
 -- none of these extents is on the disk
@@ -76,7 +76,7 @@ pub record WorksOn (these : Place → Type 0) (old new : SetState) : Type 0 wher
   pub follows : Follows old new
   pub loose : new.loose ≡ old.loose
   pub lost : Keeps (IsLost old) old new
-  pub touches : Spares (HasNoUsed old these) old new
+  pub touches : LeavesDisks (HasNoUsed old these) old new
 
 -- One extent was accessed, and then the other: if the set failed at the first, the other wasn't accessed any more.
 pub record WorksInTurn (one other : Place) (old new : SetState) : Type 0 where

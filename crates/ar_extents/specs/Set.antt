@@ -63,7 +63,7 @@ CanCount disk = disk.faults < 2 ^ 64 - 1
 
 -- The invariant of a set: 4 to 12 disks of one shape, with 1 to 1,024 extents each; a disk that is used or rebuilt can
 -- still count a fault; health names a disk and an extent that exist; and each extent has its flag.
-pub record IsKept (s : SetState) : Type 0 where
+pub record IsValidSet (s : SetState) : Type 0 where
   pub at_least : 4 ≤ length s.disks
   pub at_most : length s.disks ≤ 12
   pub some_extents : 1 ≤ s.extents

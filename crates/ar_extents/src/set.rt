@@ -26,18 +26,18 @@ pub struct DiskSet<D: Disk> {
 
 impl<D: Disk> Model for DiskSet<D> {
     ghost use Rattle.std.specs.Prelude.{map};
-    ghost use Rattle.ar_extents.specs.Set.{SetState, IsKept};
+    ghost use Rattle.ar_extents.specs.Set.{SetState, IsValidSet};
 
     ghost Value = { SetState };
 
     ghost view = { λ s. record { geometry = s.geometry; extents = s.extents; disks = map D.state s.disks.items; health = s.health; loose = s.loose.items } };
 
-    ghost invariant = { λ s. IsKept (record { geometry = s.geometry; extents = s.extents; disks = map D.state s.disks.items; health = s.health; loose = s.loose.items }) };
+    ghost invariant = { λ s. IsValidSet (record { geometry = s.geometry; extents = s.extents; disks = map D.state s.disks.items; health = s.health; loose = s.loose.items }) };
 }
 
 impl<D: Disk> DiskSet<D> {
     ghost use Rattle.ar_extents.specs.Health.{is_missing, HealthFits};
-    ghost use Rattle.ar_extents.specs.Set.{IsKept};
+    ghost use Rattle.ar_extents.specs.Set.{IsValidSet};
 
     /// The geometry of all disks.
     pub fn geometry(&self) -> Geometry
@@ -70,7 +70,7 @@ impl<D: Disk> DiskSet<D> {
         ensures fits { HealthFits result (length self.now.disks) self.now.extents }
 
         // The invariant of the type, for callers that need it.
-        ensures kept { IsKept self.now }
+        ensures kept { IsValidSet self.now }
     {
         self.health
     }

@@ -6,15 +6,15 @@ use Rattle.std.specs.Io.KnownBytes.{IsAtEnd}
 use Rattle.ar_disks.specs.declared.address.Host.{Host}
 use Rattle.ar_frames.specs.declared.login.Admission.{Admission}
 use Rattle.ar_frames.specs.declared.login.Admission.TheVariants.{Admitted, BadLogin, HostInUse}
-use Rattle.ar_frames.specs.declared.login.Entry.{Entry}
-use Rattle.ar_frames.specs.declared.login.Entry.TheVariants.{Admitted as EntryAdmitted, Ended as EntryEnded}
-use Rattle.ar_frames.specs.declared.end.Why.TheVariants as why
+use Rattle.ar_frames.specs.declared.login.LoginResult.{LoginResult}
+use Rattle.ar_frames.specs.declared.login.LoginResult.TheVariants.{Admitted as LoginAdmitted, Ended as LoginEnded}
+use Rattle.ar_frames.specs.declared.end.EndReason.TheVariants as reason
 use Rattle.ar_frames.specs.declared.port.Login.TheVariants.{Taken, BadHost, InUse}
 use Rattle.ar_frames.specs.Stream.{SourceState, SinkState, Reading}
-use Rattle.ar_frames.specs.Talk.{Commands, Conversation}
+use Rattle.ar_frames.specs.Conversation.{Commands, Conversation}
 use Rattle.ar_frames.specs.Port.{Logins}
 use Rattle.ar_frames.specs.Session.{silent, refused, in_use, admitted, Opening, cut, bad_host, host_in_use, taken, login_name, login_bytes, IsUnsent, Session}
-use Rattle.ar_frames.specs.Entry.{Names, Tells, Enters, stage_of, greeting_of}
+use Rattle.ar_frames.specs.Login.{Names, ReportsAdmission, Enters, stage_of, greeting_of}
 use Rattle.ar_frames.proofs.Streams.{Reading-same, Writing-none}
 
 -- a login of the right name is that of the host in its last byte
@@ -29,7 +29,7 @@ pub no_frames : {P : Type 0} (commands : Commands P) (port : P) → Conversation
 no_frames commands port = record {
   requests = [];
   replies = [];
-  talk = refl;
+  replied = refl;
   read_is = refl;
   answers_are = refl;
   frames_is = refl;
@@ -38,7 +38,7 @@ no_frames commands port = record {
 -- input ended inside the login
 pub session_cut : {P : Type 0} (logins : Logins P) (commands : Commands P) (source source' : SourceState) (sink : SinkState) (port : P) (login : List ℕ)
     → length login < 9 → Reading source source' login false → IsAtEnd source'.left
-    → Session logins commands source source' sink sink port port (record { frames = 0; why = why.Cut })
+    → Session logins commands source source' sink sink port port (record { frames = 0; reason = reason.Cut })
 session_cut logins commands source source' sink port login short read end = record {
   stage = silent;
   login = login;
@@ -58,7 +58,7 @@ session_cut logins commands source source' sink port login short read end = reco
 -- a read faulted inside the login
 pub session_read : {P : Type 0} (logins : Logins P) (commands : Commands P) (source source' : SourceState) (sink : SinkState) (port : P) (login : List ℕ)
     → length login < 9 → Reading source source' login true
-    → Session logins commands source source' sink sink port port (record { frames = 0; why = why.Read })
+    → Session logins commands source source' sink sink port port (record { frames = 0; reason = reason.Read })
 session_read logins commands source source' sink port login short read = record {
   stage = silent;
   login = login;
@@ -83,19 +83,19 @@ unsent_stage HostInUse = refl
 
 -- a whole login was answered, or its answer couldn't be written
 pub told : {P : Type 0} (logins : Logins P) (commands : Commands P) (source source' : SourceState) (sink sink' : SinkState) (port port' : P)
-    (login : List ℕ) (admission : Admission) (entry : Entry) → Reading source source' login false
+    (login : List ℕ) (admission : Admission) (entry : LoginResult) → Reading source source' login false
     → Opening logins port login (greeting_of admission ∷ []) (stage_of admission) port'
-    → ((host : Host) → admission ≡ Admitted host → Names host login) → Tells sink sink' admission entry
+    → ((host : Host) → admission ≡ Admitted host → Names host login) → ReportsAdmission sink sink' admission entry
     → Enters logins commands source source' sink sink' port port' entry
 unfolding no_frames
-told logins commands source source' sink sink' port port' login admission (EntryAdmitted host) read opening named tells = record {
+told logins commands source source' sink sink' port port' login admission (LoginAdmitted host) read opening named tells = record {
   login = login;
   names = named host tells.0;
   opening = subst (λ (a : Admission). Opening logins port login (greeting_of a ∷ []) (stage_of a) port') tells.0 opening;
   read = read;
   written = tells.1;
 }
-told logins commands source source' sink sink' port port' login admission (EntryEnded why.BadLogin) read opening named tells = record {
+told logins commands source source' sink sink' port port' login admission (LoginEnded reason.BadLogin) read opening named tells = record {
   stage = refused;
   login = login;
   greeting = 0x01 ∷ [];
@@ -110,7 +110,7 @@ told logins commands source source' sink sink' port port' login admission (Entry
   ended = tt;
   written = tells.1;
 }
-told logins commands source source' sink sink' port port' login admission (EntryEnded why.HostInUse) read opening named tells = record {
+told logins commands source source' sink sink' port port' login admission (LoginEnded reason.HostInUse) read opening named tells = record {
   stage = in_use;
   login = login;
   greeting = 0x01 ∷ [];
@@ -125,7 +125,7 @@ told logins commands source source' sink sink' port port' login admission (Entry
   ended = tt;
   written = tells.1;
 }
-told logins commands source source' sink sink' port port' login admission (EntryEnded why.Write) read opening named tells = record {
+told logins commands source source' sink sink' port port' login admission (LoginEnded reason.Write) read opening named tells = record {
   stage = stage_of admission;
   login = login;
   greeting = greeting_of admission ∷ [];
@@ -143,12 +143,12 @@ told logins commands source source' sink sink' port port' login admission (Entry
       let whole : length (greeting ++ []) ≤ 0 + length greeting = omega (arith, ap length (append-nil greeting)) in
       record { part = record { n = 0; proper = omega arith; written = tells }; whole = whole };
 }
-told logins commands source source' sink sink' port port' login admission (EntryEnded why.End) read opening named tells = absurd tells
-told logins commands source source' sink sink' port port' login admission (EntryEnded (why.TooShort n)) read opening named tells = absurd tells
-told logins commands source source' sink sink' port port' login admission (EntryEnded (why.TooLong n)) read opening named tells = absurd tells
-told logins commands source source' sink sink' port port' login admission (EntryEnded why.Cut) read opening named tells = absurd tells
-told logins commands source source' sink sink' port port' login admission (EntryEnded why.Read) read opening named tells = absurd tells
-told logins commands source source' sink sink' port port' login admission (EntryEnded why.Bound) read opening named tells = absurd tells
+told logins commands source source' sink sink' port port' login admission (LoginEnded reason.End) read opening named tells = absurd tells
+told logins commands source source' sink sink' port port' login admission (LoginEnded (reason.TooShort n)) read opening named tells = absurd tells
+told logins commands source source' sink sink' port port' login admission (LoginEnded (reason.TooLong n)) read opening named tells = absurd tells
+told logins commands source source' sink sink' port port' login admission (LoginEnded reason.Cut) read opening named tells = absurd tells
+told logins commands source source' sink sink' port port' login admission (LoginEnded reason.Read) read opening named tells = absurd tells
+told logins commands source source' sink sink' port port' login admission (LoginEnded reason.Bound) read opening named tells = absurd tells
 
 -- what the port said of a login of the right name
 pub opens_bad_host : {P : Type 0} (logins : Logins P) (port port' : P) (login : List ℕ) → length login ≡ 9 → take 8 login ≡ login_name

@@ -3,12 +3,12 @@ use Rattle.std.proofs.Common.{ℕ, ◌<◌, true, false, List, ◌++◌, subst, 
 use Rattle.ar_frames.specs.declared.frame.Request.{Request}
 use Rattle.ar_frames.specs.declared.receive.Incoming.{Incoming}
 use Rattle.ar_frames.specs.declared.receive.Incoming.TheVariants.{Whole, Lost, Ended}
-use Rattle.ar_frames.specs.declared.end.Why.TheVariants as why
+use Rattle.ar_frames.specs.declared.end.EndReason.TheVariants as reason
 use Rattle.ar_frames.specs.Stream.{SourceState, Reading}
 use Rattle.std.specs.Io.KnownBytes.{IsAtEnd}
 use Rattle.ar_frames.specs.Frame.{IsFrame, IsCutRequest}
-use Rattle.ar_frames.specs.Session.{Closes, admitted, is_read}
-use Rattle.ar_frames.specs.Turn.{ReadsFrame, StopsAfter, Receives}
+use Rattle.ar_frames.specs.Session.{Closes, admitted, is_read_fault}
+use Rattle.ar_frames.specs.FrameStep.{ReadsFrame, StopsAfter, Receives}
 use Rattle.ar_frames.proofs.Streams.{Reading-trans, Writing-none}
 
 -- first bytes of a frame and then others
@@ -33,14 +33,14 @@ receives_front a b c base front (Lost tag) first rest = record {
 receives_front a b c base front (Ended end) first rest = record {
   body = front ++ rest.body;
   closes = λ frames below. subst (Closes end admitted frames) (append_assoc base front rest.body) (rest.closes frames below);
-  read = Reading-trans a b c front rest.body (is_read end) first rest.read;
+  read = Reading-trans a b c front rest.body (is_read_fault end) first rest.read;
   ended = rest.ended;
   unwritten = rest.unwritten;
 }
 
 -- input ended inside a frame
 pub stops_cut : (a b : SourceState) (front body : List ℕ) → IsCutRequest (front ++ body) → 0 < length (front ++ body) → Reading a b body false → IsAtEnd b.left
-    → StopsAfter front a b why.Cut
+    → StopsAfter front a b reason.Cut
 stops_cut a b front body cut some read end = record {
   body = body;
   closes = λ frames below. ((below, cut), λ _. some);
@@ -50,7 +50,7 @@ stops_cut a b front body cut some read end = record {
 }
 
 -- a read faulted inside a frame, or before it
-pub stops_read : (a b : SourceState) (front body : List ℕ) → IsCutRequest (front ++ body) → Reading a b body true → StopsAfter front a b why.Read
+pub stops_read : (a b : SourceState) (front body : List ℕ) → IsCutRequest (front ++ body) → Reading a b body true → StopsAfter front a b reason.Read
 stops_read a b front body cut read = record {
   body = body;
   closes = λ frames below. (below, cut);

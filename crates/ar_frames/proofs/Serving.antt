@@ -3,31 +3,31 @@ use Rattle.std.proofs.Common.{◌≡◌, ℕ, ◌+◌, ◌<◌, ◌≤◌, true,
 use Rattle.std.proofs.Math.Numerals.{suc-eq-add-one}
 use Rattle.ar_scsi.specs.declared.reply.Reply.{Reply}
 use Rattle.ar_frames.specs.declared.frame.Request.{Request}
-use Rattle.ar_frames.specs.declared.turn.Turn.TheVariants.{Answered, Unsent, Ended as TurnEnded}
-use Rattle.ar_frames.specs.declared.end.Why.{Why}
-use Rattle.ar_frames.specs.declared.end.Why.TheVariants as why
+use Rattle.ar_frames.specs.declared.frame_step.FrameResult.TheVariants.{Answered, Unsent, Ended as ResultEnded}
+use Rattle.ar_frames.specs.declared.end.EndReason.{EndReason}
+use Rattle.ar_frames.specs.declared.end.EndReason.TheVariants as reason
 use Rattle.ar_frames.specs.declared.end.SessionEnd.{SessionEnd}
 use Rattle.ar_frames.specs.Stream.{SourceState, SinkState, Writing}
 use Rattle.ar_frames.specs.Frame.{IsFrame, IsReplyFrame, status_byte, sense_bytes}
-use Rattle.ar_frames.specs.Talk.{Commands, Answers, Talk, AreFrames, AreReplyFrames, Conversation, reply_len, last_len}
+use Rattle.ar_frames.specs.Conversation.{Commands, RepliesTo, RepliesToAll, AreFrames, AreReplyFrames, Conversation, reply_len, last_len}
 use Rattle.ar_frames.specs.Port.{Logins}
-use Rattle.ar_frames.specs.Session.{admitted, most_frames, is_read, WritesAnswers, WritesPart, WritesAllButLast, Session}
-use Rattle.ar_frames.specs.Turn.{ServesFrame, EndsTurn, Served, ServesAll, WorkState, Moment, TurnsTo, HasTurned, TakesTurns, full, unsent, stopped}
+use Rattle.ar_frames.specs.Session.{admitted, most_frames, is_read_fault, WritesAnswers, WritesPart, WritesAllButLast, Session}
+use Rattle.ar_frames.specs.FrameStep.{ServesFrame, EndsStep, Served, ServesAll, SessionModel, Moment, StepsTo, HasStepped, RunsInSteps, full, unsent, stopped}
 use Rattle.ar_disks.specs.declared.address.Host.{Host}
-use Rattle.ar_frames.specs.Entry.{IsAdmitted}
+use Rattle.ar_frames.specs.Login.{IsAdmitted}
 use Rattle.ar_frames.proofs.Streams.{Reading-trans, Reading-same, Reading-none, Writing-trans, Writing-same, Writing-none, take-append_more}
 use Rattle.ar_frames.proofs.Entering.{no_frames}
 
 -- a talk and one more answer
-talk_more : {P : Type 0} (commands : Commands P) (old mid new : P) (requests : List Request) (replies : List Reply) (request : Request) (reply : Reply)
-    → Talk commands old requests replies mid → Answers commands mid request reply new
-    → Talk commands old (requests ++ request ∷ []) (replies ++ reply ∷ []) new
-talk_more commands old mid new [] [] request reply talk answer =
-    (new, subst (λ p. Answers commands p request reply new) talk answer, refl)
-talk_more commands old mid new [] (r ∷ rs) request reply talk answer = absurd talk
-talk_more commands old mid new (q ∷ qs) [] request reply talk answer = absurd talk
-talk_more commands old mid new (q ∷ qs) (r ∷ rs) request reply talk answer =
-    (talk.0, talk.1, talk_more commands talk.0 mid new qs rs request reply talk.2 answer)
+replies_to_more : {P : Type 0} (commands : Commands P) (old mid new : P) (requests : List Request) (replies : List Reply) (request : Request) (reply : Reply)
+    → RepliesToAll commands old requests replies mid → RepliesTo commands mid request reply new
+    → RepliesToAll commands old (requests ++ request ∷ []) (replies ++ reply ∷ []) new
+replies_to_more commands old mid new [] [] request reply replied answer =
+    (new, subst (λ p. RepliesTo commands p request reply new) replied answer, refl)
+replies_to_more commands old mid new [] (r ∷ rs) request reply replied answer = absurd replied
+replies_to_more commands old mid new (q ∷ qs) [] request reply replied answer = absurd replied
+replies_to_more commands old mid new (q ∷ qs) (r ∷ rs) request reply replied answer =
+    (replied.0, replied.1, replies_to_more commands replied.0 mid new qs rs request reply replied.2 answer)
 
 -- frames and one more
 frames_more : (requests : List Request) (read : List ℕ) (request : Request) (frame : List ℕ) → AreFrames requests read → IsFrame request frame
@@ -59,16 +59,16 @@ replies_more (q ∷ qs) (r ∷ rs) answers request reply frame are is = (
 )
 
 -- a conversation and one more frame
-talks_more : {P : Type 0} (commands : Commands P) (old mid new : P) (read answers frame reply_frame : List ℕ) (count : ℕ) (request : Request) (reply : Reply)
-    → Conversation commands old mid read answers count → IsFrame request frame → Answers commands mid request reply new → IsReplyFrame request.tag reply reply_frame
+conversation_more : {P : Type 0} (commands : Commands P) (old mid new : P) (read answers frame reply_frame : List ℕ) (count : ℕ) (request : Request) (reply : Reply)
+    → Conversation commands old mid read answers count → IsFrame request frame → RepliesTo commands mid request reply new → IsReplyFrame request.tag reply reply_frame
     → Conversation commands old new (read ++ frame) (answers ++ reply_frame) (count + 1)
-talks_more commands old mid new read answers frame reply_frame count request reply talk is_frame answer is_reply = record {
-  requests = talk.requests ++ request ∷ [];
-  replies = talk.replies ++ reply ∷ [];
-  talk = talk_more commands old mid new talk.requests talk.replies request reply talk.talk answer;
-  read_is = frames_more talk.requests read request frame talk.read_is is_frame;
-  answers_are = replies_more talk.requests talk.replies answers request reply reply_frame talk.answers_are is_reply;
-  frames_is = ap (λ (n : ℕ). n + 1) talk.frames_is ∙ sym (length-append talk.requests (request ∷ []));
+conversation_more commands old mid new read answers frame reply_frame count request reply conversation is_frame answer is_reply = record {
+  requests = conversation.requests ++ request ∷ [];
+  replies = conversation.replies ++ reply ∷ [];
+  replied = replies_to_more commands old mid new conversation.requests conversation.replies request reply conversation.replied answer;
+  read_is = frames_more conversation.requests read request frame conversation.read_is is_frame;
+  answers_are = replies_more conversation.requests conversation.replies answers request reply reply_frame conversation.answers_are is_reply;
+  frames_is = ap (λ (n : ℕ). n + 1) conversation.frames_is ∙ sym (length-append conversation.requests (request ∷ []));
 }
 
 -- nothing was served yet
@@ -83,15 +83,15 @@ served_none commands source sink port = record {
 }
 
 -- one more frame was served
-pub served_more : {P : Type 0} {r0 r1 : WorkState} (commands : Commands P) (s0 s1 s2 : SourceState) (w0 w1 w2 : SinkState) (p0 p1 p2 : P) (count : ℕ)
+pub served_more : {P : Type 0} {r0 r1 : SessionModel} (commands : Commands P) (s0 s1 s2 : SourceState) (w0 w1 w2 : SinkState) (p0 p1 p2 : P) (count : ℕ)
     → Served commands s0 s1 w0 w1 p0 p1 count → ServesFrame commands s1 s2 w1 w2 p1 p2 r0 r1 Answered → Served commands s0 s2 w0 w2 p0 p2 (count + 1)
-served_more commands s0 s1 s2 w0 w1 w2 p0 p1 p2 count served turn = record {
-  frames = served.frames ++ turn.reads.body;
-  answers = served.answers ++ turn.answers.frame;
-  conversation = talks_more commands p0 p1 p2 served.frames served.answers turn.reads.body turn.answers.frame count turn.request turn.answers.reply
-      served.conversation turn.reads.is_frame turn.answers.answers turn.answers.is_frame;
-  read = Reading-trans s0 s1 s2 served.frames turn.reads.body false served.read turn.reads.read;
-  written = Writing-trans w0 w1 w2 served.answers turn.answers.frame false served.written turn.answers.written;
+served_more commands s0 s1 s2 w0 w1 w2 p0 p1 p2 count served step = record {
+  frames = served.frames ++ step.reads.body;
+  answers = served.answers ++ step.answers.frame;
+  conversation = conversation_more commands p0 p1 p2 served.frames served.answers step.reads.body step.answers.frame count step.request step.answers.reply
+      served.conversation step.reads.is_frame step.answers.answers step.answers.is_frame;
+  read = Reading-trans s0 s1 s2 served.frames step.reads.body false served.read step.reads.read;
+  written = Writing-trans w0 w1 w2 served.answers step.answers.frame false served.written step.answers.written;
 }
 
 -- what was written whole, and then a proper prefix
@@ -112,17 +112,17 @@ but_last_after a b c xs ys last least fits first rest =
     record { part = part_after a b c xs ys first rest.part; whole = whole }
 
 -- what was written whole, and then answers as far as the end says
-pub answers_after : (end : Why) (a b c : SinkState) (xs ys : List ℕ) (last least : ℕ) → last ≤ least → Writing a b xs false
+pub answers_after : (end : EndReason) (a b c : SinkState) (xs ys : List ℕ) (last least : ℕ) → last ≤ least → Writing a b xs false
     → WritesAnswers end b c ys last → WritesAnswers end a c (xs ++ ys) least
-answers_after why.End a b c xs ys last least fits first rest = Writing-trans a b c xs ys false first rest
-answers_after why.BadLogin a b c xs ys last least fits first rest = Writing-trans a b c xs ys false first rest
-answers_after why.HostInUse a b c xs ys last least fits first rest = Writing-trans a b c xs ys false first rest
-answers_after (why.TooShort n) a b c xs ys last least fits first rest = Writing-trans a b c xs ys false first rest
-answers_after (why.TooLong n) a b c xs ys last least fits first rest = Writing-trans a b c xs ys false first rest
-answers_after why.Cut a b c xs ys last least fits first rest = Writing-trans a b c xs ys false first rest
-answers_after why.Read a b c xs ys last least fits first rest = Writing-trans a b c xs ys false first rest
-answers_after why.Write a b c xs ys last least fits first rest = but_last_after a b c xs ys last least fits first rest
-answers_after why.Bound a b c xs ys last least fits first rest = Writing-trans a b c xs ys false first rest
+answers_after reason.End a b c xs ys last least fits first rest = Writing-trans a b c xs ys false first rest
+answers_after reason.BadLogin a b c xs ys last least fits first rest = Writing-trans a b c xs ys false first rest
+answers_after reason.HostInUse a b c xs ys last least fits first rest = Writing-trans a b c xs ys false first rest
+answers_after (reason.TooShort n) a b c xs ys last least fits first rest = Writing-trans a b c xs ys false first rest
+answers_after (reason.TooLong n) a b c xs ys last least fits first rest = Writing-trans a b c xs ys false first rest
+answers_after reason.Cut a b c xs ys last least fits first rest = Writing-trans a b c xs ys false first rest
+answers_after reason.Read a b c xs ys last least fits first rest = Writing-trans a b c xs ys false first rest
+answers_after reason.Write a b c xs ys last least fits first rest = but_last_after a b c xs ys last least fits first rest
+answers_after reason.Bound a b c xs ys last least fits first rest = Writing-trans a b c xs ys false first rest
 
 -- the last frame of replies and one more
 last_len_more : (len : ℕ) (replies : List Reply) (reply : Reply) → last_len len (replies ++ reply ∷ []) ≡ reply_len reply
@@ -142,55 +142,55 @@ last_len_grows len [] = omega arith
 last_len_grows len (r ∷ rs) = le_refl (last_len (reply_len r) rs)
 
 -- the reply to the last frame wasn't written whole
-pub serves_unsent : {P : Type 0} {r0 r1 : WorkState} (commands : Commands P) (s0 s1 s2 : SourceState) (w0 w1 w2 : SinkState) (p0 p1 p2 : P) (count : ℕ)
+pub serves_unsent : {P : Type 0} {r0 r1 : SessionModel} (commands : Commands P) (s0 s1 s2 : SourceState) (w0 w1 w2 : SinkState) (p0 p1 p2 : P) (count : ℕ)
     → Served commands s0 s1 w0 w1 p0 p1 count → count < most_frames → ServesFrame commands s1 s2 w1 w2 p1 p2 r0 r1 Unsent
-    → ServesAll commands s0 s2 w0 w2 p0 p2 (record { frames = count + 1; why = why.Write })
-unfolding part_after talks_more
-serves_unsent commands s0 s1 s2 w0 w1 w2 p0 p1 p2 count served below turn = record {
-  frames = served.frames ++ turn.reads.body;
-  answers = served.answers ++ turn.answers.frame;
+    → ServesAll commands s0 s2 w0 w2 p0 p2 (record { frames = count + 1; reason = reason.Write })
+unfolding part_after conversation_more
+serves_unsent commands s0 s1 s2 w0 w1 w2 p0 p1 p2 count served below step = record {
+  frames = served.frames ++ step.reads.body;
+  answers = served.answers ++ step.answers.frame;
   rest = [];
-  conversation = talks_more commands p0 p1 p2 served.frames served.answers turn.reads.body turn.answers.frame count turn.request turn.answers.reply
-      served.conversation turn.reads.is_frame turn.answers.answers turn.answers.is_frame;
+  conversation = conversation_more commands p0 p1 p2 served.frames served.answers step.reads.body step.answers.frame count step.request step.answers.reply
+      served.conversation step.reads.is_frame step.answers.answers step.answers.is_frame;
   closes = (omega (arith, below), refl);
-  read = Reading-same s0 s2 _ _ false (sym (append-nil (served.frames ++ turn.reads.body)))
-      (Reading-trans s0 s1 s2 served.frames turn.reads.body false served.read turn.reads.read);
+  read = Reading-same s0 s2 _ _ false (sym (append-nil (served.frames ++ step.reads.body)))
+      (Reading-trans s0 s1 s2 served.frames step.reads.body false served.read step.reads.read);
   ended = tt;
   written =
-      let part = turn.answers.written in
-      let whole : length (served.answers ++ turn.answers.frame) ≤ (length served.answers + part.n) + last_len 0 (served.conversation.replies ++ turn.answers.reply ∷ []) =
+      let part = step.answers.written in
+      let whole : length (served.answers ++ step.answers.frame) ≤ (length served.answers + part.n) + last_len 0 (served.conversation.replies ++ step.answers.reply ∷ []) =
       omega (
         arith,
-        length-append served.answers turn.answers.frame,
-        frame_len turn.request.tag turn.answers.reply turn.answers.frame turn.answers.is_frame,
-        last_len_more 0 served.conversation.replies turn.answers.reply,
+        length-append served.answers step.answers.frame,
+        frame_len step.request.tag step.answers.reply step.answers.frame step.answers.is_frame,
+        last_len_more 0 served.conversation.replies step.answers.reply,
       ) in
-      record { part = part_after w0 w1 w2 served.answers turn.answers.frame served.written part; whole = whole };
+      record { part = part_after w0 w1 w2 served.answers step.answers.frame served.written part; whole = whole };
 }
 
 -- no whole frame came after those served
-pub serves_ended : {P : Type 0} {r0 r1 : WorkState} (commands : Commands P) (s0 s1 s2 : SourceState) (w0 w1 w2 : SinkState) (p0 p1 p2 : P) (count : ℕ) (end : Why)
-    → Served commands s0 s1 w0 w1 p0 p1 count → count < most_frames → EndsTurn s1 s2 w1 w2 p1 p2 r0 r1 end
-    → ServesAll commands s0 s2 w0 w2 p0 p2 (record { frames = count; why = end })
-serves_ended commands s0 s1 s2 w0 w1 w2 p0 p1 p2 count end served below turn =
-    let talk = subst (λ p. Conversation commands p0 p served.frames served.answers count) (sym turn.same_port) served.conversation in
+pub serves_ended : {P : Type 0} {r0 r1 : SessionModel} (commands : Commands P) (s0 s1 s2 : SourceState) (w0 w1 w2 : SinkState) (p0 p1 p2 : P) (count : ℕ) (end : EndReason)
+    → Served commands s0 s1 w0 w1 p0 p1 count → count < most_frames → EndsStep s1 s2 w1 w2 p1 p2 r0 r1 end
+    → ServesAll commands s0 s2 w0 w2 p0 p2 (record { frames = count; reason = end })
+serves_ended commands s0 s1 s2 w0 w1 w2 p0 p1 p2 count end served below step =
+    let conversation = subst (λ p. Conversation commands p0 p served.frames served.answers count) (sym step.same_port) served.conversation in
     record {
       frames = served.frames;
       answers = served.answers;
-      rest = turn.stops.body;
-      conversation = talk;
-      closes = turn.stops.closes count below;
-      read = Reading-trans s0 s1 s2 served.frames turn.stops.body (is_read end) served.read turn.stops.read;
-      ended = turn.stops.ended;
-      written = subst (λ (l : List ℕ). WritesAnswers end w0 w2 l (last_len 0 talk.replies)) (append-nil served.answers)
-          (answers_after end w0 w1 w2 served.answers [] 0 (last_len 0 talk.replies) (omega arith) served.written
-          (subst (λ (w : SinkState). WritesAnswers end w1 w [] 0) (sym turn.same_sink) (turn.stops.unwritten w1 0)));
+      rest = step.stops.body;
+      conversation = conversation;
+      closes = step.stops.closes count below;
+      read = Reading-trans s0 s1 s2 served.frames step.stops.body (is_read_fault end) served.read step.stops.read;
+      ended = step.stops.ended;
+      written = subst (λ (l : List ℕ). WritesAnswers end w0 w2 l (last_len 0 conversation.replies)) (append-nil served.answers)
+          (answers_after end w0 w1 w2 served.answers [] 0 (last_len 0 conversation.replies) (omega arith) served.written
+          (subst (λ (w : SinkState). WritesAnswers end w1 w [] 0) (sym step.same_sink) (step.stops.unwritten w1 0)));
     }
 
 -- as many frames as may come were served
 pub serves_bound : {P : Type 0} (commands : Commands P) (s0 s1 : SourceState) (w0 w1 : SinkState) (p0 p1 : P) (count : ℕ)
     → Served commands s0 s1 w0 w1 p0 p1 count → count ≡ most_frames
-    → ServesAll commands s0 s1 w0 w1 p0 p1 (record { frames = most_frames; why = why.Bound })
+    → ServesAll commands s0 s1 w0 w1 p0 p1 (record { frames = most_frames; reason = reason.Bound })
 serves_bound commands s0 s1 w0 w1 p0 p1 count served all = record {
   frames = served.frames;
   answers = served.answers;
@@ -203,31 +203,31 @@ serves_bound commands s0 s1 w0 w1 p0 p1 count served all = record {
 }
 
 -- one more frame was answered
-pub turned_more : {P : Type 0} (commands : Commands P) (count : ℕ) (first between last : Moment P)
-    → HasTurned commands count first between → TurnsTo commands between last Answered → HasTurned commands (count + 1) first last
-turned_more commands count first between last turned turn =
-    subst (λ n. HasTurned commands n first last) (suc-eq-add-one count) (between, turned, turn)
+pub stepped_more : {P : Type 0} (commands : Commands P) (count : ℕ) (first between last : Moment P)
+    → HasStepped commands count first between → StepsTo commands between last Answered → HasStepped commands (count + 1) first last
+stepped_more commands count first between last stepped step =
+    subst (λ n. HasStepped commands n first last) (suc-eq-add-one count) (between, stepped, step)
 
 -- as many frames as may come were answered in turn
-pub turns_full : {P : Type 0} (commands : Commands P) (count : ℕ) (first last : Moment P)
-    → HasTurned commands count first last → count ≡ most_frames
-    → TakesTurns commands first last (record { frames = most_frames; why = why.Bound })
-turns_full commands count first last turned all =
-    subst (λ (n : ℕ). TakesTurns commands first last (record { frames = n; why = why.Bound })) all
-    (record { count = count; between = last; answered = turned; finish = full all refl })
+pub steps_full : {P : Type 0} (commands : Commands P) (count : ℕ) (first last : Moment P)
+    → HasStepped commands count first last → count ≡ most_frames
+    → RunsInSteps commands first last (record { frames = most_frames; reason = reason.Bound })
+steps_full commands count first last stepped all =
+    subst (λ (n : ℕ). RunsInSteps commands first last (record { frames = n; reason = reason.Bound })) all
+    (record { count = count; between = last; answered = stepped; finish = full all refl })
 
 -- the reply to the last frame wasn't written whole
-pub turns_unsent : {P : Type 0} (commands : Commands P) (count : ℕ) (first between last : Moment P)
-    → HasTurned commands count first between → TurnsTo commands between last Unsent
-    → TakesTurns commands first last (record { frames = count + 1; why = why.Write })
-turns_unsent commands count first between last turned turn = record { count = count; between = between; answered = turned; finish = unsent turn }
+pub steps_unsent : {P : Type 0} (commands : Commands P) (count : ℕ) (first between last : Moment P)
+    → HasStepped commands count first between → StepsTo commands between last Unsent
+    → RunsInSteps commands first last (record { frames = count + 1; reason = reason.Write })
+steps_unsent commands count first between last stepped step = record { count = count; between = between; answered = stepped; finish = unsent step }
 
 -- no whole frame came after those answered
-pub turns_stopped : {P : Type 0} (commands : Commands P) (count : ℕ) (end : Why) (first between last : Moment P)
-    → HasTurned commands count first between → TurnsTo commands between last (TurnEnded end)
-    → TakesTurns commands first last (record { frames = count; why = end })
-turns_stopped commands count end first between last turned turn =
-    record { count = count; between = between; answered = turned; finish = stopped end turn }
+pub steps_stopped : {P : Type 0} (commands : Commands P) (count : ℕ) (end : EndReason) (first between last : Moment P)
+    → HasStepped commands count first between → StepsTo commands between last (ResultEnded end)
+    → RunsInSteps commands first last (record { frames = count; reason = end })
+steps_stopped commands count end first between last stepped step =
+    record { count = count; between = between; answered = stepped; finish = stopped end step }
 
 -- a login, and then frames
 pub session_of : {P : Type 0} (logins : Logins P) (commands : Commands P) (s0 s1 s2 : SourceState) (w0 w1 w2 : SinkState) (p0 p1 p2 : P) (end : SessionEnd) (host : Host)
@@ -243,8 +243,8 @@ session_of logins commands s0 s1 s2 w0 w1 w2 p0 p1 p2 end host entry all = recor
   opening = entry.opening;
   conversation = all.conversation;
   closes = all.closes;
-  read = Reading-trans s0 s1 s2 entry.login (all.frames ++ all.rest) (is_read end.why) entry.read all.read;
+  read = Reading-trans s0 s1 s2 entry.login (all.frames ++ all.rest) (is_read_fault end.reason) entry.read all.read;
   ended = all.ended;
-  written = answers_after end.why w0 w1 w2 (0x00 ∷ []) all.answers (last_len 0 all.conversation.replies) (last_len 1 all.conversation.replies)
+  written = answers_after end.reason w0 w1 w2 (0x00 ∷ []) all.answers (last_len 0 all.conversation.replies) (last_len 1 all.conversation.replies)
       (last_len_grows 1 all.conversation.replies) entry.written all.written;
 }

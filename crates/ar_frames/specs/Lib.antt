@@ -1,10 +1,10 @@
 pub mod Client
-pub mod Entry
+pub mod Conversation
 pub mod Frame
+pub mod FrameStep
+pub mod Login
 pub mod Memory
 pub mod Port
 pub mod Session
 pub mod Stream
-pub mod Talk
-pub mod Turn
 pub use Rattle.byteorder.specs.Endian

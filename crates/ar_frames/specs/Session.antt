@@ -3,12 +3,12 @@ use Rattle.std.specs.Prelude.{◌≡◌, ◌≢◌, ◌<◌, ◌≤◌, ◌+◌,
 use Rattle.std.specs.Io.KnownBytes.{IsAtEnd}
 use Rattle.byteorder.specs.Endian.{big_number}
 use Rattle.ar_frames.specs.declared.port.Login.TheVariants.{Taken, BadHost, InUse}
-use Rattle.ar_frames.specs.declared.end.Why.{Why}
-use Rattle.ar_frames.specs.declared.end.Why.TheVariants as why
+use Rattle.ar_frames.specs.declared.end.EndReason.{EndReason}
+use Rattle.ar_frames.specs.declared.end.EndReason.TheVariants as reason
 use Rattle.ar_frames.specs.declared.end.SessionEnd.{SessionEnd}
 use Rattle.ar_frames.specs.Stream.{SourceState, SinkState, Reading, Writing}
 use Rattle.ar_frames.specs.Frame.{IsCutRequest, most_data}
-use Rattle.ar_frames.specs.Talk.{Commands, Conversation, last_len}
+use Rattle.ar_frames.specs.Conversation.{Commands, Conversation, last_len}
 use Rattle.ar_frames.specs.Port.{Logins}
 
 -- the most frames of a session
@@ -63,48 +63,48 @@ pub record CountCame (rest : List ℕ) (n : ℕ) : Type 0 where
   pub is : n ≡ big_number 4 rest
 
 -- when each end comes: by the stage, the number of whole frames, and what was read after them
-abbrev pub Closes : Why → Stage → ℕ → List ℕ → Type 0
+abbrev pub Closes : EndReason → Stage → ℕ → List ℕ → Type 0
 -- input ended right after the login or a whole frame
-Closes why.End stage frames rest = IsWaiting stage frames × (rest ≡ [])
+Closes reason.End stage frames rest = IsWaiting stage frames × (rest ≡ [])
 -- the name or the host's number is wrong
-Closes why.BadLogin stage frames rest = (stage ≡ refused) × (frames ≡ 0) × (rest ≡ [])
+Closes reason.BadLogin stage frames rest = (stage ≡ refused) × (frames ≡ 0) × (rest ≡ [])
 -- the port reported that the host is in use
-Closes why.HostInUse stage frames rest = (stage ≡ in_use) × (frames ≡ 0) × (rest ≡ [])
+Closes reason.HostInUse stage frames rest = (stage ≡ in_use) × (frames ≡ 0) × (rest ≡ [])
 -- N is too small or too large: nothing after it is read
-Closes (why.TooShort n) stage frames rest = IsWaiting stage frames × CountCame rest n × (n < 25)
-Closes (why.TooLong n) stage frames rest = IsWaiting stage frames × CountCame rest n × (25 + most_data < n)
+Closes (reason.TooShort n) stage frames rest = IsWaiting stage frames × CountCame rest n × (n < 25)
+Closes (reason.TooLong n) stage frames rest = IsWaiting stage frames × CountCame rest n × (25 + most_data < n)
 -- input ended inside the login or a frame
-Closes why.Cut stage frames rest = IsInside stage frames rest × (stage ≡ admitted → 0 < length rest)
+Closes reason.Cut stage frames rest = IsInside stage frames rest × (stage ≡ admitted → 0 < length rest)
 -- a read faulted, before or inside the login or a frame
-Closes why.Read stage frames rest = IsInside stage frames rest
+Closes reason.Read stage frames rest = IsInside stage frames rest
 -- a write of the last reply faulted
-Closes why.Write stage frames rest = IsUnsent stage frames × (rest ≡ [])
+Closes reason.Write stage frames rest = IsUnsent stage frames × (rest ≡ [])
 -- the limit of frames is reached, and all were answered
-Closes why.Bound stage frames rest = (stage ≡ admitted) × (frames ≡ most_frames) × (rest ≡ [])
+Closes reason.Bound stage frames rest = (stage ≡ admitted) × (frames ≡ most_frames) × (rest ≡ [])
 
 -- the session ended at a read fault
-abbrev pub is_read : Why → Bool
-is_read why.End = false
-is_read why.BadLogin = false
-is_read why.HostInUse = false
-is_read (why.TooShort n) = false
-is_read (why.TooLong n) = false
-is_read why.Cut = false
-is_read why.Read = true
-is_read why.Write = false
-is_read why.Bound = false
+abbrev pub is_read_fault : EndReason → Bool
+is_read_fault reason.End = false
+is_read_fault reason.BadLogin = false
+is_read_fault reason.HostInUse = false
+is_read_fault (reason.TooShort n) = false
+is_read_fault (reason.TooLong n) = false
+is_read_fault reason.Cut = false
+is_read_fault reason.Read = true
+is_read_fault reason.Write = false
+is_read_fault reason.Bound = false
 
 -- an end that reports the end of input comes only if no input is left
-abbrev pub EndsInput : Why → Option (List ℕ) → Type 0
-EndsInput why.End left = IsAtEnd left
-EndsInput why.BadLogin left = ⊤
-EndsInput why.HostInUse left = ⊤
-EndsInput (why.TooShort n) left = ⊤
-EndsInput (why.TooLong n) left = ⊤
-EndsInput why.Cut left = IsAtEnd left
-EndsInput why.Read left = ⊤
-EndsInput why.Write left = ⊤
-EndsInput why.Bound left = ⊤
+abbrev pub EndsInput : EndReason → Option (List ℕ) → Type 0
+EndsInput reason.End left = IsAtEnd left
+EndsInput reason.BadLogin left = ⊤
+EndsInput reason.HostInUse left = ⊤
+EndsInput (reason.TooShort n) left = ⊤
+EndsInput (reason.TooLong n) left = ⊤
+EndsInput reason.Cut left = IsAtEnd left
+EndsInput reason.Read left = ⊤
+EndsInput reason.Write left = ⊤
+EndsInput reason.Bound left = ⊤
 
 -- a proper prefix was written, and then a write faulted
 pub record WritesPart (old new : SinkState) (answers : List ℕ) : Type 0 where
@@ -119,16 +119,16 @@ pub record WritesAllButLast (old new : SinkState) (answers : List ℕ) (last : �
 
 -- all replies are written or, at a write fault, a proper prefix that lacks only bytes of the last reply, which has
 -- `last` bytes
-abbrev pub WritesAnswers : Why → SinkState → SinkState → List ℕ → ℕ → Type 0
-WritesAnswers why.End old new answers last = Writing old new answers false
-WritesAnswers why.BadLogin old new answers last = Writing old new answers false
-WritesAnswers why.HostInUse old new answers last = Writing old new answers false
-WritesAnswers (why.TooShort n) old new answers last = Writing old new answers false
-WritesAnswers (why.TooLong n) old new answers last = Writing old new answers false
-WritesAnswers why.Cut old new answers last = Writing old new answers false
-WritesAnswers why.Read old new answers last = Writing old new answers false
-WritesAnswers why.Write old new answers last = WritesAllButLast old new answers last
-WritesAnswers why.Bound old new answers last = Writing old new answers false
+abbrev pub WritesAnswers : EndReason → SinkState → SinkState → List ℕ → ℕ → Type 0
+WritesAnswers reason.End old new answers last = Writing old new answers false
+WritesAnswers reason.BadLogin old new answers last = Writing old new answers false
+WritesAnswers reason.HostInUse old new answers last = Writing old new answers false
+WritesAnswers (reason.TooShort n) old new answers last = Writing old new answers false
+WritesAnswers (reason.TooLong n) old new answers last = Writing old new answers false
+WritesAnswers reason.Cut old new answers last = Writing old new answers false
+WritesAnswers reason.Read old new answers last = Writing old new answers false
+WritesAnswers reason.Write old new answers last = WritesAllButLast old new answers last
+WritesAnswers reason.Bound old new answers last = Writing old new answers false
 
 -- A whole session, from the streams and the port before it to those after it: it reads a login, `end.frames` frames and
 -- a rest, and writes the reply to the login and the reply frames.
@@ -143,7 +143,7 @@ pub record Session {P : Type 0} (logins : Logins P) (commands : Commands P) (sou
   pub rest : List ℕ
   pub opening : Opening logins port login greeting stage mid
   pub conversation : Conversation commands mid port' frames answers end.frames
-  pub closes : Closes end.why stage end.frames rest
-  pub read : Reading source source' (login ++ (frames ++ rest)) (is_read end.why)
-  pub ended : EndsInput end.why source'.left
-  pub written : WritesAnswers end.why sink sink' (greeting ++ answers) (last_len (length greeting) conversation.replies)
+  pub closes : Closes end.reason stage end.frames rest
+  pub read : Reading source source' (login ++ (frames ++ rest)) (is_read_fault end.reason)
+  pub ended : EndsInput end.reason source'.left
+  pub written : WritesAnswers end.reason sink sink' (greeting ++ answers) (last_len (length greeting) conversation.replies)

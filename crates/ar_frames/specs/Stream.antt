@@ -2,12 +2,12 @@
 use Rattle.std.specs.Prelude.{◌≡◌, ℕ, ◌<◌, Bool, true, false, if◌then◌else◌, List, [], length, take, Option, Some, None, ⊤}
 use Rattle.std.specs.Io.KnownBytes.{Consumes, Appends, IsAtEnd}
 use Rattle.ar_disks.specs.Disk.{counted}
-use Rattle.ar_frames.specs.declared.fill.Filled.{Filled}
-use Rattle.ar_frames.specs.declared.fill.Filled.TheVariants.{Full, Ended, Failed}
+use Rattle.ar_frames.specs.declared.fill.FillResult.{FillResult}
+use Rattle.ar_frames.specs.declared.fill.FillResult.TheVariants.{Full, Ended, Failed}
 use Rattle.ar_frames.specs.declared.hold.Passed.{Passed}
 use Rattle.ar_frames.specs.declared.hold.Passed.TheVariants.{All, Ended as PassEnded, Failed as PassFailed}
-use Rattle.ar_frames.specs.declared.hold.Held.{Held}
-use Rattle.ar_frames.specs.declared.hold.Held.TheVariants.{Kept, Refused, Lost, Ended as HoldEnded, Failed as HoldFailed}
+use Rattle.ar_frames.specs.declared.hold.BufferResult.{BufferResult}
+use Rattle.ar_frames.specs.declared.hold.BufferResult.TheVariants.{Kept, Refused, Lost, Ended as HoldEnded, Failed as HoldFailed}
 use Rattle.ar_frames.specs.declared.hold.Fetched.{Fetched}
 use Rattle.ar_frames.specs.declared.hold.Fetched.TheVariants.{Kept as FetchKept, Lost as FetchLost, Ended as FetchEnded, Failed as FetchFailed}
 use Rattle.ar_frames.specs.declared.fill.Sent.{Sent}
@@ -43,25 +43,25 @@ pub record Writing (old new : SinkState) (bytes : List ℕ) (faulted : Bool) : T
   pub faults : new.faults ≡ faults_after faulted old.faults
 
 -- the part of a buffer that was filled
-abbrev pub filled_bytes : Filled → List ℕ → List ℕ
+abbrev pub filled_bytes : FillResult → List ℕ → List ℕ
 filled_bytes Full piece = piece
 filled_bytes (Ended n) piece = take n piece
 filled_bytes (Failed n) piece = take n piece
 
 -- a read faulted
-abbrev pub is_failed : Filled → Bool
+abbrev pub is_failed : FillResult → Bool
 is_failed Full = false
 is_failed (Ended n) = false
 is_failed (Failed n) = true
 
 -- unless the buffer is full, fewer bytes were read than it has; at the end of input, none is left
-abbrev pub StopsShort : Filled → ℕ → Option (List ℕ) → Type 0
+abbrev pub StopsShort : FillResult → ℕ → Option (List ℕ) → Type 0
 StopsShort Full wanted left = ⊤
 StopsShort (Ended n) wanted left = (n < wanted) × IsAtEnd left
 StopsShort (Failed n) wanted left = n < wanted
 
 -- a buffer was filled, whole or up to a read fault or the end of input
-pub record Filling (old new : SourceState) (piece : List ℕ) (filled : Filled) : Type 0 where
+pub record Filling (old new : SourceState) (piece : List ℕ) (filled : FillResult) : Type 0 where
   pub read : Reading old new (filled_bytes filled piece) (is_failed filled)
   pub stops : StopsShort filled (length piece) new.left
 
@@ -84,7 +84,7 @@ Passes old new wanted PassEnded = CamePart old new wanted false × IsAtEnd new.l
 Passes old new wanted PassFailed = CamePart old new wanted true
 
 -- bytes are shared, or the allocation for sharing them failed
-abbrev pub Shares : List ℕ → Held → Type 0
+abbrev pub Shares : List ℕ → BufferResult → Type 0
 Shares bytes (Kept shared) = shared ≡ bytes
 Shares bytes Refused = ⊥
 Shares bytes Lost = ⊤
@@ -93,12 +93,12 @@ Shares bytes HoldFailed = ⊥
 
 -- bytes were read into a buffer of their own; its allocation may fail before any is read, or the one for sharing after
 -- all are
-abbrev pub Holds : SourceState → SourceState → ℕ → Held → Type 0
-Holds old new wanted (Kept bytes) = (length bytes ≡ wanted) × Reading old new bytes false
-Holds old new wanted Refused = (0 < wanted) × (new ≡ old)
-Holds old new wanted Lost = (0 < wanted) × CameAll old new wanted
-Holds old new wanted HoldEnded = CamePart old new wanted false × IsAtEnd new.left
-Holds old new wanted HoldFailed = CamePart old new wanted true
+abbrev pub Buffers : SourceState → SourceState → ℕ → BufferResult → Type 0
+Buffers old new wanted (Kept bytes) = (length bytes ≡ wanted) × Reading old new bytes false
+Buffers old new wanted Refused = (0 < wanted) × (new ≡ old)
+Buffers old new wanted Lost = (0 < wanted) × CameAll old new wanted
+Buffers old new wanted HoldEnded = CamePart old new wanted false × IsAtEnd new.left
+Buffers old new wanted HoldFailed = CamePart old new wanted true
 
 -- the same, but the bytes are discarded if their buffer can't be allocated
 abbrev pub Fetches : SourceState → SourceState → ℕ → Fetched → Type 0

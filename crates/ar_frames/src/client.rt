@@ -5,12 +5,12 @@ ghost use Rattle.byteorder.specs.Endian.{big_number};
 ghost use Rattle.ar_scsi.specs.declared.reply.Reply.{Reply};
 ghost use Rattle.ar_frames.specs.Frame.{most_data};
 ghost use Rattle.ar_frames.specs.Session.{login_bytes};
-ghost use Rattle.ar_frames.specs.Turn.{SendsRequest};
+ghost use Rattle.ar_frames.specs.FrameStep.{SendsRequest};
 ghost use Rattle.ar_frames.specs.Client.{Greets, Means, ReadsGreeting, Asks, ReadsReply, Judges, Parses};
 
-use crate::fill::{Filled, Sent, fill, send};
+use crate::fill::{FillResult, Sent, fill, send};
 use crate::frame::{MOST_DATA, request_head};
-use crate::hold::{Held, hold};
+use crate::hold::{BufferResult, hold};
 use crate::reply::send_joined;
 use crate::stream::{Sink, Source};
 use ar_scsi::{Reply, Status};
@@ -54,9 +54,9 @@ fn read_greeting<R: Source>(reader: &mut R) -> Result<bool, AskFault>
 {
     let mut answer = [0; 1];
     match fill(reader, &mut answer) {
-        Filled::Full => greeting_of(answer[0]),
-        Filled::Ended(_) => Err(AskFault::Cut),
-        Filled::Failed(_) => Err(AskFault::Read),
+        FillResult::Full => greeting_of(answer[0]),
+        FillResult::Ended(_) => Err(AskFault::Cut),
+        FillResult::Failed(_) => Err(AskFault::Read),
     }
 }
 
@@ -114,9 +114,9 @@ fn read_reply<R: Source>(alloc: Global, reader: &mut R, tag: u64) -> Result<Repl
 {
     let mut count = [0; 4];
     match fill(reader, &mut count) {
-        Filled::Full => read_counted(alloc, reader, tag, &count),
-        Filled::Ended(_) => Err(AskFault::Cut),
-        Filled::Failed(_) => Err(AskFault::Read),
+        FillResult::Full => read_counted(alloc, reader, tag, &count),
+        FillResult::Ended(_) => Err(AskFault::Cut),
+        FillResult::Failed(_) => Err(AskFault::Read),
     }
 }
 
@@ -153,9 +153,9 @@ fn read_head<R: Source>(
 {
     let mut head = [0; 10];
     match fill(reader, &mut head) {
-        Filled::Full => read_body(alloc, reader, tag, &head, len),
-        Filled::Ended(_) => Err(AskFault::Cut),
-        Filled::Failed(_) => Err(AskFault::Read),
+        FillResult::Full => read_body(alloc, reader, tag, &head, len),
+        FillResult::Ended(_) => Err(AskFault::Cut),
+        FillResult::Failed(_) => Err(AskFault::Read),
     }
 }
 
@@ -172,11 +172,11 @@ fn read_body<R: Source>(
         ReadsReply (count ++ head.now) (R.state reader.old) (R.state reader.new) tag result }
 {
     match hold(alloc, reader, len as usize) {
-        Held::Kept(body) => judge(tag, head, body),
-        Held::Refused => Err(AskFault::NoMemory),
-        Held::Lost => Err(AskFault::NoMemory),
-        Held::Ended => Err(AskFault::Cut),
-        Held::Failed => Err(AskFault::Read),
+        BufferResult::Kept(body) => judge(tag, head, body),
+        BufferResult::Refused => Err(AskFault::NoMemory),
+        BufferResult::Lost => Err(AskFault::NoMemory),
+        BufferResult::Ended => Err(AskFault::Cut),
+        BufferResult::Failed => Err(AskFault::Read),
     }
 }
 

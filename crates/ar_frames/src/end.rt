@@ -3,7 +3,7 @@
 
 /// Why a session ended.
 #[derive(Clone, Copy, Debug, PartialEq, Eq)]
-pub enum Why {
+pub enum EndReason {
     /// Input ended right after the login or a whole frame.
     End,
     /// The login's name or host number is wrong.
@@ -29,5 +29,5 @@ pub enum Why {
 pub struct SessionEnd {
     /// The number of frames that were read whole.
     pub frames: u64,
-    pub why: Why,
+    pub reason: EndReason,
 }

@@ -7,7 +7,7 @@ use crate::stream::{Sink, Source};
 
 // How far a buffer was filled.
 #[derive(Clone, Copy)]
-pub enum Filled {
+pub enum FillResult {
     Full,
     // Input ended after this many bytes.
     Ended(usize),
@@ -24,18 +24,18 @@ pub enum Sent {
 }
 
 // Fills `into`. An empty one makes no read.
-pub fn fill<R: Source>(reader: &mut R, into: &mut [u8]) -> Filled
+pub fn fill<R: Source>(reader: &mut R, into: &mut [u8]) -> FillResult
     ensures { Filling (R.state reader.old) (R.state reader.new) into.new result }
 {
     let mut at = 0;
     while at < into.len() {
         match reader.read(&mut into[at..]) {
-            None => return Filled::Failed(at),
-            Some(0) => return Filled::Ended(at),
+            None => return FillResult::Failed(at),
+            Some(0) => return FillResult::Ended(at),
             Some(n) => at += n,
         }
     }
-    Filled::Full
+    FillResult::Full
 }
 
 // Writes all of `from`. An empty one makes no write.

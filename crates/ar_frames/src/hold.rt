@@ -1,9 +1,9 @@
 // Reads data into a buffer of exactly their length. If it can't be allocated, they are read and discarded, so that the
 // next read begins at a frame.
 ghost use Rattle.std.specs.Prelude.{◌≡◌, IfOk, length, vec_len, vec_capacity};
-ghost use Rattle.ar_frames.specs.Stream.{Passes, Shares, Holds, Fetches};
+ghost use Rattle.ar_frames.specs.Stream.{Passes, Shares, Buffers, Fetches};
 
-use crate::fill::{Filled, fill};
+use crate::fill::{FillResult, fill};
 use crate::stream::Source;
 use bytes::Bytes;
 use std::alloc::{AllocError, Global};
@@ -18,7 +18,7 @@ pub enum Passed {
 
 // The result of reading bytes into a buffer.
 #[derive(Drop)]
-pub enum Held {
+pub enum BufferResult {
     Kept(Bytes),
     // The allocation failed, and no byte was read.
     Refused,
@@ -49,28 +49,28 @@ pub fn pass<R: Source>(reader: &mut R, len: usize) -> Passed
     while left > 0 {
         let next = left.min(PIECE);
         match fill(reader, &mut piece[..next]) {
-            Filled::Full => left -= next,
-            Filled::Ended(_) => return Passed::Ended,
-            Filled::Failed(_) => return Passed::Failed,
+            FillResult::Full => left -= next,
+            FillResult::Ended(_) => return Passed::Ended,
+            FillResult::Failed(_) => return Passed::Failed,
         }
     }
     Passed::All
 }
 
 // Reads `len` bytes into a buffer of their own. Zero bytes allocate nothing.
-pub fn hold<R: Source>(alloc: Global, reader: &mut R, len: usize) -> Held
-    ensures { Holds (R.state reader.old) (R.state reader.new) len result }
+pub fn hold<R: Source>(alloc: Global, reader: &mut R, len: usize) -> BufferResult
+    ensures { Buffers (R.state reader.old) (R.state reader.new) len result }
 {
     if len == 0 {
-        return Held::Kept(Bytes::new());
+        return BufferResult::Kept(Bytes::new());
     }
     let Ok(mut bytes) = zeros(alloc, len) else {
-        return Held::Refused;
+        return BufferResult::Refused;
     };
     match fill(reader, &mut bytes) {
-        Filled::Full => shared(bytes),
-        Filled::Ended(_) => Held::Ended,
-        Filled::Failed(_) => Held::Failed,
+        FillResult::Full => shared(bytes),
+        FillResult::Ended(_) => BufferResult::Ended,
+        FillResult::Failed(_) => BufferResult::Failed,
     }
 }
 
@@ -88,26 +88,26 @@ fn zeros(alloc: Global, len: usize) -> Result<Vec<u8>, AllocError>
 }
 
 // Makes the bytes of a vector without spare capacity shareable.
-fn shared(bytes: Vec<u8>) -> Held
+fn shared(bytes: Vec<u8>) -> BufferResult
     requires exact { vec_capacity bytes ≡ vec_len bytes }
     ensures { Shares bytes.items result }
 {
     match Bytes::from_vec(bytes) {
-        Ok(bytes) => Held::Kept(bytes),
-        Err(_) => Held::Lost,
+        Ok(bytes) => BufferResult::Kept(bytes),
+        Err(_) => BufferResult::Lost,
     }
 }
 
 // Reads `len` bytes, and keeps them if they can be allocated.
-pub fn fetch<R: Source>(alloc: Global, reader: &mut R, len: usize) -> Fetched
+pub fn fetch_data<R: Source>(alloc: Global, reader: &mut R, len: usize) -> Fetched
     ensures { Fetches (R.state reader.old) (R.state reader.new) len result }
 {
     match hold(alloc, reader, len) {
-        Held::Kept(bytes) => Fetched::Kept(bytes),
-        Held::Lost => Fetched::Lost,
-        Held::Ended => Fetched::Ended,
-        Held::Failed => Fetched::Failed,
-        Held::Refused => match pass(reader, len) {
+        BufferResult::Kept(bytes) => Fetched::Kept(bytes),
+        BufferResult::Lost => Fetched::Lost,
+        BufferResult::Ended => Fetched::Ended,
+        BufferResult::Failed => Fetched::Failed,
+        BufferResult::Refused => match pass(reader, len) {
             Passed::All => Fetched::Lost,
             Passed::Ended => Fetched::Ended,
             Passed::Failed => Fetched::Failed,

@@ -9,6 +9,7 @@ mod client;
 mod end;
 mod fill;
 mod frame;
+mod frame_step;
 mod hold;
 mod linked;
 mod login;
@@ -18,16 +19,15 @@ mod receive;
 mod reply;
 mod session;
 mod stream;
-mod turn;
 
 pub use client::{AskFault, ask, hello};
-pub use end::{SessionEnd, Why};
+pub use end::{EndReason, SessionEnd};
 pub use frame::{MOST_DATA, Request};
 pub use linked::Linked;
 pub use login::LOGIN_NAME;
 pub use memory::{MemSink, MemSource};
 pub use port::{Gate, Login, NoGate, Port};
-pub use session::{MOST_FRAMES, serve, serve_gated};
+pub use session::{MOST_FRAMES, serve_gated, serve_session};
 pub use stream::{Sink, Source};
 
 /// Lemma: no request frame is a proper prefix of another, and its bytes determine the request.

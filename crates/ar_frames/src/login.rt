@@ -3,11 +3,11 @@
 //     login  | 'ARAIDHO1':8 | host:1 |  ->  reply  | 00 accepted, 01 refused |
 ghost use Rattle.std.specs.Prelude.{◌≡◌, ◌↔◌, ◌<◌, IsTrue, take, ◌∷◌, [], false, true};
 ghost use Rattle.ar_frames.specs.Session.{Opening, login_name};
-ghost use Rattle.ar_frames.specs.Entry.{Enters, Names, Tells, stage_of, greeting_of, entry_after};
+ghost use Rattle.ar_frames.specs.Login.{Enters, Names, ReportsAdmission, stage_of, greeting_of, result_of_login};
 ghost use Rattle.ar_disks.specs.declared.address.Host.{Host};
 
-use crate::end::Why;
-use crate::fill::{Filled, Sent, fill, send};
+use crate::end::EndReason;
+use crate::fill::{FillResult, Sent, fill, send};
 use crate::port::{Login, Port};
 use crate::stream::{Sink, Source};
 use ar_disks::Host;
@@ -25,23 +25,27 @@ pub enum Admission {
 
 // How a session begins: with a host, or with its end.
 #[derive(Clone, Copy)]
-pub enum Entry {
+pub enum LoginResult {
     Admitted(Host),
-    Ended(Why),
+    Ended(EndReason),
 }
 
 // Reads a login and writes the reply to it.
-pub fn enter<R: Source, W: Sink, P: Port>(reader: &mut R, writer: &mut W, port: &mut P) -> Entry
+pub fn enter<R: Source, W: Sink, P: Port>(
+    reader: &mut R,
+    writer: &mut W,
+    port: &mut P,
+) -> LoginResult
     requires { P.has_login port.old ≡ false }
     ensures enters { Enters P.logins P.commands (R.state reader.old) (R.state reader.new)
         (W.state writer.old) (W.state writer.new) port.old port.new result }
-    ensures logged { (host : Host) → result ≡ Entry.Admitted host → P.has_login port.new ≡ true }
+    ensures logged { (host : Host) → result ≡ LoginResult.Admitted host → P.has_login port.new ≡ true }
 {
     let mut login = [0; 9];
     match fill(reader, &mut login) {
-        Filled::Full => tell(writer, admit(port, &login)),
-        Filled::Ended(_) => Entry::Ended(Why::Cut),
-        Filled::Failed(_) => Entry::Ended(Why::Read),
+        FillResult::Full => tell(writer, admit(port, &login)),
+        FillResult::Ended(_) => LoginResult::Ended(EndReason::Cut),
+        FillResult::Failed(_) => LoginResult::Ended(EndReason::Read),
     }
 }
 
@@ -82,12 +86,12 @@ fn admitted(number: u8) -> Admission
 }
 
 // Writes the byte that reports an admission.
-fn tell<W: Sink>(writer: &mut W, admission: Admission) -> Entry
-    ensures { Tells (W.state writer.old) (W.state writer.new) admission result }
+fn tell<W: Sink>(writer: &mut W, admission: Admission) -> LoginResult
+    ensures { ReportsAdmission (W.state writer.old) (W.state writer.new) admission result }
 {
     match send(writer, &[byte_of(admission)]) {
-        Sent::Whole => entry_of(admission),
-        Sent::Part(_) => Entry::Ended(Why::Write),
+        Sent::Whole => result_of_login(admission),
+        Sent::Part(_) => LoginResult::Ended(EndReason::Write),
     }
 }
 
@@ -100,12 +104,12 @@ fn byte_of(admission: Admission) -> u8
     }
 }
 
-fn entry_of(admission: Admission) -> Entry
-    ensures { result ≡ entry_after admission }
+fn result_of_login(admission: Admission) -> LoginResult
+    ensures { result ≡ result_of_login admission }
 {
     match admission {
-        Admission::Admitted(host) => Entry::Admitted(host),
-        Admission::BadLogin => Entry::Ended(Why::BadLogin),
-        Admission::HostInUse => Entry::Ended(Why::HostInUse),
+        Admission::Admitted(host) => LoginResult::Admitted(host),
+        Admission::BadLogin => LoginResult::Ended(EndReason::BadLogin),
+        Admission::HostInUse => LoginResult::Ended(EndReason::HostInUse),
     }
 }

@@ -2,7 +2,7 @@
 ghost use Rattle.std.specs.Prelude.{◌≡◌, ◌<◌, ◌↔◌, ℕ, Bool, true, false, List};
 ghost use Rattle.ar_scsi.specs.declared.reply.Reply.{Reply};
 ghost use Rattle.ar_frames.specs.Frame.{IsReply};
-ghost use Rattle.ar_frames.specs.Talk.{Commands};
+ghost use Rattle.ar_frames.specs.Conversation.{Commands};
 ghost use Rattle.ar_frames.specs.Port.{Logins, is_taken};
 
 use ar_disks::Host;

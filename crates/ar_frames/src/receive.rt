@@ -3,12 +3,12 @@
 ghost use Rattle.std.specs.Prelude.{◌≡◌, ◌+◌, ◌≤◌, ◌++◌, ℕ, List, [], length};
 ghost use Rattle.byteorder.specs.Endian.{big_number};
 ghost use Rattle.ar_frames.specs.Frame.{most_data};
-ghost use Rattle.ar_frames.specs.Turn.{Receives};
+ghost use Rattle.ar_frames.specs.FrameStep.{Receives};
 
-use crate::end::Why;
-use crate::fill::{Filled, fill};
+use crate::end::EndReason;
+use crate::fill::{FillResult, fill};
 use crate::frame::{Head, MOST_DATA, Request, head_of};
-use crate::hold::{Fetched, fetch};
+use crate::hold::{Fetched, fetch_data};
 use crate::stream::Source;
 use byteorder::{BigEndian, ByteOrder};
 use std::alloc::Global;
@@ -20,7 +20,7 @@ pub enum Incoming {
     // A whole frame with this tag, whose data couldn't be allocated.
     Lost(u64),
     // No whole frame, for this reason.
-    Ended(Why),
+    Ended(EndReason),
 }
 
 // Reads a request frame. After an N that no frame has, nothing is read.
@@ -29,10 +29,10 @@ pub fn receive<R: Source>(alloc: Global, reader: &mut R) -> Incoming
 {
     let mut count = [0; 4];
     match fill(reader, &mut count) {
-        Filled::Full => receive_counted(alloc, reader, &count),
-        Filled::Ended(0) => Incoming::Ended(Why::End),
-        Filled::Ended(_) => Incoming::Ended(Why::Cut),
-        Filled::Failed(_) => Incoming::Ended(Why::Read),
+        FillResult::Full => receive_counted(alloc, reader, &count),
+        FillResult::Ended(0) => Incoming::Ended(EndReason::End),
+        FillResult::Ended(_) => Incoming::Ended(EndReason::Cut),
+        FillResult::Failed(_) => Incoming::Ended(EndReason::Read),
     }
 }
 
@@ -42,11 +42,11 @@ fn receive_counted<R: Source>(alloc: Global, reader: &mut R, count: &[u8; 4]) ->
 {
     let n = BigEndian::read_u32(count);
     if n < 25 {
-        return Incoming::Ended(Why::TooShort(n));
+        return Incoming::Ended(EndReason::TooShort(n));
     }
     let len = n - 25;
     if len > MOST_DATA {
-        return Incoming::Ended(Why::TooLong(n));
+        return Incoming::Ended(EndReason::TooLong(n));
     }
     receive_head(alloc, reader, len)
 }
@@ -59,9 +59,9 @@ fn receive_head<R: Source>(alloc: Global, reader: &mut R, len: u32) -> Incoming
 {
     let mut head = [0; 25];
     match fill(reader, &mut head) {
-        Filled::Full => receive_data(alloc, reader, &head, len),
-        Filled::Ended(_) => Incoming::Ended(Why::Cut),
-        Filled::Failed(_) => Incoming::Ended(Why::Read),
+        FillResult::Full => receive_data(alloc, reader, &head, len),
+        FillResult::Ended(_) => Incoming::Ended(EndReason::Cut),
+        FillResult::Failed(_) => Incoming::Ended(EndReason::Read),
     }
 }
 
@@ -72,7 +72,7 @@ fn receive_data<R: Source>(alloc: Global, reader: &mut R, head: &[u8; 25], len: 
         Receives (count ++ head.now) (R.state reader.old) (R.state reader.new) result }
 {
     let Head { tag, lun, cdb } = head_of(head);
-    match fetch(alloc, reader, len as usize) {
+    match fetch_data(alloc, reader, len as usize) {
         Fetched::Kept(payload) => Incoming::Whole(Request {
             tag,
             lun,
@@ -80,7 +80,7 @@ fn receive_data<R: Source>(alloc: Global, reader: &mut R, head: &[u8; 25], len: 
             payload,
         }),
         Fetched::Lost => Incoming::Lost(tag),
-        Fetched::Ended => Incoming::Ended(Why::Cut),
-        Fetched::Failed => Incoming::Ended(Why::Read),
+        Fetched::Ended => Incoming::Ended(EndReason::Cut),
+        Fetched::Failed => Incoming::Ended(EndReason::Read),
     }
 }

@@ -2,8 +2,8 @@
 ghost use Rattle.std.specs.Prelude.{◌≡◌, ◌<◌, ◌≤◌, ◌+◌, ◌++◌, IsTrue, IsFalse, length, max, take, vec_len, vec_capacity};
 ghost use Rattle.ar_frames.specs.Stream.{Sending};
 ghost use Rattle.ar_frames.specs.Frame.{IsReply, IsReplyFrame};
-ghost use Rattle.ar_frames.specs.Talk.{reply_len};
-ghost use Rattle.ar_frames.specs.Turn.{SendsReply};
+ghost use Rattle.ar_frames.specs.Conversation.{reply_len};
+ghost use Rattle.ar_frames.specs.FrameStep.{SendsReply};
 
 use crate::fill::{Sent, send};
 use crate::frame::{plain_head, sense_frame};

@@ -2,13 +2,13 @@
 // before left.
 ghost use Rattle.std.specs.Prelude.{◌≡◌, true, false, vec_capacity};
 ghost use Rattle.ar_frames.specs.Session.{Session};
-ghost use Rattle.ar_frames.specs.Turn.{ServesAll, TakesTurns};
+ghost use Rattle.ar_frames.specs.FrameStep.{ServesAll, RunsInSteps};
 
-use crate::end::{SessionEnd, Why};
-use crate::login::{Entry, enter};
+use crate::end::{EndReason, SessionEnd};
+use crate::frame_step::{FrameResult, SessionState, serve_frame};
+use crate::login::{LoginResult, enter};
 use crate::port::{Gate, NoGate, Port};
 use crate::stream::{Sink, Source};
-use crate::turn::{Turn, Work, serve_frame};
 use ar_disks::Host;
 use std::alloc::Global;
 
@@ -18,7 +18,7 @@ pub const MOST_FRAMES: u64 = 1_000_000;
 /// Runs one session: reads a login and frames, gives each command to the port, and writes its reply. A frame whose data
 /// can't be allocated is read to its end and gets BUSY, without the port. Returns how many frames were read whole, and
 /// why the session ended.
-pub fn serve<R: Source, W: Sink, P: Port>(
+pub fn serve_session<R: Source, W: Sink, P: Port>(
     alloc: Global,
     reader: &mut R,
     writer: &mut W,
@@ -31,7 +31,7 @@ pub fn serve<R: Source, W: Sink, P: Port>(
     serve_gated(alloc, reader, writer, port, &NoGate)
 }
 
-/// Runs one session as `serve` does, and calls `gate` before and after each command that is given to the port.
+/// Runs one session as `serve_session` does, and calls `gate` before and after each command that is given to the port.
 pub fn serve_gated<R: Source, W: Sink, P: Port, G: Gate>(
     alloc: Global,
     reader: &mut R,
@@ -44,8 +44,8 @@ pub fn serve_gated<R: Source, W: Sink, P: Port, G: Gate>(
         (W.state writer.old) (W.state writer.new) port.old port.new result }
 {
     match enter(reader, writer, port) {
-        Entry::Admitted(host) => serve_frames(alloc, reader, writer, port, gate, host),
-        Entry::Ended(why) => SessionEnd { frames: 0, why },
+        LoginResult::Admitted(host) => serve_frames(alloc, reader, writer, port, gate, host),
+        LoginResult::Ended(reason) => SessionEnd { frames: 0, reason },
     }
 }
 
@@ -62,8 +62,8 @@ fn serve_frames<R: Source, W: Sink, P: Port, G: Gate>(
     ensures { ServesAll P.commands (R.state reader.old) (R.state reader.new)
         (W.state writer.old) (W.state writer.new) port.old port.new result }
 {
-    let mut work = Work::new(alloc);
-    converse(alloc, reader, writer, port, gate, host, &mut work)
+    let mut state = SessionState::new(alloc);
+    converse(alloc, reader, writer, port, gate, host, &mut state)
 }
 
 // Serves frames from a state that has counted no command, and whose buffer may have capacity already. Nothing but steps
@@ -75,41 +75,41 @@ fn converse<R: Source, W: Sink, P: Port, G: Gate>(
     port: &mut P,
     gate: &G,
     host: Host,
-    work: &mut Work,
+    state: &mut SessionState,
 ) -> SessionEnd
     requires logged { P.has_login port.old ≡ true }
-    requires fresh { work.old.given ≡ 0 }
+    requires fresh { state.old.given ≡ 0 }
     ensures all { ServesAll P.commands (R.state reader.old) (R.state reader.new)
         (W.state writer.old) (W.state writer.new) port.old port.new result }
-    ensures in_turn { TakesTurns P.commands
+    ensures in_steps { RunsInSteps P.commands
         (record {
           source = R.state reader.old;
           sink = W.state writer.old;
           port = port.old;
-          work = record { room = vec_capacity work.old.buffer; bytes = work.old.buffer.items; given = work.old.given };
+          state = record { room = vec_capacity state.old.buffer; bytes = state.old.buffer.items; given = state.old.given };
         })
         (record {
           source = R.state reader.new;
           sink = W.state writer.new;
           port = port.new;
-          work = record { room = vec_capacity work.new.buffer; bytes = work.new.buffer.items; given = work.new.given };
+          state = record { room = vec_capacity state.new.buffer; bytes = state.new.buffer.items; given = state.new.given };
         })
         result }
 {
     for frames in 0..MOST_FRAMES {
-        match serve_frame(alloc, reader, writer, port, gate, host, work) {
-            Turn::Answered => {}
-            Turn::Unsent => {
+        match serve_frame(alloc, reader, writer, port, gate, host, state) {
+            FrameResult::Answered => {}
+            FrameResult::Unsent => {
                 return SessionEnd {
                     frames: frames + 1,
-                    why: Why::Write,
+                    reason: EndReason::Write,
                 };
             }
-            Turn::Ended(why) => return SessionEnd { frames, why },
+            FrameResult::Ended(reason) => return SessionEnd { frames, reason },
         }
     }
     SessionEnd {
         frames: MOST_FRAMES,
-        why: Why::Bound,
+        reason: EndReason::Bound,
     }
 }

@@ -13,7 +13,7 @@ use Rattle.ar_unit.specs.Unit.{answer}
 use Rattle.ar_history.specs.declared.audit.Report.{Report}
 use Rattle.ar_history.specs.declared.audit.Mismatch.{Mismatch}
 use Rattle.ar_history.specs.History.{IsLegal, part, replay, is_command}
-use Rattle.ar_history.specs.Audit.{DiffersAt, IsHostsPart, IsIsolated, StandsAt, command_of, Agrees, Departs}
+use Rattle.ar_history.specs.Audit.{DiffersAt, IsHostsPart, IsTranscriptIsolated, IsExecutedAt, command_of, Agrees, Departs}
 use Rattle.ar_history.specs.Seat.{SeatState}
 
 -- the element right behind a list
@@ -189,7 +189,7 @@ found (entry ∷ history) number position exchange is =
 
 -- and where the history is legal its reply is that of the unit
 stands : (history : List Entry) → IsLegal history → (number position : ℕ) (exchange : Exchange) → slice_get (part number history) position ≡ Some exchange
-    → (place : ℕ) × (host : Host) × StandsAt history number position exchange place host
+    → (place : ℕ) × (host : Host) × IsExecutedAt history number position exchange place host
 stands history legal number position exchange is =
     let at = found history number position exchange is in (
       at.0,
@@ -204,14 +204,14 @@ stands history legal number position exchange is =
       },
     )
 
-isolated : (history : List Entry) (seat : SeatState) → IsLegal history → IsHostsPart history seat → IsIsolated history seat
+isolated : (history : List Entry) (seat : SeatState) → IsLegal history → IsHostsPart history seat → IsTranscriptIsolated history seat
 isolated history seat legal same =
     λ position exchange is.
     stands history legal seat.host.number position exchange (sym (ap (λ (l : List Exchange). slice_get l position) same) ∙ is)
 
 -- of a result
 pub all_isolated : (history : List Entry) (seats : List SeatState) (result : Result Report Mismatch) → IsLegal history
-    → OnOk result (All (IsHostsPart history) seats) → OnOk result (All (IsIsolated history) seats)
+    → OnOk result (All (IsHostsPart history) seats) → OnOk result (All (IsTranscriptIsolated history) seats)
 all_isolated history seats (Ok report) legal same = λ k d below. isolated history (get_or seats k d) legal (same k d below)
 all_isolated history seats (Err mismatch) legal same = same
 

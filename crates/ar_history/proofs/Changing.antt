@@ -4,7 +4,7 @@ use Rattle.std.specs.Prelude.{option_map, count_by}
 use Rattle.std.proofs.lemmas.Bool.{or_parts, ltb-false, leb-false, eqb-false, true≢false}
 use Rattle.std.proofs.lemmas.List.Sums.{sum_by-append}
 use Rattle.ar_disks.specs.declared.address.Addr.{Addr}
-use Rattle.ar_unit.specs.Unit.{Entry as UnitEntry}
+use Rattle.ar_unit.specs.Unit.{UnitEntry}
 use Rattle.ar_unit.specs.Broken.{Shape, shape_of}
 use Rattle.ar_book.specs.declared.refusal.Refusal.TheVariants.{BadLun, Exists, Size, NoRoom, Absent}
 use Rattle.ar_book.specs.Tables.{has_unit, unit_in, blocks_of, room}
@@ -22,7 +22,7 @@ use Rattle.ar_core.specs.declared.event.OutcomeOf.TheVariants as outcomes
 use Rattle.ar_history.specs.declared.entry.Entry.{Entry}
 use Rattle.ar_history.specs.declared.entry.Entry.TheVariants as entries
 use Rattle.ar_history.specs.History.{address_in, replay, Fits, is_command}
-use Rattle.ar_history.specs.Kept.{IsKept, entry_of}
+use Rattle.ar_history.specs.Kept.{HistoryAgrees, history_entry}
 use Rattle.ar_history.specs.Operations.{entry_asked, is_done}
 use Rattle.ar_history.proofs.Keeping.{one_at, kept_same, kept_more}
 
@@ -53,13 +53,13 @@ record WasDone (old : ArrayState) (event : Event) (outcome : Outcome) (history :
   sound : is_broken old ≡ false
   at : (a : Address) → entry_at a event outcome ≡ one_at a entry
   fits : Fits (replay history (address_in entry)) entry
-  recorded : entry_of event outcome ≡ entry ∷ []
+  recorded : history_entry event outcome ≡ entry ∷ []
   quiet : is_command entry ≡ false
 
 -- and where it was not
 record WasNotDone (event : Event) (outcome : Outcome) : Type 0 where
   at : (a : Address) → entry_at a event outcome ≡ []
-  recorded : entry_of event outcome ≡ []
+  recorded : history_entry event outcome ≡ []
 
 abbrev Tells : ArrayState → Event → Outcome → List Entry → Entry → Type 0
 Tells old event outcome history entry = (is_done outcome ≡ true → WasDone old event outcome history entry) × (is_done outcome ≡ false → WasNotDone event outcome)
@@ -100,7 +100,7 @@ shape_if there sectors mark = cond there (record { present = true; sectors = sec
 shape_at : (s : ArrayState) (addr : Addr) → shape_of (image s (address_of addr)) ≡ shape_by s.store.book addr
 shape_at s addr = ap shape_of (image_here (image_at s) addr) ∙ shape_here s addr
 
-there_at : (s : ArrayState) (history : List Entry) (addr : Addr) (b : Bool) → IsKept s history → has_unit s.store.book addr ≡ b
+there_at : (s : ArrayState) (history : List Entry) (addr : Addr) (b : Bool) → HistoryAgrees s history → has_unit s.store.book addr ≡ b
     → (shape_of (replay history (address_of addr))).present ≡ b
 there_at s history addr true kept there =
     sym (kept.lengths (address_of addr)).present ∙ ap (λ (x : Shape). x.present) (shape_at s addr)
@@ -109,20 +109,20 @@ there_at s history addr false kept there =
     sym (kept.lengths (address_of addr)).present ∙ ap (λ (x : Shape). x.present) (shape_at s addr)
     ∙ ap (λ (b : Bool). (shape_if b (length_at s.store.book addr) (attention_at s.store.book addr)).present) there
 
-long_at : (s : ArrayState) (history : List Entry) (addr : Addr) → IsKept s history → has_unit s.store.book addr ≡ true
+long_at : (s : ArrayState) (history : List Entry) (addr : Addr) → HistoryAgrees s history → has_unit s.store.book addr ≡ true
     → (shape_of (replay history (address_of addr))).sectors ≡ length_at s.store.book addr
 long_at s history addr kept there =
     sym (kept.lengths (address_of addr)).sectors ∙ ap (λ (x : Shape). x.sectors) (shape_at s addr)
     ∙ ap (λ (b : Bool). (shape_if b (length_at s.store.book addr) (attention_at s.store.book addr)).sectors) there
 
-made : (old new : ArrayState) (addr : Addr) (n : ℕ) (result : Result (Unit {0}) Refusal) (history : List Entry) → IsKept old history → Makes old addr n result new
+made : (old new : ArrayState) (addr : Addr) (n : ℕ) (result : Result (Unit {0}) Refusal) (history : List Entry) → HistoryAgrees old history → Makes old addr n result new
     → Tells old (events.Make addr n) (outcomes.Make result) history (entries.Make addr n)
 made old new addr n (Err refusal) history kept makes = (
   λ done. absurd (true≢false (sym done)),
   λ _. record { at = λ a. nothing_either (same_address (address_of addr) a); recorded = refl },
 )
 made old new addr n (Ok done) history kept makes =
-    let granted = first_false (is_broken old) Broken UnitRefused (book.make_refusal old.store.book addr n) makes.granted in
+    let granted = first_false (is_broken old) Broken UnitRefused (book.unit_make_refusal old.store.book addr n) makes.granted in
     let t = old.store.book in
     let parts = make_parts (nat_lt 7 addr.lun) (has_unit t addr) (eqb n 0 || nat_lt 1048576 n) (nat_lt (room t) (blocks_of t.geometry n)) BadLun Exists Size (NoRoom (room t)) granted.1 in
     let size = or_parts (eqb n 0) (nat_lt 1048576 n) parts.2 in
@@ -142,14 +142,14 @@ made old new addr n (Ok done) history kept makes =
       λ not_done. absurd (true≢false not_done),
     )
 
-grown : (old new : ArrayState) (addr : Addr) (n : ℕ) (result : Result (Unit {0}) Refusal) (history : List Entry) → IsKept old history → Grows old addr n result new
+grown : (old new : ArrayState) (addr : Addr) (n : ℕ) (result : Result (Unit {0}) Refusal) (history : List Entry) → HistoryAgrees old history → Grows old addr n result new
     → Tells old (events.Grow addr n) (outcomes.Grow result) history (entries.Grow addr n)
 grown old new addr n (Err refusal) history kept grows = (
   λ done. absurd (true≢false (sym done)),
   λ _. record { at = λ a. nothing_either (same_address (address_of addr) a); recorded = refl },
 )
 grown old new addr n (Ok done) history kept grows =
-    let granted = first_false (is_broken old) Broken UnitRefused (book.grow_refusal old.store.book addr n) grows.granted in
+    let granted = first_false (is_broken old) Broken UnitRefused (book.unit_grow_refusal old.store.book addr n) grows.granted in
     let t = old.store.book in
     let parts =
     grow_parts (has_unit t addr) (nat_le n (unit_in t.units addr).sectors || nat_lt 1048576 n)
@@ -171,7 +171,7 @@ grown old new addr n (Ok done) history kept grows =
       λ not_done. absurd (true≢false not_done),
     )
 
-removed : (old new : ArrayState) (addr : Addr) (result : Result (Unit {0}) Refusal) (history : List Entry) → IsKept old history → Removes old addr result new
+removed : (old new : ArrayState) (addr : Addr) (result : Result (Unit {0}) Refusal) (history : List Entry) → HistoryAgrees old history → Removes old addr result new
     → Tells old (events.Remove addr) (outcomes.Remove result) history (entries.Remove addr)
 removed old new addr (Err refusal) history kept removes = (
   λ done. absurd (true≢false (sym done)),
@@ -190,7 +190,7 @@ removed old new addr (Ok done) history kept removes =
     )
 
 -- each event that is an operation on a unit, by its answer
-tells_by : (old new : ArrayState) (event : Event) (outcome : Outcome) (history : List Entry) (entry : Entry) → IsKept old history → Answers old event outcome new
+tells_by : (old new : ArrayState) (event : Event) (outcome : Outcome) (history : List Entry) (entry : Entry) → HistoryAgrees old history → Answers old event outcome new
     → entry_asked event ≡ Some entry → Tells old event outcome history entry
 tells_by old new (events.Make addr n) (outcomes.Make result) history entry kept answers asked =
     subst (λ (x : Entry). Tells old (events.Make addr n) (outcomes.Make result) history x) (cc asked) (made old new addr n result history kept answers)
@@ -242,32 +242,32 @@ tells_by old new (events.Replace d disk) outcome history entry kept answers aske
 tells_by old new events.Rebuild outcome history entry kept answers asked = absurd (cc)
 
 -- a change that was done is the history's next entry, and the array wasn't broken
-pub done_kept : (old new : ArrayState) (event : Event) (outcome : Outcome) (history : List Entry) (entry : Entry) → IsKept old history → Steps old event outcome new
-    → entry_asked event ≡ Some entry → is_done outcome ≡ true → IsKept new (history ++ entry ∷ [])
+pub done_kept : (old new : ArrayState) (event : Event) (outcome : Outcome) (history : List Entry) (entry : Entry) → HistoryAgrees old history → Steps old event outcome new
+    → entry_asked event ≡ Some entry → is_done outcome ≡ true → HistoryAgrees new (history ++ entry ∷ [])
 done_kept old new event outcome history entry kept steps asked done =
     let was = (tells_by old new event outcome history entry kept steps.answers asked).0 done in
     kept_more old new event outcome history entry kept steps was.at was.fits
 
-pub done_sound : (old new : ArrayState) (event : Event) (outcome : Outcome) (history : List Entry) (entry : Entry) → IsKept old history → Steps old event outcome new
+pub done_sound : (old new : ArrayState) (event : Event) (outcome : Outcome) (history : List Entry) (entry : Entry) → HistoryAgrees old history → Steps old event outcome new
     → entry_asked event ≡ Some entry → is_done outcome ≡ true → is_broken old ≡ false
 done_sound old new event outcome history entry kept steps asked done = ((tells_by old new event outcome history entry kept steps.answers asked).0 done).sound
 
-pub done_recorded : (old new : ArrayState) (event : Event) (outcome : Outcome) (history : List Entry) (entry : Entry) → IsKept old history → Steps old event outcome new
-    → entry_asked event ≡ Some entry → is_done outcome ≡ true → entry_of event outcome ≡ entry ∷ []
+pub done_recorded : (old new : ArrayState) (event : Event) (outcome : Outcome) (history : List Entry) (entry : Entry) → HistoryAgrees old history → Steps old event outcome new
+    → entry_asked event ≡ Some entry → is_done outcome ≡ true → history_entry event outcome ≡ entry ∷ []
 done_recorded old new event outcome history entry kept steps asked done = ((tells_by old new event outcome history entry kept steps.answers asked).0 done).recorded
 
-pub done_count : (old new : ArrayState) (event : Event) (outcome : Outcome) (history : List Entry) (entry : Entry) → IsKept old history → Steps old event outcome new
+pub done_count : (old new : ArrayState) (event : Event) (outcome : Outcome) (history : List Entry) (entry : Entry) → HistoryAgrees old history → Steps old event outcome new
     → entry_asked event ≡ Some entry → is_done outcome ≡ true → count_by is_command (history ++ entry ∷ []) ≡ count_by is_command history
 done_count old new event outcome history entry kept steps asked done =
     count_more history entry ((tells_by old new event outcome history entry kept steps.answers asked).0 done).quiet
 
 -- one that was not leaves it
-pub not_done_kept : (old new : ArrayState) (event : Event) (outcome : Outcome) (history : List Entry) (entry : Entry) → IsKept old history → Steps old event outcome new
-    → entry_asked event ≡ Some entry → is_done outcome ≡ false → IsKept new history
+pub not_done_kept : (old new : ArrayState) (event : Event) (outcome : Outcome) (history : List Entry) (entry : Entry) → HistoryAgrees old history → Steps old event outcome new
+    → entry_asked event ≡ Some entry → is_done outcome ≡ false → HistoryAgrees new history
 not_done_kept old new event outcome history entry kept steps asked not_done =
     kept_same old new event outcome history kept steps ((tells_by old new event outcome history entry kept steps.answers asked).1 not_done).at
 
-pub not_done_recorded : (old new : ArrayState) (event : Event) (outcome : Outcome) (history : List Entry) (entry : Entry) → IsKept old history → Steps old event outcome new
-    → entry_asked event ≡ Some entry → is_done outcome ≡ false → entry_of event outcome ≡ []
+pub not_done_recorded : (old new : ArrayState) (event : Event) (outcome : Outcome) (history : List Entry) (entry : Entry) → HistoryAgrees old history → Steps old event outcome new
+    → entry_asked event ≡ Some entry → is_done outcome ≡ false → history_entry event outcome ≡ []
 not_done_recorded old new event outcome history entry kept steps asked not_done =
     ((tells_by old new event outcome history entry kept steps.answers asked).1 not_done).recorded

@@ -8,12 +8,12 @@ use Rattle.ar_scsi.specs.declared.reply.Reply.{Reply}
 use Rattle.ar_scsi.specs.declared.reply.Status.{Status}
 use Rattle.ar_scsi.specs.declared.reply.Status.TheVariants.{Good, CheckCondition, Busy}
 use Rattle.ar_scsi.specs.Reply.{busy}
-use Rattle.ar_unit.specs.Unit.{UnitState, Absent, Present, Entry as UnitEntry, Cmd as UnitCmd, answer, after, unit_run, IsGiven}
+use Rattle.ar_unit.specs.Unit.{UnitState, Absent, Present, UnitEntry, Cmd as UnitCmd, answer, after, unit_run, IsGiven}
 use Rattle.ar_unit.specs.Broken.{Shape, shape_of, shape_after, where_broken, broken_answer}
 use Rattle.ar_unit.proofs.Laws.{after-shape, answer-with_bytes, broken_answer-is}
 use Rattle.ar_volume.specs.Sectors.{Address, same_address}
 use Rattle.ar_volume.specs.Image.{ArrayState, is_broken, image, image_at}
-use Rattle.ar_extents.specs.Changes.{is_broken as is_broken_set}
+use Rattle.ar_extents.specs.Changes.{is_broken_set}
 use Rattle.ar_volume.proofs.Breaking.{broken_is}
 use Rattle.ar_volume.proofs.Images.{image_here}
 use Rattle.ar_core.specs.Events.{Event, Outcome}
@@ -24,10 +24,10 @@ use Rattle.ar_core.proofs.Causes.{was_sound}
 use Rattle.ar_history.specs.declared.entry.Entry.{Entry}
 use Rattle.ar_history.specs.declared.entry.Entry.TheVariants.{Cmd}
 use Rattle.ar_history.specs.History.{replay, is_command}
-use Rattle.ar_history.specs.Kept.{KeptState, SameLength, IsKept, with_attention, standing, exchange_of}
+use Rattle.ar_history.specs.Kept.{KeptState, SameLength, HistoryAgrees, with_attention, history_unit, exchange_of}
 use Rattle.ar_history.specs.Seat.{SeatState}
 use Rattle.ar_history.specs.declared.entry.Exchange.{Exchange}
-use Rattle.ar_history.specs.Serving.{IsBusyFor, IsRecorded, IsUnrecorded, Serves, Begins}
+use Rattle.ar_history.specs.Serving.{IsBusyFor, IsRecorded, IsUnrecorded, ServesHost, Begins}
 use Rattle.ar_history.proofs.Keeping.{kept_more}
 
 abbrev no_entry : List UnitEntry
@@ -99,9 +99,9 @@ lengths_if true false u cdb bytes = record {
 }
 
 -- so the history stays what the array holds, where each unit stays or the data are lost
-pub kept_unrecorded : (old new : ArrayState) (host : Host) (lun : ℕ) (cdb payload : List ℕ) (reply : Reply) (history : List Entry) → IsKept old history
+pub kept_unrecorded : (old new : ArrayState) (host : Host) (lun : ℕ) (cdb payload : List ℕ) (reply : Reply) (history : List Entry) → HistoryAgrees old history
     → Steps old (CmdEvent host lun cdb payload) (CmdOutcome reply) new
-    → (is_broken new ≡ false → (a : Address) → image new a ≡ image old a) → IsKept new history
+    → (is_broken new ≡ false → (a : Address) → image new a ≡ image old a) → HistoryAgrees new history
 kept_unrecorded old new host lun cdb payload reply history kept steps same = record {
   legal = kept.legal;
   images = λ now a. same now a ∙ kept.images (was_sound (CmdEvent host lun cdb payload) old new steps.disks now) a;
@@ -113,13 +113,13 @@ kept_unrecorded old new host lun cdb payload reply history kept steps same = rec
       });
 }
 
-pub broken_unrecorded : (old new : ArrayState) (host : Host) (lun : ℕ) (cdb payload : List ℕ) (reply : Reply) (history : List Entry) → IsKept old history
-    → Steps old (CmdEvent host lun cdb payload) (CmdOutcome reply) new → is_broken new ≡ true → IsKept new history
+pub broken_unrecorded : (old new : ArrayState) (host : Host) (lun : ℕ) (cdb payload : List ℕ) (reply : Reply) (history : List Entry) → HistoryAgrees old history
+    → Steps old (CmdEvent host lun cdb payload) (CmdOutcome reply) new → is_broken new ≡ true → HistoryAgrees new history
 broken_unrecorded old new host lun cdb payload reply history kept steps lost =
     kept_unrecorded old new host lun cdb payload reply history kept steps (λ now. absurd (let no : true ≡ false = sym lost ∙ now in cc))
 
 -- the reply of a command that was answered
-pub reply_kept : (old new : ArrayState) (host : Host) (lun : ℕ) (cdb payload : List ℕ) (reply : Reply) (history : List Entry) → IsKept old history
+pub reply_kept : (old new : ArrayState) (host : Host) (lun : ℕ) (cdb payload : List ℕ) (reply : Reply) (history : List Entry) → HistoryAgrees old history
     → Steps old (CmdEvent host lun cdb payload) (CmdOutcome reply) new → is_busy reply.status ≡ false → is_broken new ≡ false
     → reply ≡ (answer (replay history (host.number, lun)) cdb payload).reply
 reply_kept old new host lun cdb payload reply history kept steps answered now =
@@ -128,9 +128,9 @@ reply_kept old new host lun cdb payload reply history kept steps answered now =
     (sym (image_here (image_at old) (addr_in host lun)) ∙ kept.images (was_sound (CmdEvent host lun cdb payload) old new steps.disks now) (host.number, lun))
 
 -- and the history with it
-pub kept_recorded : (old new : ArrayState) (host : Host) (lun : ℕ) (cdb payload : List ℕ) (reply : Reply) (history : List Entry) → IsKept old history
+pub kept_recorded : (old new : ArrayState) (host : Host) (lun : ℕ) (cdb payload : List ℕ) (reply : Reply) (history : List Entry) → HistoryAgrees old history
     → Steps old (CmdEvent host lun cdb payload) (CmdOutcome reply) new → is_busy reply.status ≡ false → is_broken new ≡ false
-    → IsKept new (history ++ Cmd host (exchange_of lun cdb payload reply) ∷ [])
+    → HistoryAgrees new (history ++ Cmd host (exchange_of lun cdb payload reply) ∷ [])
 kept_recorded old new host lun cdb payload reply history kept steps answered now =
     kept_more old new (CmdEvent host lun cdb payload) (CmdOutcome reply) history (Cmd host (exchange_of lun cdb payload reply)) kept steps
     (λ a. ap (λ (b : Bool). cond (same_address (host.number, lun) a) (cond b no_entry (UnitCmd cdb payload ∷ [])) no_entry) answered)
@@ -144,15 +144,15 @@ shape_marked (Present s m) Absent same = let p = same.present in absurd (cc)
 shape_marked (Present s m) (Present t l) same = ap (λ n. record { present = true; sectors = n; attention = m }) (sym same.sectors)
 
 -- what a broken array answers, by the history
-pub broken_reply : (old : KeptState) (new : ArrayState) (host : Host) (lun : ℕ) (cdb payload : List ℕ) (reply : Reply) → IsKept old.array old.history
+pub broken_reply : (old : KeptState) (new : ArrayState) (host : Host) (lun : ℕ) (cdb payload : List ℕ) (reply : Reply) → HistoryAgrees old.array old.history
     → Steps old.array (CmdEvent host lun cdb payload) (CmdOutcome reply) new → is_broken new ≡ true
-    → IsGiven (where_broken cdb (answer (standing old (host.number, lun)) cdb payload).reply) reply
+    → IsGiven (where_broken cdb (answer (history_unit old (host.number, lun)) cdb payload).reply) reply
 broken_reply old new host lun cdb payload reply kept steps lost =
     let a : Address = (host.number, lun) in
-    let unit : shape_of (image_at old.array (addr_in host lun)) ≡ shape_of (standing old a) =
+    let unit : shape_of (image_at old.array (addr_in host lun)) ≡ shape_of (history_unit old a) =
     ap shape_of (sym (image_here (image_at old.array) (addr_in host lun))) ∙ sym (shape_marked (image old.array a) (replay old.history a) (kept.lengths a)) in
     subst (λ (r : Reply). IsGiven r reply)
-    (ap (λ (s : Shape). broken_answer s cdb (length payload)) unit ∙ broken_answer-is (standing old a) cdb payload)
+    (ap (λ (s : Shape). broken_answer s cdb (length payload)) unit ∙ broken_answer-is (history_unit old a) cdb payload)
     (steps.answers.broken lost)
 
 -- what is there of a unit after entries, by what was there before
@@ -167,7 +167,7 @@ pub stays_lost : (old new : ArrayState) (event : Event) (outcome : Outcome) → 
 stays_lost old new event outcome steps lost = ap is_broken_set (steps.disks.stays_broken (broken_is old.store.disks.health lost))
 
 -- a command after which the array is broken
-pub unrecorded_lost : (old : KeptState) (before : SeatState) (lun : ℕ) (cdb payload : List ℕ) (reply : Reply) (new : KeptState) → IsKept old.array old.history
+pub unrecorded_lost : (old : KeptState) (before : SeatState) (lun : ℕ) (cdb payload : List ℕ) (reply : Reply) (new : KeptState) → HistoryAgrees old.array old.history
     → Steps old.array (CmdEvent before.host lun cdb payload) (CmdOutcome reply) new.array → is_broken new.array ≡ true → new.history ≡ old.history
     → IsUnrecorded old before lun cdb payload reply new before
 unrecorded_lost old before lun cdb payload reply new kept steps lost same = record {
@@ -178,7 +178,7 @@ unrecorded_lost old before lun cdb payload reply new kept steps lost same = reco
   broken = λ _. broken_reply old new.array before.host lun cdb payload reply kept steps lost;
   shapes = λ _ a.
       steps.shapes a
-      ∙ shape_run (entry_at a (CmdEvent before.host lun cdb payload) (CmdOutcome reply)) (image old.array a) (standing old a)
+      ∙ shape_run (entry_at a (CmdEvent before.host lun cdb payload) (CmdOutcome reply)) (image old.array a) (history_unit old a)
       (sym (shape_marked (image old.array a) (replay old.history a) (kept.lengths a)));
 }
 
@@ -208,7 +208,7 @@ begins_busy old new host lun cdb payload first steps none now =
 
 -- a command that was answered
 pub recorded : (old : KeptState) (before : SeatState) (lun : ℕ) (cdb payload : List ℕ) (reply : Reply) (position : ℕ) (new : KeptState) (after : SeatState)
-    (ours theirs : Exchange) → IsKept old.array old.history
+    (ours theirs : Exchange) → HistoryAgrees old.array old.history
     → Steps old.array (CmdEvent before.host lun cdb payload) (CmdOutcome reply) new.array → is_busy reply.status ≡ false → is_broken new.array ≡ false
     → position ≡ length old.history → new.history ≡ old.history ++ Cmd before.host ours ∷ [] → after.transcript ≡ before.transcript ++ theirs ∷ []
     → ours ≡ exchange_of lun cdb payload reply → theirs ≡ exchange_of lun cdb payload reply
@@ -243,8 +243,8 @@ same_seat before host transcript hosts lines =
 
 -- a command is served as well from an array and a seat with more room
 serves_roomy : (old roomy : KeptState) (before ready : SeatState) (lun : ℕ) (cdb payload : List ℕ) (reply : Reply) (at : Option ℕ) (new : KeptState) (after : SeatState)
-    → Serves roomy ready lun cdb payload reply at new after
-    → Serves (record { array = roomy.array; history = roomy.history; room = old.room }) (record { host = ready.host; transcript = ready.transcript; room = before.room })
+    → ServesHost roomy ready lun cdb payload reply at new after
+    → ServesHost (record { array = roomy.array; history = roomy.history; room = old.room }) (record { host = ready.host; transcript = ready.transcript; room = before.room })
     lun cdb payload reply at new after
 serves_roomy old roomy before ready lun cdb payload reply None new after serves = record {
   history = serves.history;
@@ -265,9 +265,9 @@ serves_roomy old roomy before ready lun cdb payload reply (Some position) new af
 
 pub serves_from : (old roomy : KeptState) (before ready : SeatState) (lun : ℕ) (cdb payload : List ℕ) (reply : Reply) (at : Option ℕ) (new : KeptState) (after : SeatState)
     → roomy.array ≡ old.array → roomy.history ≡ old.history → ready.host ≡ before.host → ready.transcript ≡ before.transcript
-    → Serves roomy ready lun cdb payload reply at new after → Serves old before lun cdb payload reply at new after
+    → ServesHost roomy ready lun cdb payload reply at new after → ServesHost old before lun cdb payload reply at new after
 serves_from old roomy before ready lun cdb payload reply at new after array history host transcript serves =
     let mid : SeatState = record { host = ready.host; transcript = ready.transcript; room = before.room } in
-    subst (λ (s : SeatState). Serves old s lun cdb payload reply at new after) (same_seat before ready.host ready.transcript host transcript)
-    (subst (λ (k : KeptState). Serves k mid lun cdb payload reply at new after) (same_kept old roomy.array roomy.history array history)
+    subst (λ (s : SeatState). ServesHost old s lun cdb payload reply at new after) (same_seat before ready.host ready.transcript host transcript)
+    (subst (λ (k : KeptState). ServesHost k mid lun cdb payload reply at new after) (same_kept old roomy.array roomy.history array history)
     (serves_roomy old roomy before ready lun cdb payload reply at new after serves))

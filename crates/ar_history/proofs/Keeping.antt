@@ -2,12 +2,12 @@
 use Rattle.std.proofs.Common.{◌≡◌, ◌⊎◌, ℕ, zero, suc, Bool, true, false, cond, ◌<◌, ◌≤◌, Some, List, [], ◌∷◌, ◌++◌, take, refl, sym, ap, subst, ◌∙◌, inl, inr}
 use Rattle.std.specs.Prelude.{slice_get, max, if◌then◌else◌}
 use Rattle.std.proofs.lemmas.Bool.{cases_lt}
-use Rattle.ar_unit.specs.Unit.{UnitState, Absent, Present, Entry as UnitEntry, Make as UnitMake, Grow as UnitGrow, Remove as UnitRemove, Cmd as UnitCmd, after, unit_run}
+use Rattle.ar_unit.specs.Unit.{UnitState, Absent, Present, UnitEntry, Make as UnitMake, Grow as UnitGrow, Remove as UnitRemove, Cmd as UnitCmd, after, unit_run}
 use Rattle.ar_unit.specs.Broken.{Shape, shape_of}
 use Rattle.ar_unit.proofs.Laws.{unit_run-append, after-shape}
 use Rattle.ar_volume.specs.Sectors.{Address, same_address}
 use Rattle.ar_disks.specs.declared.address.Addr.{Addr}
-use Rattle.ar_book.specs.Tables.{UnitState as UnitTable, has_unit_in}
+use Rattle.ar_book.specs.Tables.{UnitTableState, has_unit_in}
 use Rattle.ar_volume.specs.Image.{ArrayState, image, image_at, at_numbers, at_address}
 use Rattle.ar_volume.proofs.Images.{image_absent}
 use Rattle.ar_core.specs.Events.{Event, Outcome}
@@ -15,7 +15,7 @@ use Rattle.ar_core.specs.Step.{Steps, entry_at}
 use Rattle.ar_core.proofs.Causes.{was_sound}
 use Rattle.ar_history.specs.declared.entry.Entry.{Entry}
 use Rattle.ar_history.specs.History.{address_in, unit_entry, entries_at, replay, Fits, IsLegal}
-use Rattle.ar_history.specs.Kept.{SameLength, IsKept}
+use Rattle.ar_history.specs.Kept.{SameLength, HistoryAgrees}
 
 -- what one entry is to the unit at an address
 abbrev pub one_at : Address → Entry → List UnitEntry
@@ -101,8 +101,8 @@ lengths_one true u v entry same = lengths_after u v entry same
 lengths_one false u v entry same = same
 
 -- the history stays what the array holds where a step is nothing to any unit
-pub kept_same : (old new : ArrayState) (event : Event) (outcome : Outcome) (history : List Entry) → IsKept old history → Steps old event outcome new
-    → ((a : Address) → entry_at a event outcome ≡ []) → IsKept new history
+pub kept_same : (old new : ArrayState) (event : Event) (outcome : Outcome) (history : List Entry) → HistoryAgrees old history → Steps old event outcome new
+    → ((a : Address) → entry_at a event outcome ≡ []) → HistoryAgrees new history
 kept_same old new event outcome history kept steps none = record {
   legal = kept.legal;
   images = λ now a.
@@ -114,8 +114,8 @@ kept_same old new event outcome history kept steps none = record {
 }
 
 -- and with one entry more, where the step was that
-pub kept_more : (old new : ArrayState) (event : Event) (outcome : Outcome) (history : List Entry) (entry : Entry) → IsKept old history → Steps old event outcome new
-    → ((a : Address) → entry_at a event outcome ≡ one_at a entry) → Fits (replay history (address_in entry)) entry → IsKept new (history ++ entry ∷ [])
+pub kept_more : (old new : ArrayState) (event : Event) (outcome : Outcome) (history : List Entry) (entry : Entry) → HistoryAgrees old history → Steps old event outcome new
+    → ((a : Address) → entry_at a event outcome ≡ one_at a entry) → Fits (replay history (address_in entry)) entry → HistoryAgrees new (history ++ entry ∷ [])
 kept_more old new event outcome history entry kept steps one fit = record {
   legal = legal_more history entry kept.legal fit;
   images = λ now a.
@@ -139,10 +139,10 @@ image_none : (s : ArrayState) → s.store.book.units ≡ [] → (a : Address) �
 unfolding at_address
 image_none s none (number, lun) =
     none_at (image_at s) number lun (cases_lt number 4)
-    (λ addr. image_absent s addr (ap (λ (l : List (Addr × UnitTable)). has_unit_in l addr) none))
+    (λ addr. image_absent s addr (ap (λ (l : List (Addr × UnitTableState)). has_unit_in l addr) none))
 
 -- and is what the empty history makes
-pub kept_none : (s : ArrayState) → s.store.book.units ≡ [] → IsKept s []
+pub kept_none : (s : ArrayState) → s.store.book.units ≡ [] → HistoryAgrees s []
 kept_none s none = record {
   legal = legal_none;
   images = λ _ a. image_none s none a;

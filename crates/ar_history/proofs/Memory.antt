@@ -17,7 +17,7 @@ use Rattle.ar_scsi.specs.Sense.{internal_target_failure, capacity_data_has_chang
 use Rattle.ar_extents.specs.Follows.{Keeps, Anywhere}
 use Rattle.ar_extents.proofs.Follows.{keeps_refl}
 use Rattle.ar_disks.specs.Addresses.{same_addr}
-use Rattle.ar_book.specs.Tables.{UnitState as UnitTable, no_unit}
+use Rattle.ar_book.specs.Tables.{UnitTableState, no_unit}
 use Rattle.ar_book.specs.Changes.{unmarked}
 use Rattle.ar_unit.specs.Unit.{UnitState, Absent, Present, Answered, leaving, obeyed, answer}
 use Rattle.ar_unit.specs.Broken.{Shape, shape_of, is_good, needs_blocks, where_broken, broken_answer}
@@ -28,7 +28,7 @@ use Rattle.ar_core.specs.Step.{Steps, Obeys, MovesNothing, is_busy, is_write, ad
 use Rattle.ar_core.specs.declared.event.EventOf.TheVariants.{Cmd as CmdEvent}
 use Rattle.ar_core.specs.declared.event.OutcomeOf.TheVariants.{Cmd as CmdOutcome}
 use Rattle.ar_history.proofs.Commands.{busy_is}
-use Rattle.ar_history.specs.Serving.{IsUncopied, Begins, DoesCommand, LeavesBlocks}
+use Rattle.ar_history.specs.Serving.{IsUncopied, Begins, DoesCommand, LeavesStorage}
 
 -- no growth is told where the reply has bytes
 tells_none : (u : UnitState) (cdb bytes : List ℕ) → (answer u cdb bytes).reply.payload ≢ []
@@ -44,12 +44,12 @@ tells_none (Present sectors true) cdb bytes some = by (operation_code cdb == 0x1
     by false some = absurd (some refl)
 
 -- the mark that the tables have for a unit
-abbrev shape_at : Option UnitTable → Shape
+abbrev shape_at : Option UnitTableState → Shape
 shape_at found =
     cond (is_some found) (record { present = true; sectors = (unwrap_or found no_unit).sectors; attention = (unwrap_or found no_unit).attention })
     (record { present = false; sectors = 0; attention = false })
 
-mark_by : (found : Option UnitTable) → (shape_at found).attention ≡ (unwrap_or found no_unit).attention
+mark_by : (found : Option UnitTableState) → (shape_at found).attention ≡ (unwrap_or found no_unit).attention
 mark_by None = refl
 mark_by (Some unit) = refl
 
@@ -81,7 +81,7 @@ busy_bytes old new addr cdb bytes reply obeys is = by (is_broken new) refl
         (subst (λ (r : Reply). r.payload ≢ []) (broken_answer-is (image_at old addr) cdb bytes) ((obeys.broken lost).memory is))
 
 leaves_by : (old new : ArrayState) (addr : Addr) (cdb bytes : List ℕ) → MovesNothing old addr cdb new
-    → (answer (image_at old addr) cdb bytes).reply.payload ≢ [] → LeavesBlocks old new
+    → (answer (image_at old addr) cdb bytes).reply.payload ≢ [] → LeavesStorage old new
 leaves_by old new addr cdb bytes moves some = record {
   tables = moves.tables ∙ told_none old addr cdb bytes some;
   cache = moves.cache;
@@ -89,7 +89,7 @@ leaves_by old new addr cdb bytes moves some = record {
 }
 
 steps_leave : (old new : ArrayState) (host : Host) (lun : ℕ) (cdb payload : List ℕ) (reply : Reply)
-    → Steps old (CmdEvent host lun cdb payload) (CmdOutcome reply) new → is_busy reply.status ≡ true → LeavesBlocks old new
+    → Steps old (CmdEvent host lun cdb payload) (CmdOutcome reply) new → is_busy reply.status ≡ true → LeavesStorage old new
 steps_leave old new host lun cdb payload reply steps is =
     let status = busy_is reply.status is in
     leaves_by old new (addr_in host lun) cdb payload (steps.answers.busy status)
@@ -104,7 +104,7 @@ no_write (Ok (Read lba count)) none = refl
 no_write (Ok (Write lba count fua)) none = absurd (none lba count fua refl)
 
 uncopied_leaves : (old new : ArrayState) (host : Host) (lun : ℕ) (cdb payload : List ℕ) (reply : Reply)
-    → IsUncopied old host lun cdb payload reply new → LeavesBlocks old new
+    → IsUncopied old host lun cdb payload reply new → LeavesStorage old new
 uncopied_leaves old new host lun cdb payload reply lost =
     let addr : Addr = addr_in host lun in
     let served = lost.steps.answers.sound lost.sound in
@@ -118,7 +118,7 @@ uncopied_leaves old new host lun cdb payload reply lost =
 
 -- a command that is BUSY has moved nothing
 pub leaves_blocks : (old new : ArrayState) (host : Host) (lun : ℕ) (cdb payload : List ℕ) (reply : Reply)
-    → DoesCommand old host lun cdb payload reply new → is_busy reply.status ≡ true → LeavesBlocks old new
+    → DoesCommand old host lun cdb payload reply new → is_busy reply.status ≡ true → LeavesStorage old new
 leaves_blocks old new host lun cdb payload reply does is =
     elim does [
       | inl did ↦

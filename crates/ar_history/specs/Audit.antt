@@ -49,14 +49,14 @@ pub record IsSame (test : Bool) (one other : Exchange) : Type 0 where
 
 -- A command of a host's part is in the history at `place`, after `position` others of the part, and its reply is that
 -- of its unit, as the unit's own create, resize, delete and I/O commands before it have made it.
-pub record StandsAt (history : List Entry) (number position : ℕ) (exchange : Exchange) (place : ℕ) (host : Host) : Type 0 where
+pub record IsExecutedAt (history : List Entry) (number position : ℕ) (exchange : Exchange) (place : ℕ) (host : Host) : Type 0 where
   pub entry : slice_get history place ≡ Some (Cmd host exchange)
   pub host_is : host.number ≡ number
   pub before : part number (take place history) ≡ take position (part number history)
   pub reply : exchange.reply ≡ (answer (replay (take place history) (number, exchange.lun)) exchange.cdb exchange.payload).reply
 
 -- each command of a transcript is in the history so
-abbrev pub IsIsolated : List Entry → SeatState → Type 0
-IsIsolated history seat =
+abbrev pub IsTranscriptIsolated : List Entry → SeatState → Type 0
+IsTranscriptIsolated history seat =
     (position : ℕ) (exchange : Exchange) → slice_get seat.transcript position ≡ Some exchange
-    → (place : ℕ) × (host : Host) × StandsAt history seat.host.number position exchange place host
+    → (place : ℕ) × (host : Host) × IsExecutedAt history seat.host.number position exchange place host

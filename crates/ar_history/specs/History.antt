@@ -1,6 +1,6 @@
 -- A history: what was done to units, in the order in which it was done.
 use Rattle.std.specs.Prelude.{◌≡◌, ℕ, ◌<◌, ◌≤◌, Bool, true, false, ◌==◌, if◌then◌else◌, Some, List, [], ◌∷◌, take, slice_get}
-use Rattle.ar_unit.specs.Unit.{UnitState, Absent, Entry as UnitEntry, Make as UnitMake, Grow as UnitGrow, Remove as UnitRemove, Cmd as UnitCmd, answer, unit_run}
+use Rattle.ar_unit.specs.Unit.{UnitState, Absent, UnitEntry, Make as UnitMake, Grow as UnitGrow, Remove as UnitRemove, Cmd as UnitCmd, answer, unit_run}
 use Rattle.ar_unit.specs.Broken.{shape_of}
 use Rattle.ar_volume.specs.Sectors.{Address, address_of, same_address}
 use Rattle.ar_history.specs.declared.entry.Exchange.{Exchange}

@@ -31,7 +31,7 @@ pub record SameLength (one other : UnitState) : Type 0 where
 
 -- The history is legal, and until data loss each unit is what the history makes it. Presence and length hold on a
 -- failed array, too; there a pending UNIT ATTENTION is reported without an entry.
-pub record IsKept (s : ArrayState) (history : List Entry) : Type 0 where
+pub record HistoryAgrees (s : ArrayState) (history : List Entry) : Type 0 where
   pub legal : IsLegal history
   pub images : is_broken s ≡ false → (a : Address) → image s a ≡ replay history a
   pub lengths : (a : Address) → SameLength (image s a) (replay history a)
@@ -42,18 +42,18 @@ with_attention mark Absent = Absent
 with_attention mark (Present sectors attention) = Present sectors mark
 
 -- the unit that the history makes, with the array's own pending UNIT ATTENTION: on a failed array they may differ
-abbrev pub standing : KeptState → Address → UnitState
-standing k a = with_attention (shape_of (image k.array a)).attention (replay k.history a)
+abbrev pub history_unit : KeptState → Address → UnitState
+history_unit k a = with_attention (shape_of (image k.array a)).attention (replay k.history a)
 
 -- a command and its reply
 abbrev pub exchange_of : ℕ → List ℕ → List ℕ → Reply → Exchange
 exchange_of lun cdb payload reply = record { lun = lun; cdb = cdb; payload = payload; reply = reply }
 
 -- the entry of an event in the history: a create, resize or delete that was done, or a command whose reply isn't BUSY
-abbrev pub entry_of : Event → Outcome → List Entry
-entry_of (MakeEvent addr sectors) (MakeOutcome (Ok done)) = Make addr sectors ∷ []
-entry_of (GrowEvent addr sectors) (GrowOutcome (Ok done)) = Grow addr sectors ∷ []
-entry_of (RemoveEvent addr) (RemoveOutcome (Ok done)) = Remove addr ∷ []
-entry_of (CmdEvent host lun cdb payload) (CmdOutcome reply) =
+abbrev pub history_entry : Event → Outcome → List Entry
+history_entry (MakeEvent addr sectors) (MakeOutcome (Ok done)) = Make addr sectors ∷ []
+history_entry (GrowEvent addr sectors) (GrowOutcome (Ok done)) = Grow addr sectors ∷ []
+history_entry (RemoveEvent addr) (RemoveOutcome (Ok done)) = Remove addr ∷ []
+history_entry (CmdEvent host lun cdb payload) (CmdOutcome reply) =
     if is_busy reply.status then [] else Cmd host (exchange_of lun cdb payload reply) ∷ []
-entry_of event outcome = []
+history_entry event outcome = []

@@ -26,12 +26,12 @@ event_of (DiskOut disk) = events.DiskOut disk
 event_of (Replace number disk) = events.Replace number disk
 
 -- the event of a piece of background work
-abbrev pub event_in : Task → Event
-event_in Flush = events.Flush
-event_in Rebuild = events.Rebuild
-event_in Clean = events.Clean
-event_in Balance = events.Balance
-event_in Demote = events.Demote
+abbrev pub event_of_task : Task → Event
+event_of_task Flush = events.Flush
+event_of_task Rebuild = events.Rebuild
+event_of_task Clean = events.Clean
+event_of_task Balance = events.Balance
+event_of_task Demote = events.Demote
 
 -- the entry of a create, resize or delete, if it is done
 abbrev pub entry_asked : Event → Option Entry

@@ -14,7 +14,7 @@ use Rattle.ar_core.specs.declared.event.OutcomeOf.TheVariants.{Cmd as CmdOutcome
 use Rattle.ar_history.specs.declared.entry.Exchange.{Exchange}
 use Rattle.ar_history.specs.declared.entry.Entry.TheVariants.{Cmd}
 use Rattle.ar_history.specs.History.{replay}
-use Rattle.ar_history.specs.Kept.{KeptState, exchange_of, standing}
+use Rattle.ar_history.specs.Kept.{KeptState, exchange_of, history_unit}
 use Rattle.ar_history.specs.Operations.{Does}
 use Rattle.ar_history.specs.Seat.{SeatState}
 
@@ -47,18 +47,18 @@ pub record IsUnrecorded (old : KeptState) (before : SeatState) (lun : ℕ) (cdb 
   pub images : is_broken new.array ≡ false → (a : Address) → image new.array a ≡ image old.array a
   pub broken :
       is_broken new.array ≡ true
-      → IsGiven (where_broken cdb (answer (standing old (before.host.number, lun)) cdb payload).reply) reply
+      → IsGiven (where_broken cdb (answer (history_unit old (before.host.number, lun)) cdb payload).reply) reply
   -- presence, length and pending UNIT ATTENTION of each unit are then what the command leaves of them
   pub shapes :
       is_broken new.array ≡ true
       → (a : Address)
       → shape_of (image new.array a)
-      ≡ shape_of (unit_run (standing old a) (entry_at a (CmdEvent before.host lun cdb payload) (CmdOutcome reply)))
+      ≡ shape_of (unit_run (history_unit old a) (entry_at a (CmdEvent before.host lun cdb payload) (CmdOutcome reply)))
 
 -- recorded at the position of its entry, or not recorded
-abbrev pub Serves : KeptState → SeatState → ℕ → List ℕ → List ℕ → Reply → Option ℕ → KeptState → SeatState → Type 0
-Serves old before lun cdb payload reply (Some position) new after = IsRecorded old before lun cdb payload reply position new after
-Serves old before lun cdb payload reply None new after = IsUnrecorded old before lun cdb payload reply new after
+abbrev pub ServesHost : KeptState → SeatState → ℕ → List ℕ → List ℕ → Reply → Option ℕ → KeptState → SeatState → Type 0
+ServesHost old before lun cdb payload reply (Some position) new after = IsRecorded old before lun cdb payload reply position new after
+ServesHost old before lun cdb payload reply None new after = IsUnrecorded old before lun cdb payload reply new after
 
 -- the array executed the command, but the bytes of its reply couldn't be shared, and BUSY replaces it
 pub record IsUncopied (old : ArrayState) (host : Host) (lun : ℕ) (cdb payload : List ℕ) (reply : Reply) (new : ArrayState) : Type 0 where
@@ -80,13 +80,13 @@ DoesCommand old host lun cdb payload reply new =
 
 -- history and transcript have capacity for one more command, from before or reserved for it, and it has no data to
 -- share
-pub record HasPlace (old new : KeptState) (before after : SeatState) (payload : List ℕ) : Type 0 where
+pub record HasCapacity (old new : KeptState) (before after : SeatState) (payload : List ℕ) : Type 0 where
   pub history : length old.history < new.room
   pub transcript : length before.transcript < after.room
   pub no_data : payload ≡ []
 
 -- no table, no cache entry and no row of any disk has changed
-pub record LeavesBlocks (old new : ArrayState) : Type 0 where
+pub record LeavesStorage (old new : ArrayState) : Type 0 where
   pub tables : new.store.book ≡ old.store.book
   pub cache : new.cache ≡ old.cache
   pub rows : Keeps Anywhere old.store.disks new.store.disks

@@ -1,6 +1,6 @@
 // The audit: each host's transcript must equal its part of the history.
 ghost use Rattle.std.specs.Prelude.{◌≡◌, ◌≤◌, ◌∷◌, [], Some, None, All, IfOk, OnOk, IfErr, MatchOption, map, sum, count_by, length};
-ghost use Rattle.ar_history.specs.Audit.{DiffersAt, IsHostsPart, IsFirstMismatch, IsIsolated, Agrees, Departs, command_of, IsSame};
+ghost use Rattle.ar_history.specs.Audit.{DiffersAt, IsHostsPart, IsFirstMismatch, IsTranscriptIsolated, Agrees, Departs, command_of, IsSame};
 ghost use Rattle.ar_history.specs.History.{IsLegal, is_command, part};
 ghost use Rattle.ar_history.specs.Seat.{SeatState};
 
@@ -36,7 +36,7 @@ impl<D: Disk, L: Ledger> Kept<D, L> {
         // If all four agree.
         ensures parts { OnOk result (All (IsHostsPart self.now.history) seats.now) }
         ensures commands { IfOk result (λ report. report.commands ≡ map (λ (s : SeatState). length s.transcript) seats.now) }
-        ensures isolated { OnOk result (All (IsIsolated self.now.history) seats.now) }
+        ensures isolated { OnOk result (All (IsTranscriptIsolated self.now.history) seats.now) }
         ensures none_else { IfOk result (λ report. sum report.commands ≡ count_by is_command self.now.history) }
 
         // If they don't.

@@ -5,7 +5,7 @@ ghost use Rattle.ar_volume.specs.Image.{is_broken};
 ghost use Rattle.ar_scsi.specs.Reply.{busy};
 ghost use Rattle.ar_core.specs.Step.{Steps, is_busy};
 ghost use Rattle.ar_history.specs.Kept.{MayDouble, exchange_of};
-ghost use Rattle.ar_history.specs.Serving.{Serves, Begins, DoesCommand, HasPlace, LeavesBlocks, GrowsNothing, IsBusyFor, with_reply};
+ghost use Rattle.ar_history.specs.Serving.{ServesHost, Begins, DoesCommand, HasCapacity, LeavesStorage, GrowsNothing, IsBusyFor, with_reply};
 
 use crate::entry::shared;
 use crate::operate::{is_lost, reserve_place};
@@ -27,7 +27,7 @@ pub struct Served {
 
 // The copies of a command for history and transcript, before its reply.
 #[derive(Drop)]
-struct Draft {
+struct Copies {
     ours: Exchange,
     theirs: Exchange,
 }
@@ -39,16 +39,16 @@ impl<D: Disk + Drop, L: Ledger> Kept<D, L> {
     /// command isn't begun; if the bytes of its reply can't be shared, it is BUSY, too, and no unit has changed. A
     /// failed array records nothing, and nothing is allocated to record it.
     pub fn host(&mut self, seat: &mut Seat<L>, lun: u8, cdb: [u8; 16], payload: Bytes) -> Served
-        ensures serves { Serves self.old seat.old lun cdb payload result.reply result.at self.new seat.new }
+        ensures serves { ServesHost self.old seat.old lun cdb payload result.reply result.at self.new seat.new }
         ensures does { DoesCommand self.old.array seat.old.host lun cdb payload result.reply self.new.array }
         ensures host { seat.new.host ≡ seat.old.host }
 
         // Out of memory, and what BUSY leaves unchanged.
-        ensures begun { HasPlace self.old self.new seat.old seat.new payload
+        ensures begun { HasCapacity self.old self.new seat.old seat.new payload
             → Begins self.old.array seat.old.host lun cdb payload result.reply self.new.array }
         ensures unbegun { self.new.room ≡ length self.old.history → is_broken self.old.array ≡ false → self.new.array ≡ self.old.array }
         ensures seat_unbegun { seat.new.room ≡ length seat.old.transcript → is_broken self.old.array ≡ false → self.new.array ≡ self.old.array }
-        ensures busy { is_busy result.reply.status ≡ true → LeavesBlocks self.old.array self.new.array }
+        ensures busy { is_busy result.reply.status ≡ true → LeavesStorage self.old.array self.new.array }
         ensures lost { is_broken self.old.array ≡ true → GrowsNothing self.old seat.old self.new seat.new }
 
         // A list with capacity left keeps it; a full one may double it.
@@ -62,8 +62,8 @@ impl<D: Disk + Drop, L: Ledger> Kept<D, L> {
         if is_lost(&self.array) {
             return self.unrecorded(seat.host, lun, cdb, payload);
         }
-        match self.draft(seat, lun, cdb, &payload) {
-            Ok(draft) => self.serve(seat, draft, payload),
+        match self.prepare(seat, lun, cdb, &payload) {
+            Ok(copies) => self.execute_prepared(seat, copies, payload),
             Err(_) => Served::busy(),
         }
     }
@@ -82,18 +82,18 @@ impl<D: Disk + Drop, L: Ledger> Kept<D, L> {
     }
 
     // Reserves capacity in history and transcript, and makes both copies of a command.
-    fn draft(
+    fn prepare(
         &mut self,
         seat: &mut Seat<L>,
         lun: u8,
         cdb: [u8; 16],
         payload: &Bytes,
-    ) -> Result<Draft, AllocError>
-        ensures ours { IfOk result (λ draft. draft.ours ≡ exchange_of lun cdb payload.now busy) }
-        ensures theirs { IfOk result (λ draft. draft.theirs ≡ exchange_of lun cdb payload.now busy) }
+    ) -> Result<Copies, AllocError>
+        ensures ours { IfOk result (λ copies. copies.ours ≡ exchange_of lun cdb payload.now busy) }
+        ensures theirs { IfOk result (λ copies. copies.theirs ≡ exchange_of lun cdb payload.now busy) }
         ensures room { OnOk result (length self.new.history < self.new.room) }
         ensures seat_room { OnOk result (length seat.new.transcript < seat.new.room) }
-        ensures granted { HasPlace self.old self.new seat.old seat.new payload.now → IsOk result }
+        ensures granted { HasCapacity self.old self.new seat.old seat.new payload.now → IsOk result }
         ensures placed { length self.old.history < self.old.room → self.new.room ≡ self.old.room }
         ensures seat_placed { length seat.old.transcript < seat.old.room → seat.new.room ≡ seat.old.room }
         ensures grown { MayDouble self.old.room self.new.room }
@@ -107,19 +107,19 @@ impl<D: Disk + Drop, L: Ledger> Kept<D, L> {
     {
         reserve_place(&mut self.history)?;
         reserve_place(&mut seat.transcript)?;
-        Draft::new(lun, cdb, payload)
+        Copies::new(lun, cdb, payload)
     }
 
     // Executes a command for which capacity is reserved, and records it unless the reply is BUSY or the array fails.
-    fn serve(&mut self, seat: &mut Seat<L>, draft: Draft, payload: Bytes) -> Served
+    fn execute_prepared(&mut self, seat: &mut Seat<L>, copies: Copies, payload: Bytes) -> Served
         requires sound { is_broken self.old.array ≡ false }
-        requires same { draft.theirs ≡ draft.ours }
-        requires payload { draft.ours.payload ≡ payload }
+        requires same { copies.theirs ≡ copies.ours }
+        requires payload { copies.ours.payload ≡ payload }
         requires room { length self.old.history < self.old.room }
         requires seat_room { length seat.old.transcript < seat.old.room }
 
-        ensures serves { Serves self.old seat.old draft.ours.lun draft.ours.cdb payload result.reply result.at self.new seat.new }
-        ensures begun { Begins self.old.array seat.old.host draft.ours.lun draft.ours.cdb payload result.reply self.new.array }
+        ensures serves { ServesHost self.old seat.old copies.ours.lun copies.ours.cdb payload result.reply result.at self.new seat.new }
+        ensures begun { Begins self.old.array seat.old.host copies.ours.lun copies.ours.cdb payload result.reply self.new.array }
         ensures host { seat.new.host ≡ seat.old.host }
 
         ensures kept_room { self.new.room ≡ self.old.room }
@@ -129,18 +129,18 @@ impl<D: Disk + Drop, L: Ledger> Kept<D, L> {
             &mut self.array,
             self.alloc,
             seat.host,
-            draft.ours.lun,
-            draft.ours.cdb,
+            copies.ours.lun,
+            copies.ours.cdb,
             payload,
         );
         if is_lost(&self.array) {
             return Served { reply, at: None };
         }
-        let mut draft = draft;
-        if !draft.answer(&reply) {
+        let mut copies = copies;
+        if !copies.answer(&reply) {
             return Served::busy();
         }
-        let at = record(&mut self.history, &mut self.book, seat, draft);
+        let at = record(&mut self.history, &mut self.book, seat, copies);
         Served {
             reply,
             at: Some(at),
@@ -161,14 +161,14 @@ impl Served {
     }
 }
 
-impl Draft {
+impl Copies {
     // Two copies of a command that share its data; without data it never fails.
-    fn new(lun: u8, cdb: [u8; 16], payload: &Bytes) -> Result<Draft, AllocError>
+    fn new(lun: u8, cdb: [u8; 16], payload: &Bytes) -> Result<Copies, AllocError>
         ensures granted { payload.now ≡ [] → IsOk result }
-        ensures ours { IfOk result (λ draft. draft.ours ≡ exchange_of lun cdb payload.now busy) }
-        ensures theirs { IfOk result (λ draft. draft.theirs ≡ exchange_of lun cdb payload.now busy) }
+        ensures ours { IfOk result (λ copies. copies.ours ≡ exchange_of lun cdb payload.now busy) }
+        ensures theirs { IfOk result (λ copies. copies.theirs ≡ exchange_of lun cdb payload.now busy) }
     {
-        Ok(Draft {
+        Ok(Copies {
             ours: exchange(lun, cdb, payload)?,
             theirs: exchange(lun, cdb, payload)?,
         })
@@ -237,21 +237,21 @@ fn record<L: Ledger>(
     history: &mut Vec<Entry>,
     book: &mut Book<L>,
     seat: &mut Seat<L>,
-    draft: Draft,
+    copies: Copies,
 ) -> u64
     requires room { vec_len history.old < vec_capacity history.old }
     requires seat_room { length seat.old.transcript < seat.old.room }
 
     ensures position { result ≡ length history.old.items }
-    ensures history { history.new.items ≡ history.old.items ++ Entry.Cmd seat.old.host draft.ours ∷ [] }
+    ensures history { history.new.items ≡ history.old.items ++ Entry.Cmd seat.old.host copies.ours ∷ [] }
     ensures total { book.new.total ≡ book.old.total + 1 }
-    ensures transcript { seat.new.transcript ≡ seat.old.transcript ++ draft.theirs ∷ [] }
+    ensures transcript { seat.new.transcript ≡ seat.old.transcript ++ copies.theirs ∷ [] }
     ensures host { seat.new.host ≡ seat.old.host }
 
     ensures kept_room { vec_capacity history.new ≡ vec_capacity history.old }
     ensures kept_seat_room { seat.new.room ≡ seat.old.room }
 {
-    let Draft { ours, theirs } = draft;
+    let Copies { ours, theirs } = copies;
     let at = history.len() as u64;
     history.push_reserved(Entry::Cmd(seat.host, ours));
     seat.append(book, theirs);

@@ -1,8 +1,8 @@
 // The array and its history. Until data loss every unit is what its entries make it; presence and length stay so for
-// good (`IsKept`). The ledger's total is the number of commands in the history.
+// good (`HistoryAgrees`). The ledger's total is the number of commands in the history.
 ghost use Rattle.std.specs.Prelude.{◌≡◌, ◌<◌, ◌+◌, [], ◌∷◌, map};
 ghost use Rattle.ar_book.specs.Tables.{free_groups};
-ghost use Rattle.ar_history.specs.Kept.{IsKept};
+ghost use Rattle.ar_history.specs.Kept.{HistoryAgrees};
 ghost use Rattle.ar_history.specs.Seat.{SeatState};
 
 use crate::{Entry, Seat};
@@ -28,13 +28,13 @@ pub struct Kept<D: Disk, L: Ledger> {
 impl<D: Disk, L: Ledger> Model for Kept<D, L> {
     ghost use Rattle.std.specs.Prelude.{◌≡◌, count_by, vec_capacity};
     ghost use Rattle.ar_history.specs.History.{is_command};
-    ghost use Rattle.ar_history.specs.Kept.{KeptState, IsKept};
+    ghost use Rattle.ar_history.specs.Kept.{KeptState, HistoryAgrees};
 
     ghost Value = { KeptState };
 
     ghost view = { λ k. record { array = k.array; history = k.history.items; room = vec_capacity k.history } };
 
-    ghost invariant = { λ k. IsKept k.array k.history.items × (k.book.total ≡ count_by is_command k.history.items) };
+    ghost invariant = { λ k. HistoryAgrees k.array k.history.items × (k.book.total ≡ count_by is_command k.history.items) };
 }
 
 impl<D: Disk, L: Ledger> Kept<D, L> {
@@ -67,7 +67,7 @@ impl<D: Disk, L: Ledger> Kept<D, L> {
     /// data loss its contents, and for good its presence and length.
     pub fn history(&self) -> &[Entry]
         ensures history { result.now ≡ self.now.history }
-        ensures kept { IsKept self.now.array self.now.history }
+        ensures kept { HistoryAgrees self.now.array self.now.history }
     {
         self.history.as_slice()
     }

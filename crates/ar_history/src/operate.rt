@@ -4,8 +4,8 @@ ghost use Rattle.std.specs.Prelude.{◌≡◌, ◌≢◌, ◌⊎◌, ◌<◌, �
 ghost use Rattle.ar_volume.specs.Image.{is_broken, image};
 ghost use Rattle.ar_volume.specs.Sectors.{Address};
 ghost use Rattle.ar_core.specs.Step.{Steps, is_quiet};
-ghost use Rattle.ar_history.specs.Kept.{MayDouble, entry_of};
-ghost use Rattle.ar_history.specs.Operations.{Does, IsRefused, event_of, event_in, entry_asked, is_done};
+ghost use Rattle.ar_history.specs.Kept.{MayDouble, history_entry};
+ghost use Rattle.ar_history.specs.Operations.{Does, IsRefused, event_of, event_of_task, entry_asked, is_done};
 
 use crate::{Entry, Kept, Operation, OperationOf, Task};
 use ar_core::{Array, Event, EventOf, Health, Outcome, OutcomeOf, Refusal, UnitRefusal};
@@ -25,7 +25,7 @@ impl<D: Disk + Drop, L: Ledger> Kept<D, L> {
     /// refuses these three.
     pub fn operate(&mut self, operation: Operation<D>) -> Outcome<D>
         ensures does { Does self.old.array (event_of operation) result self.new.array }
-        ensures recorded { self.new.history ≡ self.old.history ++ entry_of (event_of operation) result }
+        ensures recorded { self.new.history ≡ self.old.history ++ history_entry (event_of operation) result }
 
         // The operation fails for lack of memory only if the history has no capacity and gets none, or if the array
         // says so.
@@ -50,7 +50,7 @@ impl<D: Disk + Drop, L: Ledger> Kept<D, L> {
     /// Executes one piece of background work and returns the array's outcome. The history doesn't change, nor until
     /// data loss does any unit.
     pub fn background(&mut self, task: Task) -> Outcome<D>
-        ensures steps { Steps self.old.array (event_in task) result self.new.array }
+        ensures steps { Steps self.old.array (event_of_task task) result self.new.array }
         ensures history { self.new.history ≡ self.old.history }
         ensures room { self.new.room ≡ self.old.room }
         ensures images { is_broken self.new.array ≡ false → (a : Address) → image self.new.array a ≡ image self.old.array a }
@@ -66,7 +66,7 @@ impl<D: Disk + Drop, L: Ledger> Kept<D, L> {
 
     fn make(&mut self, addr: Addr, sectors: u32) -> Outcome<D>
         ensures does { Does self.old.array (EventOf.Make addr sectors) result self.new.array }
-        ensures recorded { self.new.history ≡ self.old.history ++ entry_of (EventOf.Make addr sectors) result }
+        ensures recorded { self.new.history ≡ self.old.history ++ history_entry (EventOf.Make addr sectors) result }
         ensures begun { length self.old.history < self.new.room → Steps self.old.array (EventOf.Make addr sectors) result self.new.array }
         ensures unbegun { self.new.room ≡ length self.old.history → is_broken self.old.array ≡ false
             → IsRefused self.old.array (EventOf.Make addr sectors) result self.new.array }
@@ -82,7 +82,7 @@ impl<D: Disk + Drop, L: Ledger> Kept<D, L> {
 
     fn grow(&mut self, addr: Addr, sectors: u32) -> Outcome<D>
         ensures does { Does self.old.array (EventOf.Grow addr sectors) result self.new.array }
-        ensures recorded { self.new.history ≡ self.old.history ++ entry_of (EventOf.Grow addr sectors) result }
+        ensures recorded { self.new.history ≡ self.old.history ++ history_entry (EventOf.Grow addr sectors) result }
         ensures begun { length self.old.history < self.new.room → Steps self.old.array (EventOf.Grow addr sectors) result self.new.array }
         ensures unbegun { self.new.room ≡ length self.old.history → is_broken self.old.array ≡ false
             → IsRefused self.old.array (EventOf.Grow addr sectors) result self.new.array }
@@ -98,7 +98,7 @@ impl<D: Disk + Drop, L: Ledger> Kept<D, L> {
 
     fn remove(&mut self, addr: Addr) -> Outcome<D>
         ensures does { Does self.old.array (EventOf.Remove addr) result self.new.array }
-        ensures recorded { self.new.history ≡ self.old.history ++ entry_of (EventOf.Remove addr) result }
+        ensures recorded { self.new.history ≡ self.old.history ++ history_entry (EventOf.Remove addr) result }
         ensures begun { length self.old.history < self.new.room → Steps self.old.array (EventOf.Remove addr) result self.new.array }
         ensures unbegun { self.new.room ≡ length self.old.history → is_broken self.old.array ≡ false
             → IsRefused self.old.array (EventOf.Remove addr) result self.new.array }
@@ -128,7 +128,7 @@ impl<D: Disk + Drop, L: Ledger> Kept<D, L> {
         requires asked { entry_asked event ≡ Some entry }
         requires room { is_broken self.old.array ≡ false → length self.old.history < self.old.room }
         ensures steps { Steps self.old.array event result self.new.array }
-        ensures recorded { self.new.history ≡ self.old.history ++ entry_of event result }
+        ensures recorded { self.new.history ≡ self.old.history ++ history_entry event result }
         ensures room { self.new.room ≡ self.old.room }
     {
         let outcome = self.array.step(self.alloc, event);

@@ -8,7 +8,7 @@ use Rattle.std.proofs.lemmas.List.Sums.{sum_by-set, sum_by-cons, sum_by-append, 
 use Rattle.ar_disks.specs.declared.address.Addr.{Addr}
 use Rattle.ar_index.specs.declared.choices.Choices.{Choices}
 use Rattle.ar_index.specs.Choices.{nothing, search_all}
-use Rattle.ar_index.specs.Tree.{node_at, AreJoinedBut, IsGrown, IsKept, leaves_in, free_in, leaves_under}
+use Rattle.ar_index.specs.Tree.{node_at, AreJoinedBut, IsGrown, IsValidTree, leaves_in, free_in, leaves_under}
 use Rattle.ar_index.proofs.Search.{root, search_behind}
 
 module _ (size leaf : ℕ) (old new : List Choices) (c : Choices) (put : drop size new ≡ set (drop size old) leaf c) where
@@ -96,7 +96,7 @@ few_steps size leaf count before after nodes ok few inside close most on =
     ]
 
 -- a tree that is kept, and the choices at its root
-pub best_kept : (place : Addr → ℕ) (size count free : ℕ) (nodes : List Choices) → IsKept size count free nodes → AreJoinedBut place size nodes 0 → 0 < size
+pub best_kept : (place : Addr → ℕ) (size count free : ℕ) (nodes : List Choices) → IsValidTree size count free nodes → AreJoinedBut place size nodes 0 → 0 < size
     → node_at nodes 1 ≡ search_all place (leaves_in size count nodes)
 best_kept place size count free nodes ok joined some =
     let p = ok.grown.height some in
@@ -104,9 +104,9 @@ best_kept place size count free nodes ok joined some =
     ∙ search_behind place (drop size nodes) count (λ i h. get_or-drop size nodes i nothing ∙ ok.grown.empty (size + i) (omega arith))
 
 -- the choices of a leaf are put
-module _ (size count free leaf : ℕ) (old new : List Choices) (c : Choices) (ok : IsKept size count free old) (inside : leaf < count)
+module _ (size count free leaf : ℕ) (old new : List Choices) (c : Choices) (ok : IsValidTree size count free old) (inside : leaf < count)
     (twice : length new ≡ 2 * size) (put : drop size new ≡ set (drop size old) leaf c) where
-  pub set_kept : (now : ℕ) → now + one_if_free (node_at old (size + leaf)) ≡ free + one_if_free c → IsKept size count now new
+  pub set_kept : (now : ℕ) → now + one_if_free (node_at old (size + leaf)) ≡ free + one_if_free c → IsValidTree size count now new
   set_kept now e =
       let before : get_or (leaves_in size count old) leaf nothing ≡ node_at old (size + leaf) = leaf_at size count leaf old inside in
       let all : free_in (set (leaves_in size count old) leaf c) + one_if_free (get_or (leaves_in size count old) leaf nothing) ≡ free_in (leaves_in size count old) + one_if_free c =
@@ -131,13 +131,13 @@ pub seen_inside : (size count leaf : ℕ) (nodes seen : List Choices) → IsGrow
 seen_inside size count leaf nodes seen ok e inside = omega (arith, leaves_count size count nodes ok.twice ok.within, ap length e)
 
 -- the choices of a leaf are put behind the others, after room was made for it
-module _ (size more count free : ℕ) (old mid new : List Choices) (c : Choices) (ok : IsKept size count free old) (grown : IsGrown more count mid)
+module _ (size more count free : ℕ) (old mid new : List Choices) (c : Choices) (ok : IsValidTree size count free old) (grown : IsGrown more count mid)
     (room : (count < more) × (more ≤ 2 * (count + 1) - 1)) (same : leaves_in more count mid ≡ leaves_in size count old)
     (twice : length new ≡ 2 * more) (put : drop more new ≡ set (drop more mid) count c) where
   pub push_leaves : leaves_in more (count + 1) new ≡ leaves_in size count old ++ c ∷ []
   push_leaves = put_behind more count mid new c put grown.twice room.0 ∙ ap (λ xs. xs ++ c ∷ []) same
 
-  pub push_kept : (now : ℕ) → now ≡ free + one_if_free c → IsKept more (count + 1) now new
+  pub push_kept : (now : ℕ) → now ≡ free + one_if_free c → IsValidTree more (count + 1) now new
   push_kept now e =
       let after : free_in (leaves_in more (count + 1) new) ≡ free_in (leaves_in size count old ++ c ∷ []) = ap free_in push_leaves in
       let all : free_in (leaves_in size count old ++ c ∷ []) ≡ free_in (leaves_in size count old) + free_in (c ∷ []) = sum_by-append one_if_free (leaves_in size count old) (c ∷ []) in

@@ -72,7 +72,7 @@ pub record IsGrown (size count : ℕ) (nodes : List Choices) : Type 0 where
   pub empty : (i : ℕ) → size + count ≤ i → node_at nodes i ≡ nothing
 
 -- the tree's invariant: fewer than twice as many leaves as groups, and the free groups are counted
-pub record IsKept (size count free : ℕ) (nodes : List Choices) : Type 0 where
+pub record IsValidTree (size count free : ℕ) (nodes : List Choices) : Type 0 where
   pub grown : IsGrown size count nodes
   pub close : size ≤ 2 * count - 1
   pub counted : free ≡ free_in (leaves_in size count nodes)

@@ -29,13 +29,13 @@ pub struct Tree {
 }
 
 impl Model for Tree {
-    ghost use Rattle.ar_index.specs.Tree.{TreeState, IsKept};
+    ghost use Rattle.ar_index.specs.Tree.{TreeState, IsValidTree};
 
     ghost Value = { TreeState };
 
     ghost view = { λ t. record { size = t.size; count = t.count; nodes = t.nodes.items } };
 
-    ghost invariant = { λ t. IsKept t.size t.count t.free t.nodes.items };
+    ghost invariant = { λ t. IsValidTree t.size t.count t.free t.nodes.items };
 }
 
 // The number of free groups after one of them changes from `was` free, or not, to `is`.

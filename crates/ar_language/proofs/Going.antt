@@ -13,8 +13,8 @@ use Rattle.ar_language.specs.declared.fault.FaultKind.TheVariants.{LineTooLong, 
 use Rattle.ar_language.specs.declared.fault.Fault.{Fault}
 use Rattle.ar_language.specs.declared.fault.Fault.TheVariants.{Start, Line}
 use Rattle.ar_language.specs.declared.lines.Lines.{Lines}
-use Rattle.ar_language.specs.Lines.{lines_in, lines_of, first_of, front_of, line_fault, bytes_left, Took, HasNoEnd, is_printable, IsLine, IsFirst, IsLacking, IsAllTaken, AreThere, IsFaultFrom, IsUnasked, IsToldOfFirst, IsToldOfNext, StopsAt, is_given, IsReached, IsNumbered, IsOfNext}
-use Rattle.ar_language.specs.Left.{bytes_read, lines_begun, lines_left, IsBegunByByte, IsRefused, GoesOn}
+use Rattle.ar_language.specs.Lines.{lines_in, lines_of, first_of, front_of, line_fault, bytes_left, Took, HasNoEnd, is_printable, IsLine, IsFirst, IsLacking, IsAllTaken, AreThere, IsFaultFrom, IsUnasked, IsToldOfFirst, IsToldOfNext, IsNextLineFault, is_given, IsReached, IsNumbered, IsOfNext}
+use Rattle.ar_language.specs.Left.{bytes_read, lines_begun, lines_left, IsBegunByByte, IsLineRefused, GoesOn}
 use Rattle.ar_language.proofs.Parting.{lines_in-ended, lines_in-last, some_line, printable_has_no_end}
 
 -- what comes behind the bytes that were read: nothing, where the end was met
@@ -89,7 +89,7 @@ told_more read None some = tt
 told_more [] (Some xs) some = absurd (some refl)
 told_more (x ∷ read) (Some xs) some = inr (inr (refl, some_line (x ∷ (read ++ xs)) (λ e. cc)))
 
-pub refused_line : {R : Type 0} {reads : Ghosts R} (lines : Lines R reads) (begun : Bool) (fault : Fault) → IsRefused lines begun fault → StopsAt (lines_left lines) fault
+pub refused_line : {R : Type 0} {reads : Ghosts R} (lines : Lines R reads) (begun : Bool) (fault : Fault) → IsLineRefused lines begun fault → IsNextLineFault (lines_left lines) fault
 refused_line lines begun Start is = absurd is
 refused_line lines begun (Line n kind) is =
     subst (λ l. IsToldOfNext l kind) (sym (left_of lines))
@@ -99,7 +99,7 @@ refused_line lines begun (Line n kind) is =
     ])
 
 -- and where none was taken before
-pub stops_later : (old mid : Option (List (List ℕ))) (fault : Fault) → Took old mid [] → StopsAt mid fault → StopsAt old fault
+pub stops_later : (old mid : Option (List (List ℕ))) (fault : Fault) → Took old mid [] → IsNextLineFault mid fault → IsNextLineFault old fault
 stops_later old mid Start kept stops = absurd stops
 stops_later None mid (Line n kind) kept stops = tt
 stops_later (Some all) None (Line n kind) kept stops = absurd kept
@@ -205,7 +205,7 @@ told_at given n false kind few is (inr wrong) = absurd (let no = wrong.1 in cc)
 -- a line was refused
 pub goes_refused : {R : Type 0} {reads : Ghosts R} (old new : Lines R reads) (fault : Fault) (result : Result Bool Fault) → result ≡ Err fault
     → IsUnasked old.source new.source → new.is_at_end ≡ old.is_at_end → bytes_read new ≡ bytes_read old → new.given ≡ old.given
-    → IsRefused old new.is_begun fault → GoesOn old result new
+    → IsLineRefused old new.is_begun fault → GoesOn old result new
 goes_refused old new Start result is unasked ended same count refused = absurd refused
 goes_refused old new (Line n kind) result is unasked ended same count refused =
     subst (λ (r : Result Bool Fault). GoesOn old r new) (sym is)
@@ -226,7 +226,7 @@ goes_refused old new (Line n kind) result is unasked ended same count refused =
     apart : (kind ≢ ReadFault) × (kind ≢ WriteFault)
     apart = elim refused.1 [ inl full ↦ ((let same = full.0 in λ e. cc), (let same = full.0 in λ e. cc)) | inr wrong ↦ ((own_fault (bytes_read old) kind wrong.0).0, (own_fault (bytes_read old) kind wrong.0).1.0) ]
 
-    here : (m : ℕ) (k : FaultKind) → IsRefused old new.is_begun (Line m k) → IsRefused new new.is_begun (Line m k)
+    here : (m : ℕ) (k : FaultKind) → IsLineRefused old new.is_begun (Line m k) → IsLineRefused new new.is_begun (Line m k)
     here m k is = (
       is.0 ∙ ap (λ i. i + 1) (sym count),
       elim is.1 [
@@ -261,7 +261,7 @@ goes_later old mid new result kept count goes = record {
   numbered = goes.numbered;
 }
   where
-    stops : (r : Result Bool Fault) → IfErr r (StopsAt (lines_left mid)) → IfErr r (StopsAt (lines_left old))
+    stops : (r : Result Bool Fault) → IfErr r (IsNextLineFault (lines_left mid)) → IfErr r (IsNextLineFault (lines_left old))
     stops (Ok more) told = tt
     stops (Err fault) told = stops_later (lines_left old) (lines_left mid) fault kept told
 

@@ -4,7 +4,7 @@ use Rattle.std.specs.Option.{ok_or}
 use Rattle.ar_language.specs.declared.fault.FaultKind.{FaultKind}
 use Rattle.ar_language.specs.declared.fault.FaultKind.TheVariants.{BadArgument}
 use Rattle.ar_language.specs.declared.order.Order.{Order}
-use Rattle.ar_language.specs.Forms.{Words, Gives, Answers}
+use Rattle.ar_language.specs.Forms.{Words, Gives, ParsesAs}
 
 -- a name that is this text is read as it
 pub named : (Reads : List ℕ → Words → Result Order FaultKind → Type 0) (name text : List ℕ) (words : Words) (r : Result Order FaultKind)
@@ -12,16 +12,16 @@ pub named : (Reads : List ℕ → Words → Result Order FaultKind → Type 0) (
 named Reads name text words r same reads =
     let P : List ℕ → Type 0 = λ n. Reads n words r in subst P (sym same) reads
 
-given : (Form : Type 0) (Asked : Order → Type 0) (o : Option Order) → Gives Form Asked o → Answers Form Asked (ok_or o BadArgument)
+given : (Form : Type 0) (Asked : Order → Type 0) (o : Option Order) → Gives Form Asked o → ParsesAs Form Asked (ok_or o BadArgument)
 given Form Asked None h = (refl, h)
 given Form Asked (Some order) h = h
 
 -- where no order is given the arguments are bad
 pub answered : (Form : Type 0) (Asked : Order → Type 0) (o p : Option Order) (r : Result Order FaultKind)
-    → Gives Form Asked o → p ≡ o → r ≡ ok_or p BadArgument → Answers Form Asked r
+    → Gives Form Asked o → p ≡ o → r ≡ ok_or p BadArgument → ParsesAs Form Asked r
 answered Form Asked o p r gives same value =
     let f : Option Order → Result Order FaultKind = λ x. ok_or x BadArgument in
-    let P : Result Order FaultKind → Type 0 = λ x. Answers Form Asked x in
+    let P : Result Order FaultKind → Type 0 = λ x. ParsesAs Form Asked x in
     subst P (sym (value ∙ ap f same)) (given Form Asked o gives)
 
 -- words of a form that says the same, and orders that are asked for so too

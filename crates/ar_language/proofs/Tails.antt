@@ -7,7 +7,7 @@ use Rattle.ar_language.specs.Words.{IsNumber}
 use Rattle.ar_language.specs.declared.fault.FaultKind.{FaultKind}
 use Rattle.ar_language.specs.declared.fault.FaultKind.TheVariants.{BadArgument}
 use Rattle.ar_language.specs.declared.order.Order.{Order}
-use Rattle.ar_language.specs.Forms.{Words, HasUnit, HasUnitAndNumber, HasSectors, HasWritten, HasBlock, HasRow, HasDisk, IsNumberOf, Answers, ReadsArrayOrder, ReadsCommand, Reads, ReadsNamed, ReadsWords, is_silent, ReadsLine}
+use Rattle.ar_language.specs.Forms.{Words, HasUnit, HasUnitAndNumber, HasSectors, HasSectorsAndByte, HasCommandBlock, HasRowAddress, HasDisk, IsNumberOf, ParsesAs, ReadsArrayOrder, ReadsCommand, ReadsOrder, ReadsNamed, ReadsWords, is_silent, ReadsLine}
 
 -- ---- of seven arguments or more no word has a form
 
@@ -23,13 +23,13 @@ no_number bits words many = λ has. let count = has.count in absurd (omega arith
 no_sectors : (Lba : List ℕ → Type 0) (words : Words) → 7 ≤ length words → ¬ HasSectors Lba words
 no_sectors Lba words many = λ has. let count = has.count in absurd (omega arith)
 
-no_written : (Lba : List ℕ → Type 0) (words : Words) → 7 ≤ length words → ¬ HasWritten Lba words
+no_written : (Lba : List ℕ → Type 0) (words : Words) → 7 ≤ length words → ¬ HasSectorsAndByte Lba words
 no_written Lba words many = λ has. elim has.count [ inl plain ↦ absurd (omega arith) | inr forced ↦ (let count = forced.0 in absurd (omega arith)) ]
 
-no_block : (words : Words) → 7 ≤ length words → ¬ HasBlock words
+no_block : (words : Words) → 7 ≤ length words → ¬ HasCommandBlock words
 no_block words many = λ has. elim has.count [ inl plain ↦ absurd (omega arith) | inr sent ↦ (let count = sent.0 in absurd (omega arith)) ]
 
-no_row : (words : Words) → 7 ≤ length words → ¬ HasRow words
+no_row : (words : Words) → 7 ≤ length words → ¬ HasRowAddress words
 no_row words many = λ has. let count = has.count in absurd (omega arith)
 
 no_disk : (words : Words) → 7 ≤ length words → ¬ HasDisk words
@@ -37,7 +37,7 @@ no_disk words many = λ has. let count = has.count in absurd (omega arith)
 
 -- ---- so that they are answered alike
 
-bad : (F G : Type 0) (A B : Order → Type 0) (r : Result Order FaultKind) → (¬ F) → (¬ G) → Answers F A r → Answers G B r
+bad : (F G : Type 0) (A B : Order → Type 0) (r : Result Order FaultKind) → (¬ F) → (¬ G) → ParsesAs F A r → ParsesAs G B r
 bad F G A B (Ok order) not_f not_g h = absurd (not_f h.0)
 bad F G A B (Err kind) not_f not_g h = (h.0, not_g)
 
@@ -46,28 +46,28 @@ row true P Q R S first other h = first h
 row false P Q R S first other h = other h
 
 module _ (name : List ℕ) (xs ys : Words) (r : Result Order FaultKind) (some : 7 ≤ length xs) (more : 7 ≤ length ys) where
-  alone : (order : Order) → Answers (length xs ≡ 0) (λ given. given ≡ order) r → Answers (length ys ≡ 0) (λ given. given ≡ order) r
+  alone : (order : Order) → ParsesAs (length xs ≡ 0) (λ given. given ≡ order) r → ParsesAs (length ys ≡ 0) (λ given. given ≡ order) r
   alone order = bad (length xs ≡ 0) (length ys ≡ 0) (λ given. given ≡ order) (λ given. given ≡ order) r (no_alone xs some) (no_alone ys more)
 
-  unit : (A B : Order → Type 0) → Answers (HasUnit xs) A r → Answers (HasUnit ys) B r
+  unit : (A B : Order → Type 0) → ParsesAs (HasUnit xs) A r → ParsesAs (HasUnit ys) B r
   unit A B = bad (HasUnit xs) (HasUnit ys) A B r (no_unit xs some) (no_unit ys more)
 
-  number : (bits : ℕ) (A B : Order → Type 0) → Answers (HasUnitAndNumber bits xs) A r → Answers (HasUnitAndNumber bits ys) B r
+  number : (bits : ℕ) (A B : Order → Type 0) → ParsesAs (HasUnitAndNumber bits xs) A r → ParsesAs (HasUnitAndNumber bits ys) B r
   number bits A B = bad (HasUnitAndNumber bits xs) (HasUnitAndNumber bits ys) A B r (no_number bits xs some) (no_number bits ys more)
 
-  sectors : (Lba : List ℕ → Type 0) (A B : Order → Type 0) → Answers (HasSectors Lba xs) A r → Answers (HasSectors Lba ys) B r
+  sectors : (Lba : List ℕ → Type 0) (A B : Order → Type 0) → ParsesAs (HasSectors Lba xs) A r → ParsesAs (HasSectors Lba ys) B r
   sectors Lba A B = bad (HasSectors Lba xs) (HasSectors Lba ys) A B r (no_sectors Lba xs some) (no_sectors Lba ys more)
 
-  written : (Lba : List ℕ → Type 0) (A B : Order → Type 0) → Answers (HasWritten Lba xs) A r → Answers (HasWritten Lba ys) B r
-  written Lba A B = bad (HasWritten Lba xs) (HasWritten Lba ys) A B r (no_written Lba xs some) (no_written Lba ys more)
+  written : (Lba : List ℕ → Type 0) (A B : Order → Type 0) → ParsesAs (HasSectorsAndByte Lba xs) A r → ParsesAs (HasSectorsAndByte Lba ys) B r
+  written Lba A B = bad (HasSectorsAndByte Lba xs) (HasSectorsAndByte Lba ys) A B r (no_written Lba xs some) (no_written Lba ys more)
 
-  block : (A B : Order → Type 0) → Answers (HasBlock xs) A r → Answers (HasBlock ys) B r
-  block A B = bad (HasBlock xs) (HasBlock ys) A B r (no_block xs some) (no_block ys more)
+  block : (A B : Order → Type 0) → ParsesAs (HasCommandBlock xs) A r → ParsesAs (HasCommandBlock ys) B r
+  block A B = bad (HasCommandBlock xs) (HasCommandBlock ys) A B r (no_block xs some) (no_block ys more)
 
-  place : (A B : Order → Type 0) → Answers (HasRow xs) A r → Answers (HasRow ys) B r
-  place A B = bad (HasRow xs) (HasRow ys) A B r (no_row xs some) (no_row ys more)
+  place : (A B : Order → Type 0) → ParsesAs (HasRowAddress xs) A r → ParsesAs (HasRowAddress ys) B r
+  place A B = bad (HasRowAddress xs) (HasRowAddress ys) A B r (no_row xs some) (no_row ys more)
 
-  disk : (A B : Order → Type 0) → Answers (HasDisk xs) A r → Answers (HasDisk ys) B r
+  disk : (A B : Order → Type 0) → ParsesAs (HasDisk xs) A r → ParsesAs (HasDisk ys) B r
   disk A B = bad (HasDisk xs) (HasDisk ys) A B r (no_disk xs some) (no_disk ys more)
 
   array_order : ReadsArrayOrder name xs r → ReadsArrayOrder name ys r
@@ -88,7 +88,7 @@ module _ (name : List ℕ) (xs ys : Words) (r : Result Order FaultKind) (some : 
       (row (bytes_eq name (codes "write")) _ _ _ _ (written (IsNumberOf 32) _ _) (row (bytes_eq name (codes "read16")) _ _ _ _ (sectors IsNumber _ _)
       (row (bytes_eq name (codes "write16")) _ _ _ _ (written IsNumber _ _) (row (bytes_eq name (codes "cdb")) _ _ _ _ (block _ _) array_order)))))))
 
-  any_order : Reads name xs r → Reads name ys r
+  any_order : ReadsOrder name xs r → ReadsOrder name ys r
   any_order =
       row (bytes_eq name (codes "make")) _ _ _ _ (number 32 _ _) (row (bytes_eq name (codes "grow")) _ _ _ _ (number 32 _ _)
       (row (bytes_eq name (codes "drop")) _ _ _ _ (unit _ _) command))

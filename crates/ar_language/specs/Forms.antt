@@ -76,13 +76,13 @@ abbrev pub AboutUnit : Words → (Addr → Order) → Order → Type 0
 AboutUnit words order_at order = (addr : Addr) × NamesUnit words addr × (order ≡ order_at addr)
 
 -- a command to that unit: this block, which encodes this command, with these data
-abbrev pub Commands : Words → List ℕ → Command → Data → Notation → Order → Type 0
-Commands words cdb command sent notation order =
+abbrev pub AsksCommand : Words → List ℕ → Command → Data → Notation → Order → Type 0
+AsksCommand words cdb command sent notation order =
     (addr : Addr) × NamesUnit words addr × Says cdb command × (order ≡ Act (actions.Command addr cdb sent notation))
 
 -- no data
-abbrev pub nothing : Data
-nothing = record { len = 0; byte = 0 }
+abbrev pub empty_data : Data
+empty_data = record { len = 0; byte = 0 }
 
 -- `make H L SECTORS`
 abbrev pub AsksMake : Words → Order → Type 0
@@ -98,15 +98,15 @@ AsksDrop words = AboutUnit words (λ addr. Act (actions.Remove addr))
 
 -- `tur H L`
 abbrev pub AsksTur : Words → Order → Type 0
-AsksTur words = Commands words test_unit_ready_block TestReady nothing Bytes
+AsksTur words = AsksCommand words test_unit_ready_block TestReady empty_data Bytes
 
 -- `inquiry H L LEN`
 abbrev pub AsksInquiry : Words → Order → Type 0
-AsksInquiry words = Commands words (inquiry_block (value (word words 2))) (Inquiry (value (word words 2))) nothing Bytes
+AsksInquiry words = AsksCommand words (inquiry_block (value (word words 2))) (Inquiry (value (word words 2))) empty_data Bytes
 
 -- `capacity H L`
 abbrev pub AsksCapacity : Words → Order → Type 0
-AsksCapacity words = Commands words read_capacity_block Capacity nothing Bytes
+AsksCapacity words = AsksCommand words read_capacity_block Capacity empty_data Bytes
 
 -- a unit, a logical block address and a number of sectors
 pub record HasSectors (Lba : List ℕ → Type 0) (words : Words) : Type 0 where
@@ -118,15 +118,15 @@ pub record HasSectors (Lba : List ℕ → Type 0) (words : Words) : Type 0 where
 -- `read H L LBA COUNT` and `read16 H L LBA COUNT`, by the blocks of READ (10) and of READ (16)
 abbrev pub AsksRead : (ℕ → ℕ → List ℕ) → Words → Order → Type 0
 AsksRead block words =
-    Commands words (block (value (word words 2)) (value (word words 3))) (Read (value (word words 2)) (value (word words 3))) nothing Runs
+    AsksCommand words (block (value (word words 2)) (value (word words 3))) (Read (value (word words 2)) (value (word words 3))) empty_data Runs
 
 -- the words of a WRITE that ends with `fua`
-abbrev pub IsForced : Words → Type 0
-IsForced words = (length words ≡ 6) × (word words 5 ≡ codes "fua")
+abbrev pub EndsWithFua : Words → Type 0
+EndsWithFua words = (length words ≡ 6) × (word words 5 ≡ codes "fua")
 
 -- a unit, a logical block address, a number of sectors and a byte, and optionally `fua`
-pub record HasWritten (Lba : List ℕ → Type 0) (words : Words) : Type 0 where
-  pub count : (length words ≡ 5) ⊎ IsForced words
+pub record HasSectorsAndByte (Lba : List ℕ → Type 0) (words : Words) : Type 0 where
+  pub count : (length words ≡ 5) ⊎ EndsWithFua words
   pub address : AreAddress (word words 0) (word words 1)
   pub lba : Lba (word words 2)
   pub sectors : IsNumberOf 16 (word words 3)
@@ -137,11 +137,11 @@ pub record HasWritten (Lba : List ℕ → Type 0) (words : Words) : Type 0 where
 abbrev pub AsksWrite : (ℕ → ℕ → Bool → List ℕ) → Words → Order → Type 0
 AsksWrite block words order =
     (byte : ℕ) × IsByte (word words 4) byte
-    × Commands words (block (value (word words 2)) (value (word words 3)) (length words == 6))
+    × AsksCommand words (block (value (word words 2)) (value (word words 3)) (length words == 6))
     (Write (value (word words 2)) (value (word words 3)) (length words == 6)) (record { len = value (word words 3) * 512; byte = byte }) Runs order
 
 -- a unit and a command block, and optionally a number of bytes and their value
-pub record HasBlock (words : Words) : Type 0 where
+pub record HasCommandBlock (words : Words) : Type 0 where
   pub count : (length words ≡ 3) ⊎ ((length words ≡ 5) × IsNumberOf 16 (word words 3) × IsBytePair (word words 4))
   pub address : AreAddress (word words 0) (word words 1)
   pub block : IsBlockWord (word words 2)
@@ -153,7 +153,7 @@ IsBlock digits cdb = (bytes : List ℕ) × (decode_of digits ≡ Ok bytes) × (c
 -- the data of a command block: none, or a number of bytes of one value
 abbrev pub IsSent : Words → Data → Type 0
 IsSent words sent =
-    ((length words ≡ 3) × (sent ≡ nothing))
+    ((length words ≡ 3) × (sent ≡ empty_data))
     ⊎ ((length words ≡ 5) × (sent.len ≡ value (word words 3)) × IsByte (word words 4) sent.byte)
 
 -- `cdb H L HEX` and `cdb H L HEX COUNT BYTE`
@@ -171,7 +171,7 @@ abbrev pub AsksHome : Words → Order → Type 0
 AsksHome words = AboutUnit words (λ addr. Ask (questions.Home addr (value (word words 2))))
 
 -- a disk, an extent and a row
-pub record HasRow (words : Words) : Type 0 where
+pub record HasRowAddress (words : Words) : Type 0 where
   pub count : length words ≡ 3
   pub disk : IsNumberOf 8 (word words 0)
   pub extent : IsNumberOf 16 (word words 1)
@@ -200,12 +200,12 @@ IsDisk words disk = disk ≡ value (word words 0)
 
 -- The result of parsing the words after a name: an order that they ask for if they have this form, otherwise
 -- `BadArgument`.
-abbrev pub Answers : Type 0 → (Order → Type 0) → Result Order FaultKind → Type 0
-Answers Form Asked result = MatchResult result (λ order. Form × Asked order) (λ kind. (kind ≡ BadArgument) × (¬ Form))
+abbrev pub ParsesAs : Type 0 → (Order → Type 0) → Result Order FaultKind → Type 0
+ParsesAs Form Asked result = MatchResult result (λ order. Form × Asked order) (λ kind. (kind ≡ BadArgument) × (¬ Form))
 
 -- the same for an order without arguments
 abbrev pub Alone : Words → Order → Result Order FaultKind → Type 0
-Alone words order = Answers (length words ≡ 0) (λ given. given ≡ order)
+Alone words order = ParsesAs (length words ≡ 0) (λ given. given ≡ order)
 
 -- the actions on the whole array and the queries; any other name is unknown
 abbrev pub ReadsArrayOrder : List ℕ → Words → Result Order FaultKind → Type 0
@@ -215,37 +215,37 @@ ReadsArrayOrder name words result =
     MatchBool (bytes_eq name (codes "clean")) (Alone words (Act actions.Clean) result) (
     MatchBool (bytes_eq name (codes "balance")) (Alone words (Act actions.Balance) result) (
     MatchBool (bytes_eq name (codes "add")) (Alone words (Act actions.AddDisk) result) (
-    MatchBool (bytes_eq name (codes "out")) (Answers (HasDisk words) (AsksOut words) result) (
-    MatchBool (bytes_eq name (codes "replace")) (Answers (HasDisk words) (AsksReplace words) result) (
+    MatchBool (bytes_eq name (codes "out")) (ParsesAs (HasDisk words) (AsksOut words) result) (
+    MatchBool (bytes_eq name (codes "replace")) (ParsesAs (HasDisk words) (AsksReplace words) result) (
     MatchBool (bytes_eq name (codes "rebuild")) (Alone words (Act actions.Rebuild) result) (
-    MatchBool (bytes_eq name (codes "levels")) (Answers (HasUnit words) (AsksLevels words) result) (
-    MatchBool (bytes_eq name (codes "home")) (Answers (HasUnitAndNumber 32 words) (AsksHome words) result) (
+    MatchBool (bytes_eq name (codes "levels")) (ParsesAs (HasUnit words) (AsksLevels words) result) (
+    MatchBool (bytes_eq name (codes "home")) (ParsesAs (HasUnitAndNumber 32 words) (AsksHome words) result) (
     MatchBool (bytes_eq name (codes "groups")) (Alone words (Ask questions.Groups) result) (
     MatchBool (bytes_eq name (codes "room")) (Alone words (Ask questions.Room) result) (
     MatchBool (bytes_eq name (codes "health")) (Alone words (Ask questions.Health) result) (
     MatchBool (bytes_eq name (codes "picture")) (Alone words (Ask questions.Picture) result) (
-    MatchBool (bytes_eq name (codes "block")) (Answers (HasRow words) (AsksRow words) result) (
+    MatchBool (bytes_eq name (codes "block")) (ParsesAs (HasRowAddress words) (AsksRow words) result) (
     result ≡ Err UnknownWord)))))))))))))))
 
 -- the SCSI commands, and then those
 abbrev pub ReadsCommand : List ℕ → Words → Result Order FaultKind → Type 0
 ReadsCommand name words result =
-    MatchBool (bytes_eq name (codes "tur")) (Answers (HasUnit words) (AsksTur words) result) (
-    MatchBool (bytes_eq name (codes "inquiry")) (Answers (HasUnitAndNumber 16 words) (AsksInquiry words) result) (
-    MatchBool (bytes_eq name (codes "capacity")) (Answers (HasUnit words) (AsksCapacity words) result) (
-    MatchBool (bytes_eq name (codes "read")) (Answers (HasSectors (IsNumberOf 32) words) (AsksRead read_10_block words) result) (
-    MatchBool (bytes_eq name (codes "write")) (Answers (HasWritten (IsNumberOf 32) words) (AsksWrite write_10_block words) result) (
-    MatchBool (bytes_eq name (codes "read16")) (Answers (HasSectors IsNumber words) (AsksRead read_16_block words) result) (
-    MatchBool (bytes_eq name (codes "write16")) (Answers (HasWritten IsNumber words) (AsksWrite write_16_block words) result) (
-    MatchBool (bytes_eq name (codes "cdb")) (Answers (HasBlock words) (AsksBlock words) result) (
+    MatchBool (bytes_eq name (codes "tur")) (ParsesAs (HasUnit words) (AsksTur words) result) (
+    MatchBool (bytes_eq name (codes "inquiry")) (ParsesAs (HasUnitAndNumber 16 words) (AsksInquiry words) result) (
+    MatchBool (bytes_eq name (codes "capacity")) (ParsesAs (HasUnit words) (AsksCapacity words) result) (
+    MatchBool (bytes_eq name (codes "read")) (ParsesAs (HasSectors (IsNumberOf 32) words) (AsksRead read_10_block words) result) (
+    MatchBool (bytes_eq name (codes "write")) (ParsesAs (HasSectorsAndByte (IsNumberOf 32) words) (AsksWrite write_10_block words) result) (
+    MatchBool (bytes_eq name (codes "read16")) (ParsesAs (HasSectors IsNumber words) (AsksRead read_16_block words) result) (
+    MatchBool (bytes_eq name (codes "write16")) (ParsesAs (HasSectorsAndByte IsNumber words) (AsksWrite write_16_block words) result) (
+    MatchBool (bytes_eq name (codes "cdb")) (ParsesAs (HasCommandBlock words) (AsksBlock words) result) (
     ReadsArrayOrder name words result))))))))
 
 -- the actions on a unit, and then those
-abbrev pub Reads : List ℕ → Words → Result Order FaultKind → Type 0
-Reads name words result =
-    MatchBool (bytes_eq name (codes "make")) (Answers (HasUnitAndNumber 32 words) (AsksMake words) result) (
-    MatchBool (bytes_eq name (codes "grow")) (Answers (HasUnitAndNumber 32 words) (AsksGrow words) result) (
-    MatchBool (bytes_eq name (codes "drop")) (Answers (HasUnit words) (AsksDrop words) result) (
+abbrev pub ReadsOrder : List ℕ → Words → Result Order FaultKind → Type 0
+ReadsOrder name words result =
+    MatchBool (bytes_eq name (codes "make")) (ParsesAs (HasUnitAndNumber 32 words) (AsksMake words) result) (
+    MatchBool (bytes_eq name (codes "grow")) (ParsesAs (HasUnitAndNumber 32 words) (AsksGrow words) result) (
+    MatchBool (bytes_eq name (codes "drop")) (ParsesAs (HasUnit words) (AsksDrop words) result) (
     ReadsCommand name words result)))
 
 -- the result for a line, by that for its order
@@ -256,7 +256,7 @@ asked (Err kind) = Err kind
 -- the words of a line, of which the first names the order
 abbrev pub ReadsNamed : Words → Result (Option Order) FaultKind → Type 0
 ReadsNamed [] result = result ≡ Ok None
-ReadsNamed (name ∷ words) result = (read : Result Order FaultKind) × Reads name.now words read × (result ≡ asked read)
+ReadsNamed (name ∷ words) result = (read : Result Order FaultKind) × ReadsOrder name.now words read × (result ≡ asked read)
 
 -- the same, but an empty word is a bad argument
 abbrev pub ReadsWords : Words → Result (Option Order) FaultKind → Type 0

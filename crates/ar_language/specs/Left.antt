@@ -7,7 +7,7 @@ use Rattle.ar_language.specs.declared.fault.Fault.{Fault}
 use Rattle.ar_language.specs.declared.fault.Fault.TheVariants.{Start, Line}
 use Rattle.ar_language.specs.declared.fault.FaultKind.TheVariants.{TooManyLines}
 use Rattle.ar_language.specs.declared.lines.Lines.{Lines}
-use Rattle.ar_language.specs.Lines.{front_of, bytes_left, lines_of, is_given, is_lacking, Took, IsAllTaken, IsFaultFrom, IsOfStream, StopsAt, IsOfNext, IsReached, IsNumbered}
+use Rattle.ar_language.specs.Lines.{front_of, bytes_left, lines_of, is_given, is_lacking, Took, IsAllTaken, IsFaultFrom, IsOfStream, IsNextLineFault, IsOfNext, IsReached, IsNumbered}
 
 -- the bytes that were read and are in no returned line: the front of the next line, and what is buffered
 abbrev pub bytes_read : {R : Type 0} {reads : Ghosts R} → Lines R reads → List ℕ
@@ -38,19 +38,19 @@ pub record IsFresh {R : Type 0} {reads : Ghosts R} (lines : Lines R reads) : Typ
 
 -- Why the next line isn't returned: a million were, and something follows them, of which no line is begun; or it is
 -- begun, and what was read of it has a fault.
-abbrev pub IsRefused : {R : Type 0} {reads : Ghosts R} → Lines R reads → Bool → Fault → Type 0
-IsRefused lines begun Start = ⊥
-IsRefused lines begun (Line n kind) =
+abbrev pub IsLineRefused : {R : Type 0} {reads : Ghosts R} → Lines R reads → Bool → Fault → Type 0
+IsLineRefused lines begun Start = ⊥
+IsLineRefused lines begun (Line n kind) =
     (n ≡ lines.given + 1)
     × (((kind ≡ TooManyLines) × (lines.given ≡ 1000000) × (bytes_read lines ≢ []) × (begun ≡ false))
     ⊎ (IsFaultFrom (bytes_read lines) kind × (begun ≡ true)))
 
 -- What ends the reading of lines, even if the reader doesn't report its bytes: a stream faulted while the next line was
 -- awaited and the input hadn't ended, or the line is refused.
-abbrev pub IsStopped : {R : Type 0} {reads : Ghosts R} → Lines R reads → Fault → Type 0
-IsStopped lines Start = ⊥
-IsStopped lines (Line n kind) =
-    (IsOfStream kind × (lines.is_awaited ≡ true) × (lines.is_at_end ≡ false)) ⊎ IsRefused lines lines.is_begun (Line n kind)
+abbrev pub EndsReading : {R : Type 0} {reads : Ghosts R} → Lines R reads → Fault → Type 0
+EndsReading lines Start = ⊥
+EndsReading lines (Line n kind) =
+    (IsOfStream kind × (lines.is_awaited ≡ true) × (lines.is_at_end ≡ false)) ⊎ IsLineRefused lines lines.is_begun (Line n kind)
 
 -- The next line needs more input: nothing that was read is left but its front, and the input hasn't ended.
 pub record IsAwaited {R : Type 0} {reads : Ghosts R} (lines : Lines R reads) : Type 0 where
@@ -65,8 +65,8 @@ pub record GoesOn {R : Type 0} {reads : Ghosts R} (old : Lines R reads) (result 
   pub none : is_lacking result ≡ true → IsAllTaken (lines_left new)
   pub kept : is_given result ≡ false → Took (lines_left old) (lines_left new) []
   -- it has a fault, or is one too many, or a stream faulted while it was awaited
-  pub stops : IfErr result (StopsAt (lines_left old))
-  pub stopped : IfErr result (IsStopped new)
+  pub stops : IfErr result (IsNextLineFault (lines_left old))
+  pub stopped : IfErr result (EndsReading new)
   -- the lines are counted
   pub count : new.given ≡ old.given + (if is_given result then 1 else 0)
   pub closed : is_given result ≡ true → new.is_begun ≡ false

@@ -124,21 +124,21 @@ pub record IsUnasked {R A : Type 0} (old new : BufReader R A) : Type 0 where
   pub capacity : reader_capacity new ≡ reader_capacity old
 
 -- the output couldn't be written
-abbrev pub is_write : FaultKind → Bool
-is_write WriteFault = true
-is_write UnknownWord = false
-is_write BadArgument = false
-is_write LineTooLong = false
-is_write TooManyLines = false
-is_write BadCharacter = false
-is_write NoMemory = false
-is_write ReadFault = false
+abbrev pub is_output_fault : FaultKind → Bool
+is_output_fault WriteFault = true
+is_output_fault UnknownWord = false
+is_output_fault BadArgument = false
+is_output_fault LineTooLong = false
+is_output_fault TooManyLines = false
+is_output_fault BadCharacter = false
+is_output_fault NoMemory = false
+is_output_fault ReadFault = false
 
 -- this is the reported fault
 abbrev pub is_write_fault : {T : Type 0} → Result T Fault → Bool
 is_write_fault (Ok done) = false
 is_write_fault (Err Start) = false
-is_write_fault (Err (Line n kind)) = is_write kind
+is_write_fault (Err (Line n kind)) = is_output_fault kind
 
 -- a stream faulted: the input couldn't be read, or the output couldn't be written
 abbrev pub IsOfStream : FaultKind → Type 0
@@ -154,9 +154,9 @@ IsToldOfNext None kind = ⊤
 IsToldOfNext (Some lines) kind = IsToldOfFirst lines kind
 
 -- the same for a fault with the number of its line
-abbrev pub StopsAt : Option (List (List ℕ)) → Fault → Type 0
-StopsAt left Start = ⊥
-StopsAt left (Line n kind) = IsToldOfNext left kind
+abbrev pub IsNextLineFault : Option (List (List ℕ)) → Fault → Type 0
+IsNextLineFault left Start = ⊥
+IsNextLineFault left (Line n kind) = IsToldOfNext left kind
 
 -- a line by its number, which counts from 1
 abbrev pub line_at : List (List ℕ) → ℕ → List ℕ

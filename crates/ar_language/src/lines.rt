@@ -32,7 +32,7 @@ pub struct Lines<R: Read + Drop> {
 }
 
 impl<R: Read + Drop> Lines<R> {
-    ghost use Rattle.ar_language.specs.Left.{bytes_read, lines_begun, lines_left, IsRefused, IsFresh};
+    ghost use Rattle.ar_language.specs.Left.{bytes_read, lines_begun, lines_left, IsLineRefused, IsFresh};
 
     /// The lines of `reader`, none of them read yet. It allocates room for the longest line and a buffer of 8 KiB, and
     /// fails if it can't; no other call allocates.
@@ -78,7 +78,7 @@ impl<R: Read + Drop> Lines<R> {
         ensures given { is_given result ≡ true
             → IsFirst self.old.is_at_end (bytes_read self.old) self.new.line.items (bytes_read self.new) }
         ensures lacking { is_lacking result ≡ true → IsLacking self.old.is_at_end (bytes_read self.old) }
-        ensures refused { IfErr result (IsRefused self.old self.new.is_begun) }
+        ensures refused { IfErr result (IsLineRefused self.old self.new.is_begun) }
 
         ensures kept { is_given result ≡ false → bytes_read self.new ≡ bytes_read self.old }
         ensures drained { is_lacking result ≡ true → reader_buffer self.new.source ≡ [] }

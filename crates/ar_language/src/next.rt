@@ -4,8 +4,8 @@ ghost use Rattle.std.specs.Prelude.{◌≡◌, ◌≢◌, ◌==◌, ◌⊎◌, I
 ghost use Rattle.std.specs.List.{position};
 ghost use Rattle.std.specs.Io.Buffered.{reader_buffer, writer_buffer, writer_contents};
 ghost use Rattle.std.specs.Io.KnownBytes.{Keeps};
-ghost use Rattle.ar_language.specs.Lines.{Took, IsFirst, IsFaultFrom, IsUnasked, is_given, is_write_fault, StopsAt, IsOfNext, IsReached, IsNumbered};
-ghost use Rattle.ar_language.specs.Left.{bytes_read, lines_begun, lines_left, IsAwaited, IsBegunByByte, IsStopped, GoesOn};
+ghost use Rattle.ar_language.specs.Lines.{Took, IsFirst, IsFaultFrom, IsUnasked, is_given, is_write_fault, IsNextLineFault, IsOfNext, IsReached, IsNumbered};
+ghost use Rattle.ar_language.specs.Left.{bytes_read, lines_begun, lines_left, IsAwaited, IsBegunByByte, EndsReading, GoesOn};
 
 use crate::{Fault, FaultKind, Lines};
 use std::io::{BufWriter, Read, Write};
@@ -87,8 +87,8 @@ fn wait<R: Read + Drop, W: Write + Drop>(
         × (lines.new.given ≡ lines.old.given) }
     ensures ended { OnOk result (lines.new.is_at_end ≡ (length (reader_buffer lines.new.source) == 0)) }
 
-    ensures stopped { IfErr result (IsStopped lines.new) }
-    ensures stops { IfErr result (StopsAt (lines_left lines.old)) }
+    ensures stopped { IfErr result (EndsReading lines.new) }
+    ensures stops { IfErr result (IsNextLineFault (lines_left lines.old)) }
     ensures next { IfErr result (IsOfNext lines.old.given (lines_begun lines.old)) }
     ensures reached { IfErr result (IsReached (lines_begun lines.old)) }
     ensures numbered { IfErr result IsNumbered }

@@ -3,7 +3,7 @@ ghost use Rattle.std.specs.Prelude.{◌≡◌, ◌≢◌, ◌⊎◌, true, false
 ghost use Rattle.std.specs.Option.{SomeIff};
 ghost use Rattle.ar_language.specs.Blocks.{read_10_block, read_16_block, write_10_block, write_16_block};
 ghost use Rattle.ar_language.specs.Words.{IsNumber};
-ghost use Rattle.ar_language.specs.Forms.{word, value, IsNumberOf, AreAddress, IsAddress, NamesUnit, HasUnit, HasUnitAndNumber, HasSectors, HasWritten, HasBlock, HasRow, HasDisk, Gives, Reads, ReadsCommand, ReadsArrayOrder, ReadsNamed, ReadsLine, nothing};
+ghost use Rattle.ar_language.specs.Forms.{word, value, IsNumberOf, AreAddress, IsAddress, NamesUnit, HasUnit, HasUnitAndNumber, HasSectors, HasSectorsAndByte, HasCommandBlock, HasRowAddress, HasDisk, Gives, ReadsOrder, ReadsCommand, ReadsArrayOrder, ReadsNamed, ReadsLine, empty_data};
 ghost use Rattle.ar_language.specs.Parts.{AreSpan, IsSpan, NamesSpan, SaysWritten, AreData, IsData, AreBlock, AsksBlockWith};
 ghost use Rattle.ar_language.specs.Forms.{AsksMake, AsksGrow, AsksDrop, AsksTur, AsksInquiry, AsksCapacity, AsksRead, AsksWrite, AsksBlock, AsksLevels, AsksHome, AsksRow, AsksOut, AsksReplace, IsDisk};
 
@@ -59,7 +59,7 @@ fn order_in_words(words: &[&str]) -> Result<Option<Order>, FaultKind>
 // Parses the arguments of the order with this name. (Three functions with a few names each, since a match costs the
 // proof more than by the number of its arms.)
 fn order_of(name: &str, arguments: &[&str]) -> Result<Order, FaultKind>
-    ensures reads { Reads name.now arguments.now result }
+    ensures reads { ReadsOrder name.now arguments.now result }
     ensures few { IfErr result (λ kind. (kind ≡ FaultKind.UnknownWord) ⊎ (kind ≡ FaultKind.BadArgument)) }
 {
     let order = match name {
@@ -177,7 +177,7 @@ fn read_16(arguments: &[&str]) -> Option<Order>
 }
 
 fn write(arguments: &[&str]) -> Option<Order>
-    ensures { Gives (HasWritten (IsNumberOf 32) arguments.now) (AsksWrite write_10_block arguments.now) result }
+    ensures { Gives (HasSectorsAndByte (IsNumberOf 32) arguments.now) (AsksWrite write_10_block arguments.now) result }
 {
     let to = written_in(arguments)?;
     let lba = u32::try_from(to.span.lba).ok()?;
@@ -186,7 +186,7 @@ fn write(arguments: &[&str]) -> Option<Order>
 }
 
 fn write_16(arguments: &[&str]) -> Option<Order>
-    ensures { Gives (HasWritten IsNumber arguments.now) (AsksWrite write_16_block arguments.now) result }
+    ensures { Gives (HasSectorsAndByte IsNumber arguments.now) (AsksWrite write_16_block arguments.now) result }
 {
     let to = written_in(arguments)?;
     let cdb = blocks::write_16(to.span.lba, to.span.count, to.fua);
@@ -205,7 +205,7 @@ fn sectors(arguments: &[&str]) -> Option<Span>
 
 // Parses the arguments of a WRITE.
 fn written_in(arguments: &[&str]) -> Option<Written>
-    ensures { Gives (HasWritten IsNumber arguments.now) (SaysWritten arguments.now) result }
+    ensures { Gives (HasSectorsAndByte IsNumber arguments.now) (SaysWritten arguments.now) result }
 {
     let (fua, arguments) = force_unit_access(arguments);
     let [host, lun, lba, count, byte] = arguments else {
@@ -226,7 +226,7 @@ fn span_in(host: &str, lun: &str, lba: &str, count: &str) -> Option<Span>
 }
 
 fn command_block(arguments: &[&str]) -> Option<Order>
-    ensures { Gives (HasBlock arguments.now) (AsksBlock arguments.now) result }
+    ensures { Gives (HasCommandBlock arguments.now) (AsksBlock arguments.now) result }
 {
     match arguments {
         [host, lun, block] => block_with(host, lun, block, NO_DATA),
@@ -295,7 +295,7 @@ fn home(arguments: &[&str]) -> Option<Order>
 }
 
 fn block(arguments: &[&str]) -> Option<Order>
-    ensures { Gives (HasRow arguments.now) (AsksRow arguments.now) result }
+    ensures { Gives (HasRowAddress arguments.now) (AsksRow arguments.now) result }
 {
     let [disk, extent, row] = arguments else {
         return None;
@@ -328,7 +328,7 @@ fn force_unit_access<'a, 'b>(arguments: &'a [&'b str]) -> (bool, &'a [&'b str])
 
 // A command without data, whose reply is printed byte by byte.
 fn command(addr: Addr, cdb: [u8; 16]) -> Order
-    ensures { result ≡ Order.Act (Action.Command addr cdb nothing Notation.Bytes) }
+    ensures { result ≡ Order.Act (Action.Command addr cdb empty_data Notation.Bytes) }
 {
     Order::Act(Action::Command {
         addr,
@@ -340,7 +340,7 @@ fn command(addr: Addr, cdb: [u8; 16]) -> Order
 
 // A command that reads sectors, which are printed as runs.
 fn reading(addr: Addr, cdb: [u8; 16]) -> Order
-    ensures { result ≡ Order.Act (Action.Command addr cdb nothing Notation.Runs) }
+    ensures { result ≡ Order.Act (Action.Command addr cdb empty_data Notation.Runs) }
 {
     Order::Act(Action::Command {
         addr,

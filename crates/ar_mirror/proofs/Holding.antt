@@ -8,7 +8,7 @@ use Rattle.ar_disks.specs.Members.{member, AreApart, AreDisjoint}
 use Rattle.ar_extents.specs.declared.health.Health.TheVariants.{Broken}
 use Rattle.ar_extents.specs.Set.{SetState, content, IsSound}
 use Rattle.ar_extents.specs.Follows.{Follows, Keeps, KeepsBut, IsPlace, WorksOn, WorksInTurn}
-use Rattle.ar_extents.specs.Access.{Accesses, Puts, is_written}
+use Rattle.ar_extents.specs.Access.{Accesses, PutsRow, is_written}
 use Rattle.ar_extents.specs.declared.answers.Put.{Put}
 use Rattle.ar_extents.specs.declared.answers.Put.TheVariants.{Written, Missing, Broken as PutBroken}
 use Rattle.ar_extents.proofs.Follows.{works_in_turn}
@@ -16,9 +16,9 @@ use Rattle.ar_extents.proofs.Access.{works_written}
 use Rattle.ar_extents.proofs.Losses.{missing_lost, broken_lost, lost_not_sound}
 use Rattle.ar_extents.specs.Groups.{IsGroup}
 use Rattle.ar_extents.proofs.GroupLemmas.{same_place}
-use Rattle.ar_mirror.specs.Slots.{slots_of, row_of, one_of, other_of}
+use Rattle.ar_mirror.specs.Slots.{mirror_slots_of, row_of, one_of, other_of}
 use Rattle.ar_mirror.specs.Holds.{BothHave, Holds}
-use Rattle.ar_mirror.specs.Calls.{IsInPair, KeepsButSlot, OtherSlotsHold, OtherGroupsHold}
+use Rattle.ar_mirror.specs.Calls.{IsInPair, KeepsButSlot, OtherMirrorSlotsHold, OtherGroupsHold}
 use Rattle.ar_mirror.proofs.SlotLemmas.{pair_fits, same_slot, members_differ, members_disjoint, pair_apart}
 
 -- a row of two extents that keep it
@@ -59,7 +59,7 @@ pair_kept_first m slot a b first = record {
 }
 
 -- a member of a slot's pair, in the row of another slot, isn't written
-row_apart : (g : Geometry) (m : Members) (slot t i : ℕ) → AreApart m → slot < slots_of g → t < slots_of g → t ≢ slot
+row_apart : (g : Geometry) (m : Members) (slot t i : ℕ) → AreApart m → slot < mirror_slots_of g → t < mirror_slots_of g → t ≢ slot
     → (i ≡ 2 * (t / rows_of g)) ⊎ (i ≡ 2 * (t / rows_of g) + 1) → IsInPair g m slot (member m i) → row_of g t ≢ row_of g slot
 row_apart g m slot t i apart hs ht ne at (inl same) row =
     let fits = pair_fits g t ht in
@@ -73,7 +73,7 @@ row_apart g m slot t i apart hs ht ne at (inr same) row =
     ne (same_slot g t slot (elim at [ inl e ↦ omega arith | inr e ↦ omega arith ]) row)
 
 -- the group's other slots
-pub slots_hold : (m : Members) (slot : ℕ) (a b : SetState) → AreApart m → slot < slots_of a.geometry → Follows a b → KeepsButSlot m slot a b → OtherSlotsHold m slot a b
+pub slots_hold : (m : Members) (slot : ℕ) (a b : SetState) → AreApart m → slot < mirror_slots_of a.geometry → Follows a b → KeepsButSlot m slot a b → OtherMirrorSlotsHold m slot a b
 slots_hold m slot a b apart hs ab keeps = record {
   slots = λ t ht ne block has.
       holds_at b a.geometry m t block ab.geometry
@@ -84,14 +84,14 @@ slots_hold m slot a b apart hs ab keeps = record {
 }
 
 -- an extent of a disjoint group isn't in the pair
-not_in_pair : (g : Geometry) (m n : Members) (slot j : ℕ) → AreDisjoint m n → slot < slots_of g → j < 4 → IsInPair g m slot (member n j) → ⊥
+not_in_pair : (g : Geometry) (m n : Members) (slot j : ℕ) → AreDisjoint m n → slot < mirror_slots_of g → j < 4 → IsInPair g m slot (member n j) → ⊥
 not_in_pair g m n slot j disjoint hs hj (inl same) =
     let fits = pair_fits g slot hs in members_disjoint m n (2 * (slot / rows_of g)) j disjoint (omega arith) hj same
 not_in_pair g m n slot j disjoint hs hj (inr same) =
     let fits = pair_fits g slot hs in members_disjoint m n (2 * (slot / rows_of g) + 1) j disjoint (omega arith) hj same
 
 -- the slots of other groups
-pub groups_hold : (m : Members) (slot : ℕ) (a b : SetState) → slot < slots_of a.geometry → Follows a b → KeepsButSlot m slot a b → OtherGroupsHold m a b
+pub groups_hold : (m : Members) (slot : ℕ) (a b : SetState) → slot < mirror_slots_of a.geometry → Follows a b → KeepsButSlot m slot a b → OtherGroupsHold m a b
 groups_hold m slot a b hs ab keeps = record {
   groups = λ n disjoint t ht block has.
       let fits = pair_fits a.geometry t ht in
@@ -103,14 +103,14 @@ groups_hold m slot a b hs ab keeps = record {
 }
 
 -- a member that is sound after a write has the block
-put_content : (a b : SetState) (p : Place) (row : ℕ) (block : List ℕ) (answer : Put) → Puts a b p row block answer → IsSound b p → content b p row ≡ block
+put_content : (a b : SetState) (p : Place) (row : ℕ) (block : List ℕ) (answer : Put) → PutsRow a b p row block answer → IsSound b p → content b p row ≡ block
 put_content a b p row block Written answers sound = answers.content_is
 put_content a b p row block Missing answers sound = absurd (lost_not_sound b p (missing_lost b p answers) sound)
 put_content a b p row block PutBroken answers sound = absurd (lost_not_sound b p (broken_lost b p answers) sound)
 
 -- after both writes the pair has the block
 pub puts_hold : (a b c : SetState) (one other : Place) (row : ℕ) (block : List ℕ) (first second : Put) → one.disk ≢ other.disk
-    → Puts a b one row block first → Puts b c other row block second → Follows b c → KeepsBut other row b c → BothHave c one other row block
+    → PutsRow a b one row block first → PutsRow b c other row block second → Follows b c → KeepsBut other row b c → BothHave c one other row block
 puts_hold a b c one other row block first second apart wrote_one wrote_other bc keeps = record {
   one_has = λ sound.
       keeps.other_places.rows one (λ same. apart (ap (λ (x : Place). x.disk) same)) row
@@ -127,7 +127,7 @@ broken_has s one other row block is = record {
 
 -- what one write promised
 record Wrote (a b : SetState) (p : Place) (row : ℕ) (block : List ℕ) (answered : Put) : Type 0 where
-  answer : Puts a b p row block answered
+  answer : PutsRow a b p row block answered
   access : Accesses a b p (is_written answered)
   keeps : KeepsBut p row a b
 
@@ -144,13 +144,13 @@ wrote_at a b p q row r block answered place_is row_is wrote =
 -- what both writes to a slot come to
 pub record SlotWritten (m : Members) (slot : ℕ) (a c : SetState) (block : List ℕ) : Type 0 where
   pub holds : Holds c m slot block
-  pub slots : OtherSlotsHold m slot a c
+  pub slots : OtherMirrorSlotsHold m slot a c
   pub groups : OtherGroupsHold m a c
   pub keeps : KeepsButSlot m slot a c
   pub works : WorksOn (IsInPair a.geometry m slot) a c
   pub order : WorksInTurn (one_of a.geometry m slot) (other_of a.geometry m slot) a c
 
-both_written : (m : Members) (slot : ℕ) (a b c : SetState) (block : List ℕ) (first second : Put) → IsGroup a m → slot < slots_of a.geometry
+both_written : (m : Members) (slot : ℕ) (a b c : SetState) (block : List ℕ) (first second : Put) → IsGroup a m → slot < mirror_slots_of a.geometry
     → Wrote a b (one_of a.geometry m slot) (row_of a.geometry slot) block first → Wrote b c (other_of a.geometry m slot) (row_of a.geometry slot) block second
     → SlotWritten m slot a c block
 both_written m slot a b c block first second group hs one other =
@@ -174,10 +174,10 @@ both_written m slot a b c block first second group hs one other =
     }
 
 -- the same, of extents and a row that are found to be the slot's
-pub slot_written : (m : Members) (slot : ℕ) (a b c : SetState) (g : Geometry) (one other : Place) (row : ℕ) (block : List ℕ) (first second : Put) → IsGroup a m → slot < slots_of a.geometry
+pub slot_written : (m : Members) (slot : ℕ) (a b c : SetState) (g : Geometry) (one other : Place) (row : ℕ) (block : List ℕ) (first second : Put) → IsGroup a m → slot < mirror_slots_of a.geometry
     → g ≡ a.geometry → one ≡ one_of g m slot → other ≡ other_of g m slot → row ≡ row_of g slot
-    → Puts a b one row block first → Accesses a b one (is_written first) → KeepsBut one row a b
-    → Puts b c other row block second → Accesses b c other (is_written second) → KeepsBut other row b c
+    → PutsRow a b one row block first → Accesses a b one (is_written first) → KeepsBut one row a b
+    → PutsRow b c other row block second → Accesses b c other (is_written second) → KeepsBut other row b c
     → SlotWritten m slot a c block
 slot_written m slot a b c g one other row block first second group hs same is_one is_other is_row puts access keeps puts_other access_other keeps_other =
     let row_is = is_row ∙ ap (λ (x : Geometry). row_of x slot) same in

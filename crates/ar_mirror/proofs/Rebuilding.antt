@@ -4,11 +4,11 @@ use Rattle.ar_disks.specs.declared.address.Place.{Place}
 use Rattle.ar_disks.specs.declared.address.Members.{Members}
 use Rattle.ar_extents.specs.Health.{IsRebuilding, rebuilt_disk}
 use Rattle.ar_extents.specs.Set.{SetState, content, IsSound, IsMissing}
-use Rattle.ar_extents.specs.Follows.{Follows, Keeps, KeepsBut, Anywhere, Spares, HasNoneOf, IsEither}
+use Rattle.ar_extents.specs.Follows.{Follows, Keeps, KeepsBut, Anywhere, LeavesDisks, HasNoneOf, IsEither}
 use Rattle.ar_extents.specs.Access.{Accesses, Touches, next_place}
 use Rattle.ar_extents.proofs.Losses.{missing_lost, next_missing, lost_not_sound}
 use Rattle.ar_extents.proofs.Access.{works_read}
-use Rattle.ar_mirror.specs.Slots.{one_of, other_of, row_of, slots_of, partner_of}
+use Rattle.ar_mirror.specs.Slots.{one_of, other_of, row_of, mirror_slots_of, partner_of}
 use Rattle.ar_disks.specs.Geometry.{rows_of}
 use Rattle.ar_disks.specs.Members.{member}
 use Rattle.ar_mirror.specs.Holds.{Holds}
@@ -47,7 +47,7 @@ partner_of_other (suc zero) lt = refl
 partner_of_other (suc (suc n)) lt = absurd (omega arith)
 
 -- A rebuilt row has the block that the slot of that row holds.
-pub rebuilt_has : (a b : SetState) (m : Members) (slot position : ℕ) (block : List ℕ) → slot < slots_of a.geometry
+pub rebuilt_has : (a b : SetState) (m : Members) (slot position : ℕ) (block : List ℕ) → slot < mirror_slots_of a.geometry
     → (position ≡ 2 * (slot / rows_of a.geometry)) ⊎ (position ≡ 2 * (slot / rows_of a.geometry) + 1)
     → IsCopied a b (member m (partner_of position)) (row_of a.geometry slot) → Holds a m slot block → content b (next_place a) (row_of a.geometry slot) ≡ block
 rebuilt_has a b m slot position block lt (inl is) copied has =
@@ -61,13 +61,13 @@ rebuilt_has a b m slot position block lt (inr is) copied has =
 
 -- a read of one extent leaves all disks but its own,
 pub read_spares : (a b : SetState) (from next : Place) (answered : Bool) → Accesses a b from answered → Keeps Anywhere a b
-    → Spares (HasNoneOf (IsEither from next)) a b
+    → LeavesDisks (HasNoneOf (IsEither from next)) a b
 read_spares a b from next answered access keeps =
     record { disks = λ d none. (works_read a b from answered access keeps).touches.disks d (λ p is sound. none p (inl is)) }
 
 -- and a write to the extent that is rebuilt all but the replaced one
-pub write_spares : (a b c : SetState) (from : Place) (answered : Bool) → Spares (HasNoneOf (IsEither from (next_place a))) a b → b.health ≡ a.health
-    → Touches b c (rebuilt_disk b.health) answered → Spares (HasNoneOf (IsEither from (next_place a))) a c
+pub write_spares : (a b c : SetState) (from : Place) (answered : Bool) → LeavesDisks (HasNoneOf (IsEither from (next_place a))) a b → b.health ≡ a.health
+    → Touches b c (rebuilt_disk b.health) answered → LeavesDisks (HasNoneOf (IsEither from (next_place a))) a c
 write_spares a b c from answered before health touched = record {
   disks = λ d none.
       touched.others.others d (λ is. none (next_place a) (inr refl) (is ∙ ap rebuilt_disk health)) ∙ before.disks d none;

@@ -7,10 +7,10 @@ use Rattle.ar_disks.specs.declared.address.Place.{Place}
 use Rattle.ar_disks.specs.declared.address.Members.{Members}
 use Rattle.ar_disks.specs.Geometry.{rows_of}
 use Rattle.ar_disks.specs.Members.{member, AreApart, AreDisjoint}
-use Rattle.ar_mirror.specs.Slots.{slots_of, row_of, one_of, other_of, partner_of}
+use Rattle.ar_mirror.specs.Slots.{mirror_slots_of, row_of, one_of, other_of, partner_of}
 
 -- a group has two pairs
-pub pair_fits : (g : Geometry) (slot : ℕ) → slot < slots_of g → slot / rows_of g < 2
+pub pair_fits : (g : Geometry) (slot : ℕ) → slot < mirror_slots_of g → slot / rows_of g < 2
 pair_fits Paper slot lt = omega arith
 pair_fits Small slot lt = omega arith
 
@@ -45,7 +45,7 @@ members_disjoint m n i j disjoint hi hj same =
     disjoint i j hi hj (sym (ap (λ (x : Place). x.disk) same)) (sym (ap (λ (x : Place). x.extent) same))
 
 -- the two members of a pair are on different disks
-pub pair_apart : (g : Geometry) (m : Members) (slot : ℕ) → AreApart m → slot < slots_of g → (one_of g m slot).disk ≢ (other_of g m slot).disk
+pub pair_apart : (g : Geometry) (m : Members) (slot : ℕ) → AreApart m → slot < mirror_slots_of g → (one_of g m slot).disk ≢ (other_of g m slot).disk
 pair_apart g m slot apart lt =
     let fits = pair_fits g slot lt in
     apart (2 * (slot / rows_of g)) (2 * (slot / rows_of g) + 1) (omega arith) (omega arith) (omega arith)

@@ -5,12 +5,12 @@ use Rattle.ar_disks.specs.Members.{AreApart}
 use Rattle.ar_extents.specs.declared.health.Health.TheVariants.{Broken}
 use Rattle.ar_extents.specs.Set.{SetState}
 use Rattle.ar_extents.proofs.Losses.{lost_or_sound, lost_missing_or_broken, other_sound}
-use Rattle.ar_mirror.specs.Slots.{slots_of, one_of, other_of}
+use Rattle.ar_mirror.specs.Slots.{mirror_slots_of, one_of, other_of}
 use Rattle.ar_mirror.specs.Holds.{Holds, standing}
 use Rattle.ar_mirror.proofs.SlotLemmas.{pair_apart}
 
 -- while the set isn't broken, what stands in a slot is the block that it holds
-pub standing_is : (s : SetState) (m : Members) (slot : ℕ) (block : List ℕ) → AreApart m → slot < slots_of s.geometry
+pub standing_is : (s : SetState) (m : Members) (slot : ℕ) (block : List ℕ) → AreApart m → slot < mirror_slots_of s.geometry
     → s.health ≢ Broken
     → Holds s m slot block → standing s m slot ≡ block
 standing_is s m slot block apart lt healthy has =

@@ -12,20 +12,20 @@ use Rattle.ar_extents.specs.declared.outcome.RowOutcome.TheVariants.{Done as Row
 use Rattle.ar_extents.specs.Set.{SetState, content, IsSound, IsLost}
 use Rattle.ar_extents.specs.Follows.{IsEither}
 use Rattle.ar_extents.specs.Access.{next_place, IsGivenUp}
-use Rattle.ar_mirror.specs.Slots.{one_of, other_of, row_of, slots_of}
+use Rattle.ar_mirror.specs.Slots.{one_of, other_of, row_of, mirror_slots_of}
 use Rattle.ar_mirror.specs.Holds.{Holds}
 
 -- the bytes are the block that the slot held, read from its first member if that is usable after the call, else the
 -- other
-pub record IsGiven (old new : SetState) (m : Members) (slot : ℕ) (bytes : List ℕ) : Type 0 where
+pub record IsSlotBlock (old new : SetState) (m : Members) (slot : ℕ) (bytes : List ℕ) : Type 0 where
   pub held : (block : List ℕ) → Holds old m slot block → bytes ≡ block
   pub first : IsSound new (one_of old.geometry m slot) → bytes ≡ content old (one_of old.geometry m slot) (row_of old.geometry slot)
   pub second : IsLost new (one_of old.geometry m slot) → bytes ≡ content old (other_of old.geometry m slot) (row_of old.geometry slot)
 
 -- what each outcome of a read means
-abbrev pub Gives : SetState → SetState → Members → ℕ → List ℕ → Completion → Type 0
-Gives old new m slot bytes Done = IsGiven old new m slot bytes
-Gives old new m slot bytes Broken = Unit {0}
+abbrev pub ReadsSlot : SetState → SetState → Members → ℕ → List ℕ → Completion → Type 0
+ReadsSlot old new m slot bytes Done = IsSlotBlock old new m slot bytes
+ReadsSlot old new m slot bytes Broken = Unit {0}
 
 -- the extent is a member of the slot's pair
 abbrev pub IsInPair : Geometry → Members → ℕ → Place → Type 0
@@ -36,12 +36,12 @@ pub record KeepsButSlot (m : Members) (slot : ℕ) (old new : SetState) : Type 0
   pub rows : (p : Place) (row : ℕ) → (IsInPair old.geometry m slot p → row ≢ row_of old.geometry slot) → content new p row ≡ content old p row
 
 -- every other slot of the group keeps its block
-pub record OtherSlotsHold (m : Members) (slot : ℕ) (old new : SetState) : Type 0 where
-  pub slots : (t : ℕ) → t < slots_of old.geometry → t ≢ slot → (block : List ℕ) → Holds old m t block → Holds new m t block
+pub record OtherMirrorSlotsHold (m : Members) (slot : ℕ) (old new : SetState) : Type 0 where
+  pub slots : (t : ℕ) → t < mirror_slots_of old.geometry → t ≢ slot → (block : List ℕ) → Holds old m t block → Holds new m t block
 
 -- every slot of every group that shares no extent with this one keeps its block
 pub record OtherGroupsHold (m : Members) (old new : SetState) : Type 0 where
-  pub groups : (n : Members) → AreDisjoint m n → (t : ℕ) → t < slots_of old.geometry → (block : List ℕ) → Holds old n t block → Holds new n t block
+  pub groups : (n : Members) → AreDisjoint m n → (t : ℕ) → t < mirror_slots_of old.geometry → (block : List ℕ) → Holds old n t block → Holds new n t block
 
 -- every slot of every mirrored group keeps its block
 pub record AllSlotsHold (old new : SetState) : Type 0 where

@@ -8,8 +8,8 @@ use Rattle.ar_disks.specs.Geometry.{rows_of}
 use Rattle.ar_disks.specs.Members.{member}
 
 -- the number of slots of a mirrored group
-abbrev pub slots_of : Geometry → ℕ
-slots_of g = 2 * rows_of g
+abbrev pub mirror_slots_of : Geometry → ℕ
+mirror_slots_of g = 2 * rows_of g
 
 -- the row of a slot, in both members of its pair
 abbrev pub row_of : Geometry → ℕ → ℕ

@@ -4,7 +4,7 @@
 //     row 0    slot 0     slot 0     slot 2     slot 2
 //     row 1    slot 1     slot 1     slot 3     slot 3
 ghost use Rattle.std.specs.Prelude.{◌≡◌, ◌<◌};
-ghost use Rattle.ar_mirror.specs.Slots.{one_of, other_of, row_of, slots_of, partner_of};
+ghost use Rattle.ar_mirror.specs.Slots.{one_of, other_of, row_of, mirror_slots_of, partner_of};
 
 use ar_disks::{Geometry, Members, Place};
 
@@ -18,7 +18,7 @@ pub(crate) struct Pair {
 
 // The place of a slot.
 pub(crate) fn pair_of(geometry: Geometry, members: &Members, slot: u16) -> Pair
-    requires { slot < slots_of geometry }
+    requires { slot < mirror_slots_of geometry }
     ensures one { result.one ≡ one_of geometry members.now slot }
     ensures other { result.other ≡ other_of geometry members.now slot }
     ensures row { result.row ≡ row_of geometry slot }

@@ -3,7 +3,7 @@ ghost use Rattle.std.specs.Prelude.{◌≡◌, ◌≢◌, ◌<◌, length};
 ghost use Rattle.ar_disks.specs.Geometry.{rows_of, block_len_of};
 ghost use Rattle.ar_disks.specs.Members.{member};
 ghost use Rattle.ar_extents.specs.Health.{IsRebuilding, rebuilt_disk};
-ghost use Rattle.ar_extents.specs.Follows.{Follows, Anywhere, Keeps, KeepsBut, Spares, HasNoneOf, IsEither};
+ghost use Rattle.ar_extents.specs.Follows.{Follows, Anywhere, Keeps, KeepsBut, LeavesDisks, HasNoneOf, IsEither};
 ghost use Rattle.ar_extents.specs.Access.{next_place};
 ghost use Rattle.ar_extents.specs.Set.{HasExtent, faults_of};
 ghost use Rattle.ar_extents.specs.Groups.{IsGroup};
@@ -37,11 +37,11 @@ pub fn rebuild_row<D: Disk>(
     ensures unwritten { result ≡ RowOutcome.Broken → Keeps Anywhere set.old set.new }
     ensures spared { result ≡ RowOutcome.Broken
         → faults_of set.new (rebuilt_disk set.old.health) ≡ faults_of set.old (rebuilt_disk set.old.health) }
-    ensures unasked { result ≡ RowOutcome.Broken → Spares (λ d. d ≡ rebuilt_disk set.old.health) set.old set.new }
+    ensures unasked { result ≡ RowOutcome.Broken → LeavesDisks (λ d. d ≡ rebuilt_disk set.old.health) set.old set.new }
     ensures slots { AllSlotsHold set.old set.new }
 
     ensures follows { Follows set.old set.new }
-    ensures touches { Spares (HasNoneOf (IsEither (member members.now (partner_of position)) (next_place set.old))) set.old set.new }
+    ensures touches { LeavesDisks (HasNoneOf (IsEither (member members.now (partner_of position)) (next_place set.old))) set.old set.new }
     ensures loose { set.new.loose ≡ set.old.loose }
     ensures scratch { scratch.new.geometry ≡ scratch.old.geometry }
 {
@@ -62,10 +62,10 @@ fn copy_row<D: Disk>(set: &mut DiskSet<D>, from: Place, row: u16, block: &mut Bl
     ensures unwritten { result ≡ RowOutcome.Broken → Keeps Anywhere set.old set.new }
     ensures spared { result ≡ RowOutcome.Broken
         → faults_of set.new (rebuilt_disk set.old.health) ≡ faults_of set.old (rebuilt_disk set.old.health) }
-    ensures unasked { result ≡ RowOutcome.Broken → Spares (λ d. d ≡ rebuilt_disk set.old.health) set.old set.new }
+    ensures unasked { result ≡ RowOutcome.Broken → LeavesDisks (λ d. d ≡ rebuilt_disk set.old.health) set.old set.new }
 
     ensures follows { Follows set.old set.new }
-    ensures touches { Spares (HasNoneOf (IsEither from (next_place set.old))) set.old set.new }
+    ensures touches { LeavesDisks (HasNoneOf (IsEither from (next_place set.old))) set.old set.new }
     ensures loose { set.new.loose ≡ set.old.loose }
     ensures len { length block.new ≡ length block.old }
 {

@@ -5,9 +5,9 @@ ghost use Rattle.ar_disks.specs.Geometry.{block_len_of};
 ghost use Rattle.ar_extents.specs.Follows.{Keeps, Anywhere, IsPlace, WorksOn, WorksInTurn};
 ghost use Rattle.ar_extents.specs.Set.{IsSound};
 ghost use Rattle.ar_extents.specs.Groups.{IsGroup, outcome_of};
-ghost use Rattle.ar_mirror.specs.Slots.{slots_of, one_of, other_of};
+ghost use Rattle.ar_mirror.specs.Slots.{mirror_slots_of, one_of, other_of};
 ghost use Rattle.ar_mirror.specs.Holds.{Holds};
-ghost use Rattle.ar_mirror.specs.Calls.{Gives, IsInPair, KeepsButSlot, OtherSlotsHold, OtherGroupsHold};
+ghost use Rattle.ar_mirror.specs.Calls.{ReadsSlot, IsInPair, KeepsButSlot, OtherMirrorSlotsHold, OtherGroupsHold};
 
 use crate::pair::pair_of;
 use ar_disks::{Block, Completion, Disk, Members};
@@ -23,11 +23,11 @@ pub fn get<D: Disk>(
     into: &mut Block,
 ) -> Completion
     requires group { IsGroup set.old members.now }
-    requires slot { slot < slots_of set.old.geometry }
+    requires slot { slot < mirror_slots_of set.old.geometry }
     requires whole { length into.old ≡ block_len_of set.old.geometry }
 
     ensures outcome { result ≡ outcome_of set.new.health }
-    ensures gives { Gives set.old set.new members.now slot into.new result }
+    ensures gives { ReadsSlot set.old set.new members.now slot into.new result }
 
     ensures keeps { Keeps Anywhere set.old set.new }
     ensures works { WorksOn (IsInPair set.old.geometry members.now slot) set.old set.new }
@@ -53,13 +53,13 @@ pub fn get<D: Disk>(
 /// bytes.
 pub fn put<D: Disk>(set: &mut DiskSet<D>, members: &Members, slot: u16, from: &[u8]) -> Completion
     requires group { IsGroup set.old members.now }
-    requires slot { slot < slots_of set.old.geometry }
+    requires slot { slot < mirror_slots_of set.old.geometry }
     requires whole { length from.now ≡ block_len_of set.old.geometry }
 
     ensures outcome { result ≡ outcome_of set.new.health }
     // In a failed set no member is usable, so this clause constrains `Done` alone.
     ensures holds { Holds set.new members.now slot from.now }
-    ensures slots { OtherSlotsHold members.now slot set.old set.new }
+    ensures slots { OtherMirrorSlotsHold members.now slot set.old set.new }
     ensures groups { OtherGroupsHold members.now set.old set.new }
 
     ensures keeps { KeepsButSlot members.now slot set.old set.new }

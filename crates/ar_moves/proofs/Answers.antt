@@ -10,7 +10,7 @@ use Rattle.ar_book.specs.declared.class.Class.TheVariants.{Parity}
 use Rattle.ar_store.specs.Store.{StoreState}
 use Rattle.ar_store.specs.Slots.{AllStand, BesideHold}
 use Rattle.ar_store.specs.Placing.{SameUnits, slot_at, IsLowestHole, HasNoHole}
-use Rattle.ar_store.specs.Calls.{IsAccessed, IsOpened, IsCutShort}
+use Rattle.ar_store.specs.Calls.{IsAccessed, IsOpened, BreaksOpening}
 use Rattle.ar_store.proofs.Changes.{units_then}
 use Rattle.ar_store.proofs.Fills.{accessed_then, stand_then}
 use Rattle.ar_moves.specs.declared.step.Move.{Move}
@@ -85,10 +85,10 @@ pub opens_slot : (t new : Tables) (g : ℕ) → HasNoHole t Parity → IsOpened 
 opens_slot t new g none opening named = named.none (slot_at g 0) new (inr (record { none = none; group = g; opened = opening; first = refl }))
 
 -- the disks broke while a group was opened: its tables, and that nothing has changed where there was none to open
-pub cut_tables : (old new : StoreState) → IsCutShort old new Parity → (new.book ≡ old.book) ⊎ ((group : ℕ) × IsOpened old.book new.book Parity group)
+pub cut_tables : (old new : StoreState) → BreaksOpening old new Parity → (new.book ≡ old.book) ⊎ ((group : ℕ) × IsOpened old.book new.book Parity group)
 cut_tables old new cut = elim cut.tables [ inl was ↦ inl (ap (λ (s : StoreState). s.book) was.same) | inr opening ↦ inr opening ]
 
-pub cut_nothing : (old new : StoreState) → HasNoHole old.book Parity → IsCutShort old new Parity → NamesNoSlot old.book → new ≡ old
+pub cut_nothing : (old new : StoreState) → HasNoHole old.book Parity → BreaksOpening old new Parity → NamesNoSlot old.book → new ≡ old
 cut_nothing old new none cut named =
     elim cut.tables [ inl was ↦ was.same | inr opening ↦ absurd (opens_slot old.book new.book opening.0 none opening.1 named) ]
 

@@ -9,7 +9,7 @@ use Rattle.ar_book.specs.declared.class.Class.{Class}
 use Rattle.ar_book.specs.declared.class.Class.TheVariants.{Free, Mirrored, Parity}
 use Rattle.ar_book.specs.declared.class.Slot.{Slot}
 use Rattle.ar_book.specs.Tables.{GroupState, Tables, is_free, no_group, group_in, class_of, home, slots_of, used}
-use Rattle.ar_book.specs.Changes.{with_key, without_key, freed, named, vacated, assigned}
+use Rattle.ar_book.specs.Changes.{with_key, with_hole, freed, named, vacated, assigned}
 use Rattle.ar_book.specs.Book.{TablesAgree}
 use Rattle.ar_book.specs.Cleaning.{IsInUse}
 use Rattle.ar_book.proofs.GroupLemmas.{put_other, named_size}
@@ -106,10 +106,10 @@ module _ (t : Tables) (ok : TablesAgree t) (c : Class) (taken_up : c ≢ Free) (
       let first : sum_by part gs + part target ≡ sum_by part t.groups + part put = sum_by-set part t.groups to.group put no_group names.hole.found.hole.group in
       let size : length gs ≡ length t.groups = named_size t.groups to key in
       let inside : names.group < length gs = omega (arith, from_inside.0) in
-      let taken : GroupState = without_key (group_in gs names.group) names.first.slot in
+      let taken : GroupState = with_hole (group_in gs names.group) names.first.slot in
       let second : sum_by part (set gs names.group taken) + part (group_in gs names.group) ≡ sum_by part gs + part taken = sum_by-set part gs names.group taken no_group inside in
       let same : part (group_in gs names.group) ≡ part source = ap part other in
-      let freed_is : part taken ≡ part (freed left_over) = ap (λ (x : GroupState). part (without_key x names.first.slot)) other in
+      let freed_is : part taken ≡ part (freed left_over) = ap (λ (x : GroupState). part (with_hole x names.first.slot)) other in
       let whole : cleaning_left (assigned t key to) ≡ sum_by part (set gs names.group taken) = ap (λ o. sum_by part (vacated gs o)) had in
       omega arith
 

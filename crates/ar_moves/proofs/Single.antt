@@ -7,7 +7,7 @@ use Rattle.ar_disks.specs.declared.address.Key.{Key}
 use Rattle.ar_book.specs.declared.class.Class.{Class}
 use Rattle.ar_book.specs.declared.class.Class.TheVariants.{Mirrored, Parity}
 use Rattle.ar_book.specs.declared.class.Slot.{Slot}
-use Rattle.ar_book.specs.Tables.{Tables, UnitState, key_at, HasBlock}
+use Rattle.ar_book.specs.Tables.{Tables, UnitTableState, key_at, HasBlock}
 use Rattle.ar_book.specs.Changes.{opened}
 use Rattle.ar_book.specs.Choices.{IsUpTo, IsNoNewer, IsLowestFree, place_of}
 use Rattle.ar_book.specs.Book.{TablesAgree}
@@ -19,7 +19,7 @@ use Rattle.ar_book.proofs.UnitPlaces.{some_place}
 use Rattle.ar_extents.specs.declared.health.Health.TheVariants.{Broken as AllBroken}
 use Rattle.ar_store.specs.Store.{StoreState}
 use Rattle.ar_store.specs.Placing.{slot_at, HasNoHole}
-use Rattle.ar_store.specs.Calls.{IsCutShort}
+use Rattle.ar_store.specs.Calls.{BreaksOpening}
 use Rattle.ar_moves.specs.Demotion.{IsOldestMirrored, IsSlotFor, LeavesReady}
 use Rattle.ar_moves.specs.Cleaning.{NamesCleaningOf, NamesCleaning}
 
@@ -42,7 +42,7 @@ place_single t k j ok here there same =
     let p = some_place t.units k.addr ok.units.distinct (has_by_block t.units k.addr k.rb here) in
     let q = some_place t.units j.addr ok.units.distinct (has_by_block t.units j.addr j.rb there) in
     let at = ap (λ n. slice_get t.units n) same in
-    ap (λ (x : Addr × UnitState). x.0) (same_Some (k.addr, p.0) (j.addr, q.0) (sym p.1 ∙ at ∙ q.1))
+    ap (λ (x : Addr × UnitTableState). x.0) (same_Some (k.addr, p.0) (j.addr, q.0) (sym p.1 ∙ at ∙ q.1))
 
 block_single : (t : Tables) (k j : Key) → TablesAgree t → HasBlock t k → HasBlock t j → IsNoNewer t k j → IsNoNewer t j k → k ≡ j
 block_single t k j ok here there (inl a) (inl b) = absurd (omega arith)
@@ -89,7 +89,7 @@ pub leaves_ready : (t new ready : Tables) (s : Slot) → IsSlotFor t s ready →
 leaves_ready t new ready s slot same = record { ready = λ key to tables names. same ∙ (demoted_single t ready tables s to slot names.slot).tables }
 
 -- so they are where the disks broke while the group was opened
-pub cut_ready : (old new : StoreState) → HasNoHole old.book Parity → old.disks.health ≢ AllBroken → IsCutShort old new Parity → LeavesReady old.book new.book
+pub cut_ready : (old new : StoreState) → HasNoHole old.book Parity → old.disks.health ≢ AllBroken → BreaksOpening old new Parity → LeavesReady old.book new.book
 cut_ready old new none sound cut = elim cut.tables [
   | inl was ↦ absurd (sound was.was)
   | inr opening ↦

@@ -8,7 +8,7 @@ use Rattle.ar_extents.specs.Set.{SetState}
 use Rattle.ar_extents.specs.Follows.{Follows}
 use Rattle.ar_parity.specs.Row.{changed, row_of, data_position, parity_position, zero_blocks}
 use Rattle.ar_parity.specs.Group.{RowAgrees, Holds, KeepsButRow}
-use Rattle.ar_parity.specs.Call.{Changes}
+use Rattle.ar_parity.specs.Call.{UpdatesStripe}
 use Rattle.ar_parity.proofs.Sums.{changed-data, changed-other}
 use Rattle.ar_parity.proofs.Agrees.{agrees_kept}
 use Rattle.ar_parity.proofs.Updates.{zero_block}
@@ -27,7 +27,7 @@ pub positions_apart : (k slot : ℕ) → row_of k ≡ row_of slot → k ≢ slot
 positions_apart k slot same ne = grind (arith, nat_tests)
 
 -- the slot that was put holds the new block
-pub slot_changed : (a b : SetState) (m : Members) (slot : ℕ) (bytes : List ℕ) → Changes a b m (row_of slot) (data_position slot) bytes
+pub slot_changed : (a b : SetState) (m : Members) (slot : ℕ) (bytes : List ℕ) → UpdatesStripe a b m (row_of slot) (data_position slot) bytes
     → (x : List ℕ) → Holds a m slot x → Holds b m slot bytes
 slot_changed a b m slot bytes changes x holds =
     let i = data_position slot in
@@ -38,7 +38,7 @@ slot_changed a b m slot bytes changes x holds =
       here = changed-data holds.blocks i j bytes (position_below slot) (parity_below (row_of slot)) (position_apart slot);
     }
 
-same_row : (a b : SetState) (m : Members) (slot k : ℕ) (bytes : List ℕ) → Changes a b m (row_of slot) (data_position slot) bytes
+same_row : (a b : SetState) (m : Members) (slot k : ℕ) (bytes : List ℕ) → UpdatesStripe a b m (row_of slot) (data_position slot) bytes
     → k ≢ slot → row_of k ≡ row_of slot → (x : List ℕ) → Holds a m k x → Holds b m k x
 same_row a b m slot k bytes changes ne same x holds =
     let i = data_position slot in
@@ -55,7 +55,7 @@ same_row a b m slot k bytes changes ne same x holds =
 
 -- every other slot holds what it held
 pub others_kept : (a b : SetState) (m : Members) (slot : ℕ) (bytes : List ℕ) → Follows a b
-    → Changes a b m (row_of slot) (data_position slot) bytes → KeepsButRow m (row_of slot) a b
+    → UpdatesStripe a b m (row_of slot) (data_position slot) bytes → KeepsButRow m (row_of slot) a b
     → (k : ℕ) → k ≢ slot → (x : List ℕ) → Holds a m k x → Holds b m k x
 others_kept a b m slot bytes ab changes keeps k ne x holds =
     elim (eqb_tells (row_of k) (row_of slot)) [
@@ -79,9 +79,9 @@ zero_slots s m rows n all slot lt = record {
 
 -- the same, where row and position are told by equations
 pub others_kept_at : (a b : SetState) (m : Members) (slot row position : ℕ) (bytes : List ℕ) → row ≡ row_of slot → position ≡ data_position slot
-    → Follows a b → Changes a b m row position bytes → KeepsButRow m row a b
+    → Follows a b → UpdatesStripe a b m row position bytes → KeepsButRow m row a b
     → (k : ℕ) → k ≢ slot → (x : List ℕ) → Holds a m k x → Holds b m k x
 others_kept_at a b m slot row position bytes row_is position_is ab changes keeps =
     others_kept a b m slot bytes ab
-    (subst (λ r. Changes a b m r (data_position slot) bytes) row_is (subst (λ i. Changes a b m row i bytes) position_is changes))
+    (subst (λ r. UpdatesStripe a b m r (data_position slot) bytes) row_is (subst (λ i. UpdatesStripe a b m row i bytes) position_is changes))
     (subst (λ r. KeepsButRow m r a b) row_is keeps)

@@ -17,7 +17,7 @@ use Rattle.ar_extents.proofs.Losses.{missing_lost, stays_lost}
 use Rattle.ar_extents.specs.Groups.{IsOutside}
 use Rattle.ar_parity.specs.Row.{Blocks, block, changed, parity_position, zero_blocks}
 use Rattle.ar_parity.specs.Group.{Stands, RowAgrees, KeepsButRow}
-use Rattle.ar_parity.specs.Call.{Changes}
+use Rattle.ar_parity.specs.Call.{UpdatesStripe}
 use Rattle.ar_parity.proofs.Sums.{changed-data, changed-parity, changed-other, changed-sum, zeros_add_up}
 use Rattle.ar_parity.proofs.Agrees.{lost_stands, stands_kept, add_up_then, agrees_kept, agrees_read, broken_agrees}
 
@@ -132,7 +132,7 @@ both_changed a b c m row i j p place bytes before old_parity change sum at is li
 pub changes_known : (a b c : SetState) (m : Members) (row i : ℕ) (place : Place) (bytes before : List ℕ) → place ≡ member m i → i < 4 → Follows a b → Keeps Anywhere a b
     → IsRead a b place row before
     → ((blocks : Blocks) → RowAgrees b m row blocks → before ≡ block blocks i → RowAgrees c m row (changed blocks i (parity_position row) bytes))
-    → Changes a c m row i bytes
+    → UpdatesStripe a c m row i bytes
 changes_known a b c m row i place bytes before at li ab keeps read after = record {
   agrees = λ blocks agrees.
       after blocks (agrees_read a b m row blocks ab keeps agrees) (read_stands a b m row i place before (block blocks i) at read (agrees.stand i li));
@@ -140,13 +140,13 @@ changes_known a b c m row i place bytes before at li ab keeps read after = recor
 
 pub changes_lost : (a b c : SetState) (m : Members) (row i : ℕ) (bytes : List ℕ) → Follows a b → Keeps Anywhere a b
     → ((blocks : Blocks) → RowAgrees b m row blocks → RowAgrees c m row (changed blocks i (parity_position row) bytes))
-    → Changes a c m row i bytes
+    → UpdatesStripe a c m row i bytes
 changes_lost a b c m row i bytes ab keeps after = record {
   agrees = λ blocks agrees. after blocks (agrees_read a b m row blocks ab keeps agrees);
 }
 
 pub changes_broken : (a b : SetState) (m : Members) (row i : ℕ) (bytes : List ℕ) → Follows a b → b.health ≡ AllBroken → i < 4
-    → parity_position row < 4 → i ≢ parity_position row → length bytes ≡ block_len_of a.geometry → Changes a b m row i bytes
+    → parity_position row < 4 → i ≢ parity_position row → length bytes ≡ block_len_of a.geometry → UpdatesStripe a b m row i bytes
 changes_broken a b m row i bytes ab is li lj ne len = record { agrees = broken_changed a b m row i (parity_position row) bytes ab is li lj ne len }
 
 pub zero_block : (n i : ℕ) → block (zero_blocks n) i ≡ zeros n

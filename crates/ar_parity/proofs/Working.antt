@@ -6,7 +6,7 @@ use Rattle.ar_disks.specs.Members.{member, AreApart}
 use Rattle.ar_extents.specs.declared.health.Health.{Health}
 use Rattle.ar_extents.specs.Health.{IsRebuilding, rebuilt_disk}
 use Rattle.ar_extents.specs.Set.{SetState, IsSound}
-use Rattle.ar_extents.specs.Follows.{Follows, Keeps, KeepsBut, Anywhere, Spares, HasNoneOf, IsPlace, IsEither, WorksOn}
+use Rattle.ar_extents.specs.Follows.{Follows, Keeps, KeepsBut, Anywhere, LeavesDisks, HasNoneOf, IsPlace, IsEither, WorksOn}
 use Rattle.ar_extents.specs.Access.{Accesses, Touches, next_place}
 use Rattle.ar_extents.specs.Groups.{IsMember}
 use Rattle.ar_extents.proofs.Follows.{keeps_refl, works_refl, works_then, works_more, works_in_turn, in_turn_first}
@@ -55,7 +55,7 @@ off_disk m i j a b apart li lj ne works =
 
 -- The extent that is rebuilt was written, once its group was read: no disk but the members' was accessed,
 pub row_spares : (a b c : SetState) (m : Members) (position : ℕ) (answered : Bool) → position < 4 → member m position ≡ next_place a
-    → WorksOn (IsMember m) a b → b.health ≡ a.health → Touches b c (rebuilt_disk b.health) answered → Spares (HasNoneOf (IsMember m)) a c
+    → WorksOn (IsMember m) a b → b.health ≡ a.health → Touches b c (rebuilt_disk b.health) answered → LeavesDisks (HasNoneOf (IsMember m)) a c
 row_spares a b c m position answered below next works health touched = record {
   disks = λ d none.
       touched.others.others d

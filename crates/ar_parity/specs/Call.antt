@@ -15,12 +15,12 @@ use Rattle.ar_parity.specs.Row.{Blocks, block, changed, parity_position}
 use Rattle.ar_parity.specs.Group.{RowAgrees}
 
 -- a call returns `Broken` exactly where the set has failed after it
-abbrev pub Tells : SetState → Completion → Type 0
-Tells s Done = s.health ≢ AllBroken
-Tells s Broken = s.health ≡ AllBroken
+abbrev pub ReportsFailure : SetState → Completion → Type 0
+ReportsFailure s Done = s.health ≢ AllBroken
+ReportsFailure s Broken = s.health ≡ AllBroken
 
 -- Whatever four blocks the stripe agreed on, it agrees on them with the new block at its position and the new parity.
-pub record Changes (old new : SetState) (m : Members) (row position : ℕ) (bytes : List ℕ) : Type 0 where
+pub record UpdatesStripe (old new : SetState) (m : Members) (row position : ℕ) (bytes : List ℕ) : Type 0 where
   pub agrees : (blocks : Blocks) → RowAgrees old m row blocks → RowAgrees new m row (changed blocks position (parity_position row) bytes)
 
 -- the extent is on another disk than this one

@@ -9,7 +9,7 @@ ghost use Rattle.ar_extents.specs.Groups.{IsGroup, IsMember};
 ghost use Rattle.ar_parity.specs.Row.{Blocks, block};
 ghost use Rattle.ar_parity.specs.Group.{RowAgrees};
 ghost use Rattle.ar_disks.specs.Endings.{OnDone};
-ghost use Rattle.ar_parity.specs.Call.{Tells, IsOffDiskOf};
+ghost use Rattle.ar_parity.specs.Call.{ReportsFailure, IsOffDiskOf};
 
 use crate::slots::{another, highest_beside, lowest_beside};
 use crate::steps::{add_beside, read_beside};
@@ -35,7 +35,7 @@ pub fn sum_of_two<D: Disk>(
     requires whole { length into.old ≡ block_len_of set.old.geometry }
     requires spare_whole { length spare.old ≡ block_len_of set.old.geometry }
 
-    ensures answer { Tells set.new result }
+    ensures answer { ReportsFailure set.new result }
     ensures sum { OnDone result ((blocks : Blocks) → RowAgrees set.old members.now row blocks
         → into.new ≡ xor (block blocks beside) (block blocks lost)) }
     // The disk of `beside` isn't accessed.
@@ -72,7 +72,7 @@ pub fn sum_of_three<D: Disk>(
     requires whole { length into.old ≡ block_len_of set.old.geometry }
     requires spare_whole { length spare.old ≡ block_len_of set.old.geometry }
 
-    ensures answer { Tells set.new result }
+    ensures answer { ReportsFailure set.new result }
     ensures block { OnDone result ((blocks : Blocks) → RowAgrees set.old members.now row blocks → into.new ≡ block blocks lost) }
     ensures health { OnDone result (set.new.health ≡ set.old.health) }
 

@@ -9,7 +9,7 @@ ghost use Rattle.ar_extents.specs.Groups.{IsGroup, IsMember, IsOutside, outcome_
 ghost use Rattle.ar_parity.specs.Row.{row_of, data_position, parity_position, zero_blocks};
 ghost use Rattle.ar_parity.specs.Group.{RowAgrees, Holds, KeepsButRow, StopsOpening};
 ghost use Rattle.ar_disks.specs.Endings.{OnDone};
-ghost use Rattle.ar_parity.specs.Call.{Changes, AsksOwnFirst};
+ghost use Rattle.ar_parity.specs.Call.{UpdatesStripe, AsksOwnFirst};
 
 use crate::degraded::sum_of_three;
 use crate::slots::{data_at, row_of_slot};
@@ -107,7 +107,7 @@ pub fn put<D: Disk>(
     requires scratch { scratch.old.geometry ≡ set.old.geometry }
 
     ensures outcome { result ≡ outcome_of set.new.health }
-    ensures row { Changes set.old set.new members.now (row_of slot) (data_position slot) from.now }
+    ensures row { UpdatesStripe set.old set.new members.now (row_of slot) (data_position slot) from.now }
     ensures holds { (b : List ℕ) → Holds set.old members.now slot b → Holds set.new members.now slot from.now }
     ensures slots { (k : ℕ) → k ≢ slot → (b : List ℕ) → Holds set.old members.now k b → Holds set.new members.now k b }
 

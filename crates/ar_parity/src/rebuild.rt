@@ -5,7 +5,7 @@ ghost use Rattle.ar_disks.specs.Members.{member};
 ghost use Rattle.ar_extents.specs.Health.{IsRebuilding, rebuilt_disk};
 ghost use Rattle.ar_extents.specs.Set.{faults_of};
 ghost use Rattle.ar_extents.specs.Access.{next_place};
-ghost use Rattle.ar_extents.specs.Follows.{Follows, Anywhere, Keeps, KeepsBut, Spares, HasNoneOf};
+ghost use Rattle.ar_extents.specs.Follows.{Follows, Anywhere, Keeps, KeepsBut, LeavesDisks, HasNoneOf};
 ghost use Rattle.ar_extents.specs.Groups.{IsGroup, IsMember};
 ghost use Rattle.ar_parity.specs.Row.{Blocks};
 ghost use Rattle.ar_parity.specs.Group.{RowAgrees};
@@ -40,10 +40,10 @@ pub fn rebuild_row<D: Disk>(
     ensures unwritten { result ≡ RowOutcome.Broken → Keeps Anywhere set.old set.new }
     ensures spared { result ≡ RowOutcome.Broken
         → faults_of set.new (rebuilt_disk set.old.health) ≡ faults_of set.old (rebuilt_disk set.old.health) }
-    ensures unasked { result ≡ RowOutcome.Broken → Spares (λ d. d ≡ rebuilt_disk set.old.health) set.old set.new }
+    ensures unasked { result ≡ RowOutcome.Broken → LeavesDisks (λ d. d ≡ rebuilt_disk set.old.health) set.old set.new }
 
     ensures follows { Follows set.old set.new }
-    ensures touches { Spares (HasNoneOf (IsMember members.now)) set.old set.new }
+    ensures touches { LeavesDisks (HasNoneOf (IsMember members.now)) set.old set.new }
     ensures loose { set.new.loose ≡ set.old.loose }
     ensures scratch { scratch.new.geometry ≡ scratch.old.geometry }
 {

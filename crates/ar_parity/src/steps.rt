@@ -9,7 +9,7 @@ ghost use Rattle.ar_extents.specs.Follows.{Keeps, KeepsBut, Anywhere, IsPlace, W
 ghost use Rattle.ar_extents.specs.Groups.{IsGroup};
 ghost use Rattle.ar_parity.specs.Group.{Stands};
 ghost use Rattle.ar_disks.specs.Endings.{OnDone};
-ghost use Rattle.ar_parity.specs.Call.{Tells};
+ghost use Rattle.ar_parity.specs.Call.{ReportsFailure};
 
 use ar_disks::{Block, Completion, Disk, Members};
 use ar_extents::{DiskSet, Got, Put};
@@ -26,7 +26,7 @@ pub fn write<D: Disk>(
     requires position { position < 4 }
     requires row { row < rows_of set.old.geometry }
     requires whole { length from.now ≡ block_len_of set.old.geometry }
-    ensures answer { Tells set.new result }
+    ensures answer { ReportsFailure set.new result }
     ensures here { Stands set.new members.now row position from.now }
     ensures keeps { KeepsBut (member members.now position) row set.old set.new }
     ensures works { WorksOn (IsPlace (member members.now position)) set.old set.new }
@@ -54,7 +54,7 @@ pub fn read_beside<D: Disk>(
     requires row { row < rows_of set.old.geometry }
     requires whole { length into.old ≡ block_len_of set.old.geometry }
 
-    ensures answer { Tells set.new result }
+    ensures answer { ReportsFailure set.new result }
     ensures bytes { OnDone result ((b : List ℕ) → Stands set.old members.now row position b → into.new ≡ b) }
     ensures health { OnDone result (set.new.health ≡ set.old.health) }
 
@@ -87,7 +87,7 @@ pub fn add_beside<D: Disk>(
     requires whole { length into.old ≡ block_len_of set.old.geometry }
     requires spare_whole { length spare.old ≡ block_len_of set.old.geometry }
 
-    ensures answer { Tells set.new result }
+    ensures answer { ReportsFailure set.new result }
     ensures bytes { OnDone result ((b : List ℕ) → Stands set.old members.now row position b → into.new ≡ xor into.old b) }
     ensures health { OnDone result (set.new.health ≡ set.old.health) }
 

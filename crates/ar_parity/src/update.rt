@@ -7,7 +7,7 @@ ghost use Rattle.ar_extents.specs.Follows.{IsPlace, IsEither, WorksOn, WorksInTu
 ghost use Rattle.ar_extents.specs.Groups.{IsGroup, IsMember};
 ghost use Rattle.ar_parity.specs.Row.{Blocks, block, changed, parity_position};
 ghost use Rattle.ar_parity.specs.Group.{Stands, RowAgrees, KeepsButRow};
-ghost use Rattle.ar_parity.specs.Call.{Tells, Changes, ReadsBefore, WritesInTurn, AsksOwnFirst};
+ghost use Rattle.ar_parity.specs.Call.{ReportsFailure, UpdatesStripe, ReadsBefore, WritesInTurn, AsksOwnFirst};
 
 use crate::degraded::sum_of_two;
 use crate::slots::parity_at;
@@ -33,7 +33,7 @@ fn write_both<D: Disk>(
     requires whole { length from.now ≡ block_len_of set.old.geometry }
     requires sum_whole { length sum.now ≡ block_len_of set.old.geometry }
 
-    ensures answer { Tells set.new result }
+    ensures answer { ReportsFailure set.new result }
     ensures block { Stands set.new members.now row position from.now }
     ensures parity { Stands set.new members.now row parity sum.now }
     ensures others { (i : ℕ) → i < 4 → i ≢ position → i ≢ parity
@@ -67,7 +67,7 @@ fn update<D: Disk>(
     requires before_whole { length before.now ≡ block_len_of set.old.geometry }
     requires sum_whole { length sum.old ≡ block_len_of set.old.geometry }
 
-    ensures answer { Tells set.new result }
+    ensures answer { ReportsFailure set.new result }
     ensures agrees { (blocks : Blocks) → RowAgrees set.old members.now row blocks → before.now ≡ block blocks position
         → RowAgrees set.new members.now row (changed blocks position (parity_position row) from.now) }
     ensures others { (i : ℕ) → i < 4 → i ≢ position → i ≢ parity_position row
@@ -109,7 +109,7 @@ fn put_lost<D: Disk>(
     requires sum_whole { length sum.old ≡ block_len_of set.old.geometry }
     requires spare_whole { length spare.old ≡ block_len_of set.old.geometry }
 
-    ensures answer { Tells set.new result }
+    ensures answer { ReportsFailure set.new result }
     ensures agrees { (blocks : Blocks) → RowAgrees set.old members.now row blocks
         → RowAgrees set.new members.now row (changed blocks position (parity_position row) from.now) }
     ensures others { (i : ℕ) → i < 4 → i ≢ position → i ≢ parity_position row
@@ -149,8 +149,8 @@ fn change_by_reading<D: Disk>(
     requires whole { length from.now ≡ block_len_of set.old.geometry }
     requires scratch { scratch.old.geometry ≡ set.old.geometry }
 
-    ensures answer { Tells set.new result }
-    ensures changes { Changes set.old set.new members.now row position from.now }
+    ensures answer { ReportsFailure set.new result }
+    ensures changes { UpdatesStripe set.old set.new members.now row position from.now }
     ensures others { (i : ℕ) → i < 4 → i ≢ position → i ≢ parity_position row
         → content set.new (member members.now i) row ≡ content set.old (member members.now i) row }
 
@@ -186,8 +186,8 @@ pub fn change<D: Disk>(
     requires whole { length from.now ≡ block_len_of set.old.geometry }
     requires scratch { scratch.old.geometry ≡ set.old.geometry }
 
-    ensures answer { Tells set.new result }
-    ensures changes { Changes set.old set.new members.now row position from.now }
+    ensures answer { ReportsFailure set.new result }
+    ensures changes { UpdatesStripe set.old set.new members.now row position from.now }
     ensures others { (i : ℕ) → i < 4 → i ≢ position → i ≢ parity_position row
         → content set.new (member members.now i) row ≡ content set.old (member members.now i) row }
 

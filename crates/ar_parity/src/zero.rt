@@ -6,7 +6,7 @@ ghost use Rattle.ar_extents.specs.Follows.{WorksOn};
 ghost use Rattle.ar_extents.specs.Groups.{IsGroup, IsMember};
 ghost use Rattle.ar_parity.specs.Row.{zero_blocks};
 ghost use Rattle.ar_parity.specs.Group.{RowAgrees, KeepsButRow};
-ghost use Rattle.ar_parity.specs.Call.{Tells};
+ghost use Rattle.ar_parity.specs.Call.{ReportsFailure};
 
 use crate::steps::write;
 use ar_disks::{Block, Completion, Disk, Members};
@@ -22,7 +22,7 @@ pub fn zero_row<D: Disk>(
     requires group { IsGroup set.old members.now }
     requires row { row < rows_of set.old.geometry }
     requires zero { zero.now ≡ zeros (block_len_of set.old.geometry) }
-    ensures answer { Tells set.new result }
+    ensures answer { ReportsFailure set.new result }
     ensures agrees { RowAgrees set.new members.now row (zero_blocks (block_len_of set.old.geometry)) }
     ensures keeps { KeepsButRow members.now row set.old set.new }
     ensures works { WorksOn (IsMember members.now) set.old set.new }

@@ -1,5 +1,6 @@
 -- What a picture shows of an extent.
-use Rattle.std.specs.Prelude.{ℕ, ◌*◌, ◌/◌, Bool, false, ◌==◌, ◌&&◌, ◌||◌, nat_le, if◌then◌else◌, List, Option, None, Some, position, find}
+use Rattle.std.specs.Prelude.{ℕ, ◌*◌, ◌/◌, Bool, false, ◌==◌, ◌&&◌, nat_le, if◌then◌else◌, List, Option, None, Some, position, find}
+use Rattle.ar_disks.specs.Members.{stands_on}
 use Rattle.ar_disks.specs.declared.address.Place.{Place}
 use Rattle.ar_disks.specs.declared.address.Members.{Members}
 use Rattle.ar_picture.specs.declared.picture.Class.{Class}
@@ -12,24 +13,16 @@ use Rattle.ar_picture.specs.declared.cell.Cell.{Cell}
 use Rattle.ar_picture.specs.declared.cell.Content.{Content}
 use Rattle.ar_picture.specs.declared.cell.Content.TheVariants.{Loose, Free, Mirrored, Parity}
 
--- the two are one extent
-abbrev pub same_place : Place → Place → Bool
-same_place p q = (p.disk == q.disk) && (p.extent == q.extent)
-
--- an extent is one of the four
-abbrev pub stands_on : Members → Place → Bool
-stands_on m p = same_place m.first p || same_place m.second p || same_place m.third p || same_place m.fourth p
-
 -- how many ninths of the slots hold a block, rounded down
 abbrev pub fullness_of : ℕ → ℕ → ℕ
 fullness_of blocks slots = if nat_le slots blocks then 9 else blocks * 9 / slots
 
 -- the extent's disk has failed, or isn't rebuilt up to it
-abbrev pub is_missing : Health → Place → Bool
-is_missing Whole p = false
-is_missing (Out disk) p = p.disk == disk
-is_missing (Rebuilding disk done) p = (p.disk == disk) && nat_le done p.extent
-is_missing Broken p = false
+abbrev pub is_missing_place : Health → Place → Bool
+is_missing_place Whole p = false
+is_missing_place (Out disk) p = p.disk == disk
+is_missing_place (Rebuilding disk done) p = (p.disk == disk) && nat_le done p.extent
+is_missing_place Broken p = false
 
 -- the lowest group that has an extent
 abbrev pub group_at : List Group → Place → Option ℕ
@@ -56,4 +49,4 @@ content_at groups p = content_within (find (λ g. stands_on g.members p) groups)
 
 -- what the picture shows of an extent
 abbrev pub cell_of : Picture → Place → Cell
-cell_of picture p = record { content = content_at picture.groups.items p; is_missing = is_missing picture.health p }
+cell_of picture p = record { content = content_at picture.groups.items p; is_missing = is_missing_place picture.health p }

@@ -1,7 +1,8 @@
 // Cells: what a picture shows of an extent. The lowest group that has the extent decides its use.
 ghost use Rattle.std.specs.Prelude.{◌≡◌, find};
 ghost use Rattle.std.specs.Option.{option_copied};
-ghost use Rattle.ar_picture.specs.Cells.{stands_on, content_of, content_at, cell_of};
+ghost use Rattle.ar_disks.specs.Members.{stands_on};
+ghost use Rattle.ar_picture.specs.Cells.{content_of, content_at, cell_of};
 
 use crate::{Class, Group, Picture};
 use ar_disks::Place;

@@ -1,6 +1,7 @@
 // A disk array as plain data: pictures depend on no table and no disk of the array.
 ghost use Rattle.std.specs.Prelude.{◌≡◌, ◌≢◌, ℕ, ◌+◌, ◌^◌, ◌<◌, ◌≤◌, slice_index};
-ghost use Rattle.ar_picture.specs.Cells.{stands_on, fullness_of, is_missing, group_at};
+ghost use Rattle.ar_disks.specs.Members.{stands_on};
+ghost use Rattle.ar_picture.specs.Cells.{fullness_of, is_missing_place, group_at};
 
 use ar_disks::{Members, Place};
 
@@ -73,7 +74,7 @@ pub enum Health {
 impl Health {
     /// Whether an extent is missing: its disk has failed, or isn't rebuilt up to it. On a failed array none is.
     pub fn is_missing(self, place: Place) -> bool
-        ensures { result ≡ is_missing self place }
+        ensures { result ≡ is_missing_place self place }
     {
         match self {
             Health::Whole | Health::Broken => false,

@@ -9,12 +9,12 @@ use Rattle.ar_extents.specs.Health.{is_out, IsDown, IsRebuilding, rebuilt_disk, 
 use Rattle.ar_extents.specs.Set.{SetState, faults_of}
 use Rattle.ar_extents.specs.Follows.{Follows, Faulted, Keeps}
 use Rattle.ar_extents.specs.Access.{next_place, IsGivenUp}
-use Rattle.ar_extents.specs.Changes.{is_broken, with_done}
+use Rattle.ar_extents.specs.Changes.{is_broken_set, with_done}
 use Rattle.ar_extents.proofs.Follows.{keeps_then, keeps_disks}
 use Rattle.ar_extents.proofs.GroupLemmas.{same_place}
 use Rattle.ar_extents.proofs.Losses.{sound_with_done}
-use Rattle.ar_rebuild.specs.Rows.{IsBesideNext, IsSpared, WritesNext}
-use Rattle.ar_rebuild.specs.Rebuild.{IsQuiet, IsLostAgain, Advances}
+use Rattle.ar_rebuild.specs.Rows.{IsBesideNext, HasNotFaulted, WritesNext}
+use Rattle.ar_rebuild.specs.Rebuild.{NothingToRebuild, IsLostAgain, Advances}
 use Rattle.ar_rebuild.proofs.RowLemmas.{next_same}
 
 -- what a kind of health isn't
@@ -43,17 +43,17 @@ mark_of (Rebuilding x done) = done
 mark_of Broken = 0
 
 pub rebuilding_not_broken : (x n : ℕ) → Rebuilding x n ≢ Broken
-rebuilding_not_broken x n e = true≢false (sym (ap is_broken e))
+rebuilding_not_broken x n e = true≢false (sym (ap is_broken_set e))
 
 pub whole_not_broken : Whole ≢ Broken
-whole_not_broken e = true≢false (sym (ap is_broken e))
+whole_not_broken e = true≢false (sym (ap is_broken_set e))
 
 pub out_not_broken : (x : ℕ) → Out x ≢ Broken
-out_not_broken x e = true≢false (sym (ap is_broken e))
+out_not_broken x e = true≢false (sym (ap is_broken_set e))
 
-quiet_not_rebuilding : (h : Health) (x n : ℕ) → IsQuiet h → h ≢ Rebuilding x n
+quiet_not_rebuilding : (h : Health) (x n : ℕ) → NothingToRebuild h → h ≢ Rebuilding x n
 unfolding is_rebuilding
-quiet_not_rebuilding h x n quiet is = subst (λ (y : Health). IsQuiet y) is quiet
+quiet_not_rebuilding h x n quiet is = subst (λ (y : Health). NothingToRebuild y) is quiet
 
 none_out : (h : Health) (d : ℕ) → IsRebuilding h → is_out h d ≡ false
 none_out Whole d is = absurd is
@@ -70,7 +70,7 @@ calm a b ab is d =
     ]
 
 -- the disk that is rebuilt has not faulted in what was done before
-pub spared_then : (a b c : SetState) → Follows a b → b.health ≡ a.health → IsRebuilding a.health → IsSpared b c → IsSpared a c
+pub spared_then : (a b c : SetState) → Follows a b → b.health ≡ a.health → IsRebuilding a.health → HasNotFaulted b c → HasNotFaulted a c
 spared_then a b c ab same rebuilding spared =
     subst (λ (h : Health). faults_of c (rebuilt_disk h) ≡ faults_of b (rebuilt_disk h)) same spared
     ∙ calm a b ab (subst (λ (h : Health). IsRebuilding h) (sym same) rebuilding) (rebuilt_disk a.health)
@@ -92,7 +92,7 @@ advances_idle s none = record {
   stays_broken = λ is. refl;
 }
 
-pub advances_quiet : (s : SetState) → IsQuiet s.health → Advances s s
+pub advances_quiet : (s : SetState) → NothingToRebuild s.health → Advances s s
 advances_quiet s quiet = advances_idle s (λ x n is. quiet_not_rebuilding s.health x n quiet is)
 
 pub advances_broken : (s : SetState) → s.health ≡ Broken → Advances s s

@@ -3,14 +3,14 @@ use Rattle.std.proofs.Common.{◌≡◌, ◌≢◌, inl, inr, ℕ, ◌<◌, fals
 use Rattle.std.proofs.lemmas.Bool.Decides.{eqb_tells}
 use Rattle.ar_disks.specs.declared.address.Place.{Place}
 use Rattle.ar_disks.specs.declared.address.Members.{Members}
-use Rattle.ar_disks.specs.Members.{member}
+use Rattle.ar_disks.specs.Members.{member, stands_on}
 use Rattle.ar_extents.specs.declared.health.Health.{Health}
 use Rattle.ar_extents.specs.declared.health.Health.TheVariants.{Rebuilding}
 use Rattle.ar_extents.specs.declared.outcome.RowOutcome.{RowOutcome}
 use Rattle.ar_extents.specs.declared.outcome.RowOutcome.TheVariants.{Done, GivenUp, Broken}
 use Rattle.ar_extents.specs.Health.{IsRebuilding, rebuilt_disk, next_extent}
 use Rattle.ar_extents.specs.Set.{SetState}
-use Rattle.ar_extents.specs.Follows.{Spares, HasNoneOf, IsEither}
+use Rattle.ar_extents.specs.Follows.{LeavesDisks, HasNoneOf, IsEither}
 use Rattle.ar_extents.specs.Access.{next_place}
 use Rattle.ar_extents.specs.Changes.{with_done}
 use Rattle.ar_extents.specs.Groups.{IsGroup, IsOutside}
@@ -22,14 +22,14 @@ use Rattle.ar_parity.proofs.Frames.{done_holds as parity_done}
 use Rattle.ar_book.specs.declared.class.Class.{Class}
 use Rattle.ar_book.specs.declared.class.Class.TheVariants.{Free, Mirrored, Parity}
 use Rattle.ar_book.specs.Tables.{Tables, group_in, class_of, slots_of}
-use Rattle.ar_book.specs.Choices.{stands_on, IsUnused}
+use Rattle.ar_book.specs.Choices.{IsUnused}
 use Rattle.ar_book.proofs.GroupChanges.{not_member}
 use Rattle.ar_store.specs.Store.{StoreState, store_of}
 use Rattle.ar_store.specs.Slots.{ClassHolds}
 use Rattle.ar_store.specs.Kept.{IsSpace}
 use Rattle.ar_store.proofs.Spaces.{slot_group, slot_inside, groups_apart}
 use Rattle.ar_store.proofs.Alike.{class_alike}
-use Rattle.ar_rebuild.specs.Rows.{WritesNext, HasNothingNext, GroupIsWhole, WritesRows, CanBeDone, NeedsNext, AsksNext, WritesExtent, StopsAt, StopsWriting}
+use Rattle.ar_rebuild.specs.Rows.{WritesNext, HasNothingNext, GroupIsWhole, WritesRows, CanBeDone, NeedsNext, AsksNext, WritesExtent, StopsAtRow, StopsWriting}
 use Rattle.ar_rebuild.proofs.RowLemmas.{next_same, writes_refl, writes_alike}
 
 -- the extent at the mark is the next one
@@ -136,9 +136,9 @@ asks_done s b asks = record { spares = λ g i inside below at. record { disks = 
 
 -- the pair of the extent that is rebuilt next is that of its position
 pub pair_asked : (a b : SetState) (place : Place) (m : Members) (position : ℕ) → a.health ≡ Rebuilding place.disk place.extent → member m position ≡ place
-    → Spares (HasNoneOf (IsEither (member m (partner_of position)) (next_place a))) a b → Spares (HasNoneOf (NeedsNext Mirrored m position)) a b
+    → LeavesDisks (HasNoneOf (IsEither (member m (partner_of position)) (next_place a))) a b → LeavesDisks (HasNoneOf (NeedsNext Mirrored m position)) a b
 pair_asked a b place m position is at touches =
-    let P : Place → Type 0 = λ p. Spares (HasNoneOf (IsEither (member m (partner_of position)) p)) a b in
+    let P : Place → Type 0 = λ p. LeavesDisks (HasNoneOf (IsEither (member m (partner_of position)) p)) a b in
     subst P (sym (at ∙ next_is a place is)) touches
 
 -- What holds of the member that has the next extent holds wherever that extent is met: no other group has it, nor another position.
@@ -175,19 +175,19 @@ member_alone Holds c a t place m g position space is inside c_is m_is below at h
 -- What was accessed for a member of one group is what the next extent needs.
 pub asks_member : (c : Class) (a b : SetState) (t : Tables) (place : Place) (m : Members) (g position : ℕ) → IsSpace (store_of a t)
     → a.health ≡ Rebuilding place.disk place.extent → g < length t.groups → c ≡ class_of t g → m ≡ (group_in t.groups g).members → position < 4 → member m position ≡ place
-    → Spares (HasNoneOf (NeedsNext c m position)) a b → AsksNext (store_of a t) b
+    → LeavesDisks (HasNoneOf (NeedsNext c m position)) a b → AsksNext (store_of a t) b
 asks_member c a b t place m g position space is inside c_is m_is below at touches = record {
   spares =
-      member_alone (λ class members i. Spares (HasNoneOf (NeedsNext class members i)) a b) c a t place m g position space is inside c_is m_is below
+      member_alone (λ class members i. LeavesDisks (HasNoneOf (NeedsNext class members i)) a b) c a t place m g position space is inside c_is m_is below
       at touches;
 }
 
 -- where the writing of a member of one group stopped, that of the next extent did
 pub stops_member : (c : Class) (a b : SetState) (t : Tables) (place : Place) (m : Members) (g position : ℕ) → IsSpace (store_of a t)
     → a.health ≡ Rebuilding place.disk place.extent → g < length t.groups → c ≡ class_of t g → m ≡ (group_in t.groups g).members → position < 4 → member m position ≡ place
-    → StopsAt c a b m position → StopsWriting (store_of a t) b
+    → StopsAtRow c a b m position → StopsWriting (store_of a t) b
 stops_member c a b t place m g position space is inside c_is m_is below at stopped = record {
-  stops = member_alone (λ class members i. StopsAt class a b members i) c a t place m g position space is inside c_is m_is below at stopped;
+  stops = member_alone (λ class members i. StopsAtRow class a b members i) c a t place m g position space is inside c_is m_is below at stopped;
 }
 
 -- An extent whose group is in use isn't nothing to write.

@@ -10,13 +10,13 @@ use Rattle.ar_extents.specs.declared.health.Health.{Health}
 use Rattle.ar_extents.specs.declared.health.Health.TheVariants.{Out}
 use Rattle.ar_extents.specs.Health.{IsRebuilding, rebuilt_disk, next_extent}
 use Rattle.ar_extents.specs.Set.{SetState, content, faults_of, IsSound}
-use Rattle.ar_extents.specs.Follows.{Follows, KeepsBut, Spares, HasNoneOf, IsEither}
+use Rattle.ar_extents.specs.Follows.{Follows, KeepsBut, LeavesDisks, HasNoneOf, IsEither}
 use Rattle.ar_extents.specs.Access.{next_place, IsGivenUp}
 use Rattle.ar_extents.specs.Groups.{IsGroup, IsMember}
 use Rattle.ar_extents.proofs.Follows.{follows_refl, follows_then, keeps_refl}
 use Rattle.ar_extents.proofs.GroupLemmas.{group_then}
 use Rattle.ar_extents.proofs.Losses.{missing_lost, next_missing, lost_not_sound}
-use Rattle.ar_mirror.specs.Slots.{row_of, slots_of as mirror_slots_of, partner_of}
+use Rattle.ar_mirror.specs.Slots.{row_of, mirror_slots_of, partner_of}
 use Rattle.ar_mirror.specs.Holds.{Holds as MirrorHolds}
 use Rattle.ar_mirror.specs.Calls.{IsInPair, IsCopied}
 use Rattle.ar_mirror.proofs.SlotLemmas.{pair_fits, row_fits, members_differ}
@@ -28,7 +28,7 @@ use Rattle.ar_parity.specs.Call.{IsRebuilt}
 use Rattle.ar_parity.proofs.Frames.{done_holds as parity_done}
 use Rattle.ar_book.specs.declared.class.Class.TheVariants.{Mirrored, Parity}
 use Rattle.ar_store.proofs.Alike.{AreAlike, class_alike}
-use Rattle.ar_rebuild.specs.Rows.{IsBesideNext, WritesNext, GroupIsWhole, StopsAt}
+use Rattle.ar_rebuild.specs.Rows.{IsBesideNext, WritesNext, GroupIsWhole, StopsAtRow}
 use Rattle.ar_extents.specs.Follows.{Keeps, Anywhere}
 use Rattle.ar_extents.specs.declared.health.Health.TheVariants.{Broken as AllBroken}
 
@@ -37,7 +37,7 @@ pub next_same : (a b : SetState) → b.health ≡ a.health → next_place b ≡ 
 next_same a b same = ap (λ (h : Health). let there : Place = record { disk = rebuilt_disk h; extent = next_extent h } in there) same
 
 -- disks that none of two runs accesses are as they were after both
-pub spares_then : (these : ℕ → Type 0) (a b c : SetState) → Spares these a b → Spares these b c → Spares these a c
+pub spares_then : (these : ℕ → Type 0) (a b c : SetState) → LeavesDisks these a b → LeavesDisks these b c → LeavesDisks these a c
 spares_then these a b c ab bc = record { disks = λ d is. bc.disks d is ∙ ab.disks d is }
 
 -- no row yet
@@ -77,17 +77,17 @@ stopped_then a b c ab health given_up =
     record { faulted = omega arith; out = given_up.out ∙ ap Out disk }
 
 -- one row more of a mirrored member
-pub pair_then : (a b c : SetState) (from : Place) → b.health ≡ a.health → Spares (HasNoneOf (IsEither from (next_place a))) a b
-    → Spares (HasNoneOf (IsEither from (next_place b))) b c → Spares (HasNoneOf (IsEither from (next_place a))) a c
+pub pair_then : (a b c : SetState) (from : Place) → b.health ≡ a.health → LeavesDisks (HasNoneOf (IsEither from (next_place a))) a b
+    → LeavesDisks (HasNoneOf (IsEither from (next_place b))) b c → LeavesDisks (HasNoneOf (IsEither from (next_place a))) a c
 pair_then a b c from health ab bc =
-    let P : Place → Type 0 = λ p. Spares (HasNoneOf (IsEither from p)) b c in
+    let P : Place → Type 0 = λ p. LeavesDisks (HasNoneOf (IsEither from p)) b c in
     spares_then (HasNoneOf (IsEither from (next_place a))) a b c ab (subst P (next_same a b health) bc)
 
 -- So many rows of a mirrored member are its partner's.
 pub record AreCopied (a b : SetState) (m : Members) (position rows : ℕ) : Type 0 where
   pub writes : WritesNext a b
   pub health : b.health ≡ a.health
-  pub touches : Spares (HasNoneOf (IsEither (member m (partner_of position)) (next_place a))) a b
+  pub touches : LeavesDisks (HasNoneOf (IsEither (member m (partner_of position)) (next_place a))) a b
   pub copied : (r : ℕ) → r < rows → IsCopied a b (member m (partner_of position)) r
   pub rest : (r : ℕ) → rows ≤ r → content b (next_place a) r ≡ content a (next_place a) r
 
@@ -96,7 +96,7 @@ none_copied s m position = record { writes = writes_refl s; health = refl; touch
 
 pub copied_then : (a b c : SetState) (m : Members) (position row : ℕ) → IsRebuilding a.health → AreCopied a b m position row
     → IsCopied b c (member m (partner_of position)) row → Follows b c → KeepsBut (next_place b) row b c
-    → Spares (HasNoneOf (IsEither (member m (partner_of position)) (next_place b))) b c → c.loose ≡ b.loose → AreCopied a c m position (row + 1)
+    → LeavesDisks (HasNoneOf (IsEither (member m (partner_of position)) (next_place b))) b c → c.loose ≡ b.loose → AreCopied a c m position (row + 1)
 copied_then a b c m position row is before copied follows keeps touches loose =
     let next = next_same a b before.health in
     let sound = before.writes.follows.usable (member m (partner_of position)) copied.was_sound in
@@ -166,7 +166,7 @@ copied_whole a b m position group below is next all = record {
 pub record AreSummed (a b : SetState) (m : Members) (position rows : ℕ) : Type 0 where
   pub writes : WritesNext a b
   pub health : b.health ≡ a.health
-  pub touches : Spares (HasNoneOf (IsMember m)) a b
+  pub touches : LeavesDisks (HasNoneOf (IsMember m)) a b
   pub agrees : (r : ℕ) (blocks : Blocks) → RowAgrees a m r blocks → RowAgrees b m r blocks
   pub summed : (r : ℕ) → r < rows → IsRebuilt a b m position r
   pub rest : (r : ℕ) → rows ≤ r → content b (next_place a) r ≡ content a (next_place a) r
@@ -176,7 +176,7 @@ none_summed s m position = record { writes = writes_refl s; health = refl; touch
 
 pub summed_then : (a b c : SetState) (m : Members) (position row : ℕ) → member m position ≡ next_place a → AreSummed a b m position row
     → IsRebuilt b c m position row → ((r : ℕ) (blocks : Blocks) → RowAgrees b m r blocks → RowAgrees c m r blocks) → Follows b c
-    → KeepsBut (member m position) row b c → Spares (HasNoneOf (IsMember m)) b c → c.loose ≡ b.loose → AreSummed a c m position (row + 1)
+    → KeepsBut (member m position) row b c → LeavesDisks (HasNoneOf (IsMember m)) b c → c.loose ≡ b.loose → AreSummed a c m position (row + 1)
 summed_then a b c m position row next before rebuilt agrees follows keeps touches loose =
     let there = next ∙ sym (next_same a b before.health) in
     let P : Place → Type 0 = λ p. KeepsBut p row b c in
@@ -220,13 +220,13 @@ summed_whole a b m position group below is next all = record {
         ∙ ap (λ n. block has.blocks n) position_is
 
 -- where no row was written, a disk that wasn't asked since wasn't asked at all
-pub unasked_first : (a b c : SetState) → b ≡ a → Spares (λ d. d ≡ rebuilt_disk b.health) b c → Spares (λ d. d ≡ rebuilt_disk a.health) a c
-unasked_first a b c none spares = subst (λ (s : SetState). Spares (λ d. d ≡ rebuilt_disk s.health) s c) none spares
+pub unasked_first : (a b c : SetState) → b ≡ a → LeavesDisks (λ d. d ≡ rebuilt_disk b.health) b c → LeavesDisks (λ d. d ≡ rebuilt_disk a.health) a c
+unasked_first a b c none spares = subst (λ (s : SetState). LeavesDisks (λ d. d ≡ rebuilt_disk s.health) s c) none spares
 
 -- the writing of a mirrored member's rows stopped at this one
 pub copied_stops : (a b c : SetState) (m : Members) (position row : ℕ) → row < rows_of a.geometry → AreCopied a b m position row
     → (row ≡ 0 → b ≡ a) → KeepsBut (next_place b) row b c → (c.health ≡ AllBroken → Keeps Anywhere b c)
-    → (c.health ≡ AllBroken → Spares (λ d. d ≡ rebuilt_disk b.health) b c) → StopsAt Mirrored a c m position
+    → (c.health ≡ AllBroken → LeavesDisks (λ d. d ≡ rebuilt_disk b.health) b c) → StopsAtRow Mirrored a c m position
 copied_stops a b c m position row there before first keeps unwritten unasked =
     let next = next_same a b before.health in
     record {
@@ -241,7 +241,7 @@ copied_stops a b c m position row there before first keeps unwritten unasked =
 -- the same of a member of a group with parity
 pub summed_stops : (a b c : SetState) (m : Members) (position row : ℕ) → row < rows_of a.geometry → member m position ≡ next_place a → AreSummed a b m position row
     → (row ≡ 0 → b ≡ a) → KeepsBut (member m position) row b c → (c.health ≡ AllBroken → Keeps Anywhere b c)
-    → (c.health ≡ AllBroken → Spares (λ d. d ≡ rebuilt_disk b.health) b c) → StopsAt Parity a c m position
+    → (c.health ≡ AllBroken → LeavesDisks (λ d. d ≡ rebuilt_disk b.health) b c) → StopsAtRow Parity a c m position
 summed_stops a b c m position row there next before first keeps unwritten unasked = record {
   row = row;
   there = there;

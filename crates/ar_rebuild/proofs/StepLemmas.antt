@@ -19,7 +19,7 @@ use Rattle.ar_store.proofs.Alike.{slots_alike, space_alike, all_alike}
 use Rattle.ar_rebuild.specs.Rows.{WritesNext, CanBeDone}
 use Rattle.ar_rebuild.specs.declared.step.Rebuild.{Rebuild}
 use Rattle.ar_rebuild.specs.declared.step.Rebuild.TheVariants.{Rebuilt, Finished, Idle, GivenUp, Broken as Lost}
-use Rattle.ar_rebuild.specs.Rebuild.{Answers, Counts, Advances}
+use Rattle.ar_rebuild.specs.Rebuild.{RebuildsExtent, MarksDone, Advances}
 use Rattle.ar_rebuild.proofs.RowLemmas.{writes_alike}
 use Rattle.ar_rebuild.proofs.ExtentLemmas.{rebuilding_is}
 use Rattle.ar_rebuild.proofs.Advancing.{rebuilding_not_broken}
@@ -75,12 +75,12 @@ is_lost Lost = true
 
 -- what is answered of an extent that counts as done
 pub record IsCounted (a d : SetState) (r : Rebuild) : Type 0 where
-  pub answer : Answers a d r
+  pub answer : RebuildsExtent a d r
   pub some : r ≢ Idle
   pub sound : r ≢ Lost
 
 pub counted : (r : Rebuild) (a b d : SetState) → b.health ≡ a.health → b.extents ≡ a.extents → ((x : ℕ) → faults_of b x ≡ faults_of a x)
-    → Counts b d r → IsCounted a d r
+    → MarksDone b d r → IsCounted a d r
 unfolding is_idle is_lost
 counted (Rebuilt extent left) a b d health extents calm counts = record {
   answer = record {
@@ -137,5 +137,5 @@ fields_advanced a b block sound old ready book advances = record {
 }
 
 -- what counts as done isn't given up
-pub done_gave : (r : Rebuild) (b d : SetState) → r ≡ GivenUp → Counts b d r → ⊥
-done_gave r b d is counts = subst (λ (x : Rebuild). Counts b d x) is counts
+pub done_gave : (r : Rebuild) (b d : SetState) → r ≡ GivenUp → MarksDone b d r → ⊥
+done_gave r b d is counts = subst (λ (x : Rebuild). MarksDone b d x) is counts

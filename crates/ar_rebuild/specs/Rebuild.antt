@@ -11,11 +11,11 @@ use Rattle.ar_rebuild.specs.declared.step.Rebuild.{Rebuild}
 use Rattle.ar_rebuild.specs.declared.step.Rebuild.TheVariants.{Rebuilt, Finished, Idle, GivenUp, Broken}
 
 -- nothing is being rebuilt: the array is healthy, or one disk has failed
-abbrev pub IsQuiet : Health → Type 0
-IsQuiet Whole = Unit {0}
-IsQuiet (Out x) = Unit {0}
-IsQuiet (Rebuilding x done) = ⊥
-IsQuiet AllBroken = ⊥
+abbrev pub NothingToRebuild : Health → Type 0
+NothingToRebuild Whole = Unit {0}
+NothingToRebuild (Out x) = Unit {0}
+NothingToRebuild (Rebuilding x done) = ⊥
+NothingToRebuild AllBroken = ⊥
 
 -- how many extents of the replaced disk aren't done
 abbrev pub left_on : Health → ℕ → ℕ
@@ -28,7 +28,7 @@ abbrev pub rebuild_left : SetState → ℕ
 rebuild_left s = left_on s.health s.extents
 
 -- This extent, the lowest that wasn't done, is done, and `left` aren't; no disk has faulted.
-pub record IsRebuilt (old new : SetState) (extent left : ℕ) : Type 0 where
+pub record IsExtentRebuilt (old new : SetState) (extent left : ℕ) : Type 0 where
   pub was : old.health ≡ Rebuilding (rebuilt_disk old.health) extent
   pub rest : extent + 1 + left ≡ old.extents
   pub some : 0 < left
@@ -43,30 +43,30 @@ pub record IsFinished (old new : SetState) : Type 0 where
   pub calm : (d : ℕ) → faults_of new d ≡ faults_of old d
 
 -- There was nothing to rebuild, and nothing changed.
-pub record IsLeft (old new : SetState) : Type 0 where
-  pub quiet : IsQuiet old.health
+pub record IsRebuildIdle (old new : SetState) : Type 0 where
+  pub quiet : NothingToRebuild old.health
   pub same : new ≡ old
 
 -- The replaced disk has faulted in this step, and counts as failed.
-pub record IsStopped (old new : SetState) : Type 0 where
+pub record IsRebuildGivenUp (old new : SetState) : Type 0 where
   pub was : IsRebuilding old.health
   pub given_up : IsGivenUp old new
 
 -- what a step returns
-abbrev pub Answers : SetState → SetState → Rebuild → Type 0
-Answers old new (Rebuilt extent left) = IsRebuilt old new extent left
-Answers old new Finished = IsFinished old new
-Answers old new Idle = IsLeft old new
-Answers old new GivenUp = IsStopped old new
-Answers old new Broken = new.health ≡ AllBroken
+abbrev pub RebuildsExtent : SetState → SetState → Rebuild → Type 0
+RebuildsExtent old new (Rebuilt extent left) = IsExtentRebuilt old new extent left
+RebuildsExtent old new Finished = IsFinished old new
+RebuildsExtent old new Idle = IsRebuildIdle old new
+RebuildsExtent old new GivenUp = IsRebuildGivenUp old new
+RebuildsExtent old new Broken = new.health ≡ AllBroken
 
 -- what is returned once an extent counts as done
-abbrev pub Counts : SetState → SetState → Rebuild → Type 0
-Counts old new (Rebuilt extent left) = IsRebuilt old new extent left
-Counts old new Finished = IsFinished old new
-Counts old new Idle = ⊥
-Counts old new GivenUp = ⊥
-Counts old new Broken = ⊥
+abbrev pub MarksDone : SetState → SetState → Rebuild → Type 0
+MarksDone old new (Rebuilt extent left) = IsExtentRebuilt old new extent left
+MarksDone old new Finished = IsFinished old new
+MarksDone old new Idle = ⊥
+MarksDone old new GivenUp = ⊥
+MarksDone old new Broken = ⊥
 
 -- the last extent of the replaced disk is rebuilt next
 pub record IsAtLast (s : SetState) : Type 0 where

@@ -8,7 +8,7 @@ use Rattle.ar_extents.specs.declared.outcome.RowOutcome.{RowOutcome}
 use Rattle.ar_extents.specs.declared.outcome.RowOutcome.TheVariants.{Done, GivenUp, Broken}
 use Rattle.ar_extents.specs.Health.{IsRebuilding, rebuilt_disk}
 use Rattle.ar_extents.specs.Set.{SetState, faults_of, content}
-use Rattle.ar_extents.specs.Follows.{Follows, Keeps, Spares, HasNoneOf, IsEither}
+use Rattle.ar_extents.specs.Follows.{Follows, Keeps, LeavesDisks, HasNoneOf, IsEither}
 use Rattle.ar_extents.specs.Access.{next_place, IsGivenUp}
 use Rattle.ar_extents.specs.Changes.{with_done}
 use Rattle.ar_extents.specs.Groups.{IsMember, IsOutside}
@@ -33,8 +33,8 @@ pub record WritesNext (old new : SetState) : Type 0 where
   pub loose : new.loose ≡ old.loose
 
 -- the disk that was being rebuilt has not faulted
-abbrev pub IsSpared : SetState → SetState → Type 0
-IsSpared old new = faults_of new (rebuilt_disk old.health) ≡ faults_of old (rebuilt_disk old.health)
+abbrev pub HasNotFaulted : SetState → SetState → Type 0
+HasNotFaulted old new = faults_of new (rebuilt_disk old.health) ≡ faults_of old (rebuilt_disk old.health)
 
 -- Every row of the extent is written: once it counts as done, each slot of its group holds what it held.
 pub record GroupIsWhole (class : Class) (old new : SetState) (m : Members) : Type 0 where
@@ -69,7 +69,7 @@ NeedsNext Parity m i place = IsMember m place
 pub record AsksNext (old : StoreState) (new : SetState) : Type 0 where
   pub spares :
       (g i : ℕ) → g < length old.book.groups → i < 4 → member (members_of old g) i ≡ next_place old.disks
-      → Spares (HasNoneOf (NeedsNext (class_in old g) (members_of old g) i)) old.disks new
+      → LeavesDisks (HasNoneOf (NeedsNext (class_in old g) (members_of old g) i)) old.disks new
 
 -- what the writing of an extent returns, in whatever class of group it is
 abbrev pub WritesExtent : StoreState → StoreState → RowOutcome → Type 0
@@ -87,16 +87,16 @@ IsRowWritten Parity old new m i row = (blocks : Blocks) → RowAgrees old m row 
 -- The writing stopped at `row`: the rows below are written, those past it unchanged, and so is the row itself if
 -- another disk failed the array, since only data that were read are written. If that is the first row, the new disk
 -- wasn't accessed then.
-pub record StopsAt (class : Class) (old new : SetState) (m : Members) (i : ℕ) : Type 0 where
+pub record StopsAtRow (class : Class) (old new : SetState) (m : Members) (i : ℕ) : Type 0 where
   pub row : ℕ
   pub there : row < rows_of old.geometry
   pub below : (r : ℕ) → r < row → IsRowWritten class old new m i r
   pub past : (r : ℕ) → row < r → content new (next_place old) r ≡ content old (next_place old) r
   pub unread : new.health ≡ AllBroken → content new (next_place old) row ≡ content old (next_place old) row
-  pub unasked : row ≡ 0 → new.health ≡ AllBroken → Spares (λ d. d ≡ rebuilt_disk old.health) old new
+  pub unasked : row ≡ 0 → new.health ≡ AllBroken → LeavesDisks (λ d. d ≡ rebuilt_disk old.health) old new
 
 -- If a group has the extent that is rebuilt next, the writing of this member stopped at a row.
 pub record StopsWriting (old : StoreState) (new : SetState) : Type 0 where
   pub stops :
       (g i : ℕ) → g < length old.book.groups → i < 4 → member (members_of old g) i ≡ next_place old.disks
-      → StopsAt (class_in old g) old.disks new (members_of old g) i
+      → StopsAtRow (class_in old g) old.disks new (members_of old g) i

@@ -4,8 +4,8 @@ ghost use Rattle.ar_extents.specs.Follows.{Keeps};
 ghost use Rattle.ar_extents.specs.Changes.{with_done};
 ghost use Rattle.ar_store.specs.Slots.{AllStand, SlotsHold};
 ghost use Rattle.ar_store.specs.Spaces.{store_in, IsReady};
-ghost use Rattle.ar_rebuild.specs.Rows.{IsBesideNext, HasNothingNext, IsSpared, WritesNext, WritesExtent, AsksNext, StopsWriting};
-ghost use Rattle.ar_rebuild.specs.Rebuild.{Answers, Counts, Advances};
+ghost use Rattle.ar_rebuild.specs.Rows.{IsBesideNext, HasNothingNext, HasNotFaulted, WritesNext, WritesExtent, AsksNext, StopsWriting};
+ghost use Rattle.ar_rebuild.specs.Rebuild.{RebuildsExtent, MarksDone, Advances};
 
 use crate::Rebuild;
 use crate::rows::{copy_rows, position_of, sum_rows};
@@ -20,8 +20,8 @@ pub(crate) fn rebuild_extent<D: Disk>(space: &mut Space<D>, place: Place) -> Reb
     requires rebuilding { space.old.disks.health ≡ Health.Rebuilding place.disk place.extent }
     requires exists { place.extent < space.old.disks.extents }
 
-    ensures answer { Answers space.old.disks space.new.disks result }
-    ensures spared { result ≡ Rebuild.Broken → IsSpared space.old.disks space.new.disks }
+    ensures answer { RebuildsExtent space.old.disks space.new.disks result }
+    ensures spared { result ≡ Rebuild.Broken → HasNotFaulted space.old.disks space.new.disks }
     ensures given_up { result ≡ Rebuild.GivenUp → StopsWriting (store_in space.old) space.new.disks }
     ensures lost { result ≡ Rebuild.Broken → StopsWriting (store_in space.old) space.new.disks }
     ensures idle { result ≢ Rebuild.Idle }
@@ -49,7 +49,7 @@ fn write_extent<D: Disk>(space: &mut Space<D>, place: Place) -> RowOutcome
     requires ready { IsReady space.old }
     requires rebuilding { space.old.disks.health ≡ Health.Rebuilding place.disk place.extent }
     ensures answer { WritesExtent (store_in space.old) (store_in space.new) result }
-    ensures spared { result ≡ RowOutcome.Broken → IsSpared space.old.disks space.new.disks }
+    ensures spared { result ≡ RowOutcome.Broken → HasNotFaulted space.old.disks space.new.disks }
     ensures stopped { result ≢ RowOutcome.Done → StopsWriting (store_in space.old) space.new.disks }
     ensures writes { WritesNext space.old.disks space.new.disks }
     ensures asks { AsksNext (store_in space.old) space.new.disks }
@@ -74,7 +74,7 @@ fn count_done<D: Disk>(set: &mut DiskSet<D>, place: Place) -> Rebuild
     requires rebuilding { set.old.health ≡ Health.Rebuilding place.disk place.extent }
     requires exists { place.extent < set.old.extents }
     ensures done { set.new ≡ with_done set.old }
-    ensures counts { Counts set.old set.new result }
+    ensures counts { MarksDone set.old set.new result }
 {
     set.mark_done();
     let left = set.extents() - place.extent - 1;

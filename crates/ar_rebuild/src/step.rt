@@ -4,8 +4,8 @@ ghost use Rattle.ar_extents.specs.Follows.{Keeps};
 ghost use Rattle.ar_extents.specs.Changes.{with_done};
 ghost use Rattle.ar_store.specs.Slots.{AllStand, SlotsHold};
 ghost use Rattle.ar_extents.specs.Health.{IsRebuilding};
-ghost use Rattle.ar_rebuild.specs.Rows.{IsBesideNext, HasNothingNext, IsSpared, AsksNext, StopsWriting};
-ghost use Rattle.ar_rebuild.specs.Rebuild.{IsQuiet, Answers, Advances};
+ghost use Rattle.ar_rebuild.specs.Rows.{IsBesideNext, HasNothingNext, HasNotFaulted, AsksNext, StopsWriting};
+ghost use Rattle.ar_rebuild.specs.Rebuild.{NothingToRebuild, RebuildsExtent, Advances};
 
 use crate::extent::rebuild_extent;
 use ar_disks::{Disk, Place};
@@ -35,11 +35,11 @@ pub enum Rebuild {
 /// Every slot and every block keeps its contents. After `Finished` the array survives the loss of any one disk again
 /// (`Store::health`). `GivenUp` and `Broken` count no extent as done; an array that had failed before is unchanged.
 pub fn rebuild_one<D: Disk>(store: &mut Store<D>) -> Rebuild
-    ensures answer { Answers store.old.disks store.new.disks result }
-    ensures idle { (result ≡ Rebuild.Idle) ↔ IsQuiet store.old.disks.health }
+    ensures answer { RebuildsExtent store.old.disks store.new.disks result }
+    ensures idle { (result ≡ Rebuild.Idle) ↔ NothingToRebuild store.old.disks.health }
     ensures broken { (result ≡ Rebuild.Broken) ↔ (store.new.disks.health ≡ Health.Broken) }
     // Another disk than the replaced one fails the array: once that has faulted, nothing more is accessed.
-    ensures spared { result ≡ Rebuild.Broken → IsSpared store.old.disks store.new.disks }
+    ensures spared { result ≡ Rebuild.Broken → HasNotFaulted store.old.disks store.new.disks }
     // If the step ends so, the extent's rows are written in order, and none past the one that failed. If that is the
     // first row and its sources can't be read, the new disk isn't accessed.
     ensures given_up { result ≡ Rebuild.GivenUp → StopsWriting store.old store.new.disks }

@@ -6,7 +6,7 @@ use Rattle.ar_language.specs.declared.fault.FaultKind.TheVariants.{WriteFault}
 use Rattle.ar_language.specs.declared.order.Action.{Action}
 use Rattle.ar_language.specs.declared.order.Order.{Order}
 use Rattle.ar_language.specs.declared.order.Order.TheVariants.{Act}
-use Rattle.ar_script.specs.Orders.{Acts, Leaves, Meets}
+use Rattle.ar_script.specs.Orders.{Acts, Leaves, MeetsParsed}
 
 -- an action that was done stays done where its answer could not be written
 pub acted : (action : Action) (old new : ArrayState) (r : Result (Unit {0}) FaultKind) → IfErr r (λ kind. kind ≡ WriteFault)
@@ -17,6 +17,6 @@ acted action old new (Err kind) h acts =
 
 -- a line that can't be read leaves the array as it was
 pub unread : (s : ArrayState) (read : Result (Option Order) FaultKind) (r : Result (Unit {0}) FaultKind) (kind : FaultKind)
-    → read ≡ Err kind → r ≡ Err kind → Meets read s r s
+    → read ≡ Err kind → r ≡ Err kind → MeetsParsed read s r s
 unread s read r kind was is =
-    let P : Result (Option Order) FaultKind → Type 0 = λ x. Meets x s r s in subst P (sym was) (is, refl)
+    let P : Result (Option Order) FaultKind → Type 0 = λ x. MeetsParsed x s r s in subst P (sym was) (is, refl)

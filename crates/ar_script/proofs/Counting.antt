@@ -17,7 +17,7 @@ use Rattle.ar_book.specs.declared.class.Slot.{Slot}
 use Rattle.ar_disks.specs.declared.geometry.Geometry.{Geometry}
 use Rattle.ar_disks.specs.declared.geometry.Geometry.TheVariants.{Paper, Small}
 use Rattle.ar_book.specs.Book.{TablesAgree}
-use Rattle.ar_book.specs.Tables.{Tables, UnitState, no_unit, has_unit, home, placed, unit_in, blocks_of}
+use Rattle.ar_book.specs.Tables.{Tables, UnitTableState, no_unit, has_unit, home, placed, unit_in, blocks_of}
 use Rattle.ar_book.proofs.Padding.{get_replicate}
 use Rattle.ar_book.proofs.PlaceLemmas.{unit_whole}
 use Rattle.ar_core.specs.declared.views.HomeOf.{HomeOf}
@@ -26,7 +26,7 @@ use Rattle.ar_core.specs.Views.{home_of, home_shown}
 use Rattle.ar_volume.specs.Sectors.{key_of}
 use Rattle.ar_picture.specs.declared.picture.Held.{Held}
 use Rattle.ar_picture.specs.declared.picture.Unit.{Unit as PictureUnit}
-use Rattle.ar_script.specs.Pictures.{unit_at, units_below, addr_at, is_in, blocks_in, place_of, held_at, AddsOne, AddsHomes, HoldsBlocks}
+use Rattle.ar_script.specs.Pictures.{unit_at, units_below, addr_at, is_in, blocks_in, address_index, held_at, AddsOne, AddsHomes, HoldsBlocks}
 
 abbrev pub no_held : Held
 no_held = record { blocks = [] }
@@ -184,7 +184,7 @@ told_inside false past at e = absurd (let k : 2 ≤ 0 = e in omega arith)
 told_inside true true at e = absurd (let k : 2 ≤ 1 = e in omega arith)
 told_inside true false at e = (refl, slot_shown at)
 
-no_homes : (o : Option UnitState) → is_some o ≡ false → length (unwrap_or o no_unit).homes ≡ 0
+no_homes : (o : Option UnitTableState) → is_some o ≡ false → length (unwrap_or o no_unit).homes ≡ 0
 no_homes None e = refl
 no_homes (Some u) e = absurd (true≢false e)
 
@@ -304,18 +304,18 @@ pub listed_all : (t : Tables) (place : ℕ) (units : List PictureUnit) (held : L
 listed_all t place units held listed all =
     (listed.units_are ∙ ap (units_below t) all, record { groups = listed.groups_are; blocks = blocks })
   where
-    blocks : (group : ℕ) (addr : Addr) → group < length t.groups → addr.lun < 8 → held_at held group (place_of addr) ≡ blocks_in t group addr
+    blocks : (group : ℕ) (addr : Addr) → group < length t.groups → addr.lun < 8 → held_at held group (address_index addr) ≡ blocks_in t group addr
     blocks group addr there small =
         let host = addr.host.in_range in
-        let below : place_of addr < place = omega arith in
-        listed.before group (place_of addr) below there ∙ ap (blocks_in t group) (back addr small)
+        let below : address_index addr < place = omega arith in
+        listed.before group (address_index addr) below there ∙ ap (blocks_in t group) (back addr small)
       where
-        back : (addr : Addr) → addr.lun < 8 → addr_at (place_of addr) ≡ addr
+        back : (addr : Addr) → addr.lun < 8 → addr_at (address_index addr) ≡ addr
         back addr small =
             let host = addr.host.in_range in
             let number : (8 * addr.host.number + addr.lun) / 8 % 4 ≡ addr.host.number = omega arith in
             let lun : (8 * addr.host.number + addr.lun) % 8 ≡ addr.lun = omega arith in
-            make_addr (addr_at (place_of addr)) addr (same_host (addr_at (place_of addr)).host addr.host number) lun
+            make_addr (addr_at (address_index addr)) addr (same_host (addr_at (address_index addr)).host addr.host number) lun
 
 abbrev pub nothing : Held
 nothing = record { blocks = replicate 32 0 }

@@ -7,14 +7,14 @@ use Rattle.ar_language.specs.declared.fault.Fault.{Fault}
 use Rattle.ar_language.specs.declared.fault.Fault.TheVariants.{Start, Line}
 use Rattle.ar_language.specs.declared.fault.FaultKind.{FaultKind}
 use Rattle.ar_language.specs.declared.fault.FaultKind.TheVariants.{TooManyLines, NoMemory, ReadFault, WriteFault}
-use Rattle.ar_language.specs.Lines.{Took, AreThere, IsOfStream, IsReached, IsAllTaken, first_of, line_at, line_fault, IsToldOfNext, StopsAt, IsNumbered, IsOfNext, is_write_fault}
-use Rattle.ar_script.specs.Orders.{Meets, MeetsLine}
+use Rattle.ar_language.specs.Lines.{Took, AreThere, IsOfStream, IsReached, IsAllTaken, first_of, line_at, line_fault, IsToldOfNext, IsNextLineFault, IsNumbered, IsOfNext, is_write_fault}
+use Rattle.ar_script.specs.Orders.{MeetsParsed, MeetsLine}
 use Rattle.ar_language.proofs.Going.{none_there, there_behind}
 use Rattle.ar_script.specs.Ends.{Ends}
 use Rattle.std.specs.declared.io.traits.Read.{Ghosts}
 use Rattle.ar_language.specs.declared.lines.Lines.{Lines}
-use Rattle.ar_language.specs.Left.{lines_begun, IsStopped}
-use Rattle.ar_script.specs.Plays.{IsToldAt, IsToldOf, IsThere, IsLostAt, IsUnanswered, NeedsMemory, AreFirst, AreAll, SaysWrong, IsSo, PlaysScript, PlaysAll, PlaysTo}
+use Rattle.ar_language.specs.Left.{lines_begun, EndsReading}
+use Rattle.ar_script.specs.Plays.{IsToldAt, IsToldOf, IsLineThere, IsLostAt, IsUnanswered, NeedsMemory, AreFirst, AreAll, SaysWrong, IsSo, PlaysScript, PlaysAll, PlaysTo}
 use Rattle.ar_script.proofs.Playing.{none_played, met_all, met_or_not}
 
 -- ---- lines that were taken
@@ -120,7 +120,7 @@ pub plays_line : (script left rest : Option (List (List ℕ))) (old mid new : Ar
 plays_line script left rest old mid new n line answer before next is line_met = record {
   lines = before.lines ++ line ∷ [];
   plays = met_all before.lines old mid new line line_met.read before.plays line_met.sound line_met.reads
-      (subst (λ (r : Result (Unit {0}) FaultKind). Meets line_met.read mid r new) is line_met.meets);
+      (subst (λ (r : Result (Unit {0}) FaultKind). MeetsParsed line_met.read mid r new) is line_met.meets);
   all = one_taken before.lines line n before.all;
   took = took_more script left rest before.lines (line ∷ []) before.took next;
 }
@@ -186,7 +186,7 @@ near_begun met n begun m kind all few most write is =
     ]
 
 -- where the next line couldn't be taken
-unread : (script left : Option (List (List ℕ))) (old new : ArrayState) (n begun : ℕ) (fault : Fault) → PlaysAll script left old new n → StopsAt left fault → IsOfNext n begun fault
+unread : (script left : Option (List (List ℕ))) (old new : ArrayState) (n begun : ℕ) (fault : Fault) → PlaysAll script left old new n → IsNextLineFault left fault → IsOfNext n begun fault
     → IsNumbered fault → n ≤ begun → begun ≤ n + 1 → begun ≤ 1000000 → PlaysTo script (Err fault) old new begun
 unread script left old new n begun Start done stops next numbered few most within = absurd stops
 unread script left old new n begun (Line m kind) done stops (inl next) numbered few most within =
@@ -197,7 +197,7 @@ unread script left old new n begun (Line m kind) done stops (inr write) numbered
     (so_stream script m kind (inr write.0)) few most within
 
 pub plays_unread : (script left : Option (List (List ℕ))) (old new : ArrayState) (n begun : ℕ) (result : Result (Unit {0}) Fault) → PlaysAll script left old new n → IsErr result
-    → IfErr result (StopsAt left) → IfErr result (IsOfNext n begun) → IfErr result IsNumbered → n ≤ begun → begun ≤ n + 1 → begun ≤ 1000000 → PlaysTo script result old new begun
+    → IfErr result (IsNextLineFault left) → IfErr result (IsOfNext n begun) → IfErr result IsNumbered → n ≤ begun → begun ≤ n + 1 → begun ≤ 1000000 → PlaysTo script result old new begun
 plays_unread script left old new n begun (Ok done) before is stops next numbered few most within = absurd (cc)
 plays_unread script left old new n begun (Err fault) before is stops next numbered few most within = unread script left old new n begun fault before stops next numbered few most within
 
@@ -265,36 +265,36 @@ begun_as old new false count closed = omega arith
 
 -- of what was reached: a line that was begun is there
 there_reached : (lines : List (List ℕ)) (begun n : ℕ) (kind : FaultKind) → begun ≤ length lines
-    → (n ≡ begun) ⊎ ((n ≡ begun + 1) × ((kind ≡ ReadFault) ⊎ (kind ≡ TooManyLines) ⊎ ((kind ≡ WriteFault) × (begun ≡ 0)))) → IsThere (Some lines) (Line n kind)
+    → (n ≡ begun) ⊎ ((n ≡ begun + 1) × ((kind ≡ ReadFault) ⊎ (kind ≡ TooManyLines) ⊎ ((kind ≡ WriteFault) × (begun ≡ 0)))) → IsLineThere (Some lines) (Line n kind)
 there_reached lines begun n kind there (inl same) = inr (inr (omega arith))
 there_reached lines begun n kind there (inr next) =
     elim next.1 [ inl read ↦ inl read | inr others ↦ elim others [ inl many ↦ inr (inl many) | inr write ↦ inr (inr (let none = write.1 in omega arith)) ] ]
 
-there_told : (script : Option (List (List ℕ))) (begun : ℕ) (fault : Fault) → AreThere script begun → IsReached begun fault → IsThere script fault
+there_told : (script : Option (List (List ℕ))) (begun : ℕ) (fault : Fault) → AreThere script begun → IsReached begun fault → IsLineThere script fault
 there_told script begun Start there reached = tt
 there_told None begun (Line n kind) there reached = tt
 there_told (Some lines) begun (Line n kind) there reached = there_reached lines begun n kind there reached
 
-there_first : (script : Option (List (List ℕ))) (begun : ℕ) (kind : FaultKind) → AreThere script begun → IsThere script (Line (max begun 1) kind)
+there_first : (script : Option (List (List ℕ))) (begun : ℕ) (kind : FaultKind) → AreThere script begun → IsLineThere script (Line (max begun 1) kind)
 there_first None begun kind there = tt
 there_first (Some lines) begun kind there = inr (inr (omega arith))
 
 -- and of the end
 pub there_ended : (script : Option (List (List ℕ))) (begun : ℕ) (done result : Result (Unit {0}) Fault) → AreThere script begun → IfErr done (IsReached begun) → Ends begun done result
-    → IfErr result (IsThere script)
+    → IfErr result (IsLineThere script)
 there_ended script begun done (Ok end) there reached ends = tt
 there_ended script begun done (Err fault) there reached (inl write) =
     let is : fault ≡ Line (max begun 1) WriteFault = (let same = write in cc) in
-    subst (λ (f : Fault). IsThere script f) (sym is) (there_first script begun WriteFault there)
+    subst (λ (f : Fault). IsLineThere script f) (sym is) (there_first script begun WriteFault there)
 there_ended script begun (Ok end) (Err fault) there reached (inr same) = let no = same.0 in absurd (cc)
 there_ended script begun (Err told) (Err fault) there reached (inr same) =
     let is : told ≡ fault = (let one = same.0 in cc) in
-    subst (λ (f : Fault). IsThere script f) is (there_told script begun told there reached)
+    subst (λ (f : Fault). IsLineThere script f) is (there_told script begun told there reached)
 
 -- before the first line
-pub there_none : (script : Option (List (List ℕ))) (fault : Fault) → fault ≡ Line (max 1 1) NoMemory → IsThere script fault
-there_none None fault is = subst (λ (f : Fault). IsThere None f) (sym is) tt
-there_none (Some lines) fault is = subst (λ (f : Fault). IsThere (Some lines) f) (sym is) (inr (inr (omega arith)))
+pub there_none : (script : Option (List (List ℕ))) (fault : Fault) → fault ≡ Line (max 1 1) NoMemory → IsLineThere script fault
+there_none None fault is = subst (λ (f : Fault). IsLineThere None f) (sym is) tt
+there_none (Some lines) fault is = subst (λ (f : Fault). IsLineThere (Some lines) f) (sym is) (inr (inr (omega arith)))
 
 -- where so many lines were taken, and one more is begun
 pub there_begun : (script left new : Option (List (List ℕ))) (old mid : ArrayState) (n given : ℕ) (begun : Bool) → PlaysAll script left old mid n → Took left new [] → given ≡ n
@@ -315,7 +315,7 @@ there_given (Some all) left new old mid n line done took =
 -- ---- why it is told
 
 -- the next line couldn't be gone on to
-pub told_next : {R : Type 0} {reads : Ghosts R} (lines : Lines R reads) (result : Result (Unit {0}) Fault) → IfErr result (IsStopped lines) → IfErr result (IsToldAt lines)
+pub told_next : {R : Type 0} {reads : Ghosts R} (lines : Lines R reads) (result : Result (Unit {0}) Fault) → IfErr result (EndsReading lines) → IfErr result (IsToldAt lines)
 told_next lines (Ok done) is = tt
 told_next lines (Err Start) is = absurd is
 told_next lines (Err (Line n kind)) is = inl is

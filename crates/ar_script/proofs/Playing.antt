@@ -4,7 +4,7 @@ use Rattle.ar_store.proofs.Fills.{accessed_refl}
 use Rattle.ar_volume.specs.Image.{ArrayState, geometry_of}
 use Rattle.ar_volume.specs.Laws.{places_refl}
 use Rattle.ar_core.specs.Quiet.{LooksAt}
-use Rattle.ar_core.specs.Run.{Turn, Did, Looked, last_of, Meets as MeetsTurn}
+use Rattle.ar_core.specs.Run.{Turn, Did, Looked, last_of, Meets}
 use Rattle.ar_core.proofs.Isolation.{run-isolated, run-more, last_of-more}
 use Rattle.ar_language.specs.declared.fault.FaultKind.{FaultKind}
 use Rattle.ar_language.specs.declared.order.Action.{Action}
@@ -14,8 +14,8 @@ use Rattle.ar_language.specs.declared.order.Question.{Question}
 use Rattle.ar_language.specs.declared.order.Question.TheVariants.{Levels, Home, Groups, Room, Health, Picture, Block}
 use Rattle.ar_language.specs.Forms.{ReadsLine}
 use Rattle.ar_language.specs.Lines.{IsLine}
-use Rattle.ar_script.specs.Orders.{event_in, Acts, IsLost, Leaves, Looks, Meets}
-use Rattle.ar_script.specs.Plays.{AsksFor, AsksNothing, AreMet, IsLostAt, Plays}
+use Rattle.ar_script.specs.Orders.{event_in, Acts, IsOrderFault, Leaves, Looks, MeetsParsed}
+use Rattle.ar_script.specs.Plays.{ExecutesLine, HasNoOrder, AreMet, IsLostAt, Plays}
 
 -- no line at all
 pub none_played : (s : ArrayState) → Plays [] s s
@@ -29,7 +29,7 @@ none_played s = record {
 
 -- one more line that asks for nothing
 nothing-more : (lines : List (List ℕ)) (old : ArrayState) (turns : List Turn) (states : List ArrayState) (line : List ℕ) → AreMet lines old turns states
-    → AsksNothing line → AreMet (lines ++ line ∷ []) old turns states
+    → HasNoOrder line → AreMet (lines ++ line ∷ []) old turns states
 nothing-more [] old [] [] line all one = (one, tt)
 nothing-more [] old [] (s ∷ states) line all one = absurd all
 nothing-more [] old (t ∷ turns) states line all one = absurd all
@@ -44,7 +44,7 @@ nothing-more (l ∷ lines) old (t ∷ turns) (s ∷ states) line all one =
 
 -- one more line and its turn
 met-more : (lines : List (List ℕ)) (old : ArrayState) (turns : List Turn) (states : List ArrayState) (line : List ℕ) (turn : Turn) (new : ArrayState)
-    → AreMet lines old turns states → AsksFor line (last_of old states) turn new → AreMet (lines ++ line ∷ []) old (turns ++ turn ∷ []) (states ++ new ∷ [])
+    → AreMet lines old turns states → ExecutesLine line (last_of old states) turn new → AreMet (lines ++ line ∷ []) old (turns ++ turn ∷ []) (states ++ new ∷ [])
 met-more [] old [] [] line turn new all one = inr (one, tt)
 met-more [] old [] (s ∷ states) line turn new all one = absurd all
 met-more [] old (t ∷ turns) states line turn new all one = absurd all
@@ -58,11 +58,11 @@ met-more (l ∷ lines) old (t ∷ turns) (s ∷ states) line turn new all one =
     ]
 
 -- lines and one line more
-more : (lines : List (List ℕ)) (old mid new : ArrayState) (line : List ℕ) (turn : Turn) → Plays lines old mid → AsksFor line mid turn new
-    → MeetsTurn mid turn new → geometry_of new ≡ geometry_of mid → new.store.disks.extents ≡ mid.store.disks.extents → Plays (lines ++ line ∷ []) old new
+more : (lines : List (List ℕ)) (old mid new : ArrayState) (line : List ℕ) (turn : Turn) → Plays lines old mid → ExecutesLine line mid turn new
+    → Meets mid turn new → geometry_of new ≡ geometry_of mid → new.store.disks.extents ≡ mid.store.disks.extents → Plays (lines ++ line ∷ []) old new
 more lines old mid new line turn before asks meets geometry extents =
     let states = before.run.states in
-    let run = run-more before.turns states old turn new before.run.run (subst (λ (s : ArrayState). MeetsTurn s turn new) (sym before.run.last) meets) in
+    let run = run-more before.turns states old turn new before.run.run (subst (λ (s : ArrayState). Meets s turn new) (sym before.run.last) meets) in
     record {
       turns = before.turns ++ turn ∷ [];
       run = record {
@@ -71,7 +71,7 @@ more lines old mid new line turn before asks meets geometry extents =
         last = last_of-more states old new;
         isolated = run-isolated old (before.turns ++ turn ∷ []) (states ++ new ∷ []) run;
       };
-      met = met-more lines old before.turns states line turn new before.met (subst (λ (s : ArrayState). AsksFor line s turn new) (sym before.run.last) asks);
+      met = met-more lines old before.turns states line turn new before.met (subst (λ (s : ArrayState). ExecutesLine line s turn new) (sym before.run.last) asks);
       geometry = geometry ∙ before.geometry;
       extents = extents ∙ before.extents;
     }
@@ -107,7 +107,7 @@ unchanged : (lines : List (List ℕ)) (old mid new : ArrayState) → Plays lines
 unchanged lines old mid new before same = subst (λ (s : ArrayState). Plays lines old s) (sym same) before
 
 -- a line that asks for nothing
-passed : (lines : List (List ℕ)) (old mid new : ArrayState) (line : List ℕ) → Plays lines old mid → AsksNothing line → new ≡ mid → Plays (lines ++ line ∷ []) old new
+passed : (lines : List (List ℕ)) (old mid new : ArrayState) (line : List ℕ) → Plays lines old mid → HasNoOrder line → new ≡ mid → Plays (lines ++ line ∷ []) old new
 passed lines old mid new line before nothing same =
     unchanged (lines ++ line ∷ []) old mid new
     (record {
@@ -121,7 +121,7 @@ passed lines old mid new line before nothing same =
 
 -- a line that was answered was met
 pub met_all : (lines : List (List ℕ)) (old mid new : ArrayState) (line : List ℕ) (read : Result (Option Order) FaultKind) → Plays lines old mid → IsLine line
-    → ReadsLine line read → Meets read mid (Ok tt) new → Plays (lines ++ line ∷ []) old new
+    → ReadsLine line read → MeetsParsed read mid (Ok tt) new → Plays (lines ++ line ∷ []) old new
 met_all lines old mid new line (Ok None) before sound reads meets = passed lines old mid new line before (record { sound = sound; reads = reads }) meets.1
 met_all lines old mid new line (Ok (Some (Ask question))) before sound reads meets = asked lines old mid new line question before sound reads meets.0
 met_all lines old mid new line (Ok (Some (Act action))) before sound reads meets = acted lines old mid new line action before sound reads meets.0
@@ -129,7 +129,7 @@ met_all lines old mid new line (Err kind) before sound reads meets = let no = me
 
 -- an action for which memory was refused is none, and one whose answer couldn't be written was done
 unacted : (lines : List (List ℕ)) (old mid new : ArrayState) (line : List ℕ) (action : Action) (kind : FaultKind) → Plays lines old mid
-    → IsLine line → ReadsLine line (Ok (Some (Act action))) → Leaves (Act action) mid (Err kind) new → IsLost (Act action) kind
+    → IsLine line → ReadsLine line (Ok (Some (Act action))) → Leaves (Act action) mid (Err kind) new → IsOrderFault (Act action) kind
     → Plays lines old new ⊎ (Plays (lines ++ line ∷ []) old new × IsLostAt line kind)
 unacted lines old mid new line action kind before sound reads leaves lost =
     let P : FaultKind → Type 0 = λ k. Leaves (Act action) mid (Err k) new in
@@ -139,13 +139,13 @@ unacted lines old mid new line action kind before sound reads leaves lost =
     ]
 
 -- the answer to a question is lost where memory for it was refused, or it could not be written
-unseen : (line : List ℕ) (question : Question) (kind : FaultKind) → ReadsLine line (Ok (Some (Ask question))) → IsLost (Ask question) kind → IsLostAt line kind
+unseen : (line : List ℕ) (question : Question) (kind : FaultKind) → ReadsLine line (Ok (Some (Ask question))) → IsOrderFault (Ask question) kind → IsLostAt line kind
 unseen line question kind reads lost =
     elim lost [ inl write ↦ inl write | inr memory ↦ inr (memory.0, record { question = question; reads = reads; takes = memory.1 }) ]
 
 -- a line that was answered with a fault was met and its answer lost, or nothing was done
 pub met_or_not : (lines : List (List ℕ)) (old mid new : ArrayState) (line : List ℕ) (read : Result (Option Order) FaultKind) (kind : FaultKind) → Plays lines old mid
-    → IsLine line → ReadsLine line read → Meets read mid (Err kind) new → Plays lines old new ⊎ (Plays (lines ++ line ∷ []) old new × IsLostAt line kind)
+    → IsLine line → ReadsLine line read → MeetsParsed read mid (Err kind) new → Plays lines old new ⊎ (Plays (lines ++ line ∷ []) old new × IsLostAt line kind)
 met_or_not lines old mid new line (Ok None) kind before sound reads meets = let no = meets.0 in absurd (cc)
 met_or_not lines old mid new line (Ok (Some (Ask question))) kind before sound reads meets = inr (asked lines old mid new line question before sound reads meets.0, unseen line question kind reads meets.1)
 met_or_not lines old mid new line (Ok (Some (Act action))) kind before sound reads meets =

@@ -83,14 +83,14 @@ HasAnswer (Ask Groups) = ⊥
 HasAnswer order = Unit {0}
 
 -- an order fails because its answer can't be written or, if it allocates, because that fails
-abbrev pub IsLost : Order → FaultKind → Type 0
-IsLost order kind = (kind ≡ WriteFault) ⊎ ((kind ≡ NoMemory) × TakesMemory order)
+abbrev pub IsOrderFault : Order → FaultKind → Type 0
+IsOrderFault order kind = (kind ≡ WriteFault) ⊎ ((kind ≡ NoMemory) × TakesMemory order)
 
 -- the effect of a line, by its parse: none if the line asks for nothing or has a fault
-abbrev pub Meets : Result (Option Order) FaultKind → ArrayState → Result (Unit {0}) FaultKind → ArrayState → Type 0
-Meets (Ok None) old result new = (result ≡ Ok tt) × (new ≡ old)
-Meets (Ok (Some order)) old result new = Leaves order old result new × IfErr result (IsLost order)
-Meets (Err kind) old result new = (result ≡ Err kind) × (new ≡ old)
+abbrev pub MeetsParsed : Result (Option Order) FaultKind → ArrayState → Result (Unit {0}) FaultKind → ArrayState → Type 0
+MeetsParsed (Ok None) old result new = (result ≡ Ok tt) × (new ≡ old)
+MeetsParsed (Ok (Some order)) old result new = Leaves order old result new × IfErr result (IsOrderFault order)
+MeetsParsed (Err kind) old result new = (result ≡ Err kind) × (new ≡ old)
 
 -- some bytes were appended for a line whose answer is never empty
 pub record AnswersLine (line : List ℕ) (old new : Option (List ℕ)) : Type 0 where
@@ -103,4 +103,4 @@ pub record MeetsLine (line : List ℕ) (old : ArrayState) (result : Result (Unit
   pub sound : IsLine line
   pub read : Result (Option Order) FaultKind
   pub reads : ReadsLine line read
-  pub meets : Meets read old result new
+  pub meets : MeetsParsed read old result new

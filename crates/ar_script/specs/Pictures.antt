@@ -35,16 +35,16 @@ health_shown (Rebuilding disk done) = states.Rebuilding disk done
 health_shown Broken = states.Broken
 
 -- a group, as pictures have it
-abbrev pub group_in : GroupView → Group
-group_in view = record { class = class_shown view.class; members = view.members; blocks = view.blocks; slots = view.slots }
+abbrev pub group_shown : GroupView → Group
+group_shown view = record { class = class_shown view.class; members = view.members; blocks = view.blocks; slots = view.slots }
 
 -- the groups of the tables, as pictures have them
 abbrev pub groups_in : Tables → List Group
-groups_in t = map group_in (map (view_of t.geometry) t.groups)
+groups_in t = map group_shown (map (view_of t.geometry) t.groups)
 
 -- the place of an address among all possible ones: unit L of host H has place 8 H + L
-abbrev pub place_of : Addr → ℕ
-place_of addr = 8 * addr.host.number + addr.lun
+abbrev pub address_index : Addr → ℕ
+address_index addr = 8 * addr.host.number + addr.lun
 
 -- the address with a place
 abbrev pub addr_at : ℕ → Addr
@@ -96,7 +96,7 @@ pub record AddsHomes (homes : List (Option Slot)) (place : ℕ) (old new : List 
 -- for each group, the number of blocks of each unit that it holds is counted
 pub record HoldsBlocks (t : Tables) (held : List Held) : Type 0 where
   pub groups : length held ≡ length t.groups
-  pub blocks : (group : ℕ) (addr : Addr) → group < length t.groups → addr.lun < 8 → held_at held group (place_of addr) ≡ blocks_in t group addr
+  pub blocks : (group : ℕ) (addr : Addr) → group < length t.groups → addr.lun < 8 → held_at held group (address_index addr) ≡ blocks_in t group addr
 
 -- The picture has the array's disks, their health, and its groups: their classes, their extents, and how many blocks
 -- each holds. It has the units, in order of host and LUN, each with the number of its blocks and of those that have a

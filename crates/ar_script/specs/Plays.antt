@@ -14,7 +14,7 @@ use Rattle.ar_language.specs.declared.order.Question.{Question}
 use Rattle.std.specs.declared.io.traits.Read.{Ghosts}
 use Rattle.ar_language.specs.declared.lines.Lines.{Lines}
 use Rattle.ar_language.specs.Forms.{ReadsLine}
-use Rattle.ar_language.specs.Left.{IsStopped}
+use Rattle.ar_language.specs.Left.{EndsReading}
 use Rattle.ar_language.specs.Lines.{line_fault, line_at, IsLine, IsOfStream, Took}
 use Rattle.ar_script.specs.Orders.{event_in, Looks, TakesMemory}
 
@@ -26,14 +26,14 @@ IsTurn (Ask question) old Looked new = Looks question old new
 IsTurn order old turn new = ⊥
 
 -- the line has no fault and asks for something, which is executed in this step
-pub record AsksFor (line : List ℕ) (old : ArrayState) (turn : Turn) (new : ArrayState) : Type 0 where
+pub record ExecutesLine (line : List ℕ) (old : ArrayState) (turn : Turn) (new : ArrayState) : Type 0 where
   pub sound : IsLine line
   pub order : Order
   pub reads : ReadsLine line (Ok (Some order))
   pub met : IsTurn order old turn new
 
 -- the line has no fault and asks for nothing
-pub record AsksNothing (line : List ℕ) : Type 0 where
+pub record HasNoOrder (line : List ℕ) : Type 0 where
   pub sound : IsLine line
   pub reads : ReadsLine line (Ok None)
 
@@ -46,9 +46,9 @@ pub record SaysWrong (line : List ℕ) (kind : FaultKind) : Type 0 where
 -- step. From its first state the array goes through these states.
 abbrev pub AreMet : List (List ℕ) → ArrayState → List Turn → List ArrayState → Type 0
 AreMet [] old [] [] = Unit {0}
-AreMet (line ∷ lines) old [] [] = AsksNothing line × AreMet lines old [] []
+AreMet (line ∷ lines) old [] [] = HasNoOrder line × AreMet lines old [] []
 AreMet (line ∷ lines) old (turn ∷ turns) (new ∷ states) =
-    (AsksNothing line × AreMet lines old (turn ∷ turns) (new ∷ states)) ⊎ (AsksFor line old turn new × AreMet lines new turns states)
+    (HasNoOrder line × AreMet lines old (turn ∷ turns) (new ∷ states)) ⊎ (ExecutesLine line old turn new × AreMet lines new turns states)
 AreMet lines old turns states = ⊥
 
 -- The array executed these lines, one after another, from its old state to its new one. The isolation theorem holds of
@@ -79,15 +79,15 @@ pub record NeedsMemory (line : List ℕ) : Type 0 where
 
 -- a fault that isn't in line `n`: a stream faulted, or an allocation failed, before the first line or for the line's
 -- order
-abbrev pub IsOutside : List ℕ → ℕ → FaultKind → Type 0
-IsOutside line n kind = IsOfStream kind ⊎ ((kind ≡ NoMemory) × ((n ≡ 1) ⊎ NeedsMemory line))
+abbrev pub IsExternalFault : List ℕ → ℕ → FaultKind → Type 0
+IsExternalFault line n kind = IsOfStream kind ⊎ ((kind ≡ NoMemory) × ((n ≡ 1) ⊎ NeedsMemory line))
 
 -- What may be reported at a line: that a stream faulted or an allocation failed, otherwise only a fault that the line
 -- has, in its bytes or its words, or that there are too many lines.
 abbrev pub IsSo : Option (List (List ℕ)) → ℕ → FaultKind → Type 0
 IsSo None n kind = ⊤
 IsSo (Some script) n kind =
-    IsOutside (line_at script n) n kind ⊎ (line_fault (line_at script n) ≡ Some kind) ⊎ SaysWrong (line_at script n) kind
+    IsExternalFault (line_at script n) n kind ⊎ (line_fault (line_at script n) ≡ Some kind) ⊎ SaysWrong (line_at script n) kind
     ⊎ ((kind ≡ TooManyLines) × (1000000 < length script))
 
 -- the line's order is a query that allocates
@@ -109,12 +109,12 @@ pub record AsksSomething (line : List ℕ) : Type 0 where
 abbrev pub IsUnanswered : List ℕ → FaultKind → Type 0
 IsUnanswered line kind = ((kind ≡ WriteFault) × AsksSomething line) ⊎ ((kind ≡ NoMemory) × NeedsMemory line)
 
--- The fault that ends the loop over the lines: of the next line, which wasn't returned (`IsStopped`), or of the last
+-- The fault that ends the loop over the lines: of the next line, which wasn't returned (`EndsReading`), or of the last
 -- one that was, which has no answer or whose words have a fault.
 abbrev pub IsToldAt : {R : Type 0} {reads : Ghosts R} → Lines R reads → Fault → Type 0
 IsToldAt lines Start = ⊥
 IsToldAt lines (Line n kind) =
-    IsStopped lines (Line n kind) ⊎ ((n ≡ lines.given) × (IsUnanswered lines.line.items kind ⊎ SaysWrong lines.line.items kind))
+    EndsReading lines (Line n kind) ⊎ ((n ≡ lines.given) × (IsUnanswered lines.line.items kind ⊎ SaysWrong lines.line.items kind))
 
 -- the same for the end of a run, which may also be a write fault
 abbrev pub IsToldOf : {R : Type 0} {reads : Ghosts R} → Lines R reads → Fault → Type 0
@@ -129,10 +129,10 @@ IsToldAfter script met (Line n kind) =
 
 -- The line at which a fault is reported exists, or is the first. But `ReadFault` may be reported where no line is left,
 -- and `TooManyLines` is where there are too many (`IsSo`).
-abbrev pub IsThere : Option (List (List ℕ)) → Fault → Type 0
-IsThere script Start = Unit {0}
-IsThere None (Line n kind) = ⊤
-IsThere (Some lines) (Line n kind) = (kind ≡ ReadFault) ⊎ (kind ≡ TooManyLines) ⊎ (n ≤ max (length lines) 1)
+abbrev pub IsLineThere : Option (List (List ℕ)) → Fault → Type 0
+IsLineThere script Start = Unit {0}
+IsLineThere None (Line n kind) = ⊤
+IsLineThere (Some lines) (Line n kind) = (kind ≡ ReadFault) ⊎ (kind ≡ TooManyLines) ⊎ (n ≤ max (length lines) 1)
 
 -- The array executed the first lines of a script, each once and in order: all of them if the script ended without a
 -- fault.

@@ -7,8 +7,8 @@ ghost use Rattle.ar_book.specs.Tables.{unit_in};
 ghost use Rattle.ar_language.specs.declared.order.Order.TheVariants.{Ask};
 ghost use Rattle.ar_language.specs.declared.order.Question.TheVariants.{Picture as PictureAsked};
 ghost use Rattle.ar_picture.specs.Writing.{AddsBytes, AddsSome};
-ghost use Rattle.ar_script.specs.Orders.{IsLost};
-ghost use Rattle.ar_script.specs.Pictures.{IsPicture, health_shown, class_shown, group_in, groups_in, unit_at, units_in, addr_at, held_at, AddsOne, AddsHomes, HoldsBlocks};
+ghost use Rattle.ar_script.specs.Orders.{IsOrderFault};
+ghost use Rattle.ar_script.specs.Pictures.{IsPicture, health_shown, class_shown, group_shown, groups_in, unit_at, units_in, addr_at, held_at, AddsOne, AddsHomes, HoldsBlocks};
 
 use ar_core::{Array, Class, GroupView, Health, HomeOf};
 use ar_disks::{Addr, Disk, Host};
@@ -29,7 +29,7 @@ pub fn write_picture<W: Write, D: Disk>(
     out: &mut W,
 ) -> Result<(), FaultKind>
     ensures few { IfErr result (λ kind. kind ≢ FaultKind.TooManyLines) }
-    ensures lost { IfErr result (IsLost (Ask PictureAsked)) }
+    ensures lost { IfErr result (IsOrderFault (Ask PictureAsked)) }
     ensures memory { result ≡ Err FaultKind.NoMemory → out.new ≡ out.old }
     ensures grows { result ≢ Err FaultKind.WriteFault → AddsBytes (W.contents out.old) (W.contents out.new) }
     ensures adds { OnOk result (AddsSome (W.contents out.old) (W.contents out.new)) }
@@ -67,13 +67,13 @@ fn groups_of<D: Disk>(alloc: Global, array: &Array<D>) -> Result<Vec<Group>, All
 }
 
 fn groups_shown(alloc: Global, views: &[GroupView]) -> Result<Vec<Group>, AllocError>
-    ensures { IfOk result (λ groups. groups.items ≡ map group_in views.now) }
+    ensures { IfOk result (λ groups. groups.items ≡ map group_shown views.now) }
 {
     views.iter().map(|view| group_of(*view)).collect(alloc)
 }
 
 fn group_of(view: GroupView) -> Group
-    ensures { result ≡ group_in view }
+    ensures { result ≡ group_shown view }
 {
     Group {
         class: class_of(view.class),

@@ -10,7 +10,7 @@ ghost use Rattle.ar_language.specs.Lines.{lines_of, is_write_fault as tells_writ
 ghost use Rattle.ar_picture.specs.Writing.{AddsBytes};
 ghost use Rattle.ar_script.specs.Ends.{Ends};
 ghost use Rattle.ar_script.specs.Orders.{MeetsLine, AnswersLine};
-ghost use Rattle.ar_script.specs.Plays.{SaysWrong, IsUnanswered, IsThere, IsToldAt, IsToldOf, PlaysScript, PlaysTo, HasPlayed};
+ghost use Rattle.ar_script.specs.Plays.{SaysWrong, IsUnanswered, IsLineThere, IsToldAt, IsToldOf, PlaysScript, PlaysTo, HasPlayed};
 ghost use Rattle.ar_script.specs.Setups.{disks_of};
 
 use crate::runner::Runner;
@@ -46,7 +46,7 @@ pub fn run_script<R: Read + Drop, W: Write + Drop>(
     ensures begun { result ≢ Err Fault.Start → (setup.cache ≤ 65536) × (start_fault (disks_of setup) ≡ None) }
     ensures played { result ≢ Err Fault.Start → HasPlayed (disks_of setup) setup.cache (lines_of (R.remaining reader)) result }
     ensures numbered { IfErr result IsNumbered }
-    ensures there { IfErr result (IsThere (lines_of (R.remaining reader))) }
+    ensures there { IfErr result (IsLineThere (lines_of (R.remaining reader))) }
 {
     let mut runner = Runner::start(alloc, setup)?;
     run_on(alloc, &mut runner, reader, writer)
@@ -62,7 +62,7 @@ pub fn run_on<R: Read + Drop, W: Write + Drop>(
 ) -> Result<(), Fault>
     ensures plays { PlaysScript (lines_of (R.remaining reader)) result runner.old runner.new }
     ensures numbered { IfErr result IsNumbered }
-    ensures there { IfErr result (IsThere (lines_of (R.remaining reader))) }
+    ensures there { IfErr result (IsLineThere (lines_of (R.remaining reader))) }
 {
     let Ok(mut lines) = Lines::new(alloc, reader) else {
         return Err(fault_at(1, FaultKind::NoMemory));
@@ -80,7 +80,7 @@ fn write_answers<R: Read + Drop, W: Write + Drop>(
     requires fresh { IsFresh lines.old }
     ensures plays { PlaysScript (lines_left lines.old) result runner.old runner.new }
     ensures numbered { IfErr result IsNumbered }
-    ensures there { IfErr result (IsThere (lines_left lines.old)) }
+    ensures there { IfErr result (IsLineThere (lines_left lines.old)) }
     ensures ended { OnOk result (lines.new.is_at_end ≡ true) }
     // After a fault nothing more is read. `NoMemory` is reported at line 1 with nothing read, or at a line that
     // allocates.
@@ -105,7 +105,7 @@ fn answer_all<R: Read + Drop, W: Write + Drop>(
     requires fresh { IsFresh lines.old }
     ensures plays { PlaysScript (lines_left lines.old) result runner.old runner.new }
     ensures numbered { IfErr result IsNumbered }
-    ensures there { IfErr result (IsThere (lines_left lines.old)) }
+    ensures there { IfErr result (IsLineThere (lines_left lines.old)) }
     ensures ended { OnOk result (lines.new.is_at_end ≡ true) }
     ensures reached { IfErr result (IsReached (lines_begun lines.new)) }
     ensures told { IfErr result (IsToldOf lines.new) }

@@ -5,7 +5,7 @@ ghost use Rattle.ar_extents.specs.Changes.{start_fault};
 ghost use Rattle.ar_volume.specs.Start.{IsStarted};
 ghost use Rattle.ar_core.specs.Step.{Steps};
 ghost use Rattle.ar_picture.specs.Writing.{AddsBytes, AddsSome};
-ghost use Rattle.ar_script.specs.Orders.{event_in, Looks, TakesMemory, HasAnswer, IsLost, Leaves};
+ghost use Rattle.ar_script.specs.Orders.{event_in, Looks, TakesMemory, HasAnswer, IsOrderFault, Leaves};
 ghost use Rattle.ar_script.specs.Pictures.{IsPicture};
 ghost use Rattle.ar_script.specs.Setups.{disks_of, new_disk, new_disk_for};
 
@@ -68,7 +68,7 @@ impl Runner {
         out: &mut W,
     ) -> Result<(), FaultKind>
         ensures few { IfErr result (λ kind. kind ≢ FaultKind.TooManyLines) }
-        ensures lost { IfErr result (IsLost order) }
+        ensures lost { IfErr result (IsOrderFault order) }
         ensures memory { result ≡ Err FaultKind.NoMemory → out.new ≡ out.old }
         ensures grows { result ≢ Err FaultKind.WriteFault → AddsBytes (W.contents out.old) (W.contents out.new) }
         ensures adds { OnOk result (HasAnswer order → AddsSome (W.contents out.old) (W.contents out.new)) }
@@ -148,7 +148,7 @@ impl Runner {
         out: &mut W,
     ) -> Result<(), FaultKind>
         ensures few { IfErr result (λ kind. kind ≢ FaultKind.TooManyLines) }
-        ensures lost { IfErr result (IsLost (Order.Ask question)) }
+        ensures lost { IfErr result (IsOrderFault (Order.Ask question)) }
         ensures memory { result ≡ Err FaultKind.NoMemory → out.new ≡ out.old }
         ensures grows { result ≢ Err FaultKind.WriteFault → AddsBytes (W.contents out.old) (W.contents out.new) }
         ensures adds { OnOk result (HasAnswer (Order.Ask question) → AddsSome (W.contents out.old) (W.contents out.new)) }

@@ -10,10 +10,10 @@ use Rattle.ar_scsi.specs.Sense.{internal_target_failure}
 use Rattle.ar_unit.specs.Unit.{IsGiven, answer}
 use Rattle.ar_unit.specs.Broken.{needs_blocks, is_good, where_broken}
 use Rattle.ar_volume.specs.Image.{is_broken}
-use Rattle.ar_history.specs.Kept.{KeptState, standing}
+use Rattle.ar_history.specs.Kept.{KeptState, history_unit}
 use Rattle.ar_history.specs.Seat.{SeatState}
-use Rattle.ar_history.specs.Serving.{Serves, IsUnrecorded}
-use Rattle.ar_sessions.specs.Port.{AtOneMoment, Enters, is_done}
+use Rattle.ar_history.specs.Serving.{ServesHost, IsUnrecorded}
+use Rattle.ar_sessions.specs.Port.{AtOneMoment, RecordsExchange, is_good_access}
 
 -- BUSY is not GOOD
 good_is_not_busy : (status : Status) → is_good status ≡ true → status ≢ Busy
@@ -33,7 +33,7 @@ none_good table true is none = absurd (cc)
 none_good table false is none = true≢false (sym none ∙ is)
 
 -- so of a command that was done this array was not broken
-never_done : (cdb : List ℕ) (table reply : Reply) → IsGiven (where_broken cdb table) reply → is_done cdb reply ≡ true → ⊥
+never_done : (cdb : List ℕ) (table reply : Reply) → IsGiven (where_broken cdb table) reply → is_good_access cdb reply ≡ true → ⊥
 never_done cdb table reply given done =
     let parts = both (is_good reply.status) (needs_blocks (reading cdb)) done in
     let is : reply ≡ where_broken cdb table = given.answered (good_is_not_busy reply.status parts.0) in
@@ -43,15 +43,15 @@ never_done cdb table reply given done =
 
 -- a command that was not recorded was not done
 unrecorded : (broken : Bool) (old new : KeptState) (before after : SeatState) (lun : ℕ) (cdb payload : List ℕ) (reply : Reply)
-    → is_broken new.array ≡ broken → IsUnrecorded old before lun cdb payload reply new after → is_done cdb reply ≡ true → ⊥
+    → is_broken new.array ≡ broken → IsUnrecorded old before lun cdb payload reply new after → is_good_access cdb reply ≡ true → ⊥
 unrecorded true old new before after lun cdb payload reply is none done =
-    never_done cdb (answer (standing old (before.host.number, lun)) cdb payload).reply reply (none.broken is) done
+    never_done cdb (answer (history_unit old (before.host.number, lun)) cdb payload).reply reply (none.broken is) done
 unrecorded false old new before after lun cdb payload reply is none done =
     let parts = both (is_good reply.status) (needs_blocks (reading cdb)) done in
     good_is_not_busy reply.status parts.0 (ap (λ (r : Reply). r.status) (none.busy_is is))
 
 entered : (position : Option ℕ) (old new : KeptState) (before after : SeatState) (lun : ℕ) (cdb payload : List ℕ) (reply : Reply)
-    → Serves old before lun cdb payload reply position new after → Enters before lun cdb payload reply after
+    → ServesHost old before lun cdb payload reply position new after → RecordsExchange before lun cdb payload reply after
 entered (Some p) old new before after lun cdb payload reply serves = record { one = inl serves.transcript; done = λ _. serves.transcript }
 entered None old new before after lun cdb payload reply serves = record {
   one = inr serves.transcript;
@@ -60,6 +60,6 @@ entered None old new before after lun cdb payload reply serves = record {
 
 -- what a command at one moment leaves of the transcript
 pub enters : (before after : SeatState) (lun : ℕ) (cdb payload : List ℕ) (reply : Reply) → AtOneMoment before lun cdb payload reply after
-    → Enters before lun cdb payload reply after
+    → RecordsExchange before lun cdb payload reply after
 enters before after lun cdb payload reply moment =
     entered moment.position moment.old moment.new before after lun cdb payload reply moment.serves

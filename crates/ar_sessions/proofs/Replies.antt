@@ -18,16 +18,16 @@ use Rattle.ar_scsi.specs.Reading.{reading, where_valid, test_unit_ready_valid, i
 use Rattle.ar_scsi.specs.Reply.{good, check}
 use Rattle.ar_scsi.specs.Sense.{logical_unit_not_supported, logical_block_address_out_of_range, internal_target_failure}
 use Rattle.ar_unit.specs.Sectors.{Sector, joined}
-use Rattle.ar_unit.specs.Unit.{UnitState, Absent, Present, Answered, Entry, IsWhole, IsGiven, answer, obeyed, unit_run, after, is_past_end, absent_reply}
+use Rattle.ar_unit.specs.Unit.{UnitState, Absent, Present, Answered, UnitEntry, IsWhole, IsGiven, answer, obeyed, unit_run, after, is_past_end, absent_reply}
 use Rattle.ar_unit.specs.Broken.{needs_blocks, is_good, where_broken}
 use Rattle.ar_unit.proofs.Laws.{after-whole}
 use Rattle.ar_unit.proofs.Pieces.{length-concat}
 use Rattle.ar_volume.specs.Sectors.{Address}
 use Rattle.ar_volume.specs.Image.{is_broken}
 use Rattle.ar_history.specs.History.{replay, entries_at}
-use Rattle.ar_history.specs.Kept.{KeptState, standing, with_attention}
+use Rattle.ar_history.specs.Kept.{KeptState, history_unit, with_attention}
 use Rattle.ar_history.specs.Seat.{SeatState}
-use Rattle.ar_history.specs.Serving.{Serves, IsUnrecorded}
+use Rattle.ar_history.specs.Serving.{ServesHost, IsUnrecorded}
 use Rattle.ar_frames.specs.Frame.{IsReply}
 use Rattle.ar_sessions.proofs.Asking.{both}
 
@@ -111,7 +111,7 @@ answer_reply (Present sectors true) cdb bytes whole are =
 answer_reply (Present sectors false) cdb bytes whole are = obeyed_reply sectors false (reading cdb) bytes whole (few_read cdb are)
 
 -- what a history makes of a unit is whole
-run_whole : (state : UnitState) (entries : List Entry) → IsWhole state → IsWhole (unit_run state entries)
+run_whole : (state : UnitState) (entries : List UnitEntry) → IsWhole state → IsWhole (unit_run state entries)
 run_whole state [] whole = whole
 run_whole state (entry ∷ entries) whole = run_whole (after state entry) entries (after-whole state entry whole)
 
@@ -140,14 +140,14 @@ unrecorded_reply : (broken : Bool) (old new : KeptState) (before after : SeatSta
     → is_broken new.array ≡ broken → IsUnrecorded old before lun cdb payload reply new after → IsReply reply
 unrecorded_reply true old new before after lun cdb payload reply are is none =
     let a : Address = (before.host.number, lun) in
-    let whole : IsWhole (standing old a) = marked_whole _ (replay old.history a) (run_whole Absent (entries_at a old.history) tt) in
-    given_reply (where_broken cdb (answer (standing old a) cdb payload).reply) reply (none.broken is)
-    (lost_reply cdb (answer (standing old a) cdb payload).reply (answer_reply (standing old a) cdb payload whole are))
+    let whole : IsWhole (history_unit old a) = marked_whole _ (replay old.history a) (run_whole Absent (entries_at a old.history) tt) in
+    given_reply (where_broken cdb (answer (history_unit old a) cdb payload).reply) reply (none.broken is)
+    (lost_reply cdb (answer (history_unit old a) cdb payload).reply (answer_reply (history_unit old a) cdb payload whole are))
 unrecorded_reply false old new before after lun cdb payload reply are is none = subst IsReply (sym (none.busy_is is)) (refl, refl)
 
 -- the reply to a host's command
 pub served_reply : (position : Option ℕ) (old new : KeptState) (before after : SeatState) (lun : ℕ) (cdb payload : List ℕ) (reply : Reply)
-    → AreBytes cdb → Serves old before lun cdb payload reply position new after → IsReply reply
+    → AreBytes cdb → ServesHost old before lun cdb payload reply position new after → IsReply reply
 served_reply (Some p) old new before after lun cdb payload reply are serves =
     let a : Address = (before.host.number, lun) in
     subst IsReply (sym serves.reply_is)

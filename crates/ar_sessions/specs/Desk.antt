@@ -8,13 +8,13 @@ abbrev pub Places : Type 0
 Places = List (Option SeatState)
 
 -- what is in a host's place, by the host's number
-abbrev pub place_of : Places → ℕ → Option SeatState
-place_of places number = get_or places number None
+abbrev pub seat_at : Places → ℕ → Option SeatState
+seat_at places number = get_or places number None
 
 -- there are four places, each with its own host's seat or none
 pub record AreOwn (places : Places) : Type 0 where
   pub four : length places ≡ 4
-  pub own : (number : ℕ) (seat : SeatState) → place_of places number ≡ Some seat → seat.host.number ≡ number
+  pub own : (number : ℕ) (seat : SeatState) → seat_at places number ≡ Some seat → seat.host.number ≡ number
 
 -- a receipt: whose seat was returned, and the number of commands in its transcript then
 pub record ReceiptState : Type 0 where

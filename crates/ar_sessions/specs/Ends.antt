@@ -2,7 +2,7 @@
 use Rattle.std.specs.Prelude.{◌≡◌, ◌⊎◌, None, Some, Option}
 use Rattle.ar_history.specs.Seat.{SeatState}
 use Rattle.ar_frames.specs.declared.end.SessionEnd.{SessionEnd}
-use Rattle.ar_frames.specs.declared.end.Why.TheVariants.{Read}
+use Rattle.ar_frames.specs.declared.end.EndReason.TheVariants.{Read}
 use Rattle.ar_frames.specs.Stream.{SourceState, SinkState}
 use Rattle.ar_frames.specs.Session.{Session}
 use Rattle.ar_sessions.specs.declared.sessions.AsServed.{AsServed}
@@ -15,7 +15,7 @@ use Rattle.ar_sessions.specs.Port.{TakesSeat, AsksKept}
 
 -- A session over streams in these states ended with `end`. It began at a port without a seat, and its logins and
 -- commands were those of a port to the shared array.
-pub record IsServed (source : SourceState) (sink : SinkState) (end : SessionEnd) : Type 0 where
+pub record IsSessionEnd (source : SourceState) (sink : SinkState) (end : SessionEnd) : Type 0 where
   pub source' : SourceState
   pub sink' : SinkState
   pub port : Option SeatState
@@ -23,7 +23,7 @@ pub record IsServed (source : SourceState) (sink : SinkState) (end : SessionEnd)
 
 -- The same, and this is the receipt for the seat that the port had in the end, or none if it had none.
 pub record GivesBack (source : SourceState) (sink : SinkState) (end : SessionEnd) (receipt : Option ReceiptState) : Type 0 where
-  pub served : IsServed source sink end
+  pub served : IsSessionEnd source sink end
   pub receipt_is : receipt ≡ receipt_for served.port
 
 -- The same, and these are the states in which the session left the streams: nothing has used them since.
@@ -34,18 +34,18 @@ pub record LeavesOff (source source' : SourceState) (sink sink' : SinkState) (en
 
 -- A session over a connection's two streams, as they were when it was opened, ended with `end`.
 abbrev pub IsServedOver : {S W : Type 0} → (S → SourceState) → (W → SinkState) → S × W → SessionEnd → Type 0
-IsServedOver source sink pair end = IsServed (source pair.0) (sink pair.1) end
+IsServedOver source sink pair end = IsSessionEnd (source pair.0) (sink pair.1) end
 
 -- a session over the two streams in its thread's promise ended with `end`
 abbrev pub IsPromised : {S W : Type 0} → (S → SourceState) → (W → SinkState) → AsServed S W → SessionEnd → Type 0
-IsPromised source sink promise end = IsServed (source promise.reader.value) (sink promise.writer.value) end
+IsPromised source sink promise end = IsSessionEnd (source promise.reader.value) (sink promise.writer.value) end
 
 -- the end of a connection that could not be opened
 abbrev pub unopened : SessionEnd
-unopened = record { frames = 0; why = Read }
+unopened = record { frames = 0; reason = Read }
 
 -- a door opened its next connection, as its own `opens` specifies
-pub record HasOpened {D P : Type 0} (opens : D → Option P → D → Type 0) (old new : D) : Type 0 where
+pub record HasAccepted {D P : Type 0} (opens : D → Option P → D → Type 0) (old new : D) : Type 0 where
   pub pair : P
   pub opened : opens old (Some pair) new
 
@@ -74,13 +74,13 @@ abbrev pub Becomes : {D P H : Type 0} → (D → Option P → D → Type 0) → 
     → Pending H → D → Type 0
 Becomes opens keeps served old (pending.Served handle) new = HasThread opens keeps served old handle new
 Becomes opens keeps served old pending.Unopened new = opens old None new
-Becomes opens keeps served old pending.NoThread new = HasOpened opens old new
+Becomes opens keeps served old pending.NoThread new = HasAccepted opens old new
 
 -- How a door's next connection ended: with a session over it if it was opened, and with `unopened` if it couldn't be;
 -- or it was opened and got no thread.
 abbrev pub ConnectionEnds : {D P : Type 0} → (D → Option P → D → Type 0) → (P → SessionEnd → Type 0) → D → ConnectionEnd → D → Type 0
 ConnectionEnds opens served old (Served end) new = HasEnded opens served old end new ⊎ (opens old None new × (end ≡ unopened))
-ConnectionEnds opens served old NoThread new = HasOpened opens old new
+ConnectionEnds opens served old NoThread new = HasAccepted opens old new
 
 -- a connection ended with its session
 abbrev pub IsOfSession : (SessionEnd → Type 0) → ConnectionEnd → Type 0

@@ -1,7 +1,7 @@
+pub mod Background
 pub mod Desk
 pub mod Ends
 pub mod Port
-pub mod Work
 -- definitions of lower crates that clauses of this crate cite
 pub use Rattle.ar_history.specs.Seat
 pub use Rattle.ar_history.specs.Kept

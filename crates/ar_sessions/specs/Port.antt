@@ -6,36 +6,36 @@ use Rattle.ar_unit.specs.Broken.{needs_blocks, is_good}
 use Rattle.ar_volume.specs.Image.{is_broken}
 use Rattle.ar_history.specs.Kept.{KeptState, MayDouble, exchange_of}
 use Rattle.ar_history.specs.Seat.{SeatState}
-use Rattle.ar_history.specs.Serving.{Serves, Begins, DoesCommand, HasPlace, GrowsNothing}
+use Rattle.ar_history.specs.Serving.{ServesHost, Begins, DoesCommand, HasCapacity, GrowsNothing}
 use Rattle.ar_frames.specs.declared.port.Login.{Login}
 use Rattle.ar_frames.specs.declared.port.Login.TheVariants.{Taken, BadHost, InUse}
 
 -- A host's command was executed atomically: there are a state of an array before it and one after it, between which it
 -- is served as `Kept::host` serves it. That these are states of the array behind the lock is not specified; the
--- transcript's entry (`Enters`) is.
+-- transcript's entry (`RecordsExchange`) is.
 pub record AtOneMoment (before : SeatState) (lun : ℕ) (cdb payload : List ℕ) (reply : Reply) (after : SeatState) : Type 0 where
   pub old : KeptState
   pub new : KeptState
   pub position : Option ℕ
-  pub serves : Serves old before lun cdb payload reply position new after
+  pub serves : ServesHost old before lun cdb payload reply position new after
   pub does : DoesCommand old.array before.host lun cdb payload reply new.array
   pub host : after.host ≡ before.host
   -- memory: a command without data is begun if history and transcript have room for it, and without room in the
   -- transcript none is; the transcript's capacity stays or doubles, and nothing grows for a failed array
-  pub begun : HasPlace old new before after payload → Begins old.array before.host lun cdb payload reply new.array
+  pub begun : HasCapacity old new before after payload → Begins old.array before.host lun cdb payload reply new.array
   pub unbegun : after.room ≡ length before.transcript → is_broken old.array ≡ false → new.array ≡ old.array
   pub grown : MayDouble before.room after.room
   pub lost : is_broken old.array ≡ true → GrowsNothing old before new after
 
 -- a command that needs the unit's blocks, or tests whether they are accessible, ended with GOOD
-abbrev pub is_done : List ℕ → Reply → Bool
-is_done cdb reply = is_good reply.status && needs_blocks (reading cdb)
+abbrev pub is_good_access : List ℕ → Reply → Bool
+is_good_access cdb reply = is_good reply.status && needs_blocks (reading cdb)
 
--- The transcript has grown by the command and its reply, or is unchanged; after a command that `is_done` it has grown.
-pub record Enters (before : SeatState) (lun : ℕ) (cdb payload : List ℕ) (reply : Reply) (after : SeatState) : Type 0 where
+-- The transcript has grown by the command and its reply, or is unchanged; after a command that `is_good_access` it has grown.
+pub record RecordsExchange (before : SeatState) (lun : ℕ) (cdb payload : List ℕ) (reply : Reply) (after : SeatState) : Type 0 where
   pub one :
       (after.transcript ≡ before.transcript ++ exchange_of lun cdb payload reply ∷ []) ⊎ (after.transcript ≡ before.transcript)
-  pub done : is_done cdb reply ≡ true → after.transcript ≡ before.transcript ++ exchange_of lun cdb payload reply ∷ []
+  pub done : is_good_access cdb reply ≡ true → after.transcript ≡ before.transcript ++ exchange_of lun cdb payload reply ∷ []
 
 -- the port has the seat of this host
 pub record HasSeat (port : Option SeatState) (host : ℕ) : Type 0 where
@@ -56,4 +56,4 @@ pub record AsksKept (old : Option SeatState) (lun : ℕ) (cdb payload : List ℕ
   pub held : old ≡ Some before
   pub kept : new ≡ Some after
   pub moment : AtOneMoment before lun cdb payload reply after
-  pub entry : Enters before lun cdb payload reply after
+  pub entry : RecordsExchange before lun cdb payload reply after

@@ -1,7 +1,7 @@
 // Background maintenance, one step of the array at a time. A step leaves the history as it is and, unless the array has
 // failed, the contents of all units.
 ghost use Rattle.std.specs.Prelude.{◌≡◌, nat_lt};
-ghost use Rattle.ar_sessions.specs.Work.{idle_after, pause_after, task_after, is_due, is_idle, TakesTurn};
+ghost use Rattle.ar_sessions.specs.Background.{idle_after, pause_after, task_after, is_due, is_idle, TakesTurn};
 ghost use Rattle.ar_book.specs.Tables.{free_groups};
 
 use ar_core::{Balance, Flush, Move, Outcome, OutcomeOf, Rebuild};

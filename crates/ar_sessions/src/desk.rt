@@ -2,7 +2,7 @@
 ghost use Rattle.std.specs.Prelude.{◌≡◌, ◌<◌, [], ◌∷◌, map, set, Some, None, is_some, true, false, IfOk, IfErr, OnErr, IfSome};
 ghost use Rattle.std.specs.List.{list_all};
 ghost use Rattle.ar_history.specs.Seat.{SeatState};
-ghost use Rattle.ar_sessions.specs.Desk.{place_of, receipt_of};
+ghost use Rattle.ar_sessions.specs.Desk.{seat_at, receipt_of};
 
 use ar_disks::Host;
 use ar_history::Seat;
@@ -54,7 +54,7 @@ impl<L: Ledger> Desk<L> {
 
     /// Takes a host's seat. None: its place is empty.
     pub fn take(&mut self, host: Host) -> Option<Seat<L>>
-        ensures seat { result ≡ place_of self.old host.number }
+        ensures seat { result ≡ seat_at self.old host.number }
         ensures own { IfSome result (λ seat. seat.host.number ≡ host.number) }
         ensures left { self.new ≡ set self.old host.number None }
     {
@@ -97,8 +97,8 @@ impl<L: Ledger> Desk<L> {
     // Takes a seat that is in its place.
     fn lift(&mut self, number: u8) -> Seat<L>
         requires few { number < 4 }
-        requires there { is_some (place_of self.old number) ≡ true }
-        ensures seat { place_of self.old number ≡ Some result }
+        requires there { is_some (seat_at self.old number) ≡ true }
+        ensures seat { seat_at self.old number ≡ Some result }
         ensures left { self.new ≡ set self.old number None }
     {
         match self.places[usize::from(number)].take() {

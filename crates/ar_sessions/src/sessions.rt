@@ -8,7 +8,7 @@ ghost use Rattle.ar_sessions.specs.Ends.{IsServedOver, IsPromised, GivesBack, Le
 
 use crate::{Desk, Door, LockPort, Receipt, run_background};
 use ar_disks::Disk;
-use ar_frames::{Gate, SessionEnd, Sink, Source, Why, serve_gated};
+use ar_frames::{EndReason, Gate, SessionEnd, Sink, Source, serve_gated};
 use ar_history::Kept;
 use std::alloc::Global;
 use std::collections::VecDeque;
@@ -35,7 +35,7 @@ pub struct NoMemory;
 
 // The state that all sessions share.
 #[derive(Drop)]
-struct Hall<'a, R: Wait, D: Disk + Drop, L: Ledger, G: Gate> {
+struct Shared<'a, R: Wait, D: Disk + Drop, L: Ledger, G: Gate> {
     rt: &'a R,
     alloc: Global,
     kept: &'a Mutex<Kept<D, L>>,
@@ -54,7 +54,7 @@ struct Connection<
     S: Source + Drop,
     W: Sink + Drop,
 > {
-    hall: &'a Hall<'a, R, D, L, G>,
+    shared: &'a Shared<'a, R, D, L, G>,
     reader: S,
     writer: W,
 }
@@ -86,7 +86,7 @@ enum Pending<H> {
 
 // The threads to join and their ends, both empty, with capacity for `left` connections.
 #[derive(Drop)]
-struct Roll<H> {
+struct JoinList<H> {
     pending: VecDeque<Pending<H>>,
     ends: Vec<ConnectionEnd>,
     left: usize,
@@ -120,28 +120,28 @@ pub fn run_sessions<
     ensures opened { OnOk result.1 (O.to_come result.0 ≡ 0) }
     ensures refused { OnErr result.1 (result.0 ≡ door) }
 {
-    let Ok(roll) = Roll::new(alloc, door.left()) else {
+    let Ok(join_list) = JoinList::new(alloc, door.left()) else {
         return (door, Err(NoMemory));
     };
-    let hall = Hall {
+    let state = Shared {
         rt,
         alloc,
         kept,
         desk,
         gate,
     };
-    let shared = &hall;
+    let shared = &state;
     let (door, ends) = thread::scope(
         thread::scope_env(),
         rt,
         move |scope| -> (O, Vec<ConnectionEnd>)
-            requires { O.to_come door ≡ roll.left }
+            requires { O.to_come door ≡ join_list.left }
             ensures { (O.to_come result.0 ≡ 0)
-                × (vec_len result.1 ≡ roll.left)
+                × (vec_len result.1 ≡ join_list.left)
                 × InTurn (ConnectionEnds O.opens (IsServedOver O.Reader.state O.Writer.state)) result.1.items door result.0 }
         {
             let mut door = door;
-            let ends = serve_all(scope, shared, &mut door, roll);
+            let ends = serve_all(scope, shared, &mut door, join_list);
             (door, ends)
         },
     );
@@ -203,27 +203,27 @@ fn serve_all<
     G: Gate + Sync,
 >(
     scope: &'s Scope<'s, E>,
-    hall: &'s Hall<'s, R, D, L, G>,
+    shared: &'s Shared<'s, R, D, L, G>,
     door: &mut O,
-    roll: Roll<Handle<O::Reader, O::Writer>>,
+    join_list: JoinList<Handle<O::Reader, O::Writer>>,
 ) -> Vec<ConnectionEnd>
 where
     O::Reader: 's,
     O::Writer: 's,
-    requires { O.to_come door.old ≡ roll.left }
-    ensures count { vec_len result ≡ roll.left }
+    requires { O.to_come door.old ≡ join_list.left }
+    ensures count { vec_len result ≡ join_list.left }
     ensures ends { InTurn (ConnectionEnds O.opens (IsServedOver O.Reader.state O.Writer.state)) result.items door.old door.new }
     ensures opened { O.to_come door.new ≡ 0 }
 {
-    let Roll {
+    let JoinList {
         mut pending,
         ends,
         left,
-    } = roll;
+    } = join_list;
     for _ in 0..left {
-        pending.push_back_reserved(open_next(scope, hall, door));
+        pending.push_back_reserved(open_next(scope, shared, door));
     }
-    join_all(hall.rt, pending, ends)
+    join_all(shared.rt, pending, ends)
 }
 
 // Waits for the next connection, and starts its thread.
@@ -237,7 +237,7 @@ fn open_next<
     G: Gate + Sync,
 >(
     scope: &'s Scope<'s, E>,
-    hall: &'s Hall<'s, R, D, L, G>,
+    shared: &'s Shared<'s, R, D, L, G>,
     door: &mut O,
 ) -> Pending<Handle<O::Reader, O::Writer>>
 where
@@ -252,7 +252,7 @@ where
         return Pending::Unopened;
     };
     let connection = Connection {
-        hall,
+        shared,
         reader,
         writer,
     };
@@ -282,7 +282,7 @@ fn begin<
     let session = move || -> (SessionEnd, Option<Receipt>)
         ensures { GivesBack (S.state connection.entry.reader) (W.state connection.entry.writer) result.0 result.1 }
     {
-        let (end, receipt, _reader, _writer) = connection.serve();
+        let (end, receipt, _reader, _writer) = connection.run_session();
         (end, receipt)
     };
     match scope.spawn_with(promise, session) {
@@ -319,16 +319,16 @@ fn end_of<R: Threads, S: Source, W: Sink>(rt: &R, pending: Pending<Handle<S, W>>
         }
         Pending::Unopened => ConnectionEnd::Served(SessionEnd {
             frames: 0,
-            why: Why::Read,
+            reason: EndReason::Read,
         }),
         Pending::NoThread => ConnectionEnd::NoThread,
     }
 }
 
-impl<H: Drop> Roll<H> {
+impl<H: Drop> JoinList<H> {
     // Allocates capacity for `left` connections.
-    fn new(alloc: Global, left: usize) -> Result<Roll<H>, NoMemory>
-        ensures { IfOk result (λ roll. roll.left ≡ left) }
+    fn new(alloc: Global, left: usize) -> Result<JoinList<H>, NoMemory>
+        ensures { IfOk result (λ join_list. join_list.left ≡ left) }
     {
         let Ok(pending) = VecDeque::with_capacity(alloc, left) else {
             return Err(NoMemory);
@@ -336,7 +336,7 @@ impl<H: Drop> Roll<H> {
         let Ok(ends) = Vec::with_capacity(alloc, left) else {
             return Err(NoMemory);
         };
-        Ok(Roll {
+        Ok(JoinList {
             pending,
             ends,
             left,
@@ -355,16 +355,22 @@ impl<R: Wait, D: Disk + Drop, L: Ledger, G: Gate, S: Source + Drop, W: Sink + Dr
 > {
     // Serves the connection's session, and returns its seat to the desk for a receipt. The streams are returned as the
     // session left them, so that they are dropped, and so closed, only once the seat is back.
-    fn serve(self) -> (SessionEnd, Option<Receipt>, S, W)
+    fn run_session(self) -> (SessionEnd, Option<Receipt>, S, W)
         ensures { LeavesOff (S.state self.entry.reader) (S.state result.2) (W.state self.entry.writer) (W.state result.3) result.0 result.1 }
     {
         let Connection {
-            hall,
+            shared,
             mut reader,
             mut writer,
         } = self;
-        let mut port = LockPort::new(hall.rt, hall.kept, hall.desk);
-        let end = serve_gated(hall.alloc, &mut reader, &mut writer, &mut port, hall.gate);
+        let mut port = LockPort::new(shared.rt, shared.kept, shared.desk);
+        let end = serve_gated(
+            shared.alloc,
+            &mut reader,
+            &mut writer,
+            &mut port,
+            shared.gate,
+        );
         (end, port.finish(), reader, writer)
     }
 }

@@ -12,7 +12,7 @@ use Rattle.ar_extents.specs.Set.{SetState, content, IsSound, IsMissing}
 use Rattle.ar_extents.specs.Groups.{IsMember, IsOutside}
 use Rattle.ar_extents.specs.Follows.{Follows, Keeps, Anywhere, IsPlace, IsEither, WorksOn, WorksInTurn}
 use Rattle.ar_extents.proofs.Follows.{keeps_refl, keeps_then, keeps_fewer, works_refl, works_more, in_turn_first}
-use Rattle.ar_mirror.specs.Calls.{IsInPair, OtherSlotsHold as OtherMirrorSlotsHold, KeepsButSlot}
+use Rattle.ar_mirror.specs.Calls.{IsInPair, OtherMirrorSlotsHold, KeepsButSlot}
 use Rattle.ar_parity.specs.Group.{Holds as ParityHolds}
 use Rattle.ar_parity.specs.Call.{AsksOwnFirst, IsOffDiskOf}
 use Rattle.ar_mirror.proofs.Frames.{keeps_outside as mirror_outside}

@@ -7,7 +7,7 @@ use Rattle.ar_extents.specs.declared.health.Health.TheVariants.{Broken}
 use Rattle.ar_extents.specs.Set.{SetState}
 use Rattle.ar_extents.specs.Follows.{Follows, Keeps, Anywhere}
 use Rattle.ar_extents.specs.Groups.{IsOutside, without_disk}
-use Rattle.ar_mirror.specs.Calls.{OtherSlotsHold as OtherMirrorSlotsHold, KeepsButSlot}
+use Rattle.ar_mirror.specs.Calls.{OtherMirrorSlotsHold, KeepsButSlot}
 use Rattle.ar_mirror.specs.Holds.{Holds as MirrorHolds}
 use Rattle.ar_mirror.proofs.Frames.{disjoint_holds as mirror_disjoint, read_holds as mirror_read, holds_without as mirror_without, keeps_outside as mirror_outside}
 use Rattle.ar_mirror.proofs.Standing.{standing_is as mirror_standing_is}
@@ -18,7 +18,7 @@ use Rattle.ar_parity.proofs.Standing.{standing_is as parity_standing_is}
 use Rattle.ar_book.specs.declared.class.Class.{Class}
 use Rattle.ar_book.specs.declared.class.Class.TheVariants.{Free, Mirrored, Parity}
 use Rattle.ar_book.specs.Tables.{slots_of}
-use Rattle.ar_store.specs.Slots.{ClassHolds, CanWrite, IsWritten, standing_in}
+use Rattle.ar_store.specs.Slots.{ClassHolds, CanWrite, IsSlotWritten, standing_in}
 
 -- reads leave what a slot holds
 pub class_read : (c : Class) (a b : SetState) (m : Members) (i : ℕ) (block : List ℕ) → Follows a b → Keeps Anywhere a b
@@ -50,7 +50,7 @@ class_standing Parity s m i block apart inside sound has = parity_standing_is s 
 
 -- a write to a mirrored slot, and to one with parity, in words for both
 pub mirror_written : (a b : SetState) (m : Members) (i : ℕ) (block : List ℕ) → MirrorHolds b m i block → OtherMirrorSlotsHold m i a b → KeepsButSlot m i a b
-    → IsWritten Mirrored a b m i block
+    → IsSlotWritten Mirrored a b m i block
 mirror_written a b m i block here slots keeps = record {
   here = here;
   beside = λ k other inside ne has. slots.slots k inside ne other has;
@@ -60,7 +60,7 @@ mirror_written a b m i block here slots keeps = record {
 pub parity_written : (a b : SetState) (m : Members) (i : ℕ) (block : List ℕ) → CanWrite Parity a m i
     → ((held : List ℕ) → ParityHolds a m i held → ParityHolds b m i block)
     → ((k : ℕ) → k ≢ i → (held : List ℕ) → ParityHolds a m k held → ParityHolds b m k held)
-    → KeepsButRow m (parity_row_of i) a b → IsWritten Parity a b m i block
+    → KeepsButRow m (parity_row_of i) a b → IsSlotWritten Parity a b m i block
 parity_written a b m i block ready here others keeps = record {
   here = here ready.block ready.holds;
   beside = λ k other inside ne has. others k ne other has;

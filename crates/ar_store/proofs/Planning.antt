@@ -10,16 +10,17 @@ use Rattle.ar_disks.specs.declared.address.Place.{Place}
 use Rattle.ar_disks.specs.declared.address.Members.{Members}
 use Rattle.ar_disks.specs.declared.geometry.Geometry.{Geometry}
 use Rattle.ar_disks.specs.Geometry.{rows_of}
-use Rattle.ar_disks.specs.Members.{member}
+use Rattle.ar_disks.specs.Members.{member, stands_on}
 use Rattle.ar_extents.specs.Set.{SetState}
 use Rattle.ar_book.specs.Tables.{GroupState, Tables, group_in}
 use Rattle.ar_book.specs.Changes.{formed, free_group}
-use Rattle.ar_book.specs.Choices.{same_place, stands_on, IsUnused, AreUnused}
+use Rattle.ar_disks.specs.Addresses.{same_place}
+use Rattle.ar_book.specs.Choices.{IsUnused, AreUnused}
 use Rattle.ar_book.proofs.GroupChanges.{formed_group_count}
 use Rattle.ar_book.proofs.AfterForm.{formed_members, formed_members_other}
 use Rattle.ar_store.specs.Store.{StoreState, store_of}
 use Rattle.ar_store.specs.declared.form.FourDisks.{FourDisks}
-use Rattle.ar_store.specs.Fullest.{AreFourFullest, HasFewCounts, one_fewer, four_fewer, next_place, next_members}
+use Rattle.ar_store.specs.Fullest.{AreFourFullest, HasFewCounts, one_fewer, four_fewer, next_loose, next_members}
 use Rattle.ar_store.specs.Forming.{AreFullest, HasFewLoose, IsFormed, IsPlanFor, IsAllLoose, with_group, without, empty_book, members_list}
 use Rattle.ar_store.proofs.Lined.{IsLined, lined_start, lined_without, fullest_lined, few_start, few_lined, four_cases, one_same, one_le}
 
@@ -253,9 +254,9 @@ pub next_unused : (g : Geometry) (n e : ℕ) (t : Tables) (counts : List ℕ) (f
 next_unused g n e t counts f plan =
     four_cases (λ j. IsUnused t (member (next_members counts e f) j)) (unused f.first) (unused f.second) (unused f.third) (unused f.fourth)
   where
-    unused : (d : ℕ) → IsUnused t (next_place counts e d)
+    unused : (d : ℕ) → IsUnused t (next_loose counts e d)
     unused d i inside =
-        stands_apart (group_in t.groups i).members (next_place counts e d)
+        stands_apart (group_in t.groups i).members (next_loose counts e d)
         (λ k range disk extent.
         let below = plan.below i k inside range in
         let same : slice_index counts (member (group_in t.groups i).members k).disk ≡ slice_index counts d =

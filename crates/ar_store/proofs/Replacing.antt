@@ -9,7 +9,7 @@ use Rattle.ar_disks.specs.declared.geometry.Geometry.{Geometry}
 use Rattle.ar_extents.specs.declared.health.Health.TheVariants.{Out, Broken}
 use Rattle.ar_extents.specs.Health.{is_lost}
 use Rattle.ar_extents.specs.Set.{SetState, IsSound}
-use Rattle.ar_extents.specs.Changes.{is_broken, replace_refusal, replaced}
+use Rattle.ar_extents.specs.Changes.{is_broken_set, replace_refusal, replaced}
 use Rattle.ar_extents.proofs.Changes.{taken_out}
 use Rattle.ar_extents.proofs.Follows.{keeps_replaced}
 use Rattle.ar_book.specs.Tables.{Tables}
@@ -42,7 +42,7 @@ replaced_shape : (s : SetState) (d : ℕ) (disk : DiskState) → HaveShape s (re
 replaced_shape s d disk = record { geometry = refl; extents = refl; count = length-set s.disks d disk; loose = refl }
 
 out_sound : (s : SetState) (d : ℕ) → s.health ≡ Out d → s.health ≢ Broken
-out_sound s d was broken = true≢false (sym (ap is_broken (sym was ∙ broken)))
+out_sound s d was broken = true≢false (sym (ap is_broken_set (sym was ∙ broken)))
 
 module _ (s : SetState) (t : Tables) (d : ℕ) (disk : DiskState) (taken : replace_refusal s d disk ≡ None) where
   -- every slot holds what it held,

@@ -7,7 +7,7 @@ use Rattle.ar_extents.specs.Set.{SetState}
 use Rattle.ar_extents.specs.Groups.{IsGroup}
 use Rattle.ar_extents.specs.Follows.{Keeps, Anywhere, IsPlace}
 use Rattle.ar_extents.proofs.Follows.{works_refl}
-use Rattle.ar_mirror.specs.Calls.{Gives, KeepsButSlot, OtherSlotsHold as OtherMirrorSlotsHold}
+use Rattle.ar_mirror.specs.Calls.{ReadsSlot, KeepsButSlot, OtherMirrorSlotsHold}
 use Rattle.ar_mirror.specs.Holds.{Holds as MirrorHolds}
 use Rattle.ar_parity.specs.Group.{Holds as ParityHolds, KeepsButRow}
 use Rattle.ar_parity.specs.Row.{row_of as parity_row_of}
@@ -16,7 +16,7 @@ use Rattle.ar_book.specs.declared.class.Class.TheVariants.{Free, Mirrored, Parit
 use Rattle.ar_book.specs.declared.class.Slot.{Slot}
 use Rattle.ar_book.specs.Tables.{Tables, slots_of, HasSlot}
 use Rattle.ar_store.specs.Store.{StoreState, store_of, members_of, class_in}
-use Rattle.ar_store.specs.Slots.{ClassHolds, SlotHolds, HoldsAny, CanWrite, IsWritten, NeedsIn, first_in, AsksFor, AllStand}
+use Rattle.ar_store.specs.Slots.{ClassHolds, SlotHolds, HoldsAny, CanWrite, IsSlotWritten, NeedsIn, first_in, AsksFor, AllStand}
 use Rattle.ar_store.specs.Asking.{WritesSlot}
 use Rattle.ar_store.specs.Kept.{IsSpace}
 use Rattle.ar_disks.specs.Endings.{OnDone}
@@ -60,15 +60,15 @@ module _ (s : StoreState) (slot : Slot) (m : Members) (space : IsSpace s) (has :
       (subst (λ (x : Class). WritesSlot x s.disks b m slot.slot) is_c writes)
 
   -- the slot was written
-  written_in : (c : Class) (b : SetState) (block : List ℕ) → c ≡ class_in s slot.group → IsWritten c s.disks b m slot.slot block
-      → IsWritten (class_in s slot.group) s.disks b (members_of s slot.group) slot.slot block
+  written_in : (c : Class) (b : SetState) (block : List ℕ) → c ≡ class_in s slot.group → IsSlotWritten c s.disks b m slot.slot block
+      → IsSlotWritten (class_in s slot.group) s.disks b (members_of s slot.group) slot.slot block
   written_in c b block is_c written =
-      subst (λ (x : Members). IsWritten (class_in s slot.group) s.disks b x slot.slot block) is_m
-      (subst (λ (x : Class). IsWritten x s.disks b m slot.slot block) is_c written)
+      subst (λ (x : Members). IsSlotWritten (class_in s slot.group) s.disks b x slot.slot block) is_m
+      (subst (λ (x : Class). IsSlotWritten x s.disks b m slot.slot block) is_c written)
 
   pub written_mirrored : (b : SetState) (block : List ℕ) → Mirrored ≡ class_in s slot.group → MirrorHolds b m slot.slot block
       → OtherMirrorSlotsHold m slot.slot s.disks b → KeepsButSlot m slot.slot s.disks b
-      → IsWritten (class_in s slot.group) s.disks b (members_of s slot.group) slot.slot block
+      → IsSlotWritten (class_in s slot.group) s.disks b (members_of s slot.group) slot.slot block
   written_mirrored b block is_c here slots keeps =
       written_in Mirrored b block is_c (mirror_written s.disks b m slot.slot block here slots keeps)
 
@@ -76,14 +76,14 @@ module _ (s : StoreState) (slot : Slot) (m : Members) (space : IsSpace s) (has :
       → ((held : List ℕ) → ParityHolds s.disks m slot.slot held → ParityHolds b m slot.slot block)
       → ((k : ℕ) → k ≢ slot.slot → (held : List ℕ) → ParityHolds s.disks m k held → ParityHolds b m k held)
       → KeepsButRow m (parity_row_of slot.slot) s.disks b
-      → IsWritten (class_in s slot.group) s.disks b (members_of s slot.group) slot.slot block
+      → IsSlotWritten (class_in s slot.group) s.disks b (members_of s slot.group) slot.slot block
   written_parity b block is_c here others keeps =
       let ready = subst (λ (x : Members). HoldsAny s.disks x slot.slot) (sym is_m)
       (subst (λ (x : Class). CanWrite x s.disks (members_of s slot.group) slot.slot) (sym is_c) (slot_ready s slot space has)) in
       written_in Parity b block is_c (parity_written s.disks b m slot.slot block ready here others keeps)
 
 -- what a read of a mirrored slot gives
-pub mirror_given : (a b : SetState) (m : Members) (i : ℕ) (bytes : List ℕ) (o : Completion) → Gives a b m i bytes o
+pub mirror_given : (a b : SetState) (m : Members) (i : ℕ) (bytes : List ℕ) (o : Completion) → ReadsSlot a b m i bytes o
     → OnDone o ((block : List ℕ) → MirrorHolds a m i block → bytes ≡ block)
 mirror_given a b m i bytes Done gives = gives.held
 mirror_given a b m i bytes Broken gives = tt

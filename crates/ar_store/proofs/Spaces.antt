@@ -14,7 +14,7 @@ use Rattle.ar_book.specs.Tables.{Tables, group_in, class_of, slots_of, HasSlot}
 use Rattle.ar_book.proofs.Keys.{slot_tells, make_slot}
 use Rattle.ar_book.proofs.Homes.{key_slot}
 use Rattle.ar_store.specs.Store.{StoreState, members_of, class_in, store_of}
-use Rattle.ar_store.specs.Slots.{ClassHolds, SlotHolds, HoldsBlock, SlotsHold, OtherSlotsHold, CanWrite, IsWritten}
+use Rattle.ar_store.specs.Slots.{ClassHolds, SlotHolds, HoldsBlock, SlotsHold, OtherSlotsHold, CanWrite, IsSlotWritten}
 use Rattle.ar_store.specs.Kept.{IsTaken, IsSpace}
 use Rattle.ar_store.specs.Calls.{IsAccessed}
 use Rattle.ar_store.proofs.Classes.{class_read, class_disjoint}
@@ -104,7 +104,7 @@ space_read a b t space access keeps =
 
 -- a write to a slot leaves every other one its block
 pub slots_written : (a b : SetState) (t : Tables) (slot : Slot) (block : List ℕ) → IsSpace (store_of a t) → HasSlot t slot → Follows a b
-    → IsWritten (class_of t slot.group) a b (group_in t.groups slot.group).members slot.slot block → OtherSlotsHold (store_of a t) (store_of b t) slot
+    → IsSlotWritten (class_of t slot.group) a b (group_in t.groups slot.group).members slot.slot block → OtherSlotsHold (store_of a t) (store_of b t) slot
 slots_written a b t slot block space has ab written = record {
   slots = λ other held there ne holds.
       elim (eqb_tells other.group slot.group) [
@@ -122,7 +122,7 @@ slots_written a b t slot block space has ab written = record {
 
 pub space_written : (a b : SetState) (t : Tables) (slot : Slot) (block : List ℕ) → IsSpace (store_of a t) → HasSlot t slot → IsAccessed a b
     → length block ≡ block_len_of a.geometry
-    → IsWritten (class_of t slot.group) a b (group_in t.groups slot.group).members slot.slot block → IsSpace (store_of b t)
+    → IsSlotWritten (class_of t slot.group) a b (group_in t.groups slot.group).members slot.slot block → IsSpace (store_of b t)
 space_written a b t slot block space has access len written =
     space_accessed a b t space access
     (λ other there held.

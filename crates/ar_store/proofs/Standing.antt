@@ -7,7 +7,7 @@ use Rattle.ar_disks.specs.Disk.{DiskState}
 use Rattle.ar_disks.specs.Members.{AreApart}
 use Rattle.ar_disks.proofs.Xor.{length-zeros}
 use Rattle.ar_extents.specs.declared.health.Health.TheVariants.{Whole, Out, Broken}
-use Rattle.ar_extents.specs.Changes.{is_broken}
+use Rattle.ar_extents.specs.Changes.{is_broken_set}
 use Rattle.ar_extents.specs.Health.{after_fault}
 use Rattle.ar_extents.specs.Groups.{without_disk}
 use Rattle.ar_extents.specs.Set.{SetState}
@@ -130,10 +130,10 @@ block_same a t u slot class members held = record {
 
 -- the kinds of health differ
 whole_not_broken : Whole ≢ Broken
-whole_not_broken e = true≢false (sym (ap is_broken e))
+whole_not_broken e = true≢false (sym (ap is_broken_set e))
 
 out_not_broken : (d : ℕ) → Out d ≢ Broken
-out_not_broken d e = true≢false (sym (ap is_broken e))
+out_not_broken d e = true≢false (sym (ap is_broken_set e))
 
 -- while the disks are whole, every block stands on without any one of them
 pub survives : (s : StoreState) (d : ℕ) → IsSpace s → s.disks.health ≡ Whole → SurvivesLossOf s d

@@ -27,7 +27,7 @@ use Rattle.ar_book.proofs.GroupChanges.{formed_group_count, formed_keys}
 use Rattle.ar_book.proofs.AfterForm.{formed_members, formed_class, formed_members_other, formed_class_other, formed_free_groups}
 use Rattle.ar_store.specs.Store.{StoreState, store_of}
 use Rattle.ar_store.specs.Kept.{IsTaken, FieldsAgree}
-use Rattle.ar_store.specs.Forming.{AreFullest, HasFewLoose, IsFormed, IsFresh, IsStarted, IsAllLoose, with_group, without, empty_book, members_list}
+use Rattle.ar_store.specs.Forming.{AreFullest, HasFewLoose, IsFormed, IsSetStarted, IsStoreStarted, IsAllLoose, with_group, without, empty_book, members_list}
 use Rattle.ar_store.proofs.Lined.{lined_start, lined_count, four_cases}
 
 -- disks that aren't refused are at least four, with extents
@@ -85,7 +85,7 @@ pub record IsNew (disks : List DiskState) (s : StoreState) : Type 0 where
   pub units : s.book.units ≡ []
   pub puts : s.book.puts ≡ 0
 
-pub started_new : (disks : List DiskState) (s : StoreState) → IsStarted disks s → IsNew disks s
+pub started_new : (disks : List DiskState) (s : StoreState) → IsStoreStarted disks s → IsNew disks s
 started_new disks s is =
     let same = formed_same (store_of (started disks) (empty_book (started disks).geometry)) (members_list s.book) s is.formed in
     record { geometry = same.geometry; extents = same.extents; disks_same = same.disks; health = same.health; units = same.units; puts = same.puts }
@@ -260,7 +260,7 @@ free_not_parity : Free ≢ Parity
 free_not_parity e = true≢false (ap is_free e)
 
 -- what a store keeps true holds once its groups are formed
-pub started_fields : (s new : SetState) (t : Tables) (block : List ℕ) (g : Geometry) → IsFresh s
+pub started_fields : (s new : SetState) (t : Tables) (block : List ℕ) (g : Geometry) → IsSetStarted s
     → IsFormed (store_of s (empty_book s.geometry)) (members_list t) (store_of new t) → TablesAgree t
     → length block ≡ block_len_of s.geometry → g ≡ s.geometry → FieldsAgree (store_of new t) block g
 started_fields s new t block g fresh is agree len scratch =

@@ -13,9 +13,9 @@ use Rattle.ar_extents.specs.Set.{SetState}
 use Rattle.ar_book.specs.declared.class.Class.TheVariants.{Free, Parity}
 use Rattle.ar_book.specs.declared.class.Slot.{Slot}
 use Rattle.ar_disks.specs.Addresses.{same_addr}
-use Rattle.ar_book.specs.Tables.{UnitState, Tables, is_free, no_unit, has_unit, group_in, class_of, key_at, home, free_groups}
+use Rattle.ar_book.specs.Tables.{UnitTableState, Tables, is_free, no_unit, has_unit, group_in, class_of, key_at, home, free_groups}
 use Rattle.ar_book.specs.Changes.{made, grown, dropped, unmarked}
-use Rattle.ar_book.specs.Refusals.{make_refusal, grow_refusal}
+use Rattle.ar_book.specs.Refusals.{unit_make_refusal, unit_grow_refusal}
 use Rattle.ar_book.specs.Book.{TablesAgree}
 use Rattle.ar_disks.proofs.Addresses.{addr_tells}
 use Rattle.ar_book.proofs.Homes.{home_key}
@@ -38,7 +38,7 @@ fields_same a t u block g old space le = record {
 }
 
 -- where nothing but the units changes, the store keeps what it kept, as long as the tables agree
-space_units : (a : SetState) (t : Tables) (units : List (Addr × UnitState)) → IsSpace (store_of a t)
+space_units : (a : SetState) (t : Tables) (units : List (Addr × UnitTableState)) → IsSpace (store_of a t)
     → TablesAgree (record t { units = units }) → IsSpace (store_of a (record t { units = units }))
 space_units a t units space agree =
     let u : Tables = record t { units = units } in
@@ -51,20 +51,20 @@ space_units a t units space agree =
     }
 
 -- and every block stands as it did whose home is the same
-units_stand : (a : SetState) (t : Tables) (units : List (Addr × UnitState)) (k : Key)
+units_stand : (a : SetState) (t : Tables) (units : List (Addr × UnitTableState)) (k : Key)
     → home (record t { units = units }) k ≡ home t k → stands (store_of a (record t { units = units })) k ≡ stands (store_of a t) k
 units_stand a t units k same = stands_same a t (record t { units = units }) k same (λ slot is. refl) (λ g. refl)
 
 module _ (a : SetState) (t : Tables) (b : Addr) (n : ℕ) (space : IsSpace (store_of a t)) where
   -- a unit is made, which has no home yet
-  pub space_made : make_refusal t b n ≡ None → IsSpace (store_of a (made t b n))
+  pub space_made : unit_make_refusal t b n ≡ None → IsSpace (store_of a (made t b n))
   space_made granted = space_units a t (made t b n).units space (made_agrees t b n space.tables granted)
 
   pub all_made : (k : Key) → stands (store_of a (made t b n)) k ≡ stands (store_of a t) k
   all_made k = units_stand a t (made t b n).units k (made_home t b n k)
 
   -- a unit grows by blocks that have no home yet
-  pub space_grown : grow_refusal t b n ≡ None → IsSpace (store_of a (grown t b n))
+  pub space_grown : unit_grow_refusal t b n ≡ None → IsSpace (store_of a (grown t b n))
   space_grown granted = space_units a t (grown t b n).units space (grown_agrees t b n space.tables granted)
 
   pub all_grown : (k : Key) → stands (store_of a (grown t b n)) k ≡ stands (store_of a t) k
@@ -135,7 +135,7 @@ home_absent : (t : Tables) (b : Addr) (k : Key) → (IsTrue (has_unit t b) → �
 home_absent t b k absent own =
     by (lookup (same_addr k.addr) t.units) refl
   where
-    by : (o : Option UnitState) → lookup (same_addr k.addr) t.units ≡ o → home t k ≡ None
+    by : (o : Option UnitTableState) → lookup (same_addr k.addr) t.units ≡ o → home t k ≡ None
     by None is = ap (λ o. get_or (unwrap_or o no_unit).homes k.rb None) is ∙ get_or_past [] k.rb None (omega arith)
     by (Some u) is = absurd (absent (ap (λ c. is_some (lookup (same_addr c) t.units)) (sym own) ∙ ap is_some is))
 

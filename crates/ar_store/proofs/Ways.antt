@@ -10,7 +10,7 @@ use Rattle.ar_book.specs.Tables.{Tables, home, level, level_in, level_of, class_
 use Rattle.ar_book.specs.Book.{TablesAgree}
 use Rattle.ar_book.proofs.Homes.{home_key, home_level, key_class}
 use Rattle.ar_book.specs.Changes.{stamped, opened}
-use Rattle.ar_book.specs.Choices.{IsWaiting, IsUpTo, IsHole, IsLowestFree}
+use Rattle.ar_book.specs.Choices.{HasUnplacedBlock, IsUpTo, IsHole, IsLowestFree}
 use Rattle.ar_book.proofs.Keys.{make_slot}
 use Rattle.ar_book.proofs.AfterOpen.{opened_group_count, opened_class, opened_empty}
 use Rattle.ar_store.proofs.Squeezing.{mirrored_some, same_free}
@@ -157,8 +157,8 @@ leads_squeezed t u v k s nowhere_k still none full hole =
     }
 
 -- a block waits for a home
-pub waits : (t u : Tables) (k : Key) → u ≡ t → HasBlock t k → home t k ≡ None → IsWaiting u
-waits t u k same block none = subst (λ (x : Tables). IsWaiting x) (sym same) (record { key = k; block = block; unplaced = none })
+pub waits : (t u : Tables) (k : Key) → u ≡ t → HasBlock t k → home t k ≡ None → HasUnplacedBlock u
+waits t u k same block none = subst (λ (x : Tables). HasUnplacedBlock x) (sym same) (record { key = k; block = block; unplaced = none })
 
 -- a block with a home stands at a level
 placed : (t : Tables) (k : Key) (s : Slot) → TablesAgree t → home t k ≡ Some s → level t k ≢ Unplaced

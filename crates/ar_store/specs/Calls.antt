@@ -44,7 +44,7 @@ pub record WasBroken (old new : StoreState) : Type 0 where
   pub same : new ≡ old
 
 -- the array has failed: it had before, or it failed with the group opened in the tables
-pub record IsCutShort (old new : StoreState) (class : Class) : Type 0 where
+pub record BreaksOpening (old new : StoreState) (class : Class) : Type 0 where
   pub broken : new.disks.health ≡ AllBroken
   pub tables : WasBroken old new ⊎ ((group : ℕ) × IsOpened old.book new.book class group)
 
@@ -90,4 +90,4 @@ IfOpened NotOpened P = Unit {0}
 abbrev pub Opens : StoreState → StoreState → Class → Opening → Type 0
 Opens old new class (Opened group) = IsOpened old.book new.book class group
 Opens old new class Idle = HasNoneToOpen old new
-Opens old new class NotOpened = IsCutShort old new class
+Opens old new class NotOpened = BreaksOpening old new class

@@ -50,11 +50,11 @@ members_list t = map (λ g. g.members) t.groups
 
 -- the store of these disks, healthy and without units: its groups are formed from the disks' extents, at first all
 -- unassigned
-pub record IsStarted (disks : List DiskState) (s : StoreState) : Type 0 where
+pub record IsStoreStarted (disks : List DiskState) (s : StoreState) : Type 0 where
   pub formed : IsFormed (store_of (started disks) (empty_book (started disks).geometry)) (members_list s.book) s
 
 -- a set was just created with disks that pass `start_fault`
-pub record IsFresh (s : SetState) : Type 0 where
+pub record IsSetStarted (s : SetState) : Type 0 where
   pub disks : List DiskState
   pub taken : start_fault disks ≡ None
   pub set : s ≡ started disks

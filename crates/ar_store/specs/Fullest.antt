@@ -65,14 +65,14 @@ abbrev pub four_fewer : List ℕ → FourDisks → List ℕ
 four_fewer counts f = one_fewer (one_fewer (one_fewer (one_fewer counts f.first) f.second) f.third) f.fourth
 
 -- the first unassigned extent of disk d, where the last `counts[d]` of its extents are unassigned
-abbrev pub next_place : List ℕ → ℕ → ℕ → Place
-next_place counts extents d = record { disk = d; extent = extents - slice_index counts d }
+abbrev pub next_loose : List ℕ → ℕ → ℕ → Place
+next_loose counts extents d = record { disk = d; extent = extents - slice_index counts d }
 
 -- the first unassigned extents of four disks
 abbrev pub next_members : List ℕ → ℕ → FourDisks → Members
 next_members counts extents f = record {
-  first = next_place counts extents f.first;
-  second = next_place counts extents f.second;
-  third = next_place counts extents f.third;
-  fourth = next_place counts extents f.fourth;
+  first = next_loose counts extents f.first;
+  second = next_loose counts extents f.second;
+  third = next_loose counts extents f.third;
+  fourth = next_loose counts extents f.fourth;
 }

@@ -74,7 +74,7 @@ CanWrite Mirrored s m i = Unit {0}
 CanWrite Parity s m i = HoldsAny s m i
 
 -- One slot of a group was written: it holds the block, the others keep theirs, and no other extent was written.
-pub record IsWritten (class : Class) (old new : SetState) (m : Members) (i : ℕ) (block : List ℕ) : Type 0 where
+pub record IsSlotWritten (class : Class) (old new : SetState) (m : Members) (i : ℕ) (block : List ℕ) : Type 0 where
   pub here : ClassHolds class new m i block
   pub beside : (k : ℕ) (other : List ℕ) → k < slots_of old.geometry class → k ≢ i → ClassHolds class old m k other → ClassHolds class new m k other
   pub outside : Keeps (IsOutside m) old new

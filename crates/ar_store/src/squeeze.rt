@@ -17,7 +17,7 @@ impl<D: Disk> Space<D> {
     ghost use Rattle.ar_extents.specs.Groups.{outcome_of};
     ghost use Rattle.ar_book.specs.declared.class.Class.TheVariants.{Free, Mirrored, Parity};
     ghost use Rattle.ar_book.specs.Tables.{home, class_of, slots_of, free_groups};
-    ghost use Rattle.ar_book.specs.Choices.{IsWaiting};
+    ghost use Rattle.ar_book.specs.Choices.{HasUnplacedBlock};
     ghost use Rattle.ar_store.specs.Slots.{AllStand};
     ghost use Rattle.ar_store.specs.Calls.{HoldsZeros, HoldsZerosFrom, IsZerosFrom};
     ghost use Rattle.ar_store.specs.Asking.{AsksGroups, AsksToSqueeze, MovesInTurn};
@@ -28,7 +28,7 @@ impl<D: Disk> Space<D> {
     /// hole behind them. None if the array failed.
     pub(crate) fn squeeze(&mut self, block: &mut Block) -> Option<Slot>
         requires ready { IsReady self.old }
-        requires waiting { IsWaiting self.old.book }
+        requires waiting { HasUnplacedBlock self.old.book }
         requires mirrored { HasNoHole self.old.book Mirrored }
         requires parity { HasNoHole self.old.book Parity }
         requires free { free_groups self.old.book ≡ 1 }

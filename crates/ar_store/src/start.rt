@@ -7,8 +7,8 @@ ghost use Rattle.ar_extents.specs.Set.{SetState, CanCount};
 ghost use Rattle.ar_extents.specs.Changes.{start_fault, started};
 ghost use Rattle.ar_book.specs.Book.{TablesAgree};
 ghost use Rattle.ar_store.specs.Store.{store_of};
-ghost use Rattle.ar_store.specs.Fullest.{AreFourFullest, one_fewer, four_fewer, next_place, next_members};
-ghost use Rattle.ar_store.specs.Forming.{AreFullest, IsFormed, IsStarted, IsPlanFor, IsFresh, IsAllLoose, without, empty_book, members_list};
+ghost use Rattle.ar_store.specs.Fullest.{AreFourFullest, one_fewer, four_fewer, next_loose, next_members};
+ghost use Rattle.ar_store.specs.Forming.{AreFullest, IsFormed, IsStoreStarted, IsPlanFor, IsSetStarted, IsAllLoose, without, empty_book, members_list};
 
 use crate::form::{FourDisks, four_fullest};
 use crate::space::Space;
@@ -20,11 +20,11 @@ use std::alloc::{AllocError, Global};
 
 impl<D: Disk> Store<D> {
     /// Creates a store of `disks`: healthy, without units, its extents in free groups of four disks each, as
-    /// `IsStarted` states. Errors, which give the disks back: their number, their shapes, out of memory.
+    /// `IsStoreStarted` states. Errors, which give the disks back: their number, their shapes, out of memory.
     pub fn start(alloc: Global, disks: Vec<D>) -> Result<Store<D>, (StartFault, Vec<D>)>
         requires { All CanCount (map D.state disks.items) }
         ensures taken { OnOk result (start_fault (map D.state disks.items) ≡ None) }
-        ensures started { IfOk result (IsStarted (map D.state disks.items)) }
+        ensures started { IfOk result (IsStoreStarted (map D.state disks.items)) }
         ensures refused { IfErr result (λ back. back.0 ≡ unwrap_or (start_fault (map D.state disks.items)) NoMemory) }
         ensures handed_back { IfErr result (λ back. back.1 ≡ disks) }
     {
@@ -42,11 +42,11 @@ impl<D: Disk> Store<D> {
 #[derive(Drop)]
 struct Plan {
     book: Book,
-    work: Work,
+    buffers: CallBuffers,
 }
 
 #[derive(Drop)]
-struct Work {
+struct CallBuffers {
     block: Block,
     scratch: Scratch,
 }
@@ -60,9 +60,9 @@ fn start_planned<D: Disk>(
     requires counting { All CanCount (map D.state disks.items) }
     requires taken { start_fault (map D.state disks.items) ≡ None }
     requires book { IsPlanFor (started (map D.state disks.items)) plan.book }
-    requires block { length plan.work.block ≡ block_len_of (started (map D.state disks.items)).geometry }
-    requires scratch { plan.work.scratch.geometry ≡ (started (map D.state disks.items)).geometry }
-    ensures started { IfOk result (IsStarted (map D.state disks.items)) }
+    requires block { length plan.buffers.block ≡ block_len_of (started (map D.state disks.items)).geometry }
+    requires scratch { plan.buffers.scratch.geometry ≡ (started (map D.state disks.items)).geometry }
+    ensures started { IfOk result (IsStoreStarted (map D.state disks.items)) }
     ensures refused { IfErr result (λ back. back.0 ≡ NoMemory) }
     ensures handed_back { IfErr result (λ back. back.1 ≡ disks) }
 {
@@ -72,10 +72,10 @@ fn start_planned<D: Disk>(
 
 // The store of a set that was just created, by its plan.
 fn form<D: Disk>(mut set: DiskSet<D>, plan: Plan) -> Store<D>
-    requires fresh { IsFresh set }
+    requires fresh { IsSetStarted set }
     requires book { IsPlanFor set plan.book }
-    requires block { length plan.work.block ≡ block_len_of set.geometry }
-    requires scratch { plan.work.scratch.geometry ≡ set.geometry }
+    requires block { length plan.buffers.block ≡ block_len_of set.geometry }
+    requires scratch { plan.buffers.scratch.geometry ≡ set.geometry }
     ensures { IsFormed (store_of set (empty_book set.geometry)) (members_list result.book) result }
 {
     take_groups(&mut set, &plan.book);
@@ -83,9 +83,9 @@ fn form<D: Disk>(mut set: DiskSet<D>, plan: Plan) -> Store<D>
         space: Space {
             disks: set,
             book: plan.book,
-            scratch: plan.work.scratch,
+            scratch: plan.buffers.scratch,
         },
-        block: plan.work.block,
+        block: plan.buffers.block,
     }
 }
 
@@ -93,24 +93,24 @@ fn form<D: Disk>(mut set: DiskSet<D>, plan: Plan) -> Store<D>
 fn make_plan<D: Disk>(alloc: Global, disks: &[D]) -> Result<Plan, AllocError>
     requires { start_fault (map D.state disks.now) ≡ None }
     ensures book { IfOk result (λ plan. IsPlanFor (started (map D.state disks.now)) plan.book) }
-    ensures block { IfOk result (λ plan. length plan.work.block ≡ block_len_of (started (map D.state disks.now)).geometry) }
-    ensures scratch { IfOk result (λ plan. plan.work.scratch.geometry ≡ (started (map D.state disks.now)).geometry) }
+    ensures block { IfOk result (λ plan. length plan.buffers.block ≡ block_len_of (started (map D.state disks.now)).geometry) }
+    ensures scratch { IfOk result (λ plan. plan.buffers.scratch.geometry ≡ (started (map D.state disks.now)).geometry) }
 {
     let geometry = disks[0].geometry();
     let extents = disks[0].extents();
-    let work = make_work(alloc, geometry)?;
+    let buffers = make_buffers(alloc, geometry)?;
     let book = plan_groups(alloc, geometry, disks.len(), extents)?;
-    Ok(Plan { book, work })
+    Ok(Plan { book, buffers })
 }
 
 // Allocates the buffers of the store's calls.
-fn make_work(alloc: Global, geometry: Geometry) -> Result<Work, AllocError>
-    ensures block { IfOk result (λ work. length work.block ≡ block_len_of geometry) }
-    ensures scratch { IfOk result (λ work. work.scratch.geometry ≡ geometry) }
+fn make_buffers(alloc: Global, geometry: Geometry) -> Result<CallBuffers, AllocError>
+    ensures block { IfOk result (λ buffers. length buffers.block ≡ block_len_of geometry) }
+    ensures scratch { IfOk result (λ buffers. buffers.scratch.geometry ≡ geometry) }
 {
     let block = Block::new(alloc, geometry)?;
     let scratch = Scratch::new(alloc, geometry)?;
-    Ok(Work { block, scratch })
+    Ok(CallBuffers { block, scratch })
 }
 
 // The tables with all groups that `disks` disks of `extents` extents form.
@@ -165,7 +165,7 @@ fn next_members(counts: &[u16], extents: u16, four: FourDisks) -> Members
 fn next_place(counts: &[u16], extents: u16, disk: u8) -> Place
     requires there { disk < length counts.now }
     requires few { slice_index counts.now disk ≤ extents }
-    ensures { result ≡ next_place counts.now extents disk }
+    ensures { result ≡ next_loose counts.now extents disk }
 {
     Place {
         disk,

@@ -12,15 +12,15 @@ impl<D: Disk> Store<D> {
     ghost use Rattle.ar_disks.specs.declared.address.Key.{Key};
     ghost use Rattle.ar_book.specs.Tables.{has_unit};
     ghost use Rattle.ar_book.specs.Changes.{made, grown, dropped, unmarked};
-    ghost use Rattle.ar_book.specs.Refusals.{make_refusal, grow_refusal};
+    ghost use Rattle.ar_book.specs.Refusals.{unit_make_refusal, unit_grow_refusal};
     ghost use Rattle.ar_store.specs.Slots.{stands};
 
     /// Creates a unit of `sectors` sectors, 1 to 1,048,576. None of its blocks has a home, so all read as zeros.
     /// Errors, in this order: `BadLun` for a LUN above 7, `Exists`, `Size`, `NoRoom` with the number of blocks that
     /// still fit, `NoMemory`. An error changes nothing.
     pub fn make(&mut self, addr: Addr, sectors: u32) -> Result<(), Refusal>
-        ensures granted { OnOk result (make_refusal self.old.book addr sectors ≡ None) }
-        ensures refused { IfErr result (λ refusal. refusal ≡ unwrap_or (make_refusal self.old.book addr sectors) Refusal.NoMemory) }
+        ensures granted { OnOk result (unit_make_refusal self.old.book addr sectors ≡ None) }
+        ensures refused { IfErr result (λ refusal. refusal ≡ unwrap_or (unit_make_refusal self.old.book addr sectors) Refusal.NoMemory) }
         ensures made { OnOk result (self.new.book ≡ made self.old.book addr sectors) }
         ensures unchanged { OnErr result (self.new ≡ self.old) }
         ensures disks { self.new.disks ≡ self.old.disks }
@@ -33,8 +33,8 @@ impl<D: Disk> Store<D> {
     /// no home and read as zeros. Errors, in this order: `Absent`, `Size` if the length isn't above the present one or
     /// is too great, `NoRoom` with the number of blocks that still fit, `NoMemory`. An error changes nothing.
     pub fn grow(&mut self, addr: Addr, sectors: u32) -> Result<(), Refusal>
-        ensures granted { OnOk result (grow_refusal self.old.book addr sectors ≡ None) }
-        ensures refused { IfErr result (λ refusal. refusal ≡ unwrap_or (grow_refusal self.old.book addr sectors) Refusal.NoMemory) }
+        ensures granted { OnOk result (unit_grow_refusal self.old.book addr sectors ≡ None) }
+        ensures refused { IfErr result (λ refusal. refusal ≡ unwrap_or (unit_grow_refusal self.old.book addr sectors) Refusal.NoMemory) }
         ensures grown { OnOk result (self.new.book ≡ grown self.old.book addr sectors) }
         ensures unchanged { OnErr result (self.new ≡ self.old) }
         ensures disks { self.new.disks ≡ self.old.disks }

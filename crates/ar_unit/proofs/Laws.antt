@@ -17,10 +17,10 @@ use Rattle.ar_scsi.specs.Reply.{good, check}
 use Rattle.ar_scsi.specs.Sense.{logical_unit_not_supported, capacity_data_has_changed, logical_block_address_out_of_range, internal_target_failure, invalid_field_in_cdb, data_phase_error}
 use Rattle.ar_unit.specs.Broken.{Shape, shape_of, shape_after, needs_blocks, is_good, where_broken, broken_obeyed, broken_answer}
 use Rattle.ar_unit.specs.Sectors.{Sector, zero_sector, zero_sectors, joined, cut, written}
-use Rattle.ar_unit.specs.Unit.{UnitState, Absent, Present, Answered, leaving, write_answer, obeyed, answer, is_past_end, IsWhole, TakesNoMemory, Entry, Make, Grow, Remove, Cmd, after, unit_run}
+use Rattle.ar_unit.specs.Unit.{UnitState, Absent, Present, Answered, leaving, write_answer, obeyed, answer, is_past_end, IsWhole, TakesNoMemory, UnitEntry, Make, Grow, Remove, Cmd, after, unit_run}
 
 -- a run over a list that is put together goes on where its first part ends
-pub unit_run-append : (state : UnitState) (first later : List Entry) → unit_run state (first ++ later) ≡ unit_run (unit_run state first) later
+pub unit_run-append : (state : UnitState) (first later : List UnitEntry) → unit_run state (first ++ later) ≡ unit_run (unit_run state first) later
 unit_run-append state [] later = refl
 unit_run-append state (entry ∷ first) later = unit_run-append (after state entry) first later
 
@@ -133,7 +133,7 @@ answer-shape (Present sectors false) cdb bytes =
     (λ lba count within _. same_shape (length-written sectors lba count bytes within) refl)
 
 -- presence, length and mark after an entry
-pub after-shape : (state : UnitState) (entry : Entry) → shape_of (after state entry) ≡ shape_after (shape_of state) entry
+pub after-shape : (state : UnitState) (entry : UnitEntry) → shape_of (after state entry) ≡ shape_after (shape_of state) entry
 after-shape state (Make n) = same_shape (length-replicate n zero_sector) refl
 after-shape Absent (Grow n) = refl
 after-shape (Present sectors attention) (Grow n) =
@@ -159,7 +159,7 @@ zero_sectors-whole : (n : ℕ) → All (λ sector. length sector ≡ 512) (zero_
 zero_sectors-whole n = All-replicate (λ sector. length sector ≡ 512) n zero_sector length-zero_sector
 
 -- each sector keeps its 512 bytes
-pub after-whole : (state : UnitState) (entry : Entry) → IsWhole state → IsWhole (after state entry)
+pub after-whole : (state : UnitState) (entry : UnitEntry) → IsWhole state → IsWhole (after state entry)
 after-whole state (Make n) h = zero_sectors-whole n
 after-whole Absent (Grow n) h = h
 after-whole (Present sectors attention) (Grow n) h =

@@ -11,7 +11,7 @@ use Rattle.ar_scsi.specs.Field.{operation_code}
 use Rattle.ar_scsi.specs.Reading.{reading}
 use Rattle.ar_scsi.specs.Reply.{good, check}
 use Rattle.ar_scsi.specs.Sense.{internal_target_failure, capacity_data_has_changed, logical_block_address_out_of_range, data_phase_error}
-use Rattle.ar_unit.specs.Unit.{UnitState, Absent, Present, absent_reply, is_past_end, Entry, Make, Grow, Remove, Cmd}
+use Rattle.ar_unit.specs.Unit.{UnitState, Absent, Present, absent_reply, is_past_end, UnitEntry, Make, Grow, Remove, Cmd}
 
 -- whether the unit is present, its number of sectors, and whether a UNIT ATTENTION is pending (its mark)
 pub record Shape : Type 0 where
@@ -25,7 +25,7 @@ shape_of Absent = record { present = false; sectors = 0; attention = false }
 shape_of (Present sectors attention) = record { present = true; sectors = length sectors; attention = attention }
 
 -- the shape after an entry: any command but INQUIRY clears a pending UNIT ATTENTION, and a command changes nothing else
-abbrev pub shape_after : Shape → Entry → Shape
+abbrev pub shape_after : Shape → UnitEntry → Shape
 shape_after shape (Make n) = record { present = true; sectors = n; attention = false }
 shape_after shape (Grow n) =
     if shape.present then (record { present = true; sectors = max shape.sectors n; attention = true }) else shape

@@ -94,14 +94,14 @@ IsWhole Absent = Unit {0}
 IsWhole (Present sectors attention) = All (λ sector. length sector ≡ 512) sectors
 
 -- a unit's create, resize, delete or command
-pub data Entry : Type 0 where
-  Make : (sectors : ℕ) → Entry
-  Grow : (sectors : ℕ) → Entry
-  Remove : Entry
-  Cmd : (cdb bytes : List ℕ) → Entry
+pub data UnitEntry : Type 0 where
+  Make : (sectors : ℕ) → UnitEntry
+  Grow : (sectors : ℕ) → UnitEntry
+  Remove : UnitEntry
+  Cmd : (cdb bytes : List ℕ) → UnitEntry
 
 -- the unit after an entry
-abbrev pub after : UnitState → Entry → UnitState
+abbrev pub after : UnitState → UnitEntry → UnitState
 after state (Make n) = Present (zero_sectors n) false
 after Absent (Grow n) = Absent
 after (Present sectors attention) (Grow n) = Present (sectors ++ zero_sectors (n - length sectors)) true
@@ -109,6 +109,6 @@ after state Remove = Absent
 after state (Cmd cdb bytes) = (answer state cdb bytes).state
 
 -- the unit after these entries, in order
-abbrev pub unit_run : UnitState → List Entry → UnitState
+abbrev pub unit_run : UnitState → List UnitEntry → UnitState
 unit_run state [] = state
 unit_run state (entry ∷ entries) = unit_run (after state entry) entries

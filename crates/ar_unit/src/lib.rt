@@ -5,7 +5,7 @@
 ghost use Rattle.std.specs.Prelude.{◌≡◌, ◌≢◌, ◌++◌, ℕ, [], List, length};
 ghost use Rattle.ar_scsi.specs.declared.reply.Status.TheVariants.{Busy};
 ghost use Rattle.ar_unit.specs.Broken.{shape_of, shape_after, broken_answer, where_broken};
-ghost use Rattle.ar_unit.specs.Unit.{UnitState, IsWhole, TakesNoMemory, Entry, answer, after, unit_run};
+ghost use Rattle.ar_unit.specs.Unit.{UnitState, IsWhole, TakesNoMemory, UnitEntry, answer, after, unit_run};
 
 mod plain;
 mod reply;
@@ -15,7 +15,7 @@ pub use reply::{absent, capacity, inquiry, is_past_end, with_bytes};
 
 /// Law: a run over a concatenated list continues where its first part ends.
 pub fn runs_go_on()
-    ensures { (state : UnitState) (first later : List Entry)
+    ensures { (state : UnitState) (first later : List UnitEntry)
         → unit_run state (first ++ later) ≡ unit_run (unit_run state first) later }
 {}
 
@@ -37,13 +37,13 @@ pub fn replies_with_bytes_change_nothing()
 
 /// Law: presence, length and pending UNIT ATTENTION after an entry depend, of the unit, on these three alone.
 pub fn shapes_go_by_shape()
-    ensures { (state : UnitState) (entry : Entry)
+    ensures { (state : UnitState) (entry : UnitEntry)
         → shape_of (after state entry) ≡ shape_after (shape_of state) entry }
 {}
 
 /// Law: each sector keeps its length, 512 bytes.
 pub fn sectors_stay_whole()
-    ensures { (state : UnitState) (entry : Entry) → IsWhole state → IsWhole (after state entry) }
+    ensures { (state : UnitState) (entry : UnitEntry) → IsWhole state → IsWhole (after state entry) }
 {}
 
 /// Law: a failed array's reply to a command block depends on presence, length, pending UNIT ATTENTION and the number of

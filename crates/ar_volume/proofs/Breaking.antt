@@ -2,7 +2,7 @@
 use Rattle.std.proofs.Common.{◌≡◌, ◌≢◌, true, false, refl, sym, ap, ◌∙◌}
 use Rattle.ar_extents.specs.declared.health.Health.{Health}
 use Rattle.ar_extents.specs.declared.health.Health.TheVariants.{Whole, Out, Rebuilding, Broken}
-use Rattle.ar_extents.specs.Changes.{is_broken as is_broken_set}
+use Rattle.ar_extents.specs.Changes.{is_broken_set}
 use Rattle.ar_extents.specs.Set.{SetState}
 use Rattle.ar_store.specs.Calls.{IsAccessed}
 use Rattle.ar_extents.proofs.Losses.{stays_broken}

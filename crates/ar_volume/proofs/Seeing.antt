@@ -14,14 +14,14 @@ use Rattle.ar_extents.specs.declared.health.Health.TheVariants.{Whole, Out, Rebu
 use Rattle.ar_disks.specs.declared.completion.Completion.{Completion}
 use Rattle.ar_disks.specs.declared.completion.Completion.TheVariants.{Done, Broken as NotDone}
 use Rattle.ar_extents.specs.Set.{SetState, disk_in}
-use Rattle.ar_extents.specs.Changes.{is_broken as is_broken_set, start_fault}
+use Rattle.ar_extents.specs.Changes.{is_broken_set, start_fault}
 use Rattle.ar_extents.specs.Groups.{outcome_of}
 use Rattle.ar_extents.proofs.Losses.{stays_broken}
 use Rattle.ar_book.specs.declared.class.Slot.{Slot}
 use Rattle.ar_disks.specs.Addresses.{same_addr}
-use Rattle.ar_book.specs.Tables.{Tables, UnitState, no_unit, has_unit, home_in, unit_in, blocks_of}
+use Rattle.ar_book.specs.Tables.{Tables, UnitTableState, no_unit, has_unit, home_in, unit_in, blocks_of}
 use Rattle.ar_book.specs.Changes.{made, grown, unmarked, dropped}
-use Rattle.ar_book.specs.Refusals.{make_refusal, grow_refusal}
+use Rattle.ar_book.specs.Refusals.{unit_make_refusal, unit_grow_refusal}
 use Rattle.ar_book.specs.Book.{TablesAgree}
 use Rattle.ar_disks.proofs.Addresses.{addr_tells}
 use Rattle.ar_book.proofs.PlaceLemmas.{unit_whole}
@@ -30,21 +30,21 @@ use Rattle.ar_book.proofs.AfterMake.{made_unit_other, grown_unit, grown_unit_oth
 use Rattle.ar_book.proofs.DropLemmas.{dropped_unit_other}
 use Rattle.ar_cache.specs.declared.answers.Flush.{Flush}
 use Rattle.ar_cache.specs.declared.answers.Flush.TheVariants as flushes
-use Rattle.ar_cache.specs.Backing.{stored, IsHonest, Keeps, SameBlocks, StopsInTurn, Writes}
-use Rattle.ar_cache.specs.Cache.{CacheState, IsSound, Sees, SameSeen as CacheSeen, Flushes, Gives, IsPut, answer_of, cached, last_keys, same_key, seen, with_entries}
+use Rattle.ar_cache.specs.Backing.{stored, IsHonest, KeepsBacking, SameBlocks, StopsInTurn, WritesKey}
+use Rattle.ar_cache.specs.Cache.{CacheState, IsValidCache, Sees, SameReads, Flushes, Destages, IsPut, answer_of, cached, last_keys, same_key, seen, with_entries}
 use Rattle.ar_cache.proofs.Sound.{cached_whole}
 use Rattle.ar_cache.proofs.Turns.{stops_seen}
 use Rattle.ar_store.specs.Store.{StoreState}
 use Rattle.ar_store.specs.Slots.{stands}
 use Rattle.ar_store.specs.Kept.{IsSpace}
 use Rattle.ar_store.specs.Placing.{SameUnits}
-use Rattle.ar_store.specs.Forming.{IsStarted as StoreStarted}
+use Rattle.ar_store.specs.Forming.{IsStoreStarted}
 use Rattle.ar_store.proofs.Changes.{units_refl}
 use Rattle.ar_store.proofs.Standing.{stands_nowhere}
 use Rattle.ar_store.proofs.Starting.{started_new}
 use Rattle.ar_volume.specs.Sectors.{key_of, unit_block}
 use Rattle.ar_volume.proofs.Images.{sector_in-zeros}
-use Rattle.ar_volume.specs.Image.{ArrayState, IsJoined, IsPadded, geometry_of, knows_in, seen_at, unit_by}
+use Rattle.ar_volume.specs.Image.{ArrayState, CacheAgrees, IsPadded, geometry_of, knows_in, seen_at, unit_by}
 use Rattle.ar_volume.specs.Following.{StoreFollows, PutsStored, BreaksStored}
 use Rattle.ar_volume.specs.Seen.{IsUnit, SameSeen}
 use Rattle.ar_volume.specs.Start.{IsStarted}
@@ -75,7 +75,7 @@ pub all_seen : (a b : ArrayState) → b.cache ≡ a.cache → ((k : Key) → sta
 all_seen a b cache stand = record { same = λ k. seen_same a b k (ap (λ (c : CacheState). cached c k) cache) (stand k) }
 
 -- or where the cache says so
-pub seen_kept : (a b : ArrayState) → CacheSeen a.cache (stands a.store) b.cache (stands b.store) → SameSeen a b
+pub seen_kept : (a b : ArrayState) → SameReads a.cache (stands a.store) b.cache (stands b.store) → SameSeen a b
 seen_kept a b kept = record { same = λ k. seen_by b k ∙ kept.same k ∙ sym (seen_by a k) }
 
 -- a read left the cache and every block that stands: each is seen as it was
@@ -84,14 +84,14 @@ seen_read a b cache stand = record { same = λ k. (all_seen a b cache stand.same
 
 -- a block was put: it is seen, and every other one as it was
 pub seen_put : (a b : ArrayState) (key : Key) (block : List ℕ) → Sees a.cache (stands a.store) b.cache (stands b.store) key block
-    → Writes (seen_at a) (seen_at b) key block
+    → WritesKey (seen_at a) (seen_at b) key block
 seen_put a b key block sees = record {
   written = seen_by b key ∙ sees.put;
   others = λ k other. seen_by b k ∙ sees.others k other ∙ sym (seen_by a k);
 }
 
 -- a block is as long as all are where the cache is sound and what stands is
-pub seen_whole : (s : ArrayState) (k : Key) → IsSound s.cache → s.cache.geometry ≡ geometry_of s → length (stands s.store k) ≡ block_len_of (geometry_of s)
+pub seen_whole : (s : ArrayState) (k : Key) → IsValidCache s.cache → s.cache.geometry ≡ geometry_of s → length (stands s.store k) ≡ block_len_of (geometry_of s)
     → length (seen_at s k) ≡ block_len_of (geometry_of s)
 seen_whole s k sound geometry stand = by (cached s.cache k) refl
   where
@@ -123,7 +123,7 @@ heard AllBroken = refl
 
 -- what calls of the store leave of it is what a cache asks for
 pub keeps_store : {S : Type 0} (store : S → StoreState) (old new : S) → StoreFollows (store old) (store new)
-    → Keeps (λ s. (store s).disks.geometry) (λ s. knows_in (store s)) (λ s. is_broken_set (store s).disks.health) (λ a b. StoreFollows (store a) (store b)) old new
+    → KeepsBacking (λ s. (store s).disks.geometry) (λ s. knows_in (store s)) (λ s. is_broken_set (store s).disks.health) (λ a b. StoreFollows (store a) (store b)) old new
 keeps_store store old new follows = record {
   same_geometry = follows.accessed.follows.geometry;
   same_keys = λ k. ap (λ n. nat_lt k.rb n) (follows.units.blocks k.addr);
@@ -163,7 +163,7 @@ flush_put store flushes.Broken s n put = tt
 
 -- one flush of the cache is one of the array, where that wasn't broken
 pub flushed_one : {S : Type 0} (store : S → StoreState) (answer : Flush) (s n : S) (c d : CacheState) → is_broken_set (store s).disks.health ≡ false
-    → Flushes answer c d → ((answer ≡ flushes.Idle) ↔ (c.entries ≡ [])) → Gives answer c.entries (stands (store s)) (stands (store n))
+    → Flushes answer c d → ((answer ≡ flushes.Idle) ↔ (c.entries ≡ [])) → Destages answer c.entries (stands (store s)) (stands (store n))
     → IsPut (λ (o : S) (key : Key) (m : S). PutsStored (store o) key (store m)) answer s n
     → (answer ≡ flushes.Broken → StopsInTurn (λ (o : S) (key : Key) (m : S). PutsStored (store o) key (store m)) (λ (o : S) (key : Key) (m : S). BreaksStored (store o) key (store m)) (last_keys c.entries) s n)
     → (answer ≡ flushes.Idle → n ≡ s)
@@ -190,59 +190,59 @@ flushed_one {S} store answer s n c d sound entries idle given put stopped quiet 
 
 -- there is a unit of the length that a look-up gives, or none where it gives none
 pub unit_found : (s : ArrayState) (addr : Addr) (o : Option ℕ) → IsSpace s.store
-    → o ≡ option_map (λ (u : UnitState). u.sectors) (lookup (same_addr addr) s.store.book.units)
+    → o ≡ option_map (λ (u : UnitTableState). u.sectors) (lookup (same_addr addr) s.store.book.units)
     → MatchOption o (has_unit s.store.book addr ≡ false) (IsUnit s addr)
 unit_found s addr o space is = by (lookup (same_addr addr) s.store.book.units) refl
   where
-    by : (l : Option UnitState) → lookup (same_addr addr) s.store.book.units ≡ l → MatchOption o (has_unit s.store.book addr ≡ false) (IsUnit s addr)
+    by : (l : Option UnitTableState) → lookup (same_addr addr) s.store.book.units ≡ l → MatchOption o (has_unit s.store.book addr ≡ false) (IsUnit s addr)
     by None none =
         let P = λ (x : Option ℕ). MatchOption x (has_unit s.store.book addr ≡ false) (IsUnit s addr) in
-        subst P (sym (is ∙ ap (λ (l : Option UnitState). option_map (λ (u : UnitState). u.sectors) l) none)) (ap (λ (l : Option UnitState). is_some l) none)
+        subst P (sym (is ∙ ap (λ (l : Option UnitTableState). option_map (λ (u : UnitTableState). u.sectors) l) none)) (ap (λ (l : Option UnitTableState). is_some l) none)
     by (Some u) found =
         let P = λ (x : Option ℕ). MatchOption x (has_unit s.store.book addr ≡ false) (IsUnit s addr) in
-        let whole = unit_whole s.store.book.geometry s.store.book.units addr space.tables.units (ap (λ (l : Option UnitState). is_some l) found) in
-        let sectors : (unit_in s.store.book.units addr).sectors ≡ u.sectors = ap (λ (l : Option UnitState). (unwrap_or l no_unit).sectors) found in
+        let whole = unit_whole s.store.book.geometry s.store.book.units addr space.tables.units (ap (λ (l : Option UnitTableState). is_some l) found) in
+        let sectors : (unit_in s.store.book.units addr).sectors ≡ u.sectors = ap (λ (l : Option UnitTableState). (unwrap_or l no_unit).sectors) found in
         let some = whole.some in
         let few = whole.few in
         let blocks = whole.homes ∙ ap (λ (g : Geometry). blocks_of g (unit_in s.store.book.units addr).sectors) space.geometry ∙ ap (blocks_of (geometry_of s)) sectors in
-        subst P (sym (is ∙ ap (λ (l : Option UnitState). option_map (λ (v : UnitState). v.sectors) l) found))
-        (record { there = ap (λ (l : Option UnitState). is_some l) found; sectors_same = sectors; some = omega arith; few = omega arith; blocks = blocks })
+        subst P (sym (is ∙ ap (λ (l : Option UnitTableState). option_map (λ (v : UnitTableState). v.sectors) l) found))
+        (record { there = ap (λ (l : Option UnitTableState). is_some l) found; sectors_same = sectors; some = omega arith; few = omega arith; blocks = blocks })
 
 -- an address without a unit has no block
-no_blocks : (o : Option UnitState) → is_some o ≡ false → length (unwrap_or o no_unit).homes ≡ 0
+no_blocks : (o : Option UnitTableState) → is_some o ≡ false → length (unwrap_or o no_unit).homes ≡ 0
 no_blocks None none = refl
 no_blocks (Some u) none = absurd (true≢false none)
 
 -- units have no fewer blocks once one is made
-made_blocks : (t : Tables) (a : Addr) (n : ℕ) → make_refusal t a n ≡ None → (x : Addr) → length (unit_in t.units x).homes ≤ length (unit_in (made t a n).units x).homes
+made_blocks : (t : Tables) (a : Addr) (n : ℕ) → unit_make_refusal t a n ≡ None → (x : Addr) → length (unit_in t.units x).homes ≤ length (unit_in (made t a n).units x).homes
 made_blocks t a n granted x = elim (addr_tells x a) [
   | inl same ↦
       let fresh : has_unit t x ≡ false = ap (λ (b : Addr). has_unit t b) same.1 ∙ make_fresh t a n granted in
       let none : length (unit_in t.units x).homes ≡ 0 = no_blocks _ fresh in
       omega arith
   | inr other ↦
-      let as_before : length (unit_in (made t a n).units x).homes ≡ length (unit_in t.units x).homes = ap (λ (u : UnitState). length u.homes) (made_unit_other t a n x other.1) in
+      let as_before : length (unit_in (made t a n).units x).homes ≡ length (unit_in t.units x).homes = ap (λ (u : UnitTableState). length u.homes) (made_unit_other t a n x other.1) in
       omega arith
 ]
 
 -- nor where one grows
-grown_blocks : (t : Tables) (a : Addr) (n : ℕ) → grow_refusal t a n ≡ None → (x : Addr) → length (unit_in t.units x).homes ≤ length (unit_in (grown t a n).units x).homes
+grown_blocks : (t : Tables) (a : Addr) (n : ℕ) → unit_grow_refusal t a n ≡ None → (x : Addr) → length (unit_in t.units x).homes ≤ length (unit_in (grown t a n).units x).homes
 grown_blocks t a n granted x =
     let there = grow_there t a n granted in
     elim (addr_tells x a) [
       | inl same ↦
-          let longer = ap (λ (u : UnitState). length u.homes) (grown_unit t a n there) in
+          let longer = ap (λ (u : UnitTableState). length u.homes) (grown_unit t a n there) in
           subst (λ (b : Addr). length (unit_in t.units b).homes ≤ length (unit_in (grown t a n).units b).homes) (sym same.1)
           (omega (arith, longer, length-append {A = Option Slot}))
       | inr other ↦
-          let as_before : length (unit_in (grown t a n).units x).homes ≡ length (unit_in t.units x).homes = ap (λ (u : UnitState). length u.homes) (grown_unit_other t a n there x other.1) in
+          let as_before : length (unit_in (grown t a n).units x).homes ≡ length (unit_in t.units x).homes = ap (λ (u : UnitTableState). length u.homes) (grown_unit_other t a n there x other.1) in
           omega arith
     ]
 
 -- the cache still has blocks of units alone where units have no fewer blocks than they had
 pub joined_more : (a b : StoreState) (c : CacheState) → b.disks.geometry ≡ a.disks.geometry
     → ((x : Addr) → length (unit_in a.book.units x).homes ≤ length (unit_in b.book.units x).homes)
-    → IsJoined (record { store = a; cache = c }) → IsJoined (record { store = b; cache = c })
+    → CacheAgrees (record { store = a; cache = c }) → CacheAgrees (record { store = b; cache = c })
 joined_more a b c geometry more joined = record {
   geometry = joined.geometry ∙ sym geometry;
   known = record {
@@ -255,25 +255,25 @@ joined_more a b c geometry more joined = record {
 
 -- also where a unit was made, or nothing has changed
 pub joined_made : {A E : Type 0} (r : Result A E) (a b : StoreState) (c : CacheState) (addr : Addr) (n : ℕ) → b.disks ≡ a.disks
-    → OnOk r (make_refusal a.book addr n ≡ None) → OnOk r (b.book ≡ made a.book addr n) → OnErr r (b ≡ a)
-    → IsJoined (record { store = a; cache = c }) → IsJoined (record { store = b; cache = c })
+    → OnOk r (unit_make_refusal a.book addr n ≡ None) → OnOk r (b.book ≡ made a.book addr n) → OnErr r (b ≡ a)
+    → CacheAgrees (record { store = a; cache = c }) → CacheAgrees (record { store = b; cache = c })
 joined_made (Ok x) a b c addr n disks granted is same joined =
     joined_more a b c (ap (λ (s : SetState). s.geometry) disks)
     (λ x. subst (λ (t : Tables). length (unit_in a.book.units x).homes ≤ length (unit_in t.units x).homes) (sym is) (made_blocks a.book addr n granted x)) joined
-joined_made (Err e) a b c addr n disks granted is same joined = subst (λ (s : StoreState). IsJoined (record { store = s; cache = c })) (sym same) joined
+joined_made (Err e) a b c addr n disks granted is same joined = subst (λ (s : StoreState). CacheAgrees (record { store = s; cache = c })) (sym same) joined
 
 -- or has grown, or nothing has changed
 pub joined_grown : {A E : Type 0} (r : Result A E) (a b : StoreState) (c : CacheState) (addr : Addr) (n : ℕ) → b.disks ≡ a.disks
-    → OnOk r (grow_refusal a.book addr n ≡ None) → OnOk r (b.book ≡ grown a.book addr n) → OnErr r (b ≡ a)
-    → IsJoined (record { store = a; cache = c }) → IsJoined (record { store = b; cache = c })
+    → OnOk r (unit_grow_refusal a.book addr n ≡ None) → OnOk r (b.book ≡ grown a.book addr n) → OnErr r (b ≡ a)
+    → CacheAgrees (record { store = a; cache = c }) → CacheAgrees (record { store = b; cache = c })
 joined_grown (Ok x) a b c addr n disks granted is same joined =
     joined_more a b c (ap (λ (s : SetState). s.geometry) disks)
     (λ x. subst (λ (t : Tables). length (unit_in a.book.units x).homes ≤ length (unit_in t.units x).homes) (sym is) (grown_blocks a.book addr n granted x)) joined
-joined_grown (Err e) a b c addr n disks granted is same joined = subst (λ (s : StoreState). IsJoined (record { store = s; cache = c })) (sym same) joined
+joined_grown (Err e) a b c addr n disks granted is same joined = subst (λ (s : StoreState). CacheAgrees (record { store = s; cache = c })) (sym same) joined
 
 -- or where a unit's mark was cleared
 pub joined_unmarked : (a b : StoreState) (c : CacheState) (addr : Addr) → b.disks ≡ a.disks → b.book ≡ unmarked a.book addr
-    → IsJoined (record { store = a; cache = c }) → IsJoined (record { store = b; cache = c })
+    → CacheAgrees (record { store = a; cache = c }) → CacheAgrees (record { store = b; cache = c })
 joined_unmarked a b c addr disks is joined =
     joined_more a b c (ap (λ (s : SetState). s.geometry) disks)
     (λ x.
@@ -285,7 +285,7 @@ joined_unmarked a b c addr disks is joined =
 pub joined_removed : (a b : StoreState) (c d : CacheState) (addr : Addr) → TablesAgree a.book → b.disks ≡ a.disks → b.book ≡ dropped a.book addr
     → d.geometry ≡ c.geometry → ((k : Key) → IsTrue (same_addr addr k.addr) → cached d k ≡ None)
     → ((k : Key) → same_addr addr k.addr ≡ false → cached d k ≡ cached c k)
-    → IsJoined (record { store = a; cache = c }) → IsJoined (record { store = b; cache = d })
+    → CacheAgrees (record { store = a; cache = c }) → CacheAgrees (record { store = b; cache = d })
 joined_removed a b c d addr ok disks is geometry gone others joined = record {
   geometry = geometry ∙ joined.geometry ∙ ap (λ (s : SetState). s.geometry) (sym disks);
   known = record {
@@ -294,7 +294,7 @@ joined_removed a b c d addr ok disks is geometry gone others joined = record {
       | inr other ↦
           let blocks : length (unit_in b.book.units k.addr).homes ≡ length (unit_in a.book.units k.addr).homes =
           ap (λ (t : Tables). length (unit_in t.units k.addr).homes) is
-          ∙ ap (λ (u : UnitState). length u.homes) (dropped_unit_other a.book addr ok k.addr (λ e. other.1 (sym e))) in
+          ∙ ap (λ (u : UnitTableState). length u.homes) (dropped_unit_other a.book addr ok k.addr (λ e. other.1 (sym e))) in
           ap (λ n. nat_lt k.rb n) blocks ∙ joined.known.known k (ap (λ (o : Option (List ℕ)). is_some o) (sym (others k other.0)) ∙ there)
     ];
   };
@@ -312,7 +312,7 @@ first_disk f (y ∷ ys) x taken is = ap f (sym is)
 
 -- a store that begins and an empty cache for the blocks of its first disk are an array that begins
 pub begun : {X : Type 0} (f : X → DiskState) (xs : List X) (x : X) (s : StoreState) (c : CacheState) (g : Geometry) (n : ℕ) → start_fault (map f xs) ≡ None
-    → x ≡ get_or xs 0 x → g ≡ (f x).geometry → c ≡ record { geometry = g; capacity = n; entries = [] } → StoreStarted (map f xs) s
+    → x ≡ get_or xs 0 x → g ≡ (f x).geometry → c ≡ record { geometry = g; capacity = n; entries = [] } → IsStoreStarted (map f xs) s
     → IsStarted (map f xs) n (record { store = s; cache = c })
 begun f xs x s c g n taken first geometry empty formed =
     let new = started_new (map f xs) s formed in
@@ -337,11 +337,11 @@ begun_padded disks n s begins = record {
   zeros = λ now addr i past.
       sector_in-zeros (geometry_of s) (unit_block (seen_at s) addr) i
       (seen_empty s (ap (λ (c : CacheState). c.entries) begins.cache) (key_of addr (i / sectors_of (geometry_of s)))
-      ∙ stands_nowhere s.store (key_of addr (i / sectors_of (geometry_of s))) (ap (λ (us : List (Addr × UnitState)). home_in us (key_of addr (i / sectors_of (geometry_of s)))) begins.no_unit));
+      ∙ stands_nowhere s.store (key_of addr (i / sectors_of (geometry_of s))) (ap (λ (us : List (Addr × UnitTableState)). home_in us (key_of addr (i / sectors_of (geometry_of s)))) begins.no_unit));
 }
 
 -- in an array that begins nothing is cached
-pub joined_begun : (disks : List DiskState) (n : ℕ) (s : ArrayState) → IsStarted disks n s → IsJoined s
+pub joined_begun : (disks : List DiskState) (n : ℕ) (s : ArrayState) → IsStarted disks n s → CacheAgrees s
 joined_begun disks n s begins = record {
   geometry = ap (λ (c : CacheState). c.geometry) begins.cache;
   known = record { known = λ k is. absurd (true≢false (sym is ∙ ap (λ (c : CacheState). is_some (cached c k)) begins.cache)) };

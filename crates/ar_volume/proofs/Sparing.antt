@@ -5,7 +5,7 @@ use Rattle.ar_disks.specs.declared.address.Key.{Key}
 use Rattle.ar_cache.specs.Backing.{stored}
 use Rattle.ar_cache.specs.Cache.{CacheState, cached}
 use Rattle.ar_volume.specs.Sectors.{key_of}
-use Rattle.ar_volume.specs.Seen.{IsSpared}
+use Rattle.ar_volume.specs.Seen.{KeepsCachedBut}
 use Rattle.ar_disks.specs.declared.completion.Completion.TheVariants.{Done as Kept}
 
 -- what an answer says of the array
@@ -14,8 +14,8 @@ kept_sound false is = refl
 kept_sound true is = absurd (cc)
 
 -- of the blocks that are forced in turn, one more may have left the cache
-pub spared_then : (a b c : CacheState) (addr : Addr) (first rb : ℕ) → IsSpared a b addr first rb → first ≤ rb → ((k : Key) → k ≢ key_of addr rb → cached c k ≡ cached b k)
-    → IsSpared a c addr first (rb + 1)
+pub spared_then : (a b c : CacheState) (addr : Addr) (first rb : ℕ) → KeepsCachedBut a b addr first rb → first ≤ rb → ((k : Key) → k ≢ key_of addr rb → cached c k ≡ cached b k)
+    → KeepsCachedBut a c addr first (rb + 1)
 spared_then a b c addr first rb so after next = record {
   others = λ k outside.
       elim outside [

@@ -12,11 +12,11 @@ use Rattle.ar_volume.specs.Image.{ArrayState, is_broken, with_book}
 
 -- why a create is refused, the first reason that applies; out of memory apart
 abbrev pub make_refusal : ArrayState → Addr → ℕ → Option Refusal
-make_refusal s addr sectors = if is_broken s then Some Broken else option_map UnitRefused (book.make_refusal s.store.book addr sectors)
+make_refusal s addr sectors = if is_broken s then Some Broken else option_map UnitRefused (book.unit_make_refusal s.store.book addr sectors)
 
 -- why a resize is refused
 abbrev pub grow_refusal : ArrayState → Addr → ℕ → Option Refusal
-grow_refusal s addr sectors = if is_broken s then Some Broken else option_map UnitRefused (book.grow_refusal s.store.book addr sectors)
+grow_refusal s addr sectors = if is_broken s then Some Broken else option_map UnitRefused (book.unit_grow_refusal s.store.book addr sectors)
 
 -- why a delete is refused
 abbrev pub remove_refusal : ArrayState → Addr → Option Refusal

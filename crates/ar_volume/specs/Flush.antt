@@ -7,7 +7,7 @@ use Rattle.ar_store.specs.Placing.{SameUnits}
 use Rattle.ar_cache.specs.declared.answers.Flush.{Flush}
 use Rattle.ar_cache.specs.declared.answers.Flush.TheVariants.{Idle, Broken as NotFlushed}
 use Rattle.ar_cache.specs.Backing.{StopsInTurn}
-use Rattle.ar_cache.specs.Cache.{Flushes, Gives, IsPut, last_keys}
+use Rattle.ar_cache.specs.Cache.{Flushes, Destages, IsPut, last_keys}
 use Rattle.ar_volume.specs.Following.{PutsStored, BreaksStored}
 use Rattle.ar_volume.specs.Image.{ArrayState, is_broken, image_at, image_on_disks}
 
@@ -15,7 +15,7 @@ use Rattle.ar_volume.specs.Image.{ArrayState, is_broken, image_at, image_on_disk
 -- has failed afterwards: it had before, and nothing changed, or this put failed it.
 pub record FlushesOne (old : ArrayState) (answer : Flush) (new : ArrayState) : Type 0 where
   pub entries : Flushes answer old.cache new.cache
-  pub given : is_broken old ≡ false → Gives answer old.cache.entries (stands old.store) (stands new.store)
+  pub given : is_broken old ≡ false → Destages answer old.cache.entries (stands old.store) (stands new.store)
   pub put : IsPut PutsStored answer old.store new.store
   pub stopped : answer ≡ NotFlushed → is_broken old ≡ false → StopsInTurn PutsStored BreaksStored (last_keys old.cache.entries) old.store new.store
   pub idle : answer ≡ Idle → new ≡ old

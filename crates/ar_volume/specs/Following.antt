@@ -2,7 +2,7 @@
 use Rattle.std.specs.Prelude.{◌≡◌, ◌≢◌, false, None, Some}
 use Rattle.ar_disks.specs.declared.address.Key.{Key}
 use Rattle.ar_extents.specs.declared.health.Health.TheVariants.{Broken}
-use Rattle.ar_extents.specs.Changes.{is_broken}
+use Rattle.ar_extents.specs.Changes.{is_broken_set}
 use Rattle.ar_extents.specs.Follows.{Keeps, Anywhere}
 use Rattle.ar_book.specs.declared.class.Slot.{Slot}
 use Rattle.ar_book.specs.Tables.{home}
@@ -38,7 +38,7 @@ pub record PutsStored (old : StoreState) (key : Key) (new : StoreState) : Type 0
   pub tables : Puts old.book key new.book
   pub asks : AsksToPut old key new
   pub zeros : LeavesZeros old key new
-  pub sound : is_broken new.disks.health ≡ false
+  pub sound : is_broken_set new.disks.health ≡ false
 
 -- A put of one block ended on a failed array: the block keeps its old home, and the tables have at most been prepared
 -- for it, with a group that was opened for it still open. Only the disks of its case were accessed, and if the array
@@ -52,7 +52,7 @@ pub record BreaksStored (old : StoreState) (key : Key) (new : StoreState) : Type
   pub lost : old.disks.health ≡ Broken → new ≡ old
 
 -- reads and writes keep the shape of the cache too
-pub record Follows (old new : ArrayState) : Type 0 where
+pub record ArrayFollows (old new : ArrayState) : Type 0 where
   pub store : StoreFollows old.store new.store
   pub geometry : new.cache.geometry ≡ old.cache.geometry
   pub capacity : new.cache.capacity ≡ old.cache.capacity

@@ -5,7 +5,7 @@ use Rattle.std.proofs.lemmas.Bool.{cases_lt}
 use Rattle.ar_disks.specs.declared.address.Addr.{Addr}
 use Rattle.ar_disks.specs.declared.address.Key.{Key}
 use Rattle.ar_disks.specs.declared.geometry.Geometry.{Geometry}
-use Rattle.ar_extents.specs.Changes.{is_broken as is_broken_set}
+use Rattle.ar_extents.specs.Changes.{is_broken_set}
 use Rattle.ar_book.specs.Tables.{Tables, has_unit, unit_in}
 use Rattle.ar_store.specs.Store.{StoreState}
 use Rattle.ar_store.specs.Slots.{stands}
@@ -80,7 +80,7 @@ abbrev pub image : ArrayState → Address → UnitState
 image s a = at_address (image_at s) a
 
 -- every cached block belongs to a unit, and the cache has the store's geometry
-pub record IsJoined (s : ArrayState) : Type 0 where
+pub record CacheAgrees (s : ArrayState) : Type 0 where
   pub geometry : s.cache.geometry ≡ geometry_of s
   pub known : KnowsAll (knows_in s.store) s.cache
 

@@ -7,7 +7,7 @@ use Rattle.ar_cache.specs.Cache.{cached}
 use Rattle.ar_store.proofs.Changes.{units_refl, units_then}
 use Rattle.ar_store.proofs.Fills.{accessed_refl, accessed_then}
 use Rattle.ar_volume.specs.Image.{ArrayState}
-use Rattle.ar_volume.specs.Following.{StoreFollows, StoreReads, Follows}
+use Rattle.ar_volume.specs.Following.{StoreFollows, StoreReads, ArrayFollows}
 use Rattle.ar_volume.specs.Seen.{SamePlaces}
 use Rattle.ar_volume.specs.Storing.{ReadsBlock}
 
@@ -29,10 +29,10 @@ reads_then a b c p q = record {
   rows = record { rows = λ place these row. q.rows.rows place these row ∙ p.rows.rows place these row };
 }
 
-pub follows_refl : (s : ArrayState) → Follows s s
+pub follows_refl : (s : ArrayState) → ArrayFollows s s
 follows_refl s = record { store = store_refl s.store; geometry = refl; capacity = refl }
 
-pub follows_then : (a b c : ArrayState) → Follows a b → Follows b c → Follows a c
+pub follows_then : (a b c : ArrayState) → ArrayFollows a b → ArrayFollows b c → ArrayFollows a c
 follows_then a b c p q = record {
   store = store_then a.store b.store c.store p.store q.store;
   geometry = q.geometry ∙ p.geometry;

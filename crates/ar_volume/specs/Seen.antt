@@ -34,7 +34,7 @@ pub record SamePlaces (old new : ArrayState) : Type 0 where
   pub cache : new.cache ≡ old.cache
 
 -- `count` sectors of a unit from `lba` on have these bytes; all other sectors of all units stay
-pub record Writes (old : ArrayState) (addr : Addr) (lba count : ℕ) (bytes : List ℕ) (new : ArrayState) : Type 0 where
+pub record WritesSectors (old : ArrayState) (addr : Addr) (lba count : ℕ) (bytes : List ℕ) (new : ArrayState) : Type 0 where
   pub inside : (i : ℕ) → lba ≤ i → i < lba + count → sector_in (geometry_of old) (unit_block (seen_at new) addr) i ≡ sectors_at bytes (i - lba) 1
   pub outside : (i : ℕ) → (i < lba) ⊎ (lba + count ≤ i) → sector_in (geometry_of old) (unit_block (seen_at new) addr) i ≡ sector_in (geometry_of old) (unit_block (seen_at old) addr) i
   pub others : (k : Key) → k.addr ≢ addr → seen_at new k ≡ seen_at old k
@@ -44,7 +44,7 @@ pub record SameSeen (old new : ArrayState) : Type 0 where
   pub same : (k : Key) → seen_at new k ≡ seen_at old k
 
 -- the cache has the same block for each key, but for those of a unit's blocks from `first` to before `end`
-pub record IsSpared (old new : CacheState) (addr : Addr) (first end : ℕ) : Type 0 where
+pub record KeepsCachedBut (old new : CacheState) (addr : Addr) (first end : ℕ) : Type 0 where
   pub others : (k : Key) → (k.addr ≢ addr) ⊎ ((k.rb < first) ⊎ (end ≤ k.rb)) → cached new k ≡ cached old k
 
 -- none of the blocks of these sectors is cached

@@ -7,7 +7,7 @@ use Rattle.ar_volume.specs.Image.{ArrayState, geometry_of}
 
 -- the array has these disks, healthy, in groups that are all free, no unit, and an empty cache of `capacity` blocks
 pub record IsStarted (disks : List DiskState) (capacity : ℕ) (s : ArrayState) : Type 0 where
-  pub formed : store.IsStarted disks s.store
+  pub formed : store.IsStoreStarted disks s.store
   pub disks_same : s.store.disks.disks ≡ disks
   pub whole : s.store.disks.health ≡ Whole
   pub no_unit : s.store.book.units ≡ []

@@ -6,7 +6,7 @@ use Rattle.ar_disks.specs.declared.address.Addr.{Addr}
 use Rattle.ar_disks.specs.declared.address.Key.{Key}
 use Rattle.ar_disks.specs.declared.geometry.Geometry.{Geometry}
 use Rattle.ar_disks.specs.Geometry.{sectors_of}
-use Rattle.ar_extents.specs.Changes.{is_broken as is_broken_set}
+use Rattle.ar_extents.specs.Changes.{is_broken_set}
 use Rattle.ar_store.specs.Store.{StoreState}
 use Rattle.ar_cache.specs.Backing.{InTurn, StopsInTurn}
 use Rattle.ar_cache.specs.Cache.{CacheState, TakesIn, cached, last_keys, pushed_out, put_through, with_entries, without_key}

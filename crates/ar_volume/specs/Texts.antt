@@ -1,6 +1,6 @@
 -- The texts of refusals.
 use Rattle.std.specs.Prelude.{ℕ, List, codes}
-use Rattle.ar_book.specs.Texts.{refusal_text as unit_refusal_text}
+use Rattle.ar_book.specs.Texts.{unit_refusal_text}
 use Rattle.ar_extents.specs.Texts.{disk_refusal_text}
 use Rattle.ar_volume.specs.declared.refusal.Refusal.{Refusal}
 use Rattle.ar_volume.specs.declared.refusal.Refusal.TheVariants.{Unit, Broken, Disk}

@@ -1,6 +1,6 @@
 // The store as the backing of the cache.
 ghost use Rattle.std.specs.Prelude.{◌≡◌};
-ghost use Rattle.ar_extents.specs.Changes.{is_broken as is_broken_set};
+ghost use Rattle.ar_extents.specs.Changes.{is_broken_set};
 ghost use Rattle.ar_store.specs.Slots.{stands};
 ghost use Rattle.ar_volume.specs.Image.{knows_in};
 ghost use Rattle.ar_volume.specs.Following.{StoreFollows, ReadsStored, PutsStored, BreaksStored};

@@ -1,5 +1,5 @@
 // The blocks of all units: a write-back cache over the store. The invariant: every cached block belongs to a unit and
-// has the store's geometry (`IsJoined`).
+// has the store's geometry (`CacheAgrees`).
 ghost use Rattle.std.specs.Prelude.{◌≡◌, ◌≢◌, ◌≤◌, ◌<◌, All, map, None, false, IfOk, IfErr, OnOk, MatchOption, length, unwrap_or};
 ghost use Rattle.ar_disks.specs.declared.address.Key.{Key};
 ghost use Rattle.ar_disks.specs.Block.{zeros};
@@ -10,7 +10,7 @@ ghost use Rattle.ar_extents.specs.Follows.{Keeps, Anywhere};
 ghost use Rattle.ar_book.specs.Tables.{has_unit};
 ghost use Rattle.ar_cache.specs.Cache.{cached};
 ghost use Rattle.ar_volume.specs.Image.{is_broken, geometry_of, seen_at, knows_in, attention_at};
-ghost use Rattle.ar_volume.specs.Following.{Follows};
+ghost use Rattle.ar_volume.specs.Following.{ArrayFollows};
 ghost use Rattle.ar_volume.specs.Laws.{follows_refl, follows_then};
 ghost use Rattle.ar_volume.specs.Storing.{BreaksBlock, PutsBlock, ReadsBlock};
 
@@ -32,13 +32,13 @@ pub struct Blocks<D: Disk> {
 }
 
 impl<D: Disk> Model for Blocks<D> {
-    ghost use Rattle.ar_volume.specs.Image.{ArrayState, IsJoined};
+    ghost use Rattle.ar_volume.specs.Image.{ArrayState, CacheAgrees};
 
     ghost Value = { ArrayState };
 
     ghost view = { λ b. record { store = b.behind.store; cache = b.cache } };
 
-    ghost invariant = { λ b. IsJoined (record { store = b.behind.store; cache = b.cache }) };
+    ghost invariant = { λ b. CacheAgrees (record { store = b.behind.store; cache = b.cache }) };
 }
 
 impl<D: Disk> Backing for Blocks<D> {
@@ -50,7 +50,7 @@ impl<D: Disk> Backing for Blocks<D> {
 
     ghost is_broken = { is_broken };
 
-    ghost follows = { Follows };
+    ghost follows = { ArrayFollows };
 
     ghost gets = { ReadsBlock };
 
@@ -82,7 +82,7 @@ impl<D: Disk> Blocks<D> {
     ghost use Rattle.ar_extents.specs.Set.{CanCount};
     ghost use Rattle.ar_extents.specs.Changes.{start_fault};
     ghost use Rattle.ar_store.specs.Kept.{IsKept};
-    ghost use Rattle.ar_volume.specs.Image.{IsJoined};
+    ghost use Rattle.ar_volume.specs.Image.{CacheAgrees};
     ghost use Rattle.ar_volume.specs.Start.{IsStarted};
     ghost use Rattle.ar_volume.specs.Seen.{IsUnit};
 
@@ -116,7 +116,7 @@ impl<D: Disk> Blocks<D> {
     /// Returns the health of the array; its contract states the invariant.
     pub fn health(&self) -> Health
         ensures health { result ≡ self.now.store.disks.health }
-        ensures joined { IsJoined self.now }
+        ensures joined { CacheAgrees self.now }
         ensures kept { IsKept self.now.store }
         ensures whole { result ≢ Health.Broken → (k : Key) → length (seen_at self.now k) ≡ block_len_of (geometry_of self.now) }
     {
@@ -238,7 +238,7 @@ impl<D: Disk> Blocks<D> {
         ensures keeps { Keeps Anywhere self.old.store.disks self.new.store.disks }
         ensures places { SamePlaces self.old self.new }
         ensures seen { is_broken self.new ≡ false → SameSeen self.old self.new }
-        ensures follows { Follows self.old self.new }
+        ensures follows { ArrayFollows self.old self.new }
         ensures len { length into.new ≡ length into.old }
     {
         self.behind.store.read_place(place, row, into)

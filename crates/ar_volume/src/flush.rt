@@ -5,10 +5,10 @@ ghost use Rattle.std.specs.Map.{keys_of};
 ghost use Rattle.ar_cache.specs.Backing.{InTurn, StopsInTurn, stored};
 ghost use Rattle.ar_cache.specs.Cache.{cached, with_entries};
 ghost use Rattle.ar_volume.specs.Flush.{FlushesOne};
-ghost use Rattle.ar_volume.specs.Following.{Follows, PutsStored};
+ghost use Rattle.ar_volume.specs.Following.{ArrayFollows, PutsStored};
 ghost use Rattle.ar_volume.specs.Image.{is_broken};
 ghost use Rattle.ar_volume.specs.Sectors.{key_of, keys_from};
-ghost use Rattle.ar_volume.specs.Seen.{SameSeen, IsSpared};
+ghost use Rattle.ar_volume.specs.Seen.{SameSeen, KeepsCachedBut};
 ghost use Rattle.ar_volume.specs.Storing.{BreaksForced, ForcesBlock, LeavesSome};
 
 use crate::{Blocks, Flush};
@@ -19,7 +19,7 @@ impl<D: Disk> Blocks<D> {
     pub fn flush_one(&mut self) -> Flush
         ensures flushes { FlushesOne self.old result self.new }
         ensures seen { is_broken self.new ≡ false → SameSeen self.old self.new }
-        ensures follows { Follows self.old self.new }
+        ensures follows { ArrayFollows self.old self.new }
     {
         if self.is_broken() {
             return Flush::Broken;
@@ -37,7 +37,7 @@ impl<D: Disk> Blocks<D> {
         ensures stopped { result ≡ Completion.Broken → is_broken self.old ≡ false → LeavesSome self.old self.new }
         ensures lost { IsTrue (is_broken self.old) → self.new ≡ self.old }
         ensures seen { result ≡ Completion.Done → SameSeen self.old self.new }
-        ensures follows { Follows self.old self.new }
+        ensures follows { ArrayFollows self.old self.new }
     {
         if self.is_broken() {
             return Completion::Broken;
@@ -54,7 +54,7 @@ impl<D: Disk> Blocks<D> {
         ensures forces { result ≡ Completion.Done → ForcesBlock self.old key self.new }
         ensures breaks { result ≡ Completion.Broken → BreaksForced self.old key self.new }
         ensures seen { result ≡ Completion.Done → SameSeen self.old self.new }
-        ensures follows { Follows self.old self.new }
+        ensures follows { ArrayFollows self.old self.new }
     {
         self.cache.flush_key(key, &mut self.behind)
     }
@@ -65,12 +65,12 @@ impl<D: Disk> Blocks<D> {
         requires few { last ≤ 1048576 }
         ensures answer { result ≡ stored (is_broken self.new) }
         ensures forced { result ≡ Completion.Done → (rb : ℕ) → first ≤ rb → rb ≤ last → cached self.new.cache (key_of addr rb) ≡ None }
-        ensures spared { result ≡ Completion.Done → IsSpared self.old.cache self.new.cache addr first (last + 1) }
+        ensures spared { result ≡ Completion.Done → KeepsCachedBut self.old.cache self.new.cache addr first (last + 1) }
         ensures in_turn { result ≡ Completion.Done → InTurn ForcesBlock (keys_from addr first (last + 1 - first)) self.old self.new }
         ensures stopped { result ≡ Completion.Broken
             → StopsInTurn ForcesBlock BreaksForced (keys_from addr first (last + 1 - first)) self.old self.new }
         ensures seen { result ≡ Completion.Done → SameSeen self.old self.new }
-        ensures follows { Follows self.old self.new }
+        ensures follows { ArrayFollows self.old self.new }
     {
         let mut rb = first;
         while rb <= last {

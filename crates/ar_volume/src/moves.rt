@@ -1,7 +1,7 @@
 // Background moves of blocks: demotion to the parity level, and cleaning within a level. No block changes its contents
 // unless the array fails.
 ghost use Rattle.std.specs.Prelude.{◌≡◌, false};
-ghost use Rattle.ar_volume.specs.Following.{Follows};
+ghost use Rattle.ar_volume.specs.Following.{ArrayFollows};
 ghost use Rattle.ar_volume.specs.Image.{is_broken};
 ghost use Rattle.ar_volume.specs.Moves.{DemotesOne, CleansOne};
 ghost use Rattle.ar_volume.specs.Seen.{SameSeen};
@@ -15,7 +15,7 @@ impl<D: Disk> Blocks<D> {
     pub fn demote_one(&mut self) -> Move
         ensures demotes { DemotesOne self.old result self.new }
         ensures seen { is_broken self.new ≡ false → SameSeen self.old self.new }
-        ensures follows { Follows self.old self.new }
+        ensures follows { ArrayFollows self.old self.new }
     {
         demote_one(&mut self.behind.store)
     }
@@ -24,7 +24,7 @@ impl<D: Disk> Blocks<D> {
     pub fn clean_one(&mut self) -> Move
         ensures cleans { CleansOne self.old result self.new }
         ensures seen { is_broken self.new ≡ false → SameSeen self.old self.new }
-        ensures follows { Follows self.old self.new }
+        ensures follows { ArrayFollows self.old self.new }
     {
         clean_one(&mut self.behind.store)
     }

@@ -4,7 +4,7 @@ ghost use Rattle.std.specs.List.{concat};
 ghost use Rattle.ar_disks.specs.declared.address.Key.{Key};
 ghost use Rattle.ar_disks.specs.Geometry.{sectors_of, block_len_of};
 ghost use Rattle.ar_disks.specs.Block.{sectors_at};
-ghost use Rattle.ar_cache.specs.Backing.{stored, InTurn, StopsInTurn, Keeps, SameBlocks};
+ghost use Rattle.ar_cache.specs.Backing.{stored, InTurn, StopsInTurn, KeepsBacking, SameBlocks};
 ghost use Rattle.ar_volume.specs.Sectors.{sector_in, sectors_in, AppendsFirst, key_of, keys_in, unit_block};
 ghost use Rattle.ar_volume.specs.Storing.{Overwrites, ReadsFirst, Replaces, StopsOver, StopsReading, StopsReplacing};
 
@@ -39,7 +39,7 @@ fn read_part<B: Backing>(
 
     ensures sound { result ≢ Transfer.Broken → B.is_broken blocks.new ≡ false }
     ensures blocks { result ≢ Transfer.Broken → SameBlocks (B.block_at blocks.old) (B.block_at blocks.new) }
-    ensures keeps { Keeps B.geometry B.knows B.is_broken B.follows blocks.old blocks.new }
+    ensures keeps { KeepsBacking B.geometry B.knows B.is_broken B.follows blocks.old blocks.new }
     ensures gets { B.gets blocks.old key blocks.new }
 
     ensures room { vec_len out.old + 512 * count ≤ vec_capacity out.old → result ≢ Transfer.NoMemory }
@@ -81,7 +81,7 @@ pub fn read_sectors<B: Backing>(
 
     ensures sound { result ≢ Transfer.Broken → B.is_broken blocks.new ≡ false }
     ensures blocks { result ≢ Transfer.Broken → SameBlocks (B.block_at blocks.old) (B.block_at blocks.new) }
-    ensures keeps { Keeps B.geometry B.knows B.is_broken B.follows blocks.old blocks.new }
+    ensures keeps { KeepsBacking B.geometry B.knows B.is_broken B.follows blocks.old blocks.new }
     ensures gets { ReadsFirst B.gets geometry addr lba count blocks.old blocks.new }
     ensures all { result ≡ Transfer.Done → InTurn B.gets (keys_in geometry addr lba count) blocks.old blocks.new }
     ensures stopped { result ≢ Transfer.Done → StopsReading B.gets B.is_broken geometry (unit_block (B.block_at blocks.old) addr) addr lba count
@@ -134,7 +134,7 @@ fn write_part<B: Backing>(
         → StopsReplacing B.gets B.breaks B.is_broken (count == sectors_of geometry) blocks.old key blocks.new }
 
     ensures answer { result ≡ stored (B.is_broken blocks.new) }
-    ensures keeps { Keeps B.geometry B.knows B.is_broken B.follows blocks.old blocks.new }
+    ensures keeps { KeepsBacking B.geometry B.knows B.is_broken B.follows blocks.old blocks.new }
     ensures len { length block.new ≡ length block.old }
 {
     if bytes.len() == geometry.block_len() {
@@ -178,7 +178,7 @@ pub fn write_sectors<B: Backing>(
     ensures nothing { count ≡ 0 → blocks.new ≡ blocks.old }
 
     ensures answer { result ≡ stored (B.is_broken blocks.new) }
-    ensures keeps { Keeps B.geometry B.knows B.is_broken B.follows blocks.old blocks.new }
+    ensures keeps { KeepsBacking B.geometry B.knows B.is_broken B.follows blocks.old blocks.new }
     ensures len { length block.new ≡ length block.old }
 {
     let sectors = geometry.sectors();

@@ -13,13 +13,13 @@ use ar_script::{Runner, Setup, run_on, run_script};
 use command_line::{Order, order_in};
 use drawing::draw;
 use failure::Failure;
-use serve::serve;
+use serve::run_server;
 use std::process::ExitCode;
 
 fn main(rt: HostRuntime) -> ExitCode {
     let done = match order(&rt) {
         Ok(Order::Run(setup, file)) => run(&rt, setup, &file),
-        Ok(Order::Serve(service)) => serve(&rt, rt.alloc(), &service).map_err(Failure::Serve),
+        Ok(Order::Serve(service)) => run_server(&rt, rt.alloc(), &service).map_err(Failure::Serve),
         Err(failure) => Err(failure),
     };
     end_with(&rt, done)

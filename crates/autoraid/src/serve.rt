@@ -47,7 +47,7 @@ pub enum ServeFault {
 
 /// Creates the units, listens, serves the connections with one maintenance thread beside them, and then compares the
 /// hosts' transcripts with the history.
-pub fn serve<
+pub fn run_server<
     R: Threads + Wait + Clock + Net<Listener = TcpListener, Stream = TcpStream> + Print + Sync,
 >(rt: &R, alloc: Global, service: &Service) -> Result<(), ServeFault> {
     let Ok(array) = start_array(alloc, service.setup) else {

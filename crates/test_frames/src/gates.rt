@@ -3,7 +3,7 @@ ghost use Rattle.std.specs.Prelude.{◌≡◌, false, None};
 
 use crate::sessions::{ABSENT, joined};
 use ar_disks::Host;
-use ar_frames::{Gate, Login, MemSource, Port, SessionEnd, Sink, Why, serve_gated};
+use ar_frames::{EndReason, Gate, Login, MemSource, Port, SessionEnd, Sink, serve_gated};
 use ar_scsi::Reply;
 use bytes::Bytes;
 use std::alloc::Global;
@@ -218,10 +218,17 @@ fn a_gate_is_told_before_and_after_each_command(rt: HostRuntime) {
     let alloc = rt.alloc();
     // The last frame isn't whole, and isn't given to the port.
     let input = joined(&rt, alloc, &[LOGIN, ABSENT, ABSENT, ABSENT, &ABSENT[..20]]);
-    for (room, frames, why, told) in [
-        (usize::MAX, 3, Why::Cut, &three_answered()[..]),
-        (20, 2, Why::Write, &second_unsent()[..]),
+    for (room, frames, reason, told) in [
+        (usize::MAX, 3, EndReason::Cut, &three_answered()[..]),
+        (20, 2, EndReason::Write, &second_unsent()[..]),
     ] {
-        plays(&rt, alloc, &input, room, SessionEnd { frames, why }, told);
+        plays(
+            &rt,
+            alloc,
+            &input,
+            room,
+            SessionEnd { frames, reason },
+            told,
+        );
     }
 }

@@ -1,7 +1,7 @@
 // The largest frame, whose data find memory or none, and the frame after it.
 use crate::fakes::{Fake, Repeats};
 use crate::sessions::{ABSENT, LOGIN, REFUSED, counts, ends, joined, wrote};
-use ar_frames::{MemSink, Why, serve};
+use ar_frames::{EndReason, MemSink, serve_session};
 use std::alloc::Global;
 use std::process::Abort;
 
@@ -66,9 +66,9 @@ fn plays(
     if is_scarce {
         take_memory(alloc, &mut held);
     }
-    let end = serve(alloc, &mut reader, &mut writer, &mut port);
+    let end = serve_session(alloc, &mut reader, &mut writer, &mut port);
     held.clear();
-    ends(rt, LARGEST, end, 2, Why::End);
+    ends(rt, LARGEST, end, 2, EndReason::End);
     wrote(rt, LARGEST, writer.written(), output);
     counts(rt, port.commands, commands);
     counts(rt, port.bytes, bytes);

@@ -1,6 +1,6 @@
 // Streams of std: interruptions, other errors, and a write that takes no byte.
 use crate::fakes::Fake;
-use ar_frames::{Linked, Sink, Source, Why, serve};
+use ar_frames::{EndReason, Linked, Sink, Source, serve_session};
 use std::alloc::Global;
 use std::io::{self, ErrorKind, Read, Write};
 use std::process::Abort;
@@ -64,20 +64,33 @@ fn make_failing(bytes: &[u8], kind: ErrorKind, errors: u32, most: usize) -> Link
     })
 }
 
-fn ends(rt: &impl Abort, alloc: Global, reads: u32, writes: u32, most: usize, why: Why) {
+fn ends(rt: &impl Abort, alloc: Global, reads: u32, writes: u32, most: usize, reason: EndReason) {
     let mut reader = make_noisy(b"ARAIDHO1\x00", reads, 1);
     let mut writer = make_noisy(b"", writes, most);
     let mut port = Fake::new();
-    let end = serve(alloc, &mut reader, &mut writer, &mut port);
+    let end = serve_session(alloc, &mut reader, &mut writer, &mut port);
     let faults = (Source::faults(&reader), Sink::faults(&writer));
-    is_ended(rt, end.why, why, faults, (reads, writes));
+    is_ended(rt, end.reason, reason, faults, (reads, writes));
 }
 
 // A session ended so, with a fault of the stream that ended it alone.
-fn is_ended(rt: &impl Abort, end: Why, why: Why, faults: (u64, u64), interruptions: (u32, u32)) {
-    assert!(rt; end == why, "{end:?} after {interruptions:?} interruptions");
+fn is_ended(
+    rt: &impl Abort,
+    end: EndReason,
+    reason: EndReason,
+    faults: (u64, u64),
+    interruptions: (u32, u32),
+) {
     assert!(rt;
-        faults == (u64::from(why == Why::Read), u64::from(why == Why::Write)),
+        end == reason,
+        "{end:?} after {interruptions:?} interruptions"
+    );
+    assert!(rt;
+        faults
+            == (
+                u64::from(reason == EndReason::Read),
+                u64::from(reason == EndReason::Write)
+            ),
         "{faults:?} faults, ended by {end:?}"
     );
 }
@@ -85,14 +98,14 @@ fn is_ended(rt: &impl Abort, end: Why, why: Why, faults: (u64, u64), interruptio
 #[test]
 fn interruptions_and_writes_of_no_byte(rt: HostRuntime) {
     let alloc = rt.alloc();
-    for (reads, writes, most, why) in [
-        (0, 0, 9, Why::End),
-        (1000, 1000, 1, Why::End),
-        (1001, 0, 9, Why::Read),
-        (0, 1001, 9, Why::Write),
-        (0, 0, 0, Why::Write),
+    for (reads, writes, most, reason) in [
+        (0, 0, 9, EndReason::End),
+        (1000, 1000, 1, EndReason::End),
+        (1001, 0, 9, EndReason::Read),
+        (0, 1001, 9, EndReason::Write),
+        (0, 0, 0, EndReason::Write),
     ] {
-        ends(&rt, alloc, reads, writes, most, why);
+        ends(&rt, alloc, reads, writes, most, reason);
     }
 }
 

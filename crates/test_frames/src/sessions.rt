@@ -1,6 +1,6 @@
 // Sessions, byte for byte.
 use crate::fakes::{Counter, Fake, Pieces, Repeats, Taker};
-use ar_frames::{AskFault, MemSink, MemSource, SessionEnd, Why, ask, hello, serve};
+use ar_frames::{AskFault, EndReason, MemSink, MemSource, SessionEnd, ask, hello, serve_session};
 use ar_scsi::{Reply, Sense};
 use std::alloc::Global;
 use std::process::Abort;
@@ -28,21 +28,24 @@ fn plays(
     alloc: Global,
     input: &[u8],
     frames: u64,
-    why: Why,
+    reason: EndReason,
     written: &[u8],
     left: usize,
 ) {
     let mut reader = MemSource::new(input.to_vec(alloc).expect(rt, "memory"));
     let mut writer = MemSink::new(vec![in alloc; 0; 256].expect(rt, "memory"));
     let mut port = Fake::new();
-    let end = serve(alloc, &mut reader, &mut writer, &mut port);
-    ends(rt, input, end, frames, why);
+    let end = serve_session(alloc, &mut reader, &mut writer, &mut port);
+    ends(rt, input, end, frames, reason);
     wrote(rt, input, writer.written(), written);
     was_left(rt, input, reader.len(), left);
 }
 
-pub fn ends(rt: &impl Abort, input: &[u8], end: SessionEnd, frames: u64, why: Why) {
-    assert!(rt; end == SessionEnd { frames, why }, "{end:?} over {input:?}");
+pub fn ends(rt: &impl Abort, input: &[u8], end: SessionEnd, frames: u64, reason: EndReason) {
+    assert!(rt;
+        end == SessionEnd { frames, reason },
+        "{end:?} over {input:?}"
+    );
 }
 
 pub fn wrote(rt: &impl Abort, input: &[u8], written: &[u8], wanted: &[u8]) {
@@ -67,41 +70,54 @@ fn a_short_length_ends_the_session(rt: HostRuntime) {
     let alloc = rt.alloc();
     let input = joined(&rt, alloc, &[LOGIN, ABSENT, b"\x00\x00\x00\x18", ABSENT]);
     let output = joined(&rt, alloc, &[b"\x00", REFUSED]);
-    plays(&rt, alloc, &input, 1, Why::TooShort(24), &output, 29);
+    plays(&rt, alloc, &input, 1, EndReason::TooShort(24), &output, 29);
 }
 
 #[test]
 fn a_long_length_ends_the_session(rt: HostRuntime) {
     let alloc = rt.alloc();
     let input = joined(&rt, alloc, &[LOGIN, b"\x01\xFF\xFE\x1A", ABSENT]);
-    plays(&rt, alloc, &input, 0, Why::TooLong(33_553_946), b"\x00", 29);
+    plays(
+        &rt,
+        alloc,
+        &input,
+        0,
+        EndReason::TooLong(33_553_946),
+        b"\x00",
+        29,
+    );
 }
 
 #[test]
 fn logins(rt: HostRuntime) {
     let alloc = rt.alloc();
-    for (input, why, output, left) in [
-        (&b"ARAIDHO1\x04\x00"[..], Why::BadLogin, &b"\x01"[..], 1),
-        (b"ARAIDHO1\xFF\x00", Why::BadLogin, b"\x01", 1),
-        (b"ARAIDHO2\x00\x00", Why::BadLogin, b"\x01", 1),
-        (b"ARAIDHO1\x02\x00", Why::HostInUse, b"\x01", 1),
-        (b"ARAIDHO1\x03", Why::End, b"\x00", 0),
+    for (input, reason, output, left) in [
+        (
+            &b"ARAIDHO1\x04\x00"[..],
+            EndReason::BadLogin,
+            &b"\x01"[..],
+            1,
+        ),
+        (b"ARAIDHO1\xFF\x00", EndReason::BadLogin, b"\x01", 1),
+        (b"ARAIDHO2\x00\x00", EndReason::BadLogin, b"\x01", 1),
+        (b"ARAIDHO1\x02\x00", EndReason::HostInUse, b"\x01", 1),
+        (b"ARAIDHO1\x03", EndReason::End, b"\x00", 0),
     ] {
-        plays(&rt, alloc, input, 0, why, output, left);
+        plays(&rt, alloc, input, 0, reason, output, left);
     }
 }
 
 // Where a session ends whose input ends after so many bytes of login, a frame without data and one with four bytes.
 fn end_of(cut: usize) -> SessionEnd {
-    let (frames, why) = match cut {
-        0..=8 => (0, Why::Cut),
-        9 => (0, Why::End),
-        10..=37 => (0, Why::Cut),
-        38 => (1, Why::End),
-        39..=70 => (1, Why::Cut),
-        _ => (2, Why::End),
+    let (frames, reason) = match cut {
+        0..=8 => (0, EndReason::Cut),
+        9 => (0, EndReason::End),
+        10..=37 => (0, EndReason::Cut),
+        38 => (1, EndReason::End),
+        39..=70 => (1, EndReason::Cut),
+        _ => (2, EndReason::End),
     };
-    SessionEnd { frames, why }
+    SessionEnd { frames, reason }
 }
 
 // How much such a session writes.
@@ -122,10 +138,10 @@ fn input_cut_at_each_byte(rt: HostRuntime) {
     was_left(&rt, &input, input.len(), 71);
     was_left(&rt, &output, output.len(), 51);
     for cut in 0..=71 {
-        let SessionEnd { frames, why } = end_of(cut);
+        let SessionEnd { frames, reason } = end_of(cut);
         let first = &input[..cut.min(input.len())];
         let answers = &output[..written_of(cut).min(output.len())];
-        plays(&rt, alloc, first, frames, why, answers, 0);
+        plays(&rt, alloc, first, frames, reason, answers, 0);
     }
 }
 
@@ -138,7 +154,7 @@ fn plays_faulty(
     most: usize,
     read: u64,
     write: u64,
-) -> Why {
+) -> EndReason {
     let mut reader = Pieces {
         bytes: input,
         most,
@@ -154,29 +170,35 @@ fn plays_faulty(
         faults: 0,
     };
     let mut port = Fake::new();
-    let end = serve(alloc, &mut reader, &mut writer, &mut port);
+    let end = serve_session(alloc, &mut reader, &mut writer, &mut port);
     let is_prefix = output.starts_with(&writer.taken);
     is_told(
         rt,
-        end.why,
+        end.reason,
         is_prefix,
         (reader.faults, writer.faults),
         (read, write),
     );
-    end.why
+    end.reason
 }
 
 // What was written are the first bytes of the output, and the session ended by the stream that faulted, if one did.
-fn is_told(rt: &impl Abort, why: Why, is_prefix: bool, faults: (u64, u64), calls: (u64, u64)) {
-    assert!(rt; is_prefix, "{why:?}, where calls {calls:?} fail");
+fn is_told(
+    rt: &impl Abort,
+    reason: EndReason,
+    is_prefix: bool,
+    faults: (u64, u64),
+    calls: (u64, u64),
+) {
+    assert!(rt; is_prefix, "{reason:?}, where calls {calls:?} fail");
     assert!(rt;
-        (why == Why::Read, why == Why::Write) == (faults.0 == 1, faults.1 == 1),
-        "{why:?} after {faults:?} faults, where calls {calls:?} fail"
+        (reason == EndReason::Read, reason == EndReason::Write) == (faults.0 == 1, faults.1 == 1),
+        "{reason:?} after {faults:?} faults, where calls {calls:?} fail"
     );
 }
 
-fn is(rt: &impl Abort, call: u64, why: Why, wanted: Why) {
-    assert!(rt; why == wanted, "{why:?} at call {call}");
+fn is(rt: &impl Abort, call: u64, reason: EndReason, wanted: EndReason) {
+    assert!(rt; reason == wanted, "{reason:?} at call {call}");
 }
 
 // 3 pieces of login, 1 and 7 of the first frame, 1, 7 and 1 of the second, and one call that finds the end.
@@ -190,7 +212,7 @@ fn a_reader_that_fails_at_each_call(rt: HostRuntime) {
             &rt,
             call,
             plays_faulty(&rt, alloc, &input, &output, 4, call, 1000),
-            Why::Read,
+            EndReason::Read,
         );
     }
     for call in 21..25 {
@@ -198,7 +220,7 @@ fn a_reader_that_fails_at_each_call(rt: HostRuntime) {
             &rt,
             call,
             plays_faulty(&rt, alloc, &input, &output, 4, call, 1000),
-            Why::End,
+            EndReason::End,
         );
     }
 }
@@ -214,7 +236,7 @@ fn a_writer_that_fails_at_each_call(rt: HostRuntime) {
             &rt,
             call,
             plays_faulty(&rt, alloc, &input, &output, 4, 1000, call),
-            Why::Write,
+            EndReason::Write,
         );
     }
     for call in 14..18 {
@@ -222,7 +244,7 @@ fn a_writer_that_fails_at_each_call(rt: HostRuntime) {
             &rt,
             call,
             plays_faulty(&rt, alloc, &input, &output, 4, 1000, call),
-            Why::End,
+            EndReason::End,
         );
     }
 }
@@ -238,8 +260,8 @@ fn the_most_frames(rt: HostRuntime) {
     };
     let mut writer = Counter { bytes: 0, calls: 0 };
     let mut port = Fake::new();
-    let end = serve(rt.alloc(), &mut reader, &mut writer, &mut port);
-    ends(&rt, ABSENT, end, 1_000_000, Why::Bound);
+    let end = serve_session(rt.alloc(), &mut reader, &mut writer, &mut port);
+    ends(&rt, ABSENT, end, 1_000_000, EndReason::Bound);
     counts(&rt, reader.at, 9 + 29 * 1_000_000);
     counts(&rt, writer.bytes, 1 + 32 * 1_000_000);
     counts(&rt, writer.calls, 1 + 1_000_000);

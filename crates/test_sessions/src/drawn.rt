@@ -6,7 +6,7 @@ use crate::frames::{LOGINS, put_reply, put_request};
 use crate::rig::{Play, Rig, copy_rest, plays, serves, sink};
 use ar_core::Outcome;
 use ar_disks::FuseDisk;
-use ar_frames::{SessionEnd, Source, Why};
+use ar_frames::{EndReason, SessionEnd, Source};
 use std::process::Abort;
 use std::sync::Wait;
 use std::sync::ledger::Ledger;
@@ -90,7 +90,7 @@ fn is_served<L: Ledger, R: Wait + Abort + AllocGlobal>(
 fn ends(rt: &impl Abort, host: u8, end: SessionEnd) {
     let wanted = SessionEnd {
         frames: FRAMES,
-        why: Why::End,
+        reason: EndReason::End,
     };
     assert!(rt; end == wanted, "host {host}: {end:?}");
 }

@@ -4,7 +4,7 @@ ghost use Rattle.std.specs.Prelude.{◌≡◌, true, None};
 use crate::frames::{LOGINS, TUR, put, put_request};
 use crate::rig::{Play, Rig, plays, sink};
 use ar_disks::Host;
-use ar_frames::{Gate, MemSink, MemSource, NoGate, SessionEnd, Why};
+use ar_frames::{EndReason, Gate, MemSink, MemSource, NoGate, SessionEnd};
 use ar_sessions::{ConnectionEnd, Door, MemDoor, run_sessions};
 use std::alloc::Global;
 use std::collections::VecDeque;
@@ -115,8 +115,8 @@ fn are_wanted(rt: &impl Abort, ends: &[ConnectionEnd], wanted: &[ConnectionEnd])
     assert!(rt; ends == wanted, "{ends:?}");
 }
 
-const fn served(frames: u64, why: Why) -> ConnectionEnd {
-    ConnectionEnd::Served(SessionEnd { frames, why })
+const fn served(frames: u64, reason: EndReason) -> ConnectionEnd {
+    ConnectionEnd::Served(SessionEnd { frames, reason })
 }
 
 #[test]
@@ -132,7 +132,7 @@ pub fn meet_held<L: Ledger + Send + Sync, R: Threads + Wait + Abort + Sync>(
 ) {
     let gate = Held::new();
     let door = door(rt, alloc, &[(0, 1), (1, 1)]);
-    let wanted = [served(1, Why::End), served(1, Why::End)];
+    let wanted = [served(1, EndReason::End), served(1, EndReason::End)];
     serve(rt, alloc, rig, door, &gate, &wanted);
     is_answered_meanwhile(rt, &gate);
 }
@@ -160,9 +160,9 @@ pub fn meet<L: Ledger + Send + Sync, R: Threads + Wait + Abort + Sync>(
 #[test]
 fn ends_stand_in_order(rt: HostRuntime) {
     let wanted = [
-        served(3, Why::End),
-        served(1, Why::End),
-        served(2, Why::End),
+        served(3, EndReason::End),
+        served(1, EndReason::End),
+        served(2, EndReason::End),
     ];
     let play = Play::Meet(&[(2, 3), (1, 1), (3, 2)], &wanted);
     plays(&rt, FOUR_GROUPS, play, &[0, 1, 3, 2]);
@@ -206,6 +206,6 @@ pub fn meet_jammed<L: Ledger + Send + Sync, R: Threads + Wait + Abort + Sync>(
     alloc: Global,
     rig: &Rig<L>,
 ) {
-    let wanted = [served(0, Why::Read), served(0, Why::Read)];
+    let wanted = [served(0, EndReason::Read), served(0, EndReason::Read)];
     serve(rt, alloc, rig, Jammed { left: 2 }, &NoGate, &wanted);
 }

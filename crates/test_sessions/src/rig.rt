@@ -9,7 +9,7 @@ use crate::sockets::{Guests, welcome};
 use crate::turns::{Turn, play_turns};
 use ar_core::{Array, Outcome, OutcomeOf};
 use ar_disks::FuseDisk;
-use ar_frames::{MemSink, SessionEnd, Source, serve};
+use ar_frames::{MemSink, SessionEnd, Source, serve_session};
 use ar_history::{Kept, Operation, OperationOf, Task};
 use ar_sessions::{ConnectionEnd, Desk, LockPort};
 use std::alloc::Global;
@@ -195,7 +195,7 @@ pub fn serves<R: Wait + Abort, L: Ledger, S: Source>(
     writer: &mut MemSink,
 ) -> SessionEnd {
     let mut port = LockPort::new(rt, &rig.kept, &rig.desk);
-    let end = serve(alloc, reader, writer, &mut port);
+    let end = serve_session(alloc, reader, writer, &mut port);
     let _receipt = port.finish();
     end
 }

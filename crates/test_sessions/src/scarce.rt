@@ -3,7 +3,7 @@
 ghost use Rattle.std.specs.Prelude.{true, ⊤};
 
 use crate::rig::{Play, Rig, plays};
-use ar_frames::{MemSink, MemSource, NoGate, SessionEnd, Why};
+use ar_frames::{EndReason, MemSink, MemSource, NoGate, SessionEnd};
 use ar_sessions::{ConnectionEnd, Door, run_beside_background};
 use std::alloc::Global;
 use std::process::Abort;
@@ -87,7 +87,7 @@ fn all_ended(rt: &impl Abort, ends: &[ConnectionEnd]) {
 fn was_cut(rt: &impl Abort, end: ConnectionEnd) {
     let wanted = ConnectionEnd::Served(SessionEnd {
         frames: 0,
-        why: Why::Cut,
+        reason: EndReason::Cut,
     });
     assert!(rt; end == wanted, "{end:?}");
 }

@@ -4,7 +4,7 @@ ghost use Rattle.ar_frames.specs.Frame.{most_data};
 
 use crate::frames::{LOGINS, TUR};
 use crate::rig::{Play, Rig, plays};
-use ar_frames::{Linked, NoGate, SessionEnd, Why, ask, hello};
+use ar_frames::{EndReason, Linked, NoGate, SessionEnd, ask, hello};
 use ar_scsi::{Reply, Status};
 use ar_sessions::{ConnectionEnd, ListenFault, TcpDoor, run_beside_background};
 use std::alloc::Global;
@@ -222,7 +222,7 @@ fn compare(rt: &impl Abort, guests: Guests, ends: &[ConnectionEnd]) {
 fn all_ended(rt: &impl Abort, ends: &[ConnectionEnd], frames: u64) {
     let wanted = ConnectionEnd::Served(SessionEnd {
         frames,
-        why: Why::End,
+        reason: EndReason::End,
     });
     for end in ends {
         assert!(rt; *end == wanted, "{end:?}");

@@ -5,7 +5,7 @@ use crate::frames::{
     LOGINS, READ, READ_16, TUR, WRITE, WRITE_16, put, put_check, put_good, put_request,
 };
 use crate::rig::{Play, Rig, copy_rest, plays, serves, sink};
-use ar_frames::{SessionEnd, Source, Why};
+use ar_frames::{EndReason, SessionEnd, Source};
 use std::alloc::Global;
 use std::process::Abort;
 use std::sync::Wait;
@@ -38,12 +38,12 @@ pub struct Turn {
 }
 
 // A session of which all is sent.
-fn sends_all(parts: &'static [Part], frames: u64, why: Why) -> Turn {
+fn sends_all(parts: &'static [Part], frames: u64, reason: EndReason) -> Turn {
     Turn {
         parts,
         sent: usize::MAX,
         got: usize::MAX,
-        end: SessionEnd { frames, why },
+        end: SessionEnd { frames, reason },
     }
 }
 
@@ -186,7 +186,7 @@ const NO_UNIT: [u8; 3] = [0x05, 0x25, 0x00];
 
 #[test]
 fn a_short_length_ends_the_session(rt: HostRuntime) {
-    let turns = [sends_all(&SHORT, 1, Why::TooShort(24))];
+    let turns = [sends_all(&SHORT, 1, EndReason::TooShort(24))];
     plays(&rt, FOUR_GROUPS, Play::Turns(false, &turns), &[1, 0, 0, 0]);
 }
 
@@ -199,9 +199,9 @@ const SHORT: [Part; 3] = [
 #[test]
 fn a_seat_is_back_after_each_end(rt: HostRuntime) {
     let turns = [
-        sends_all(&CUT, 0, Why::Cut),
-        sends_all(&LONG, 0, Why::TooLong(33_553_946)),
-        sends_all(&ENDED, 1, Why::End),
+        sends_all(&CUT, 0, EndReason::Cut),
+        sends_all(&LONG, 0, EndReason::TooLong(33_553_946)),
+        sends_all(&ENDED, 1, EndReason::End),
     ];
     plays(&rt, FOUR_GROUPS, Play::Turns(false, &turns), &[0, 0, 1, 0]);
 }
@@ -215,8 +215,8 @@ const ENDED: [Part; 2] = [Part::LogIn(2), Part::Check(1, TUR, NO_UNIT)];
 #[test]
 fn other_logins_take_no_seat(rt: HostRuntime) {
     let turns = [
-        sends_all(&OTHER_LOGIN, 0, Why::BadLogin),
-        sends_all(&CUT_LOGIN, 0, Why::Cut),
+        sends_all(&OTHER_LOGIN, 0, EndReason::BadLogin),
+        sends_all(&CUT_LOGIN, 0, EndReason::Cut),
     ];
     plays(&rt, FOUR_GROUPS, Play::Turns(false, &turns), &[0, 0, 0, 0]);
 }
@@ -227,7 +227,7 @@ const CUT_LOGIN: [Part; 1] = [Part::Sent(b"ARAIDHO1")];
 
 #[test]
 fn blocks_of_sixteen_bytes(rt: HostRuntime) {
-    let turns = [sends_all(&SIXTEEN, 4, Why::End)];
+    let turns = [sends_all(&SIXTEEN, 4, EndReason::End)];
     plays(&rt, FOUR_GROUPS, Play::Turns(true, &turns), &[4, 0, 0, 0]);
 }
 
@@ -241,7 +241,7 @@ const SIXTEEN: [Part; 5] = [
 
 #[test]
 fn a_unit_grows_between_two_frames(rt: HostRuntime) {
-    let turns = [sends_all(&GROWING, 5, Why::End)];
+    let turns = [sends_all(&GROWING, 5, EndReason::End)];
     plays(&rt, FOUR_GROUPS, Play::Turns(true, &turns), &[5, 0, 0, 0]);
 }
 
@@ -257,15 +257,15 @@ const GROWING: [Part; 7] = [
 
 // How a session ends whose input, a login, a WRITE of 1,024 bytes and a READ, is cut after so many bytes.
 fn end_of(cut: usize) -> SessionEnd {
-    let (frames, why) = match cut {
-        0..=8 => (0, Why::Cut),
-        9 => (0, Why::End),
-        10..=1061 => (0, Why::Cut),
-        1062 => (1, Why::End),
-        1063..=1090 => (1, Why::Cut),
-        _ => (2, Why::End),
+    let (frames, reason) = match cut {
+        0..=8 => (0, EndReason::Cut),
+        9 => (0, EndReason::End),
+        10..=1061 => (0, EndReason::Cut),
+        1062 => (1, EndReason::End),
+        1063..=1090 => (1, EndReason::Cut),
+        _ => (2, EndReason::End),
     };
-    SessionEnd { frames, why }
+    SessionEnd { frames, reason }
 }
 
 // What it writes: a byte, 14 bytes, and 14 bytes with the sectors.
@@ -289,7 +289,7 @@ fn input_cut_at_each_byte(rt: HostRuntime) {
             got: written_of(cut),
             end,
         };
-        let turns = [part, sends_all(read_after(end.frames), 1, Why::End)];
+        let turns = [part, sends_all(read_after(end.frames), 1, EndReason::End)];
         let commands = [end.frames.saturating_add(1), 0, 0, 0];
         plays(&rt, FOUR_GROUPS, Play::Turns(true, &turns), &commands);
     }

@@ -3,7 +3,7 @@ use Rattle.std.proofs.Common.{◌≡◌, ◌≢◌, ℕ, List, [], Some, IsSome,
 use Rattle.std.specs.Map.{lookup, set_value}
 use Rattle.std.proofs.lemmas.Map.{lookup-set_value}
 use Rattle.ar_disks.specs.declared.address.Key.{Key}
-use Rattle.ar_cache.specs.Backing.{Writes}
+use Rattle.ar_cache.specs.Backing.{WritesKey}
 use Rattle.ar_cache.specs.Cache.{same_key}
 use Rattle.ar_cache.proofs.Keys.{key_equiv, same_key_refl, same_key_false}
 
@@ -13,7 +13,7 @@ block_in blocks key = unwrap_or (lookup (same_key key) blocks) []
 
 -- the key has the new block, and every other key the one that it had
 pub written_over : (blocks : List (Key × List ℕ)) (key : Key) (block : List ℕ) → IsSome (lookup (same_key key) blocks)
-    → Writes (block_in blocks) (block_in (set_value (same_key key) blocks block)) key block
+    → WritesKey (block_in blocks) (block_in (set_value (same_key key) blocks block)) key block
 written_over blocks key block there =
     let found = λ (q : Key). lookup-set_value key_equiv (same_key key) (key_equiv.congr key) q block blocks there in
     let at = λ (q : Key). ap (λ o. unwrap_or o []) (found q) in

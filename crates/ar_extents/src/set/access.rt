@@ -5,7 +5,7 @@ ghost use Rattle.ar_disks.specs.Disk.{HasPlace, Reads, Writes};
 ghost use Rattle.ar_extents.specs.Set.{disk_in, HasExtent};
 ghost use Rattle.ar_extents.specs.Health.{IsRebuilding, rebuilt_disk};
 ghost use Rattle.ar_extents.specs.Follows.{Follows, Keeps, KeepsBut, Anywhere};
-ghost use Rattle.ar_extents.specs.Access.{OthersStay, Touches, Accesses, Gets, Puts, PutsNew, is_read, is_written, is_new_written, next_place};
+ghost use Rattle.ar_extents.specs.Access.{OthersStay, Touches, Accesses, Gets, PutsRow, PutsNew, is_read, is_written, is_new_written, next_place};
 
 use super::DiskSet;
 use crate::{Got, Health, Put, PutNew};
@@ -39,7 +39,7 @@ impl<D: Disk> DiskSet<D> {
         requires place { HasExtent self.old place }
         requires row { row < rows_of self.old.geometry }
         requires whole { length from.now ≡ block_len_of self.old.geometry }
-        ensures answer { Puts self.old self.new place row from.now result }
+        ensures answer { PutsRow self.old self.new place row from.now result }
         ensures access { Accesses self.old self.new place (is_written result) }
         ensures keeps { KeepsBut place row self.old self.new }
     {

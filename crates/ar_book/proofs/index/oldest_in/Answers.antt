@@ -5,7 +5,7 @@ use Rattle.ar_disks.specs.Addresses.{same_addr}
 use Rattle.ar_index.specs.Choices.{place_in, older}
 use Rattle.ar_index.proofs.Joins.{same_age, older_none}
 use Rattle.ar_disks.specs.declared.address.Addr.{Addr}
-use Rattle.ar_book.specs.Tables.{UnitState}
+use Rattle.ar_book.specs.Tables.{UnitTableState}
 use Rattle.ar_book.specs.Index.{age_of, oldest_named}
 use Rattle.ar_book.proofs.Ages.{oldest_more, any_default}
 use Rattle.ar_book.proofs.UnitLemmas.{found_stamp}
@@ -25,7 +25,7 @@ loop-named-preserved c =
     elim c.match-named.branch [
       | in-Some w ↦
           let key = w.in-Some.key in
-          let stamp = found_stamp (λ (x : Addr × Bor UnitState). x.1.now) units key.addr key.rb w.stamp_in-stamp.result w.look_up-unit.result w.look_up-unit.ensures.found w.look_up-unit.ensures.none w.stamp_in-stamp.ensures in
+          let stamp = found_stamp (λ (x : Addr × Bor UnitTableState). x.1.now) units key.addr key.rb w.stamp_in-stamp.result w.look_up-unit.result w.look_up-unit.ensures.found w.look_up-unit.ensures.none w.stamp_in-stamp.ensures in
           let named : Some (record { stamp = w.stamp_in-stamp.result; key = key }) ≡ option_map age (get_or slots i None) =
           ap Some (same_age (record { stamp = w.stamp_in-stamp.result; key = key }) (age key) stamp refl) ∙ ap (option_map age) (sym w.in-Some.is ∙ item) in (
             w.oldest-is ∙ w.older-oldest.ensures ∙ ap (λ o. older (place_in units) o (Some (record { stamp = w.stamp_in-stamp.result; key = key }))) c.loop-named.invariant.0

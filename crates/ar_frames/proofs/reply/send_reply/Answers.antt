@@ -1,6 +1,6 @@
 use Rattle.std.proofs.Common.{◌≡◌, ◌++◌, ◌+◌, ℕ, List, sym, subst, ap, ◌∙◌, length, length-append, take, arith}
 use Rattle.ar_frames.specs.Frame.{IsReplyFrame}
-use Rattle.ar_frames.specs.Talk.{reply_len}
+use Rattle.ar_frames.specs.Conversation.{reply_len}
 use Rattle.ar_frames.proofs.Serving.{frame_len}
 use Rattle.ar_frames.proofs.Frames.{plain_sent, sense_written, sense_alone}
 use Rattle.ar_frames.proofs.reply.send_reply.Goals as goal

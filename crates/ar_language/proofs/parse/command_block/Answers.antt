@@ -1,5 +1,5 @@
 use Rattle.std.proofs.Common.{◌≡◌, rules, length, inl, inr, refl}
-use Rattle.ar_language.specs.Forms.{nothing}
+use Rattle.ar_language.specs.Forms.{empty_data}
 use Rattle.ar_language.proofs.ParseLemmas.{gives_as}
 use Rattle.ar_language.proofs.parse.command_block.Goals as goal
 
@@ -9,7 +9,7 @@ returns-in-len3 c =
     gives_as _ _ _ _ _
     (λ are. record { count = inl three; address = are.address; block = are.block_word })
     (λ has. record { address = has.address; block_word = has.block })
-    (λ order asked. (asked.0, asked.1, nothing, asked.2, asked.3, inl (three, refl), asked.4))
+    (λ order asked. (asked.0, asked.1, empty_data, asked.2, asked.3, inl (three, refl), asked.4))
     c.block_with.ensures
 
 pub returns-in_ok-data-in-len5 : goal.returns-in_ok-data-in-len5

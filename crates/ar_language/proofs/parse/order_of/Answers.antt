@@ -1,4 +1,4 @@
-use Rattle.ar_language.specs.Forms.{Reads}
+use Rattle.ar_language.specs.Forms.{ReadsOrder}
 use Rattle.ar_language.proofs.ParseLemmas.{named, answered}
 use Rattle.ar_language.proofs.parse.order_of.Goals.{in-make, in-grow, in-drop}
 use Rattle.ar_language.proofs.parse.order_of.Goals as goal
@@ -6,7 +6,7 @@ use Rattle.ar_language.proofs.parse.order_of.Goals as goal
 pub returns-clause-reads : goal.returns-clause-reads
 returns-clause-reads c =
     elim c.match-name.branch [
-      | in-make w ↦ named Reads _ _ _ _ w.in-make.is (answered _ _ _ _ _ w.make-order.ensures w.order-is c.ok_or.ensures.value)
-      | in-grow w ↦ named Reads _ _ _ _ w.in-grow.is (answered _ _ _ _ _ w.grow-order.ensures w.order-is c.ok_or.ensures.value)
-      | in-drop w ↦ named Reads _ _ _ _ w.in-drop.is (answered _ _ _ _ _ w.remove-order.ensures w.order-is c.ok_or.ensures.value)
+      | in-make w ↦ named ReadsOrder _ _ _ _ w.in-make.is (answered _ _ _ _ _ w.make-order.ensures w.order-is c.ok_or.ensures.value)
+      | in-grow w ↦ named ReadsOrder _ _ _ _ w.in-grow.is (answered _ _ _ _ _ w.grow-order.ensures w.order-is c.ok_or.ensures.value)
+      | in-drop w ↦ named ReadsOrder _ _ _ _ w.in-drop.is (answered _ _ _ _ _ w.remove-order.ensures w.order-is c.ok_or.ensures.value)
     ]

@@ -1,8 +1,8 @@
 use Rattle.std.proofs.Common.{rules, ◌≡◌, ◌∙◌, max, suc, true, false, ◌+◌, ◌≤◌, Ok, Err, IfErr, add-zero, refl, sym, ap, subst, arith}
 use Rattle.ar_language.specs.declared.fault.Fault.TheVariants.{Line}
-use Rattle.ar_language.specs.Left.{lines_left, lines_begun, IsStopped}
+use Rattle.ar_language.specs.Left.{lines_left, lines_begun, EndsReading}
 use Rattle.ar_language.proofs.Going.{begun_there}
-use Rattle.ar_language.specs.Lines.{AreThere, StopsAt, IsOfNext, IsNumbered, is_given, is_lacking}
+use Rattle.ar_language.specs.Lines.{AreThere, IsNextLineFault, IsOfNext, IsNumbered, is_given, is_lacking}
 use Rattle.ar_picture.proofs.Growing.{grows_same, kept_grows, grows_then}
 use Rattle.ar_script.specs.Plays.{PlaysAll, PlaysTo}
 use Rattle.ar_script.proofs.Ending.{plays_none, plays_line, plays_fault, plays_ended, plays_unread, begun_as, begun_within, there_begun, there_given, told_next, told_last, not_write}
@@ -24,7 +24,7 @@ returns-in_err-next_line-clause-plays g c =
     let given = c.loop.lines.given in
     let goes = c.in_err-next_line.ensures.goes_on in
     let same : new.given ≡ given = goes.count ∙ add-zero given in
-    let stops : IfErr c.from_residual.result (StopsAt left) = search rules in
+    let stops : IfErr c.from_residual.result (IsNextLineFault left) = search rules in
     let next : IfErr c.from_residual.result (IsOfNext given (lines_begun new)) = search rules in
     let numbered : IfErr c.from_residual.result IsNumbered = search rules in
     let within = begun_within given new.given new.is_begun same in
@@ -107,7 +107,7 @@ returns-in-Err-clause-there g c =
 pub returns-in_err-next_line-clause-told : goal.returns-in_err-next_line-clause-told
 returns-in_err-next_line-clause-told g c =
     let new = c.next_line.new.lines in
-    let stopped : IfErr c.from_residual.result (IsStopped new) = search rules in
+    let stopped : IfErr c.from_residual.result (EndsReading new) = search rules in
     told_next new c.from_residual.result stopped
 
 pub returns-in-Err-clause-told : goal.returns-in-Err-clause-told

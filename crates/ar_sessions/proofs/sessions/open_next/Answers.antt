@@ -1,5 +1,5 @@
 use Rattle.std.proofs.Common.{subst}
-use Rattle.ar_sessions.specs.Ends.{IsServed, IsServedOver, IsPromised}
+use Rattle.ar_sessions.specs.Ends.{IsSessionEnd, IsServedOver, IsPromised}
 use Rattle.ar_sessions.proofs.Ending.{became}
 use Rattle.ar_sessions.proofs.sessions.open_next.Goals as goal
 
@@ -9,6 +9,6 @@ returns-clause-becomes g c =
     (IsServedOver g.O.Reader.Source.state g.O.Writer.Sink.state) _ c.begin.result c.args.door.now c.accept.new.self _
     (subst (λ came. g.O.Door.opens c.args.door.now came c.accept.new.self) c.in-Some.is c.accept.ensures.opens)
     (λ handle same end kept.
-    subst (λ reader. IsServed (g.O.Reader.Source.state reader) (g.O.Writer.Sink.state c.in-Some.writer) end) same.0
-    (subst (λ writer. IsServed (g.O.Reader.Source.state handle.promise.reader.value) (g.O.Writer.Sink.state writer) end) same.1 kept))
+    subst (λ reader. IsSessionEnd (g.O.Reader.Source.state reader) (g.O.Writer.Sink.state c.in-Some.writer) end) same.0
+    (subst (λ writer. IsSessionEnd (g.O.Reader.Source.state handle.promise.reader.value) (g.O.Writer.Sink.state writer) end) same.1 kept))
     c.begin.ensures.begun

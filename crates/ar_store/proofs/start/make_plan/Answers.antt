@@ -34,6 +34,6 @@ returns g c =
       book = c.in_ok-book.ensures (started disks)
           (loose_started disks c.geometry-geometry.result (length c.args.disks.now) c.extents-extents.result (sym geometry) size
           (ap (λ (s : DiskState). s.extents) second ∙ sym c.extents-extents.ensures));
-      block = c.in_ok-work.ensures.block ∙ ap block_len_of geometry;
-      scratch = c.in_ok-work.ensures.scratch ∙ geometry;
+      block = c.in_ok-buffers.ensures.block ∙ ap block_len_of geometry;
+      scratch = c.in_ok-buffers.ensures.scratch ∙ geometry;
     }

@@ -1,7 +1,7 @@
 use Rattle.std.proofs.Common.{◌≡◌, ◌⊎◌, ◌+◌, ◌*◌, ◌-◌, ◌%◌, ◌≤◌, ◌++◌, false, length, vec_capacity}
 use Rattle.std.specs.List.{concat}
 use Rattle.ar_disks.specs.Geometry.{sectors_of}
-use Rattle.ar_cache.specs.Backing.{InTurn, Keeps, SameBlocks}
+use Rattle.ar_cache.specs.Backing.{InTurn, KeepsBacking, SameBlocks}
 use Rattle.ar_volume.specs.Sectors.{sectors_in, keys_in, unit_block}
 use Rattle.ar_volume.proofs.transfer.read_sectors.Given as goal
 
@@ -13,7 +13,7 @@ invariant-loop-at g l = record {
   many : length l.out.items ≡ length l.fn.out.items + 512 * (l.at - l.lba);
   blocks : SameBlocks (g.B.Backing.block_at l.fn.blocks) (g.B.Backing.block_at l.blocks);
   sound : g.B.Backing.is_broken l.blocks ≡ false;
-  keeps : Keeps g.B.Backing.geometry g.B.Backing.knows g.B.Backing.is_broken g.B.Backing.follows l.fn.blocks l.blocks;
+  keeps : KeepsBacking g.B.Backing.geometry g.B.Backing.knows g.B.Backing.is_broken g.B.Backing.follows l.fn.blocks l.blocks;
   gets : InTurn g.B.Backing.gets (keys_in l.fn.geometry l.addr l.lba (l.at - l.lba)) l.fn.blocks l.blocks;
   edge : ((l.at ≡ l.lba) ⊎ (l.at % sectors_of l.fn.geometry ≡ 0)) ⊎ (l.at ≡ l.end);
   capacity : vec_capacity l.fn.out ≤ vec_capacity l.out;

@@ -2,7 +2,7 @@ use Rattle.std.proofs.Common.{◌≡◌, ◌≢◌, ◌⊎◌, ℕ, ◌-◌, ◌
 use Rattle.ar_disks.specs.declared.address.Key.{Key}
 use Rattle.ar_disks.specs.Geometry.{sectors_of}
 use Rattle.ar_disks.specs.Block.{sectors_at}
-use Rattle.ar_cache.specs.Backing.{InTurn, Keeps}
+use Rattle.ar_cache.specs.Backing.{InTurn, KeepsBacking}
 use Rattle.ar_volume.specs.Sectors.{sector_in, keys_in, unit_block}
 use Rattle.ar_volume.specs.Storing.{Overwrites}
 use Rattle.ar_volume.proofs.transfer.write_sectors.Given as goal
@@ -18,7 +18,7 @@ invariant-loop-at g l = record {
   edge : ((l.at ≡ l.lba) ⊎ (l.at % sectors_of l.geometry ≡ 0)) ⊎ (l.at ≡ l.end);
   untouched : l.at ≡ l.lba → l.blocks ≡ l.fn.blocks;
   sound : g.B.Backing.is_broken l.blocks ≡ false;
-  keeps : Keeps g.B.Backing.geometry g.B.Backing.knows g.B.Backing.is_broken g.B.Backing.follows l.fn.blocks l.blocks;
+  keeps : KeepsBacking g.B.Backing.geometry g.B.Backing.knows g.B.Backing.is_broken g.B.Backing.follows l.fn.blocks l.blocks;
   len : length l.block ≡ length l.fn.block;
 }
 

@@ -10,7 +10,7 @@ use Rattle.std.specs.Map.{lookup, keys_of}
 use Rattle.std.specs.Set.{remove_key}
 use Rattle.ar_book.specs.contracts.book.Book.{the_view}
 use Rattle.ar_disks.specs.Addresses.{same_addr}
-use Rattle.ar_book.specs.Tables.{Tables, UnitState, unit_in, key_at, home, level, stamp_of}
+use Rattle.ar_book.specs.Tables.{Tables, UnitTableState, unit_in, key_at, home, level, stamp_of}
 use Rattle.ar_book.proofs.RefusalLemmas.{reserved_fits}
 use Rattle.ar_book.proofs.DropLemmas.{unit_homes, found_is, found_there, homes_fit, dropped_kept, dropped_key_other, dropped_home_other, dropped_level_other, dropped_stamp_other, dropped_order}
 use Rattle.ar_book.proofs.book.Book.drop_unit.Goals as goal
@@ -26,7 +26,7 @@ overflow_cast-self c =
     let t : Tables = the_view c.self.inside in
     let found : lookup (same_addr c.args.addr) t.units ≡ Some c.in-Some-take_unit.unit = sym c.take_unit.ensures.taken ∙ c.in-Some-take_unit.is in
     let fit : length (unit_in t.units c.args.addr).homes ≤ c.self.inside.reserved = homes_fit t c.args.addr c.self.invariant.kept.tables (found_there t.units c.args.addr c.in-Some-take_unit.unit found) c.self.inside.reserved c.self.invariant.kept.total in
-    let same : length (unit_in t.units c.args.addr).homes ≡ length c.in-Some-take_unit.unit.homes = ap (λ (u : UnitState). length u.homes) (found_is t.units c.args.addr c.in-Some-take_unit.unit found) in
+    let same : length (unit_in t.units c.args.addr).homes ≡ length c.in-Some-take_unit.unit.homes = ap (λ (u : UnitTableState). length u.homes) (found_is t.units c.args.addr c.in-Some-take_unit.unit found) in
     let bound = reserved_fits t 0 c.self.invariant.kept.tables (omega (arith, c.self.invariant.kept.tables.room)) in
     omega (arith, c.self.invariant.kept.total)
 
@@ -35,7 +35,7 @@ overflow_sub-self c =
     let t : Tables = the_view c.self.inside in
     let found : lookup (same_addr c.args.addr) t.units ≡ Some c.in-Some-take_unit.unit = sym c.take_unit.ensures.taken ∙ c.in-Some-take_unit.is in
     let fit : length (unit_in t.units c.args.addr).homes ≤ c.self.inside.reserved = homes_fit t c.args.addr c.self.invariant.kept.tables (found_there t.units c.args.addr c.in-Some-take_unit.unit found) c.self.inside.reserved c.self.invariant.kept.total in
-    let same : length (unit_in t.units c.args.addr).homes ≡ length c.in-Some-take_unit.unit.homes = ap (λ (u : UnitState). length u.homes) (found_is t.units c.args.addr c.in-Some-take_unit.unit found) in
+    let same : length (unit_in t.units c.args.addr).homes ≡ length c.in-Some-take_unit.unit.homes = ap (λ (u : UnitTableState). length u.homes) (found_is t.units c.args.addr c.in-Some-take_unit.unit found) in
     omega arith
 
 pub returns-clause-others : goal.returns-clause-others
@@ -77,7 +77,7 @@ pub blank_all-requires-clause-there : goal.blank_all-requires-clause-there
 blank_all-requires-clause-there c = λ j s e.
     let t : Tables = the_view c.self.inside in
     let found : lookup (same_addr c.args.addr) t.units ≡ Some c.in-Some.unit.now = sym c.get.ensures.value ∙ ap option_copied c.in-Some.is in
-    let at : home t (record { addr = c.args.addr; rb = j }) ≡ Some s = ap (λ (u : UnitState). get_or u.homes j None) (found_is t.units c.args.addr c.in-Some.unit.now found) ∙ ap (λ l. get_or l j None) (sym c.homes.ensures) ∙ e in
+    let at : home t (record { addr = c.args.addr; rb = j }) ≡ Some s = ap (λ (u : UnitTableState). get_or u.homes j None) (found_is t.units c.args.addr c.in-Some.unit.now found) ∙ ap (λ l. get_or l j None) (sym c.homes.ensures) ∙ e in
     let inside = there_group t.groups s (record { addr = c.args.addr; rb = j }) (c.self.invariant.kept.tables.agree.to_slot (record { addr = c.args.addr; rb = j }) s at) in
     omega (arith, index_length t _ _ c.self.invariant)
 
@@ -86,13 +86,13 @@ same_homes : (c : goal.After-homes-3) → c.homes.result.now ≡ (unit_in c.self
 same_homes c =
     let t : Tables = the_view c.self.inside in
     let found : lookup (same_addr c.args.addr) t.units ≡ Some c.in-Some.unit.now = sym c.get.ensures.value ∙ ap option_copied c.in-Some.is in
-    c.homes.ensures ∙ ap (λ (u : UnitState). u.homes) (sym (found_is t.units c.args.addr c.in-Some.unit.now found))
+    c.homes.ensures ∙ ap (λ (u : UnitTableState). u.homes) (sym (found_is t.units c.args.addr c.in-Some.unit.now found))
 
 taken_homes : (c : goal.After-homes-3) → c.in-Some-take_unit.unit.homes ≡ (unit_in c.self.inside.units.entries c.args.addr).homes
 taken_homes c =
     let t : Tables = the_view c.self.inside in
     let found : lookup (same_addr c.args.addr) t.units ≡ Some c.in-Some-take_unit.unit = sym c.take_unit.ensures.taken ∙ c.in-Some-take_unit.is in
-    ap (λ (u : UnitState). u.homes) (sym (found_is t.units c.args.addr c.in-Some-take_unit.unit found))
+    ap (λ (u : UnitTableState). u.homes) (sym (found_is t.units c.args.addr c.in-Some-take_unit.unit found))
 
 same_groups : (c : goal.After-homes-3) → c.vacate_all.new.groups.items ≡ fold vacated c.self.inside.groups.items (unit_in c.self.inside.units.entries c.args.addr).homes
 same_groups c = c.vacate_all.ensures ∙ ap (fold vacated c.self.inside.groups.items) (c.homes-2.ensures ∙ taken_homes c)

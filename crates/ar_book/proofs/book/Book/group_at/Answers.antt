@@ -1,7 +1,7 @@
 use Rattle.std.proofs.Common.{◌≡◌, ◌<◌, false, length, sym, ap, subst, ◌∙◌, below_more, arith}
 use Rattle.std.proofs.lemmas.List.{get_or_read}
 use Rattle.ar_book.specs.Tables.{Tables, GroupState, no_group}
-use Rattle.ar_book.specs.Choices.{stands_on}
+use Rattle.ar_disks.specs.Members.{stands_on}
 use Rattle.ar_book.proofs.book.Book.group_at.Goals as goal
 
 pub loop-number-preserved : goal.loop-number-preserved

@@ -1,6 +1,6 @@
 use Rattle.std.proofs.Common.{◌≡◌, ℕ, ◌<◌, false}
 use Rattle.ar_book.specs.Tables.{group_in}
-use Rattle.ar_book.specs.Choices.{stands_on}
+use Rattle.ar_disks.specs.Members.{stands_on}
 use Rattle.ar_book.proofs.book.Book.group_at.Given as goal
 
 abbrev pub invariant-loop-number : goal.invariant-loop-number

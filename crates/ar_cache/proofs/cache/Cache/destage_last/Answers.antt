@@ -1,7 +1,7 @@
 use Rattle.std.proofs.Common.{◌≡◌, IsSome, Some, None, length, refl, sym, ap, ◌∙◌, subst, arith}
 use Rattle.ar_disks.specs.Geometry.{block_len_of}
 use Rattle.lru.specs.LruCache.{last_entry}
-use Rattle.ar_cache.specs.Cache.{IsSound, cached}
+use Rattle.ar_cache.specs.Cache.{IsValidCache, cached}
 use Rattle.ar_cache.proofs.Lookups.{lookup_last, none_last}
 use Rattle.ar_cache.proofs.Sound.{cached_whole}
 use Rattle.ar_cache.proofs.Turns.{stops_last}
@@ -9,14 +9,14 @@ use Rattle.ar_cache.proofs.cache.Cache.destage_last.Goals as goal
 
 pub put-requires-clause-known : goal.put-requires-clause-known
 put-requires-clause-known g c =
-    let sound : IsSound c.args.self.now = subst IsSound c.self.view_is c.self.invariant.0 in
+    let sound : IsValidCache c.args.self.now = subst IsValidCache c.self.view_is c.self.invariant.0 in
     let last = subst (λ s. last_entry s.entries ≡ Some (c.in-Some.key.now, c.in-Some.block.now)) c.self.view_is (sym c.in-Some.ensures) in
     let hit : cached c.args.self.now c.in-Some.key.now ≡ Some c.in-Some.block.now = lookup_last c.args.self.now.entries (c.in-Some.key.now, c.in-Some.block.now) sound.distinct last in
     c.requires.all_known.known c.in-Some.key.now (subst IsSome (sym hit) refl)
 
 pub put-requires-clause-whole : goal.put-requires-clause-whole
 put-requires-clause-whole g c =
-    let sound : IsSound c.args.self.now = subst IsSound c.self.view_is c.self.invariant.0 in
+    let sound : IsValidCache c.args.self.now = subst IsValidCache c.self.view_is c.self.invariant.0 in
     let last = subst (λ s. last_entry s.entries ≡ Some (c.in-Some.key.now, c.in-Some.block.now)) c.self.view_is (sym c.in-Some.ensures) in
     let hit : cached c.args.self.now c.in-Some.key.now ≡ Some c.in-Some.block.now = lookup_last c.args.self.now.entries (c.in-Some.key.now, c.in-Some.block.now) sound.distinct last in
     ap length c.bytes.ensures ∙ cached_whole c.args.self.now c.in-Some.key.now c.in-Some.block.now sound hit ∙ ap block_len_of (sym c.requires.geometry)

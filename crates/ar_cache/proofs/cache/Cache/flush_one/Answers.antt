@@ -1,5 +1,5 @@
 use Rattle.std.proofs.Common.{sym, subst}
-use Rattle.ar_cache.specs.Cache.{SameSeen, KnowsAll}
+use Rattle.ar_cache.specs.Cache.{SameReads, KnowsAll}
 use Rattle.ar_cache.proofs.Lookups.{seen_without_last, known_without_last, known_kept}
 use Rattle.ar_cache.proofs.cache.Cache.flush_one.Goals as goal
 
@@ -9,7 +9,7 @@ returns-in-Flushed-clause-seen g c done =
     let f = g.B.Backing.block_at c.args.backing.now in
     let h = g.B.Backing.block_at c.destage_last-answer.new.backing in
     let given = c.in-Flushed.ensures.given in
-    subst (λ s. SameSeen old f s h) (sym c.drop_last.ensures)
+    subst (λ s. SameReads old f s h) (sym c.drop_last.ensures)
     (seen_without_last old f h c.in-Flushed.field-0 given.0 c.in-Flushed.ensures.sound.distinct given.1 given.2)
 
 pub returns-in-Flushed-clause-all_known : goal.returns-in-Flushed-clause-all_known

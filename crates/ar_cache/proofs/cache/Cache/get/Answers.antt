@@ -1,18 +1,18 @@
 use Rattle.std.proofs.Common.{◌≡◌, length, Some, None, sym, ap, ◌∙◌, subst}
 use Rattle.std.proofs.lemmas.Bool.{false≢true}
-use Rattle.ar_cache.specs.Cache.{IsSound, cached}
+use Rattle.ar_cache.specs.Cache.{IsValidCache, cached}
 use Rattle.ar_cache.proofs.Sound.{cached_whole}
 use Rattle.ar_cache.proofs.cache.Cache.get.Goals as goal
 
 pub copy_from-requires : goal.copy_from-requires
 copy_from-requires g c =
-    let sound : IsSound c.args.self.now = subst IsSound c.self.view_is c.self.invariant.0 in
+    let sound : IsValidCache c.args.self.now = subst IsValidCache c.self.view_is c.self.invariant.0 in
     let hit = subst (λ s. cached s c.args.key ≡ Some c.in-Some.block.now) c.self.view_is (sym c.in-Some.ensures) in
     cached_whole c.args.self.now c.args.key c.in-Some.block.now sound hit ∙ sym c.requires.whole
 
 pub returns-in-Some-clause-len : goal.returns-in-Some-clause-len
 returns-in-Some-clause-len g c =
-    let sound : IsSound c.args.self.now = subst IsSound c.self.view_is c.self.invariant.0 in
+    let sound : IsValidCache c.args.self.now = subst IsValidCache c.self.view_is c.self.invariant.0 in
     let hit = subst (λ s. cached s c.args.key ≡ Some c.in-Some.block.now) c.self.view_is (sym c.in-Some.ensures) in
     ap length c.copy_from.ensures ∙ cached_whole c.args.self.now c.args.key c.in-Some.block.now sound hit ∙ sym c.requires.whole
 

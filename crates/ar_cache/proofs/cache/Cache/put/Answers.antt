@@ -1,7 +1,7 @@
 use Rattle.std.proofs.Common.{◌∷◌, refl, sym, ap, ◌∙◌, subst}
 use Rattle.std.specs.Map.{lookup}
 use Rattle.ar_disks.specs.Geometry.{block_len_of}
-use Rattle.ar_cache.specs.Cache.{IsSound, Sees, KnowsAll, same_key, with_entries, without_key}
+use Rattle.ar_cache.specs.Cache.{IsValidCache, Sees, KnowsAll, same_key, with_entries, without_key}
 use Rattle.ar_cache.proofs.Closing.{kept_replaced, seen_as}
 use Rattle.ar_cache.proofs.Lookups.{seen_replaced, known_front, known_without_key}
 use Rattle.ar_cache.proofs.Uses.{some_is}
@@ -20,7 +20,7 @@ returns-then-replace-clause-sees g c done =
     let i = c.self.inside in
     let old = c.args.self.now in
     let at = g.B.Backing.block_at c.args.backing.now in
-    let sound : IsSound old = subst IsSound c.self.view_is c.self.invariant.0 in
+    let sound : IsValidCache old = subst IsValidCache c.self.view_is c.self.invariant.0 in
     let new = seen_as i.geometry i.capacity i.entries c.replace.new.entries old (λ t. (c.args.key, c.args.block.now) ∷ without_key t.entries c.args.key) c.self.view_is (ap (λ m. m.entries) c.if-replace.ensures.put) in
     subst (λ s. Sees old at s at c.args.key c.args.block.now) (sym new) (seen_replaced old at c.args.key c.args.block.now sound.distinct)
 
@@ -37,7 +37,7 @@ returns-then-replace-clause-all_known g c =
     let i = c.self.inside in
     let old = c.args.self.now in
     let knows = g.B.Backing.knows c.args.backing.now in
-    let sound : IsSound old = subst IsSound c.self.view_is c.self.invariant.0 in
+    let sound : IsValidCache old = subst IsValidCache c.self.view_is c.self.invariant.0 in
     let new = seen_as i.geometry i.capacity i.entries c.replace.new.entries old (λ t. (c.args.key, c.args.block.now) ∷ without_key t.entries c.args.key) c.self.view_is (ap (λ m. m.entries) c.if-replace.ensures.put) in
     subst (KnowsAll knows) (sym new)
     (known_front knows (with_entries old (without_key old.entries c.args.key)) c.args.key c.args.block.now c.requires.known

@@ -2,7 +2,7 @@ use Rattle.std.proofs.Common.{◌≡◌, ◌≢◌, ◌≤◌, [], ◌∷◌, le
 use Rattle.std.proofs.lemmas.Bool.{false≢true}
 use Rattle.ar_disks.specs.declared.address.Key.{Key}
 use Rattle.ar_cache.specs.Backing.{InTurn}
-use Rattle.ar_cache.specs.Cache.{cached, last_key, last_keys, put_through, Sees, SameSeen, KnowsAll, with_entries, without_last}
+use Rattle.ar_cache.specs.Cache.{cached, last_key, last_keys, put_through, Sees, SameReads, KnowsAll, with_entries, without_last}
 use Rattle.ar_cache.proofs.Lookups.{others_given, absent_apart, seen_given, seen_front, seen_through, sees_after, absent_without_last, known_front, known_without_last, known_kept}
 use Rattle.ar_cache.proofs.Keys.{same_key_refl}
 use Rattle.ar_cache.proofs.Turns.{in_turn_then, in_turn_one, in_turn_last, stops_among, stops_then}
@@ -18,7 +18,7 @@ returns-then-insert-clause-sees g c done =
     let left = with_entries old (without_last old.entries) in
     let full = ≤_antisym d.sound.fits c.requires.full in
     let new = c.if-insert.ensures.put ∙ ap (λ es. with_entries old ((c.args.key, c.args.block.now) ∷ es)) (with_room_full old full) in
-    let given : SameSeen old f left h = seen_given c.destage_last.result old f h c.in_default.not-Broken d.sound.distinct d.given (λ e. ap g.B.Backing.block_at (d.quiet e)) in
+    let given : SameReads old f left h = seen_given c.destage_last.result old f h c.in_default.not-Broken d.sound.distinct d.given (λ e. ap g.B.Backing.block_at (d.quiet e)) in
     subst (λ s. Sees old f s h c.args.key c.args.block.now) (sym new)
     (sees_after old left (with_entries left ((c.args.key, c.args.block.now) ∷ left.entries)) f h h c.args.key c.args.block.now given (seen_front left h c.args.key c.args.block.now))
 
@@ -50,7 +50,7 @@ returns-in-Done-clause-sees g c done =
     let d = c.destage_last.ensures in
     let left = with_entries old (without_last old.entries) in
     let new = c.drop_last.ensures ∙ ap (λ s. with_entries s (without_last s.entries)) c.if-insert.ensures.refused in
-    let given : SameSeen old f left h = seen_given c.destage_last.result old f h c.in_default.not-Broken d.sound.distinct d.given (λ e. ap g.B.Backing.block_at (d.quiet e)) in
+    let given : SameReads old f left h = seen_given c.destage_last.result old f h c.in_default.not-Broken d.sound.distinct d.given (λ e. ap g.B.Backing.block_at (d.quiet e)) in
     let absent = absent_without_last old.entries c.args.key d.sound.distinct c.requires.absent in
     subst (λ s. Sees old f s j c.args.key c.args.block.now) (sym new)
     (sees_after old left left f h j c.args.key c.args.block.now given (seen_through left h j c.args.key c.args.block.now absent (c.in-Done.ensures.written refl)))

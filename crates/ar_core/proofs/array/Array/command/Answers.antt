@@ -32,5 +32,5 @@ returns g c =
           ap (λ (b : Bool). b && not (operation_code c.args.cdb.now == 0x12)) (marked ∙ w.if-attention.true) ∙ ap not (sym w.is_inquiry.ensures ∙ w.if-not-is_inquiry.false)
       | else-attention-via-else-attention w ↦ ap (λ (b : Bool). b && not (operation_code c.args.cdb.now == 0x12)) (marked ∙ w.if-attention.false)
     ] in
-    commands_served c.args.self.now c.serve.new.self c.args.addr c.in-Some.sectors c.args.cdb.now c.args.bytes.now c.serve.result unit quiet
-    c.serve.ensures.serves c.serve.ensures.settles c.serve.ensures.few
+    commands_served c.args.self.now c.execute_present.new.self c.args.addr c.in-Some.sectors c.args.cdb.now c.args.bytes.now c.execute_present.result unit quiet
+    c.execute_present.ensures.serves c.execute_present.ensures.settles c.execute_present.ensures.few

@@ -5,8 +5,8 @@ use Rattle.ar_volume.specs.Image.{ArrayState, is_broken, geometry_of}
 use Rattle.ar_cache.specs.Backing.{InTurn, StopsInTurn}
 use Rattle.ar_volume.specs.Sectors.{keys_in}
 use Rattle.ar_volume.specs.Storing.{BreaksBlock, Overwrites, PutsBlock, PutsBlocks, ReadsBlock, StopsOver, StopsPutting}
-use Rattle.ar_volume.specs.Following.{Follows}
-use Rattle.ar_volume.specs.Seen.{IsUnit, Writes}
+use Rattle.ar_volume.specs.Following.{ArrayFollows}
+use Rattle.ar_volume.specs.Seen.{IsUnit, WritesSectors}
 use Rattle.ar_core.proofs.Serving.{key_known, padded_written, range_written}
 use Rattle.ar_core.proofs.array.Array.put_range.Goals as goal
 
@@ -20,7 +20,7 @@ write_sectors-requires-clause-known g c = λ rb within.
 pub invariant_of-self : goal.invariant_of-self
 invariant_of-self g c =
     let unit = subst (λ (s : ArrayState). IsUnit s c.args.addr c.args.sectors) (sym c.self.view_is) c.requires.unit in
-    let follows : Follows c.self.inside.blocks c.write_sectors.new.blocks = c.write_sectors.ensures.keeps.joined in (
+    let follows : ArrayFollows c.self.inside.blocks c.write_sectors.new.blocks = c.write_sectors.ensures.keeps.joined in (
       padded_written c.self.inside.blocks c.write_sectors.new.blocks c.args.addr c.args.sectors c.args.lba c.args.count c.args.bytes.now c.write_sectors.result c.self.invariant.0 unit c.requires.within
           (ap is_broken c.self.view_is ∙ c.requires.sound) follows c.write_sectors.ensures.answer
           (λ done.
@@ -34,7 +34,7 @@ returns-clause-nothing g c = λ none. c.write_sectors.ensures.nothing none ∙ c
 
 pub returns-clause-writes : goal.returns-clause-writes
 returns-clause-writes g c = λ done.
-    subst (λ (s : ArrayState). Writes s c.args.addr c.args.lba c.args.count c.args.bytes.now c.write_sectors.new.blocks) c.self.view_is
+    subst (λ (s : ArrayState). WritesSectors s c.args.addr c.args.lba c.args.count c.args.bytes.now c.write_sectors.new.blocks) c.self.view_is
     (range_written c.self.inside.blocks c.write_sectors.new.blocks c.args.addr c.args.lba c.args.count c.args.bytes.now c.geometry-geometry.result c.geometry-geometry.ensures
     (c.write_sectors.ensures.inside done) (c.write_sectors.ensures.outside done) (c.write_sectors.ensures.others done))
 

@@ -11,7 +11,7 @@ use Rattle.ar_scsi.specs.declared.reply.Status.TheVariants.{Good, CheckCondition
 use Rattle.ar_unit.specs.Unit.{IsGiven, leaving}
 use Rattle.ar_volume.specs.declared.transfer.Transfer.TheVariants as transfers
 use Rattle.ar_volume.specs.Image.{ArrayState, is_broken, geometry_of, seen_at}
-use Rattle.ar_volume.specs.Following.{Follows}
+use Rattle.ar_volume.specs.Following.{ArrayFollows}
 use Rattle.std.specs.List.{concat}
 use Rattle.ar_volume.specs.Sectors.{sectors_in, unit_block}
 use Rattle.ar_volume.specs.Seen.{SameSeen, present_at, sectors_read}
@@ -25,7 +25,7 @@ given_same : (payload : List ℕ) (reply : Reply) → reply ≡ good payload →
 given_same payload reply is = subst (λ (r : Reply). IsGiven (good payload) r) (sym is) (record { answered = λ _. refl; refused = λ e. absurd (cc); memory = λ e. absurd (cc) })
 
 serves_fetched : (old new : ArrayState) (addr : Addr) (lba count : ℕ) (reply : Reply) (status : Status) → reply.status ≡ status
-    → Follows old new → sectors_read old addr lba count ≢ []
+    → ArrayFollows old new → sectors_read old addr lba count ≢ []
     → (reply.status ≢ CheckCondition → SameSeen old new) → (reply.status ≢ CheckCondition → is_broken new ≡ false) → (reply.status ≡ CheckCondition → IsTrue (is_broken new))
     → (reply.status ≡ Good → reply ≡ good (sectors_read old addr lba count)) → (reply.status ≡ Busy → reply ≡ busy) → (reply.status ≡ CheckCondition → reply ≡ check internal_target_failure)
     → Serves old addr (leaving (present_at old addr) (good (sectors_read old addr lba count))) (check internal_target_failure) reply new
@@ -41,23 +41,23 @@ serves_fetched old new addr lba count reply CheckCondition is follows some seen 
 
 pub invariant_of-self : goal.invariant_of-self
 invariant_of-self g c =
-    let follows : Follows c.self.inside.blocks c.fetch.new.blocks = c.fetch.ensures.keeps.joined in (
-      padded_follows c.self.inside.blocks c.fetch.new.blocks c.self.invariant.0 follows
-          (λ now. record { same = (c.fetch.ensures.blocks (λ failed. (let lost = c.fetch.ensures.broken failed in absurd (cc)))).same }),
-      c.fetch.ensures.len ∙ c.self.invariant.1 ∙ ap block_len_of (sym follows.store.accessed.follows.geometry),
+    let follows : ArrayFollows c.self.inside.blocks c.fetch_sectors.new.blocks = c.fetch_sectors.ensures.keeps.joined in (
+      padded_follows c.self.inside.blocks c.fetch_sectors.new.blocks c.self.invariant.0 follows
+          (λ now. record { same = (c.fetch_sectors.ensures.blocks (λ failed. (let lost = c.fetch_sectors.ensures.broken failed in absurd (cc)))).same }),
+      c.fetch_sectors.ensures.len ∙ c.self.invariant.1 ∙ ap block_len_of (sym follows.store.accessed.follows.geometry),
     )
 
 pub returns-clause-serves : goal.returns-clause-serves
 returns-clause-serves g c =
     let whole = subst (λ (s : ArrayState). (k : Key) → length (seen_at s k) ≡ block_len_of (geometry_of s)) (sym c.self.view_is) c.requires.blocks in
     subst
-    (λ (s : ArrayState). Serves s c.args.addr (leaving (present_at s c.args.addr) (good (sectors_read s c.args.addr c.args.lba c.args.count))) (check internal_target_failure) c.fetch.result c.fetch.new.blocks)
+    (λ (s : ArrayState). Serves s c.args.addr (leaving (present_at s c.args.addr) (good (sectors_read s c.args.addr c.args.lba c.args.count))) (check internal_target_failure) c.fetch_sectors.result c.fetch_sectors.new.blocks)
     c.self.view_is
-    (serves_fetched c.self.inside.blocks c.fetch.new.blocks c.args.addr c.args.lba c.args.count c.fetch.result c.fetch.result.status refl
-    c.fetch.ensures.keeps.joined
+    (serves_fetched c.self.inside.blocks c.fetch_sectors.new.blocks c.args.addr c.args.lba c.args.count c.fetch_sectors.result c.fetch_sectors.result.status refl
+    c.fetch_sectors.ensures.keeps.joined
     (sectors_read-some c.self.inside.blocks c.args.addr c.args.lba c.args.count whole (omega arith))
-    (λ fine. record { same = (c.fetch.ensures.blocks fine).same })
-    c.fetch.ensures.sound c.fetch.ensures.broken
-    (λ done. c.fetch.ensures.done done
+    (λ fine. record { same = (c.fetch_sectors.ensures.blocks fine).same })
+    c.fetch_sectors.ensures.sound c.fetch_sectors.ensures.broken
+    (λ done. c.fetch_sectors.ensures.done done
     ∙ ap (λ (h : Geometry). good (concat (sectors_in h (unit_block (seen_at c.self.inside.blocks) c.args.addr) c.args.lba c.args.count))) c.geometry-geometry.ensures)
-    c.fetch.ensures.busy c.fetch.ensures.failed)
+    c.fetch_sectors.ensures.busy c.fetch_sectors.ensures.failed)

@@ -3,9 +3,9 @@ use Rattle.ar_core.specs.declared.event.EventOf.TheVariants.{Cmd as CmdEvent}
 use Rattle.ar_core.specs.declared.event.OutcomeOf.TheVariants.{Cmd as CmdOutcome}
 use Rattle.ar_core.specs.Step.{Steps}
 use Rattle.ar_history.specs.declared.entry.Exchange.{Exchange}
-use Rattle.ar_history.specs.Kept.{KeptState, IsKept}
+use Rattle.ar_history.specs.Kept.{KeptState, HistoryAgrees}
 use Rattle.ar_history.specs.Seat.{SeatState}
-use Rattle.ar_history.specs.Serving.{Serves, LeavesBlocks}
+use Rattle.ar_history.specs.Serving.{ServesHost, LeavesStorage}
 use Rattle.ar_volume.specs.Image.{ArrayState}
 use Rattle.ar_history.proofs.Commands.{unrecorded_lost, serves_from}
 use Rattle.ar_history.proofs.Memory.{begun_does, leaves_blocks}
@@ -13,11 +13,11 @@ use Rattle.ar_history.proofs.kept.Kept.host.Goals as goal
 
 pub returns-then-is_lost-clause-serves : goal.returns-then-is_lost-clause-serves
 returns-then-is_lost-clause-serves g c =
-    let kept : IsKept c.args.self.now.array c.args.self.now.history = subst (λ (k : KeptState). IsKept k.array k.history) c.self.view_is c.self.invariant.0 in
+    let kept : HistoryAgrees c.args.self.now.array c.args.self.now.history = subst (λ (k : KeptState). HistoryAgrees k.array k.history) c.self.view_is c.self.invariant.0 in
     let steps : Steps c.args.self.now.array (CmdEvent c.args.seat.now.host c.args.lun c.args.cdb c.args.payload) (CmdOutcome c.unrecorded.result.reply) c.unrecorded.new.self.array =
     subst (λ (s : SeatState). Steps c.args.self.now.array (CmdEvent s.host c.args.lun c.args.cdb c.args.payload) (CmdOutcome c.unrecorded.result.reply) c.unrecorded.new.self.array)
     c.seat.view_is c.unrecorded.ensures.steps in
-    subst (λ (at : Option ℕ). Serves c.args.self.now c.args.seat.now c.args.lun c.args.cdb c.args.payload c.unrecorded.result.reply at c.unrecorded.new.self c.args.seat.now) (sym c.unrecorded.ensures.at)
+    subst (λ (at : Option ℕ). ServesHost c.args.self.now c.args.seat.now c.args.lun c.args.cdb c.args.payload c.unrecorded.result.reply at c.unrecorded.new.self c.args.seat.now) (sym c.unrecorded.ensures.at)
     (unrecorded_lost c.args.self.now c.args.seat.now c.args.lun c.args.cdb c.args.payload c.unrecorded.result.reply c.unrecorded.new.self kept steps c.unrecorded.ensures.broken c.unrecorded.ensures.history)
 
 pub returns-then-is_lost-clause-busy : goal.returns-then-is_lost-clause-busy
@@ -27,16 +27,16 @@ returns-then-is_lost-clause-busy g c =
 
 pub returns-in-Ok-clause-serves : goal.returns-in-Ok-clause-serves
 returns-in-Ok-clause-serves g c =
-    serves_from c.args.self.now c.draft.new.self c.args.seat.now c.draft.new.seat c.args.lun c.args.cdb c.args.payload c.serve.result.reply
-    c.serve.result.at c.serve.new.self c.serve.new.seat c.in-Ok.ensures.array c.in-Ok.ensures.history c.in-Ok.ensures.host c.in-Ok.ensures.transcript
-    (subst (λ (x : Exchange). Serves c.draft.new.self c.draft.new.seat x.lun x.cdb c.args.payload c.serve.result.reply c.serve.result.at c.serve.new.self c.serve.new.seat)
-    c.in-Ok.ensures.ours c.serve.ensures.serves)
+    serves_from c.args.self.now c.prepare.new.self c.args.seat.now c.prepare.new.seat c.args.lun c.args.cdb c.args.payload c.execute_prepared.result.reply
+    c.execute_prepared.result.at c.execute_prepared.new.self c.execute_prepared.new.seat c.in-Ok.ensures.array c.in-Ok.ensures.history c.in-Ok.ensures.host c.in-Ok.ensures.transcript
+    (subst (λ (x : Exchange). ServesHost c.prepare.new.self c.prepare.new.seat x.lun x.cdb c.args.payload c.execute_prepared.result.reply c.execute_prepared.result.at c.execute_prepared.new.self c.execute_prepared.new.seat)
+    c.in-Ok.ensures.ours c.execute_prepared.ensures.serves)
 
 pub returns-in-Ok-clause-busy : goal.returns-in-Ok-clause-busy
 returns-in-Ok-clause-busy g c =
     λ is.
-    subst (λ (s : ArrayState). LeavesBlocks s c.serve.new.self.array) c.in-Ok.ensures.array
-    (leaves_blocks c.draft.new.self.array c.serve.new.self.array c.draft.new.seat.host c.in-Ok.draft.ours.lun c.in-Ok.draft.ours.cdb c.args.payload
-    c.serve.result.reply
-    (begun_does c.draft.new.self.array c.serve.new.self.array c.draft.new.seat.host c.in-Ok.draft.ours.lun c.in-Ok.draft.ours.cdb c.args.payload
-    c.serve.result.reply c.serve.ensures.begun) is)
+    subst (λ (s : ArrayState). LeavesStorage s c.execute_prepared.new.self.array) c.in-Ok.ensures.array
+    (leaves_blocks c.prepare.new.self.array c.execute_prepared.new.self.array c.prepare.new.seat.host c.in-Ok.copies.ours.lun c.in-Ok.copies.ours.cdb c.args.payload
+    c.execute_prepared.result.reply
+    (begun_does c.prepare.new.self.array c.execute_prepared.new.self.array c.prepare.new.seat.host c.in-Ok.copies.ours.lun c.in-Ok.copies.ours.cdb c.args.payload
+    c.execute_prepared.result.reply c.execute_prepared.ensures.begun) is)

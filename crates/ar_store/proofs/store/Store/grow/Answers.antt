@@ -1,7 +1,7 @@
 use Rattle.std.proofs.Common.{◌≡◌, None, refl, subst, arith}
 use Rattle.ar_book.specs.Tables.{Tables}
 use Rattle.ar_book.specs.Changes.{grown}
-use Rattle.ar_book.specs.Refusals.{grow_refusal}
+use Rattle.ar_book.specs.Refusals.{unit_grow_refusal}
 use Rattle.ar_store.specs.Store.{StoreState, store_of}
 use Rattle.ar_store.specs.Slots.{stands}
 use Rattle.ar_store.specs.Kept.{FieldsAgree}
@@ -14,7 +14,7 @@ invariant_of-self g c =
     let t = c.self.inside.space.book in
     let call = c.grow.ensures in
     after_call c.grow.result (λ (u : Tables). FieldsAgree (store_of a u) c.self.inside.block c.self.inside.space.scratch.geometry)
-    (grow_refusal t c.args.addr c.args.sectors ≡ None) t c.grow.new.self (grown t c.args.addr c.args.sectors)
+    (unit_grow_refusal t c.args.addr c.args.sectors ≡ None) t c.grow.new.self (grown t c.args.addr c.args.sectors)
     call.grown call.unchanged call.granted
     (λ granted.
     fields_same a t (grown t c.args.addr c.args.sectors) c.self.inside.block c.self.inside.space.scratch.geometry c.self.invariant
@@ -28,6 +28,6 @@ returns-clause-stands g c = λ k.
     let call = c.grow.ensures in
     subst (λ (s : StoreState). stands (store_of a c.grow.new.self) k ≡ stands s k) c.self.view_is
     (after_call c.grow.result (λ (u : Tables). stands (store_of a u) k ≡ stands (store_of a t) k)
-    (grow_refusal t c.args.addr c.args.sectors ≡ None) t c.grow.new.self (grown t c.args.addr c.args.sectors)
+    (unit_grow_refusal t c.args.addr c.args.sectors ≡ None) t c.grow.new.self (grown t c.args.addr c.args.sectors)
     call.grown call.unchanged call.granted
     (λ granted. all_grown a t c.args.addr c.args.sectors c.self.invariant.kept.space k) refl)

@@ -1,7 +1,7 @@
 use Rattle.std.proofs.Common.{◌≡◌, None, refl, subst, arith}
 use Rattle.ar_book.specs.Tables.{Tables}
 use Rattle.ar_book.specs.Changes.{made}
-use Rattle.ar_book.specs.Refusals.{make_refusal}
+use Rattle.ar_book.specs.Refusals.{unit_make_refusal}
 use Rattle.ar_store.specs.Store.{StoreState, store_of}
 use Rattle.ar_store.specs.Slots.{stands}
 use Rattle.ar_store.specs.Kept.{FieldsAgree}
@@ -14,7 +14,7 @@ invariant_of-self g c =
     let t = c.self.inside.space.book in
     let call = c.make.ensures in
     after_call c.make.result (λ (u : Tables). FieldsAgree (store_of a u) c.self.inside.block c.self.inside.space.scratch.geometry)
-    (make_refusal t c.args.addr c.args.sectors ≡ None) t c.make.new.self (made t c.args.addr c.args.sectors)
+    (unit_make_refusal t c.args.addr c.args.sectors ≡ None) t c.make.new.self (made t c.args.addr c.args.sectors)
     call.made call.unchanged call.granted
     (λ granted.
     fields_same a t (made t c.args.addr c.args.sectors) c.self.inside.block c.self.inside.space.scratch.geometry c.self.invariant
@@ -28,6 +28,6 @@ returns-clause-stands g c = λ k.
     let call = c.make.ensures in
     subst (λ (s : StoreState). stands (store_of a c.make.new.self) k ≡ stands s k) c.self.view_is
     (after_call c.make.result (λ (u : Tables). stands (store_of a u) k ≡ stands (store_of a t) k)
-    (make_refusal t c.args.addr c.args.sectors ≡ None) t c.make.new.self (made t c.args.addr c.args.sectors)
+    (unit_make_refusal t c.args.addr c.args.sectors ≡ None) t c.make.new.self (made t c.args.addr c.args.sectors)
     call.made call.unchanged call.granted
     (λ granted. all_made a t c.args.addr c.args.sectors c.self.invariant.kept.space k) refl)

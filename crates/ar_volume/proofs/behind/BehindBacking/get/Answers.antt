@@ -1,5 +1,5 @@
 use Rattle.std.proofs.Common.{◌≡◌, sym, ◌∙◌}
-use Rattle.ar_extents.specs.Changes.{is_broken as is_broken_set}
+use Rattle.ar_extents.specs.Changes.{is_broken_set}
 use Rattle.ar_disks.specs.declared.completion.Completion.TheVariants.{Done}
 use Rattle.ar_cache.specs.Backing.{stored}
 use Rattle.ar_volume.specs.declared.behind.Behind.{Behind}

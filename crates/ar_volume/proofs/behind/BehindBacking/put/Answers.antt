@@ -1,5 +1,5 @@
 use Rattle.std.proofs.Common.{sym, ◌∙◌}
-use Rattle.ar_extents.specs.Changes.{is_broken as is_broken_set}
+use Rattle.ar_extents.specs.Changes.{is_broken_set}
 use Rattle.ar_volume.proofs.Breaking.{broken_is}
 use Rattle.ar_volume.proofs.Seeing.{heard, lost_told}
 use Rattle.ar_volume.proofs.behind.BehindBacking.put.Goals as goal

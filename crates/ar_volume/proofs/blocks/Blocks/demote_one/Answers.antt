@@ -1,5 +1,5 @@
 use Rattle.std.proofs.Common.{subst}
-use Rattle.ar_volume.specs.Following.{Follows}
+use Rattle.ar_volume.specs.Following.{ArrayFollows}
 use Rattle.ar_volume.specs.Image.{ArrayState}
 use Rattle.ar_volume.specs.Moves.{DemotesOne}
 use Rattle.ar_volume.specs.Seen.{SameSeen}
@@ -25,4 +25,4 @@ returns-clause-seen g c = λ sound.
 pub returns-clause-follows : goal.returns-clause-follows
 returns-clause-follows g c =
     let new : ArrayState = record { store = c.demote_one.new.store; cache = c.self.inside.cache } in
-    subst (λ (s : ArrayState). Follows s new) c.self.view_is (moves_follow c.self.inside.behind.store c.demote_one.new.store c.self.inside.cache c.demote_one.ensures.leaves)
+    subst (λ (s : ArrayState). ArrayFollows s new) c.self.view_is (moves_follow c.self.inside.behind.store c.demote_one.new.store c.self.inside.cache c.demote_one.ensures.leaves)

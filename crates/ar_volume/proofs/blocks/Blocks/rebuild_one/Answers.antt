@@ -1,5 +1,5 @@
 use Rattle.std.proofs.Common.{refl, ap, subst}
-use Rattle.ar_extents.specs.Changes.{is_broken as is_broken_set}
+use Rattle.ar_extents.specs.Changes.{is_broken_set}
 use Rattle.ar_volume.specs.Image.{ArrayState}
 use Rattle.ar_volume.specs.Rebuild.{RebuildsOne}
 use Rattle.ar_volume.specs.Seen.{SameSeen}

@@ -1,5 +1,5 @@
 use Rattle.std.proofs.Common.{sym, ap, subst, ◌∙◌}
-use Rattle.ar_cache.specs.Backing.{Writes}
+use Rattle.ar_cache.specs.Backing.{WritesKey}
 use Rattle.ar_volume.specs.Image.{ArrayState, is_broken, seen_at}
 use Rattle.ar_volume.specs.Storing.{BreaksBlock, PutsBlock}
 use Rattle.ar_volume.specs.declared.behind.Behind.{Behind}
@@ -11,7 +11,7 @@ pub returns-clause-written : goal.returns-clause-written
 returns-clause-written g c = λ done.
     let old : ArrayState = record { store = c.self.inside.behind.store; cache = c.self.inside.cache } in
     let new : ArrayState = record { store = c.put.new.backing.store; cache = c.put.new.self } in
-    subst (λ (s : ArrayState). Writes (seen_at s) (seen_at new) c.args.key c.args.from.now) c.self.view_is
+    subst (λ (s : ArrayState). WritesKey (seen_at s) (seen_at new) c.args.key c.args.from.now) c.self.view_is
     (seen_put old new c.args.key c.args.from.now (c.put.ensures.sees done))
 
 pub returns-clause-puts : goal.returns-clause-puts

@@ -10,18 +10,18 @@ abbrev pub Commands : Type 0 → Type 1
 Commands P = P → ℕ → List ℕ → List ℕ → Reply → P → Type 0
 
 -- one reply: the port's, or BUSY without the port, which only a request with data gets
-abbrev pub Answers : {P : Type 0} → Commands P → P → Request → Reply → P → Type 0
-Answers commands old request reply new =
+abbrev pub RepliesTo : {P : Type 0} → Commands P → P → Request → Reply → P → Type 0
+RepliesTo commands old request reply new =
     commands old request.lun request.cdb request.payload reply new
     ⊎ ((0 < length request.payload) × (reply ≡ busy) × (new ≡ old))
 
 -- these are replies to these requests, in order, each from the port that the one before left
-abbrev pub Talk : {P : Type 0} → Commands P → P → List Request → List Reply → P → Type 0
-Talk commands old [] [] new = new ≡ old
-Talk {P = P} commands old (request ∷ requests) (reply ∷ replies) new =
-    (mid : P) × Answers commands old request reply mid × Talk commands mid requests replies new
-Talk commands old [] (reply ∷ replies) new = ⊥
-Talk commands old (request ∷ requests) [] new = ⊥
+abbrev pub RepliesToAll : {P : Type 0} → Commands P → P → List Request → List Reply → P → Type 0
+RepliesToAll commands old [] [] new = new ≡ old
+RepliesToAll {P = P} commands old (request ∷ requests) (reply ∷ replies) new =
+    (mid : P) × RepliesTo commands old request reply mid × RepliesToAll commands mid requests replies new
+RepliesToAll commands old [] (reply ∷ replies) new = ⊥
+RepliesToAll commands old (request ∷ requests) [] new = ⊥
 
 -- the bytes are the frames of these requests, one after the other
 abbrev pub AreFrames : List Request → List ℕ → Type 0
@@ -52,7 +52,7 @@ pub record Conversation {P : Type 0} (commands : Commands P) (old new : P)
     (read answers : List ℕ) (frames : ℕ) : Type 0 where
   pub requests : List Request
   pub replies : List Reply
-  pub talk : Talk commands old requests replies new
+  pub replied : RepliesToAll commands old requests replies new
   pub read_is : AreFrames requests read
   pub answers_are : AreReplyFrames requests replies answers
   pub frames_is : frames ≡ length requests

@@ -7,7 +7,7 @@ use Rattle.ar_unit.specs.Broken.{broken_obeyed}
 use Rattle.ar_volume.specs.Image.{unit_sectors, attention_at}
 use Rattle.ar_core.specs.Served.{Serves}
 use Rattle.ar_core.proofs.Serving.{serves_check, settles_check}
-use Rattle.ar_core.proofs.array.Array.serve.Goals as goal
+use Rattle.ar_core.proofs.array.Array.execute_present.Goals as goal
 
 pub returns-in-Err-clause-serves : goal.returns-in-Err-clause-serves
 unfolding obeyed broken_obeyed

@@ -2,7 +2,7 @@ use Rattle.std.proofs.Common.{rules, Option, subst}
 use Rattle.ar_history.specs.Seat.{SeatState}
 use Rattle.ar_frames.specs.Session.{Session}
 use Rattle.ar_sessions.specs.Port.{TakesSeat, AsksKept}
-use Rattle.ar_sessions.proofs.sessions.Connection.serve.Goals as goal
+use Rattle.ar_sessions.proofs.sessions.Connection.run_session.Goals as goal
 
 pub returns : goal.returns
 returns g c = record {

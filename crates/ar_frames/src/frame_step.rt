@@ -2,9 +2,9 @@
 // capacity than the longest frame has bytes.
 ghost use Rattle.std.specs.Prelude.{◌≡◌, ◌<◌, ◌≤◌, ◌+◌, ◌^◌, true, [], vec_capacity};
 ghost use Rattle.ar_frames.specs.Frame.{most_bytes};
-ghost use Rattle.ar_frames.specs.Turn.{AnswersRequest, RefusesRequest, Turns, turn_after};
+ghost use Rattle.ar_frames.specs.FrameStep.{AnswersRequest, RefusesRequest, FrameStep, result_after};
 
-use crate::end::Why;
+use crate::end::EndReason;
 use crate::fill::Sent;
 use crate::frame::Request;
 use crate::port::{Gate, Port};
@@ -17,17 +17,17 @@ use std::alloc::Global;
 
 // The result of a step.
 #[derive(Clone, Copy)]
-pub enum Turn {
+pub enum FrameResult {
     Answered,
     // The frame was read, and its reply wasn't written whole.
     Unsent,
     // No whole frame was read, for this reason.
-    Ended(Why),
+    Ended(EndReason),
 }
 
 // A session's state between frames. Only a step changes it.
 #[derive(Drop)]
-pub struct Work {
+pub struct SessionState {
     // Replies are assembled in it. Its capacity is at most the length of the longest frame.
     buffer: Vec<u8>,
     // The number of commands that were given to the port.
@@ -35,13 +35,13 @@ pub struct Work {
     ghost small: { vec_capacity buffer ≤ most_bytes },
 }
 
-impl Work {
+impl SessionState {
     // The state of a new session: nothing is allocated yet, and no command was given.
-    pub fn new(alloc: Global) -> Work
+    pub fn new(alloc: Global) -> SessionState
         ensures none { result.given ≡ 0 }
         ensures empty { (vec_capacity result.buffer ≡ 0) × (result.buffer.items ≡ []) }
     {
-        Work {
+        SessionState {
             buffer: Vec::new(alloc),
             given: 0,
         }
@@ -56,21 +56,21 @@ pub fn serve_frame<R: Source, W: Sink, P: Port, G: Gate>(
     port: &mut P,
     gate: &G,
     host: Host,
-    work: &mut Work,
-) -> Turn
+    state: &mut SessionState,
+) -> FrameResult
     requires logged { P.has_login port.old ≡ true }
-    requires room { work.old.given < 2 ^ 63 }
-    ensures turn { Turns P.commands (R.state reader.old) (R.state reader.new)
+    requires room { state.old.given < 2 ^ 63 }
+    ensures step { FrameStep P.commands (R.state reader.old) (R.state reader.new)
         (W.state writer.old) (W.state writer.new) port.old port.new
-        (record { room = vec_capacity work.old.buffer; bytes = work.old.buffer.items; given = work.old.given })
-        (record { room = vec_capacity work.new.buffer; bytes = work.new.buffer.items; given = work.new.given }) result }
+        (record { room = vec_capacity state.old.buffer; bytes = state.old.buffer.items; given = state.old.given })
+        (record { room = vec_capacity state.new.buffer; bytes = state.new.buffer.items; given = state.new.given }) result }
     ensures logged { P.has_login port.new ≡ true }
-    ensures given { work.new.given ≤ work.old.given + 1 }
+    ensures given { state.new.given ≤ state.old.given + 1 }
 {
     match receive(alloc, reader) {
-        Incoming::Whole(request) => answer(writer, port, gate, host, work, request),
-        Incoming::Lost(tag) => refuse(writer, work, tag),
-        Incoming::Ended(why) => Turn::Ended(why),
+        Incoming::Whole(request) => answer(writer, port, gate, host, state, request),
+        Incoming::Lost(tag) => refuse(writer, state, tag),
+        Incoming::Ended(reason) => FrameResult::Ended(reason),
     }
 }
 
@@ -80,16 +80,16 @@ fn answer<W: Sink, P: Port, G: Gate>(
     port: &mut P,
     gate: &G,
     host: Host,
-    work: &mut Work,
+    state: &mut SessionState,
     request: Request,
-) -> Turn
+) -> FrameResult
     requires logged { P.has_login port.old ≡ true }
-    requires room { work.old.given < 2 ^ 63 }
+    requires room { state.old.given < 2 ^ 63 }
     ensures answers { AnswersRequest P.commands (W.state writer.old) (W.state writer.new) port.old port.new request result
-        (record { room = vec_capacity work.old.buffer; bytes = work.old.buffer.items; given = work.old.given })
-        (record { room = vec_capacity work.new.buffer; bytes = work.new.buffer.items; given = work.new.given }) }
+        (record { room = vec_capacity state.old.buffer; bytes = state.old.buffer.items; given = state.old.given })
+        (record { room = vec_capacity state.new.buffer; bytes = state.new.buffer.items; given = state.new.given }) }
     ensures logged { P.has_login port.new ≡ true }
-    ensures given { work.new.given ≡ work.old.given + 1 }
+    ensures given { state.new.given ≡ state.old.given + 1 }
 {
     let Request {
         tag,
@@ -97,29 +97,29 @@ fn answer<W: Sink, P: Port, G: Gate>(
         cdb,
         payload,
     } = request;
-    work.given += 1;
-    gate.before(host, work.given);
+    state.given += 1;
+    gate.before(host, state.given);
     let reply = port.command(lun, &cdb, payload);
-    let sent = send_reply(writer, &mut work.buffer, tag, &reply);
-    gate.after(host, work.given);
-    turn_of(sent)
+    let sent = send_reply(writer, &mut state.buffer, tag, &reply);
+    gate.after(host, state.given);
+    result_of(sent)
 }
 
 // Replies BUSY to a frame whose data couldn't be allocated.
-fn refuse<W: Sink>(writer: &mut W, work: &mut Work, tag: u64) -> Turn
+fn refuse<W: Sink>(writer: &mut W, state: &mut SessionState, tag: u64) -> FrameResult
     ensures answers { RefusesRequest (W.state writer.old) (W.state writer.new) tag result
-        (record { room = vec_capacity work.old.buffer; bytes = work.old.buffer.items; given = work.old.given })
-        (record { room = vec_capacity work.new.buffer; bytes = work.new.buffer.items; given = work.new.given }) }
-    ensures given { work.new.given ≡ work.old.given }
+        (record { room = vec_capacity state.old.buffer; bytes = state.old.buffer.items; given = state.old.given })
+        (record { room = vec_capacity state.new.buffer; bytes = state.new.buffer.items; given = state.new.given }) }
+    ensures given { state.new.given ≡ state.old.given }
 {
-    turn_of(send_reply(writer, &mut work.buffer, tag, &Reply::busy()))
+    result_of(send_reply(writer, &mut state.buffer, tag, &Reply::busy()))
 }
 
-fn turn_of(sent: Sent) -> Turn
-    ensures { result ≡ turn_after sent }
+fn result_of(sent: Sent) -> FrameResult
+    ensures { result ≡ result_after sent }
 {
     match sent {
-        Sent::Whole => Turn::Answered,
-        Sent::Part(_) => Turn::Unsent,
+        Sent::Whole => FrameResult::Answered,
+        Sent::Part(_) => FrameResult::Unsent,
     }
 }

@@ -1,5 +1,5 @@
 use Rattle.std.proofs.Common.{◌≡◌, sym, ◌∙◌}
-use Rattle.ar_core.proofs.commands.fetch.Goals as goal
+use Rattle.ar_core.proofs.commands.fetch_sectors.Goals as goal
 
 pub returns-clause-stopped : goal.returns-clause-stopped
 returns-clause-stopped g c = λ failed.

@@ -7,15 +7,15 @@ use Rattle.ar_frames.specs.declared.fill.Sent.{Sent}
 use Rattle.ar_frames.specs.declared.fill.Sent.TheVariants as sent
 use Rattle.ar_frames.specs.declared.receive.Incoming.{Incoming}
 use Rattle.ar_frames.specs.declared.receive.Incoming.TheVariants.{Whole, Lost, Ended}
-use Rattle.ar_frames.specs.declared.turn.Turn.{Turn}
-use Rattle.ar_frames.specs.declared.turn.Turn.TheVariants.{Answered, Unsent, Ended as TurnEnded}
-use Rattle.ar_frames.specs.declared.end.Why.{Why}
-use Rattle.ar_frames.specs.declared.end.Why.TheVariants as why
+use Rattle.ar_frames.specs.declared.frame_step.FrameResult.{FrameResult}
+use Rattle.ar_frames.specs.declared.frame_step.FrameResult.TheVariants.{Answered, Unsent, Ended as ResultEnded}
+use Rattle.ar_frames.specs.declared.end.EndReason.{EndReason}
+use Rattle.ar_frames.specs.declared.end.EndReason.TheVariants as reason
 use Rattle.ar_frames.specs.declared.end.SessionEnd.{SessionEnd}
 use Rattle.ar_frames.specs.Stream.{SourceState, SinkState, Reading, Writing, Sending}
 use Rattle.ar_frames.specs.Frame.{IsFrame, IsReplyFrame}
-use Rattle.ar_frames.specs.Talk.{Commands, Answers, Conversation, last_len, reply_len}
-use Rattle.ar_frames.specs.Session.{admitted, most_frames, Closes, EndsInput, WritesAnswers, WritesPart, is_read}
+use Rattle.ar_frames.specs.Conversation.{Commands, RepliesTo, Conversation, last_len, reply_len}
+use Rattle.ar_frames.specs.Session.{admitted, most_frames, Closes, EndsInput, WritesAnswers, WritesPart, is_read_fault}
 
 -- the rest of the request's frame was read, after its first bytes `front`
 pub record ReadsFrame (front : List ℕ) (source source' : SourceState) (request : Request) : Type 0 where
@@ -31,10 +31,10 @@ pub record LosesData (front : List ℕ) (source source' : SourceState) (tag : �
   pub reads : ReadsFrame front source source' request
 
 -- after `front` no whole frame came, so that the session ends for this reason, whatever was written before
-pub record StopsAfter (front : List ℕ) (source source' : SourceState) (end : Why) : Type 0 where
+pub record StopsAfter (front : List ℕ) (source source' : SourceState) (end : EndReason) : Type 0 where
   pub body : List ℕ
   pub closes : (frames : ℕ) → frames < most_frames → Closes end admitted frames (front ++ body)
-  pub read : Reading source source' body (is_read end)
+  pub read : Reading source source' body (is_read_fault end)
   pub ended : EndsInput end source'.left
   pub unwritten : (sink : SinkState) (last : ℕ) → WritesAnswers end sink sink [] last
 
@@ -57,28 +57,28 @@ pub record SendsRequest (sink sink' : SinkState) (request : Request) (sent : Sen
   pub sending : Sending sink sink' frame sent
 
 -- how far a reply frame was written, by the step's result
-abbrev pub WritesReply : SinkState → SinkState → List ℕ → Turn → Type 0
+abbrev pub WritesReply : SinkState → SinkState → List ℕ → FrameResult → Type 0
 WritesReply sink sink' frame Answered = Writing sink sink' frame false
 WritesReply sink sink' frame Unsent = WritesPart sink sink' frame
-WritesReply sink sink' frame (TurnEnded end) = ⊥
+WritesReply sink sink' frame (ResultEnded end) = ⊥
 
 -- the result of a step whose reply was written this far
-abbrev pub turn_after : Sent → Turn
-turn_after sent.Whole = Answered
-turn_after (sent.Part n) = Unsent
+abbrev pub result_after : Sent → FrameResult
+result_after sent.Whole = Answered
+result_after (sent.Part n) = Unsent
 
 -- a session's state between frames: the buffer's capacity and bytes, and the number of commands given to the port
-pub record WorkState : Type 0 where
+pub record SessionModel : Type 0 where
   pub room : ℕ
   pub bytes : List ℕ
   pub given : ℕ
 
 -- the buffer's capacity doesn't shrink, and grows to the reply's frame at most; a reply without payload leaves the
 -- buffer unchanged
-pub record GrowsFor (reply : Reply) (work work' : WorkState) : Type 0 where
-  pub kept : work.room ≤ work'.room
-  pub grown : work'.room ≤ max work.room (reply_len reply)
-  pub still : length reply.payload ≡ 0 → (work'.room ≡ work.room) × (work'.bytes ≡ work.bytes)
+pub record GrowsFor (reply : Reply) (state state' : SessionModel) : Type 0 where
+  pub kept : state.room ≤ state'.room
+  pub grown : state'.room ≤ max state.room (reply_len reply)
+  pub still : length reply.payload ≡ 0 → (state'.room ≡ state.room) × (state'.bytes ≡ state.bytes)
 
 -- a command given to the port is counted; one that got BUSY without the port isn't
 abbrev pub Counts : {P : Type 0} → Commands P → P → Request → Reply → P → ℕ → ℕ → Type 0
@@ -87,46 +87,46 @@ Counts commands port request reply port' given given' =
     ⊎ ((0 < length request.payload) × (reply ≡ busy) × (port' ≡ port) × (given' ≡ given))
 
 -- if the buffer has capacity for the frame of a reply with payload, the frame was assembled there
-abbrev pub IsJoined : ℕ → Reply → WorkState → Type 0
-IsJoined tag reply work = 0 < length reply.payload → reply_len reply ≤ work.room → IsReplyFrame tag reply (take (reply_len reply) work.bytes)
+abbrev pub IsAssembled : ℕ → Reply → SessionModel → Type 0
+IsAssembled tag reply state = 0 < length reply.payload → reply_len reply ≤ state.room → IsReplyFrame tag reply (take (reply_len reply) state.bytes)
 
 -- BUSY was written under this tag, whole or up to a write fault
-pub record RefusesRequest (sink sink' : SinkState) (tag : ℕ) (turn : Turn) (work work' : WorkState) : Type 0 where
+pub record RefusesRequest (sink sink' : SinkState) (tag : ℕ) (result : FrameResult) (state state' : SessionModel) : Type 0 where
   pub frame : List ℕ
   pub is_frame : IsReplyFrame tag busy frame
-  pub written : WritesReply sink sink' frame turn
-  pub memory : GrowsFor busy work work'
-  pub uncounted : work'.given ≡ work.given
+  pub written : WritesReply sink sink' frame result
+  pub memory : GrowsFor busy state state'
+  pub uncounted : state'.given ≡ state.given
 
 -- a request got a reply, which was written whole or up to a write fault
-pub record AnswersRequest {P : Type 0} (commands : Commands P) (sink sink' : SinkState) (port port' : P) (request : Request) (turn : Turn) (work work' : WorkState) : Type 0 where
+pub record AnswersRequest {P : Type 0} (commands : Commands P) (sink sink' : SinkState) (port port' : P) (request : Request) (result : FrameResult) (state state' : SessionModel) : Type 0 where
   pub reply : Reply
   pub frame : List ℕ
-  pub answers : Answers commands port request reply port'
+  pub answers : RepliesTo commands port request reply port'
   pub is_frame : IsReplyFrame request.tag reply frame
-  pub written : WritesReply sink sink' frame turn
-  pub memory : GrowsFor reply work work'
-  pub joined : IsJoined request.tag reply work'
-  pub counts : Counts commands port request reply port' work.given work'.given
+  pub written : WritesReply sink sink' frame result
+  pub memory : GrowsFor reply state state'
+  pub joined : IsAssembled request.tag reply state'
+  pub counts : Counts commands port request reply port' state.given state'.given
 
 -- a whole frame was read, and its reply written whole or up to a write fault
-pub record ServesFrame {P : Type 0} (commands : Commands P) (source source' : SourceState) (sink sink' : SinkState) (port port' : P) (work work' : WorkState) (turn : Turn) : Type 0 where
+pub record ServesFrame {P : Type 0} (commands : Commands P) (source source' : SourceState) (sink sink' : SinkState) (port port' : P) (state state' : SessionModel) (result : FrameResult) : Type 0 where
   pub request : Request
   pub reads : ReadsFrame [] source source' request
-  pub answers : AnswersRequest commands sink sink' port port' request turn work work'
+  pub answers : AnswersRequest commands sink sink' port port' request result state state'
 
 -- no whole frame came; the sink, the port and the session's state are unchanged
-pub record EndsTurn {P : Type 0} (source source' : SourceState) (sink sink' : SinkState) (port port' : P) (work work' : WorkState) (end : Why) : Type 0 where
+pub record EndsStep {P : Type 0} (source source' : SourceState) (sink sink' : SinkState) (port port' : P) (state state' : SessionModel) (end : EndReason) : Type 0 where
   pub stops : StopsAfter [] source source' end
   pub same_sink : sink' ≡ sink
   pub same_port : port' ≡ port
-  pub same_work : work' ≡ work
+  pub same_state : state' ≡ state
 
 -- one step of a session, by its result
-abbrev pub Turns : {P : Type 0} → Commands P → SourceState → SourceState → SinkState → SinkState → P → P → WorkState → WorkState → Turn → Type 0
-Turns commands source source' sink sink' port port' work work' Answered = ServesFrame commands source source' sink sink' port port' work work' Answered
-Turns commands source source' sink sink' port port' work work' Unsent = ServesFrame commands source source' sink sink' port port' work work' Unsent
-Turns commands source source' sink sink' port port' work work' (TurnEnded end) = EndsTurn source source' sink sink' port port' work work' end
+abbrev pub FrameStep : {P : Type 0} → Commands P → SourceState → SourceState → SinkState → SinkState → P → P → SessionModel → SessionModel → FrameResult → Type 0
+FrameStep commands source source' sink sink' port port' state state' Answered = ServesFrame commands source source' sink sink' port port' state state' Answered
+FrameStep commands source source' sink sink' port port' state state' Unsent = ServesFrame commands source source' sink sink' port port' state state' Unsent
+FrameStep commands source source' sink sink' port port' state state' (ResultEnded end) = EndsStep source source' sink sink' port port' state state' end
 
 -- `count` frames were read and answered whole
 pub record Served {P : Type 0} (commands : Commands P) (source source' : SourceState) (sink sink' : SinkState) (port port' : P) (count : ℕ) : Type 0 where
@@ -142,40 +142,40 @@ pub record ServesAll {P : Type 0} (commands : Commands P) (source source' : Sour
   pub answers : List ℕ
   pub rest : List ℕ
   pub conversation : Conversation commands port port' frames answers end.frames
-  pub closes : Closes end.why admitted end.frames rest
-  pub read : Reading source source' (frames ++ rest) (is_read end.why)
-  pub ended : EndsInput end.why source'.left
-  pub written : WritesAnswers end.why sink sink' answers (last_len 0 conversation.replies)
+  pub closes : Closes end.reason admitted end.frames rest
+  pub read : Reading source source' (frames ++ rest) (is_read_fault end.reason)
+  pub ended : EndsInput end.reason source'.left
+  pub written : WritesAnswers end.reason sink sink' answers (last_len 0 conversation.replies)
 
 -- a moment between two frames: the streams, the port and the session's state
 pub record Moment (P : Type 0) : Type 0 where
   pub source : SourceState
   pub sink : SinkState
   pub port : P
-  pub work : WorkState
+  pub state : SessionModel
 
 -- one step of a session, from one moment to the next
-abbrev pub TurnsTo : {P : Type 0} → Commands P → Moment P → Moment P → Turn → Type 0
-TurnsTo commands old new turn = Turns commands old.source new.source old.sink new.sink old.port new.port old.work new.work turn
+abbrev pub StepsTo : {P : Type 0} → Commands P → Moment P → Moment P → FrameResult → Type 0
+StepsTo commands old new result = FrameStep commands old.source new.source old.sink new.sink old.port new.port old.state new.state result
 
 -- this many frames were answered, each from the moment that the one before left
-abbrev pub HasTurned : {P : Type 0} → Commands P → ℕ → Moment P → Moment P → Type 0
-HasTurned commands zero first last = last ≡ first
-HasTurned {P = P} commands (suc n) first last =
-    (between : Moment P) × HasTurned commands n first between × TurnsTo commands between last Answered
+abbrev pub HasStepped : {P : Type 0} → Commands P → ℕ → Moment P → Moment P → Type 0
+HasStepped commands zero first last = last ≡ first
+HasStepped {P = P} commands (suc n) first last =
+    (between : Moment P) × HasStepped commands n first between × StepsTo commands between last Answered
 
 -- the end of a session after `count` answered frames, and its last moment, from the one that they left
 pub data Finishes {P : Type 0} (commands : Commands P) (count : ℕ) (between last : Moment P) : SessionEnd → Type 0 where
   -- the limit of frames is reached: nothing more was done
-  full : count ≡ most_frames → last ≡ between → Finishes commands count between last (record { frames = count; why = why.Bound })
+  full : count ≡ most_frames → last ≡ between → Finishes commands count between last (record { frames = count; reason = reason.Bound })
   -- one more frame came, whose reply wasn't written whole
-  unsent : TurnsTo commands between last Unsent → Finishes commands count between last (record { frames = count + 1; why = why.Write })
+  unsent : StepsTo commands between last Unsent → Finishes commands count between last (record { frames = count + 1; reason = reason.Write })
   -- no whole frame came, for this reason
-  stopped : (end : Why) → TurnsTo commands between last (TurnEnded end) → Finishes commands count between last (record { frames = count; why = end })
+  stopped : (end : EndReason) → StepsTo commands between last (ResultEnded end) → Finishes commands count between last (record { frames = count; reason = end })
 
 -- a session step by step: nothing but steps leads from its first moment to its last
-pub record TakesTurns {P : Type 0} (commands : Commands P) (first last : Moment P) (end : SessionEnd) : Type 0 where
+pub record RunsInSteps {P : Type 0} (commands : Commands P) (first last : Moment P) (end : SessionEnd) : Type 0 where
   pub count : ℕ
   pub between : Moment P
-  pub answered : HasTurned commands count first between
+  pub answered : HasStepped commands count first between
   pub finish : Finishes commands count between last end

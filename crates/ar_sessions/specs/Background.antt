@@ -13,7 +13,7 @@ use Rattle.ar_rebuild.specs.declared.step.Rebuild.TheVariants as rebuild
 use Rattle.ar_history.specs.declared.operation.Task.{Task}
 use Rattle.ar_history.specs.declared.operation.Task.TheVariants.{Flush, Rebuild, Clean, Balance, Demote}
 use Rattle.ar_history.specs.Kept.{KeptState}
-use Rattle.ar_history.specs.Operations.{event_in}
+use Rattle.ar_history.specs.Operations.{event_of_task}
 use Rattle.ar_sessions.specs.declared.background.Idleness.{Idleness}
 
 -- the next task of the rotation
@@ -62,7 +62,7 @@ is_idle outcome = false
 -- the task's event was one step of the array, and `told` says whether its outcome did something
 pub record DoesTask (old : KeptState) (task : Task) (told : Bool) (new : KeptState) : Type 0 where
   pub outcome : Outcome
-  pub steps : Steps old.array (event_in task) outcome new.array
+  pub steps : Steps old.array (event_of_task task) outcome new.array
   pub worked : told ≡ not (is_idle outcome)
 
 -- A step, and whether it returns that it did something: a task that is due is one step of the array, one that isn't
