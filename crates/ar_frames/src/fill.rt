@@ -7,7 +7,7 @@ use crate::stream::{Sink, Source};
 
 // How far a buffer was filled.
 #[derive(Clone, Copy)]
-pub enum FillResult {
+pub(crate) enum FillResult {
     Full,
     // Input ended after this many bytes.
     Ended(usize),
@@ -17,14 +17,14 @@ pub enum FillResult {
 
 // How far a buffer was written.
 #[derive(Clone, Copy)]
-pub enum Sent {
+pub(crate) enum Sent {
     Whole,
     // A write faulted after this many bytes.
     Part(usize),
 }
 
 // Fills `into`. An empty one makes no read.
-pub fn fill<R: Source>(reader: &mut R, into: &mut [u8]) -> FillResult
+pub(crate) fn fill<R: Source>(reader: &mut R, into: &mut [u8]) -> FillResult
     ensures { Filling (R.state reader.old) (R.state reader.new) into.new result }
 {
     let mut at = 0;
@@ -39,7 +39,7 @@ pub fn fill<R: Source>(reader: &mut R, into: &mut [u8]) -> FillResult
 }
 
 // Writes all of `from`. An empty one makes no write.
-pub fn send<W: Sink>(writer: &mut W, from: &[u8]) -> Sent
+pub(crate) fn send<W: Sink>(writer: &mut W, from: &[u8]) -> Sent
     ensures { Sending (W.state writer.old) (W.state writer.new) from.now result }
 {
     let mut at = 0;

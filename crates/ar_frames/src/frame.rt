@@ -24,14 +24,14 @@ pub struct Request {
 
 // The fields of a request frame between N and the data.
 #[derive(Clone, Copy)]
-pub struct Head {
+pub(crate) struct Head {
     pub tag: u64,
     pub lun: u8,
     pub cdb: [u8; 16],
 }
 
 // Decodes the 25 bytes that follow N.
-pub fn head_of(bytes: &[u8; 25]) -> Head
+pub(crate) fn head_of(bytes: &[u8; 25]) -> Head
     ensures tag { result.tag ≡ big_number 8 bytes.now }
     ensures lun { result.lun ≡ slice_index bytes.now 8 }
     ensures cdb { result.cdb ≡ drop 9 bytes.now }
@@ -46,7 +46,7 @@ pub fn head_of(bytes: &[u8; 25]) -> Head
 }
 
 // Encodes a request frame up to its `len` bytes of data.
-pub fn request_head(tag: u64, lun: u8, cdb: &[u8; 16], len: u32) -> [u8; 29]
+pub(crate) fn request_head(tag: u64, lun: u8, cdb: &[u8; 16], len: u32) -> [u8; 29]
     requires { len ≤ most_data }
     ensures { result ≡ big_bytes 4 (25 + len) ++ (big_bytes 8 tag ++ (lun ∷ cdb.now)) }
 {
@@ -59,7 +59,7 @@ pub fn request_head(tag: u64, lun: u8, cdb: &[u8; 16], len: u32) -> [u8; 29]
 }
 
 // Encodes a reply frame without sense data, up to its `len` bytes of payload.
-pub fn plain_head(tag: u64, status: Status, len: u32) -> [u8; 14]
+pub(crate) fn plain_head(tag: u64, status: Status, len: u32) -> [u8; 14]
     requires { len ≤ most_data }
     ensures { result ≡ big_bytes 4 (10 + len) ++ (big_bytes 8 tag ++ (status_byte status ∷ 0x00 ∷ [])) }
 {
@@ -71,7 +71,7 @@ pub fn plain_head(tag: u64, status: Status, len: u32) -> [u8; 14]
 }
 
 // Encodes the whole reply frame of a CHECK CONDITION.
-pub fn sense_frame(tag: u64, sense: &[u8; 18]) -> [u8; 32]
+pub(crate) fn sense_frame(tag: u64, sense: &[u8; 18]) -> [u8; 32]
     ensures { result ≡ big_bytes 4 28 ++ (big_bytes 8 tag ++ (0x02 ∷ 0x12 ∷ sense.now)) }
 {
     let mut frame = [0; 32];

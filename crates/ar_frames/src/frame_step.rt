@@ -17,7 +17,7 @@ use std::alloc::Global;
 
 // The result of a step.
 #[derive(Clone, Copy)]
-pub enum FrameResult {
+pub(crate) enum FrameResult {
     Answered,
     // The frame was read, and its reply wasn't written whole.
     Unsent,
@@ -27,7 +27,7 @@ pub enum FrameResult {
 
 // A session's state between frames. Only a step changes it.
 #[derive(Drop)]
-pub struct SessionState {
+pub(crate) struct SessionState {
     // Replies are assembled in it. Its capacity is at most the length of the longest frame.
     buffer: Vec<u8>,
     // The number of commands that were given to the port.
@@ -49,7 +49,7 @@ impl SessionState {
 }
 
 // Reads a frame, executes it at the port and writes the reply. A frame whose data couldn't be allocated gets BUSY.
-pub fn serve_frame<R: Source, W: Sink, P: Port, G: Gate>(
+pub(crate) fn serve_frame<R: Source, W: Sink, P: Port, G: Gate>(
     alloc: Global,
     reader: &mut R,
     writer: &mut W,

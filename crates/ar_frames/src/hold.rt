@@ -10,7 +10,7 @@ use std::alloc::{AllocError, Global};
 
 // The result of discarding bytes.
 #[derive(Clone, Copy)]
-pub enum Passed {
+pub(crate) enum Passed {
     All,
     Ended,
     Failed,
@@ -18,7 +18,7 @@ pub enum Passed {
 
 // The result of reading bytes into a buffer.
 #[derive(Drop)]
-pub enum BufferResult {
+pub(crate) enum BufferResult {
     Kept(Bytes),
     // The allocation failed, and no byte was read.
     Refused,
@@ -30,7 +30,7 @@ pub enum BufferResult {
 
 // The result of reading bytes that are kept if they can be allocated, and read in any case.
 #[derive(Drop)]
-pub enum Fetched {
+pub(crate) enum Fetched {
     Kept(Bytes),
     Lost,
     Ended,
@@ -41,7 +41,7 @@ pub enum Fetched {
 const PIECE: usize = 4096;
 
 // Reads `len` bytes and discards them.
-pub fn pass<R: Source>(reader: &mut R, len: usize) -> Passed
+pub(crate) fn pass<R: Source>(reader: &mut R, len: usize) -> Passed
     ensures { Passes (R.state reader.old) (R.state reader.new) len result }
 {
     let mut piece = [0; PIECE];
@@ -58,7 +58,7 @@ pub fn pass<R: Source>(reader: &mut R, len: usize) -> Passed
 }
 
 // Reads `len` bytes into a buffer of their own. Zero bytes allocate nothing.
-pub fn hold<R: Source>(alloc: Global, reader: &mut R, len: usize) -> BufferResult
+pub(crate) fn hold<R: Source>(alloc: Global, reader: &mut R, len: usize) -> BufferResult
     ensures { Buffers (R.state reader.old) (R.state reader.new) len result }
 {
     if len == 0 {
@@ -99,7 +99,7 @@ fn shared(bytes: Vec<u8>) -> BufferResult
 }
 
 // Reads `len` bytes, and keeps them if they can be allocated.
-pub fn fetch_data<R: Source>(alloc: Global, reader: &mut R, len: usize) -> Fetched
+pub(crate) fn fetch_data<R: Source>(alloc: Global, reader: &mut R, len: usize) -> Fetched
     ensures { Fetches (R.state reader.old) (R.state reader.new) len result }
 {
     match hold(alloc, reader, len) {

@@ -17,7 +17,7 @@ pub const LOGIN_NAME: [u8; 8] = *b"ARAIDHO1";
 
 // The result of a whole login.
 #[derive(Clone, Copy)]
-pub enum Admission {
+pub(crate) enum Admission {
     Admitted(Host),
     BadLogin,
     HostInUse,
@@ -25,13 +25,13 @@ pub enum Admission {
 
 // How a session begins: with a host, or with its end.
 #[derive(Clone, Copy)]
-pub enum LoginResult {
+pub(crate) enum LoginResult {
     Admitted(Host),
     Ended(EndReason),
 }
 
 // Reads a login and writes the reply to it.
-pub fn enter<R: Source, W: Sink, P: Port>(
+pub(crate) fn enter<R: Source, W: Sink, P: Port>(
     reader: &mut R,
     writer: &mut W,
     port: &mut P,

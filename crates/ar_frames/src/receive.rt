@@ -15,7 +15,7 @@ use std::alloc::Global;
 
 // What was read where a request frame may begin.
 #[derive(Drop)]
-pub enum Incoming {
+pub(crate) enum Incoming {
     Whole(Request),
     // A whole frame with this tag, whose data couldn't be allocated.
     Lost(u64),
@@ -24,7 +24,7 @@ pub enum Incoming {
 }
 
 // Reads a request frame. After an N that no frame has, nothing is read.
-pub fn receive<R: Source>(alloc: Global, reader: &mut R) -> Incoming
+pub(crate) fn receive<R: Source>(alloc: Global, reader: &mut R) -> Incoming
     ensures { Receives [] (R.state reader.old) (R.state reader.new) result }
 {
     let mut count = [0; 4];

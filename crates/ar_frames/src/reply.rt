@@ -12,7 +12,12 @@ use ar_scsi::Reply;
 
 // Writes a reply frame. Head and payload are joined in `buffer`, which the next reply overwrites; its capacity grows to
 // the frame's length at most. A reply without payload leaves it unchanged.
-pub fn send_reply<W: Sink>(writer: &mut W, buffer: &mut Vec<u8>, tag: u64, reply: &Reply) -> Sent
+pub(crate) fn send_reply<W: Sink>(
+    writer: &mut W,
+    buffer: &mut Vec<u8>,
+    tag: u64,
+    reply: &Reply,
+) -> Sent
     requires { IsReply reply.now }
     // If the buffer has capacity for a frame with payload, the frame was assembled there.
     ensures joined { 0 < length reply.now.payload → reply_len reply.now ≤ vec_capacity buffer.new
@@ -33,7 +38,12 @@ pub fn send_reply<W: Sink>(writer: &mut W, buffer: &mut Vec<u8>, tag: u64, reply
 }
 
 // Writes two pieces, one after the other, joined if the buffer can hold both.
-pub fn send_joined<W: Sink>(writer: &mut W, buffer: &mut Vec<u8>, front: &[u8], rest: &[u8]) -> Sent
+pub(crate) fn send_joined<W: Sink>(
+    writer: &mut W,
+    buffer: &mut Vec<u8>,
+    front: &[u8],
+    rest: &[u8],
+) -> Sent
     ensures sends { Sending (W.state writer.old) (W.state writer.new) (front.now ++ rest.now) result }
     ensures room { vec_capacity buffer.new ≤ max (vec_capacity buffer.old) (length front.now + length rest.now) }
     ensures kept { vec_capacity buffer.old ≤ vec_capacity buffer.new }

@@ -17,7 +17,7 @@ use ar_disks::{Block, Completion, Disk, Members};
 use ar_extents::DiskSet;
 
 // Computes the XOR of the two blocks of a stripe that are neither at `lost` nor at `beside`.
-pub fn sum_of_two<D: Disk>(
+pub(crate) fn sum_of_two<D: Disk>(
     set: &mut DiskSet<D>,
     members: &Members,
     lost: u8,
@@ -57,7 +57,7 @@ pub fn sum_of_two<D: Disk>(
 }
 
 // Computes the lost block: the XOR of the three others of its stripe.
-pub fn sum_of_three<D: Disk>(
+pub(crate) fn sum_of_three<D: Disk>(
     set: &mut DiskSet<D>,
     members: &Members,
     lost: u8,

@@ -13,14 +13,14 @@ ghost use Rattle.ar_parity.specs.Others.{low_other, high_other};
 const DATA_BLOCKS: u16 = 3;
 
 // The row of a slot.
-pub fn row_of_slot(slot: u16) -> u16
+pub(crate) fn row_of_slot(slot: u16) -> u16
     ensures { result ≡ row_of slot }
 {
     slot / DATA_BLOCKS
 }
 
 // The member position of a stripe's parity.
-pub fn parity_at(row: u16) -> u8
+pub(crate) fn parity_at(row: u16) -> u8
     ensures position { result ≡ parity_position row }
     ensures below { result < 4 }
 {
@@ -28,7 +28,7 @@ pub fn parity_at(row: u16) -> u8
 }
 
 // The member position of a slot's block.
-pub fn data_at(slot: u16) -> u8
+pub(crate) fn data_at(slot: u16) -> u8
     ensures position { result ≡ data_position slot }
     ensures below { result < 4 }
     ensures apart { result ≢ parity_position (row_of slot) }
@@ -42,7 +42,7 @@ pub fn data_at(slot: u16) -> u8
 }
 
 // A position other than this one.
-pub fn another(position: u8) -> u8
+pub(crate) fn another(position: u8) -> u8
     requires { position < 4 }
     ensures below { result < 4 }
     ensures apart { result ≢ position }
@@ -51,7 +51,7 @@ pub fn another(position: u8) -> u8
 }
 
 // The lowest position that is neither of two.
-pub fn lowest_beside(one: u8, other: u8) -> u8
+pub(crate) fn lowest_beside(one: u8, other: u8) -> u8
     ensures position { result ≡ low_other one other }
     ensures below { result < 4 }
     ensures apart_one { result ≢ one }
@@ -67,7 +67,7 @@ pub fn lowest_beside(one: u8, other: u8) -> u8
 }
 
 // The highest position that is neither of two.
-pub fn highest_beside(one: u8, other: u8) -> u8
+pub(crate) fn highest_beside(one: u8, other: u8) -> u8
     ensures position { result ≡ high_other one other }
     ensures below { result < 4 }
     ensures apart_one { result ≢ one }

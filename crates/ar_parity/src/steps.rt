@@ -15,7 +15,7 @@ use ar_disks::{Block, Completion, Disk, Members};
 use ar_extents::{DiskSet, Got, Put};
 
 // Writes a row of the member at `position`, unless it is missing.
-pub fn write<D: Disk>(
+pub(crate) fn write<D: Disk>(
     set: &mut DiskSet<D>,
     members: &Members,
     position: u8,
@@ -38,7 +38,7 @@ pub fn write<D: Disk>(
 }
 
 // Reads a row of a member other than the lost one.
-pub fn read_beside<D: Disk>(
+pub(crate) fn read_beside<D: Disk>(
     set: &mut DiskSet<D>,
     members: &Members,
     lost: u8,
@@ -69,7 +69,7 @@ pub fn read_beside<D: Disk>(
 }
 
 // XORs a row of a member other than the lost one into `into`.
-pub fn add_beside<D: Disk>(
+pub(crate) fn add_beside<D: Disk>(
     set: &mut DiskSet<D>,
     members: &Members,
     lost: u8,

@@ -171,7 +171,7 @@ fn change_by_reading<D: Disk>(
 }
 
 // Writes a block at a position of a stripe, by the method that the stripe's members allow.
-pub fn change<D: Disk>(
+pub(crate) fn change<D: Disk>(
     set: &mut DiskSet<D>,
     members: &Members,
     position: u8,

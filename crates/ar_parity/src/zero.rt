@@ -13,7 +13,7 @@ use ar_disks::{Block, Completion, Disk, Members};
 use ar_extents::DiskSet;
 
 // Writes zeros to a row of each member that isn't missing.
-pub fn zero_row<D: Disk>(
+pub(crate) fn zero_row<D: Disk>(
     set: &mut DiskSet<D>,
     members: &Members,
     row: u16,
