@@ -18,7 +18,7 @@ use Rattle.ar_frames.specs.Login.{IsAdmitted}
 use Rattle.ar_frames.proofs.Streams.{Reading-trans, Reading-same, Reading-none, Writing-trans, Writing-same, Writing-none, take-append_more}
 use Rattle.ar_frames.proofs.Entering.{no_frames}
 
--- a talk and one more answer
+-- replies to requests, and one more reply
 replies_to_more : {P : Type 0} (commands : Commands P) (old mid new : P) (requests : List Request) (replies : List Reply) (request : Request) (reply : Reply)
     → RepliesToAll commands old requests replies mid → RepliesTo commands mid request reply new
     → RepliesToAll commands old (requests ++ request ∷ []) (replies ++ reply ∷ []) new

@@ -31,7 +31,7 @@ pub record AtOneMoment (before : SeatState) (lun : ℕ) (cdb payload : List ℕ)
 abbrev pub is_good_access : List ℕ → Reply → Bool
 is_good_access cdb reply = is_good reply.status && needs_blocks (reading cdb)
 
--- The transcript has grown by the command and its reply, or is unchanged; after a command that `is_good_access` it has grown.
+-- The transcript has grown by the command and its reply, or is unchanged; after a good access it has grown.
 pub record RecordsExchange (before : SeatState) (lun : ℕ) (cdb payload : List ℕ) (reply : Reply) (after : SeatState) : Type 0 where
   pub one :
       (after.transcript ≡ before.transcript ++ exchange_of lun cdb payload reply ∷ []) ⊎ (after.transcript ≡ before.transcript)

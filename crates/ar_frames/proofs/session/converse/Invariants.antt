@@ -1,4 +1,4 @@
--- so many frames were served in turn, and no more commands were given
+-- `frames` frames were answered, one step each, and at most as many commands were given
 use Rattle.std.proofs.Common.{◌≡◌, ◌≤◌, true, vec_capacity}
 use Rattle.ar_frames.specs.FrameStep.{Served, HasStepped}
 use Rattle.ar_frames.proofs.session.converse.Given as goal
