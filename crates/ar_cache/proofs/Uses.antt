@@ -1,12 +1,13 @@
 -- What the calls of the ordered map leave, as a cache's words say it.
 use Rattle.std.proofs.Common.{◌≡◌, ℕ, ◌-◌, ◌<◌, ◌≤◌, true, false, List, [], ◌∷◌, Option, Some, None, IsSome, is_some, length, take, refl, sym, ap, arith}
 use Rattle.std.specs.List.{slice_get}
+use Rattle.std.specs.Prelude.{nat_lt}
 use Rattle.std.specs.Map.{lookup, lookup_entry, set_value}
 use Rattle.std.proofs.lemmas.List.{take_all, length-take}
-use Rattle.std.proofs.lemmas.Bool.{false≢true}
+use Rattle.std.proofs.lemmas.Bool.{false≢true, le-ltb}
 use Rattle.lru.specs.LruCache.{LruCache, promoted, put_entries, displaced}
 use Rattle.ar_disks.specs.declared.address.Key.{Key}
-use Rattle.ar_cache.specs.Cache.{same_key, without_key, without_last, CacheState, with_room}
+use Rattle.ar_cache.specs.Cache.{same_key, without_key, without_last, CacheState, with_room, cached, last_keys, pushed_out}
 use Rattle.ar_cache.proofs.Keys.{same_key_true, same_key_refl}
 
 -- a look-up that finds a block finds the entry of the key itself
@@ -69,3 +70,7 @@ fits_without_last c fits = omega (arith, length-take (length c.entries - 1) c.en
 pub none_is : (o : Option (List ℕ)) → is_some o ≡ false → o ≡ None
 none_is None h = refl
 none_is (Some x) h = absurd (false≢true (sym h))
+
+-- a new key evicts the least recently used of a full cache
+pub pushed_full : (c : CacheState) (k : Key) → cached c k ≡ None → c.capacity ≤ length c.entries → pushed_out c k ≡ last_keys c.entries
+pushed_full c k miss full = let no : nat_lt (length c.entries) c.capacity ≡ false = le-ltb (length c.entries) c.capacity full in rw (miss, no)

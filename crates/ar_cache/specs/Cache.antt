@@ -1,5 +1,5 @@
 -- A cache as plain data: keys with blocks that the backing hasn't got yet.
-use Rattle.std.specs.Prelude.{◌≡◌, ◌≢◌, ◌⊎◌, ℕ, ◌-◌, ◌<◌, ◌≤◌, ◌==◌, ◌&&◌, not, Bool, IsTrue, IsSome, List, [], ◌∷◌, Option, Some, option_map, All, is_some, length, take, drop, reverse, filter, nat_lt, unwrap_or, if◌then◌else◌}
+use Rattle.std.specs.Prelude.{◌≡◌, ◌≢◌, ◌⊎◌, ℕ, ◌-◌, ◌<◌, ◌≤◌, ◌==◌, ◌&&◌, not, Bool, IsTrue, IsSome, IfSome, List, [], ◌∷◌, ◌++◌, Option, Some, None, option_map, All, is_some, length, take, drop, reverse, filter, nat_lt, unwrap_or, if◌then◌else◌}
 use Rattle.std.specs.List.{IsDistinct}
 use Rattle.std.specs.Option.{option_map_or}
 use Rattle.std.specs.Map.{keys_of, lookup, remove_entry}
@@ -9,7 +9,7 @@ use Rattle.ar_disks.specs.declared.address.Addr.{Addr}
 use Rattle.ar_disks.specs.declared.address.Key.{Key}
 use Rattle.ar_disks.specs.declared.geometry.Geometry.{Geometry}
 use Rattle.ar_disks.specs.Geometry.{block_len_of}
-use Rattle.ar_cache.specs.Backing.{InTurn, StopsInTurn, WritesKey}
+use Rattle.ar_cache.specs.Backing.{InTurn, StopsInTurn, IsHonest, WritesKey, stored as stored_by}
 use Rattle.ar_cache.specs.declared.answers.Flush.{Flush}
 use Rattle.ar_cache.specs.declared.answers.Flush.TheVariants.{Flushed, Idle, Broken}
 use Rattle.ar_disks.specs.declared.completion.Completion.{Completion}
@@ -114,6 +114,48 @@ pub record KeepsOtherBlocks (old : CacheState) (old_block_at : Key → List ℕ)
       → new_block_at other ≡ old_block_at other
   pub held : IsSome (cached new key) → new_block_at key ≡ old_block_at key
 
+-- What is read after a put that was done: the key as the block, every other key as before; and behind the cache only
+-- blocks that were destaged have changed.
+pub record PutIsSeen (old : CacheState) (old_block_at : Key → List ℕ)
+    (new : CacheState) (new_block_at : Key → List ℕ) (key : Key) (block : List ℕ) : Type 0 where
+  pub sees : Sees old old_block_at new new_block_at key block
+  pub behind : KeepsOtherBlocks old old_block_at new new_block_at key
+
+-- the entries after a put, by its outcome: an entry of the key is overwritten and moved to the front
+pub record PutsEntry (old : CacheState) (key : Key) (block : List ℕ) (outcome : Completion) (new : CacheState) : Type 0 where
+  pub present : IsSome (cached old key) → new ≡ with_entries old ((key, block) ∷ without_key old.entries key)
+  pub absent : cached old key ≡ None → outcome ≡ stored.Done → TakesIn old new key block
+  pub broken : outcome ≡ stored.Broken → new ≡ old
+  pub fits : length new.entries ≤ new.capacity
+
+-- What the backing was given for a put: nothing for a key that is cached; else the evicted block first, and then the
+-- key's own if that has no entry, up to the one that failed it.
+pub record PutsBehind {S : Type 0} (puts breaks : S → Key → S → Type 0) (old : CacheState) (key : Key) (outcome : Completion)
+    (new : CacheState) (from to : S) : Type 0 where
+  pub present : IsSome (cached old key) → (outcome ≡ stored.Done) × (to ≡ from)
+  pub put : outcome ≡ stored.Done → InTurn puts (pushed_out old key ++ put_through new key) from to
+  pub stopped : outcome ≡ stored.Broken → StopsInTurn puts breaks (pushed_out old key ++ key ∷ []) from to
+
+-- The outcome of a put, by whether the backing has failed: that of the backing, where it was accessed.
+pub record PutAnswers (old : CacheState) (key : Key) (outcome : Completion) (new : CacheState) (was is : Bool) : Type 0 where
+  pub honest : IsHonest outcome was is
+  pub asked : cached old key ≡ None → old.capacity ≤ length old.entries → outcome ≡ stored_by is
+  pub through : cached new key ≡ None → outcome ≡ stored_by is
+
+-- the entry of a key was removed
+pub record RemovesEntry (old : CacheState) (key : Key) (new : CacheState) : Type 0 where
+  pub entries : new ≡ with_entries old (without_key old.entries key)
+  pub gone : cached new key ≡ None
+  pub others : (other : Key) → other ≢ key → cached new other ≡ cached old other
+
+-- the backing was given the block of a key, if it is cached
+pub record DestagesKey {S : Type 0} (block_at : S → Key → List ℕ) (puts breaks : S → Key → S → Type 0) (old : CacheState)
+    (key : Key) (outcome : Completion) (from to : S) : Type 0 where
+  pub given : outcome ≡ stored.Done → IfSome (cached old key) (λ block. WritesKey (block_at from) (block_at to) key block)
+  pub put : outcome ≡ stored.Done → IsSome (cached old key) → puts from key to
+  pub broke : outcome ≡ stored.Broken → breaks from key to
+  pub absent : cached old key ≡ None → (outcome ≡ stored.Done) × (to ≡ from)
+
 -- how one flush changes a cache, by its result
 abbrev pub Flushes : Flush → CacheState → CacheState → Type 0
 Flushes (Flushed key) old new = (last_key old.entries ≡ Some key) × (new ≡ with_entries old (without_last old.entries))
@@ -131,6 +173,21 @@ abbrev pub IsPut : {S : Type 0} → (S → Key → S → Type 0) → Flush → S
 IsPut puts (Flushed key) old new = puts old key new
 IsPut puts Idle old new = Unit {0}
 IsPut puts Broken old new = Unit {0}
+
+-- the backing was given the least recently used block, if there is one
+pub record DestagesLast {S : Type 0} (block_at : S → Key → List ℕ) (puts breaks : S → Key → S → Type 0)
+    (es : List (Key × List ℕ)) (flush : Flush) (from to : S) : Type 0 where
+  pub given : Destages flush es (block_at from) (block_at to)
+  pub put : IsPut puts flush from to
+  pub stopped : flush ≡ Broken → StopsInTurn puts breaks (last_keys es) from to
+  pub quiet : flush ≡ Idle → to ≡ from
+
+-- Every entry was destaged, the least recently used first; without an entry nothing changes.
+pub record Empties {S : Type 0} (puts : S → Key → S → Type 0) (old : CacheState) (outcome : Completion) (new : CacheState)
+    (from to : S) : Type 0 where
+  pub entries : outcome ≡ stored.Done → new ≡ with_entries old []
+  pub put : outcome ≡ stored.Done → InTurn puts (reverse (keys_of old.entries)) from to
+  pub quiet : old.entries ≡ [] → to ≡ from
 
 -- whether the flush failed the backing
 abbrev pub answer_of : Flush → Completion

@@ -5,7 +5,7 @@ ghost use Rattle.std.specs.Map.{keys_of};
 ghost use Rattle.std.specs.Bool.{OnTrue, OnFalse};
 ghost use Rattle.ar_disks.specs.Geometry.{block_len_of};
 ghost use Rattle.ar_disks.specs.declared.address.Key.{Key};
-ghost use Rattle.ar_cache.specs.Backing.{InTurn, StopsInTurn, IsHonest, stored, KeepsBacking, SameBlocks, WritesKey};
+ghost use Rattle.ar_cache.specs.Backing.{IsHonest, stored, KeepsBacking, SameBlocks};
 
 use crate::answers::Flush;
 use crate::backing::Backing;
@@ -46,9 +46,10 @@ impl Model for Cache {
 }
 
 impl Cache {
-    ghost use Rattle.ar_cache.specs.Cache.{CacheState, IsValidCache, KnowsAll, SameReads, Sees, KeepsOtherBlocks, TakesIn, Flushes, Destages, IsPut, StopsAt};
+    ghost use Rattle.ar_cache.specs.Cache.{CacheState, IsValidCache, KnowsAll, SameReads, PutIsSeen, PutsEntry, PutsBehind, PutAnswers};
+    ghost use Rattle.ar_cache.specs.Cache.{Flushes, DestagesKey, DestagesLast, RemovesEntry, Empties, StopsAt};
     ghost use Rattle.ar_disks.specs.Addresses.{same_addr};
-    ghost use Rattle.ar_cache.specs.Cache.{answer_of, cached, giving_way, last_keys, pushed_out, put_through, seen, with_entries, with_room, without_addr, without_key, without_last, turned};
+    ghost use Rattle.ar_cache.specs.Cache.{answer_of, cached, seen, with_entries, with_room, without_addr, without_key, without_last, turned};
 
     /// Creates an empty cache for `capacity` blocks (at most 65,536; 0 writes through). Fails if out of memory.
     pub fn new(alloc: Global, geometry: Geometry, capacity: u32) -> Result<Cache, AllocError>
@@ -121,29 +122,13 @@ impl Cache {
         requires all_known { KnowsAll (B.knows backing.old) self.old }
         requires whole { length block.now ≡ block_len_of self.old.geometry }
 
-        ensures sees { result ≡ Completion.Done
-            → Sees self.old (B.block_at backing.old) self.new (B.block_at backing.new) key block.now }
-        ensures blocks { result ≡ Completion.Done
-            → KeepsOtherBlocks self.old (B.block_at backing.old) self.new (B.block_at backing.new) key }
+        ensures seen { result ≡ Completion.Done
+            → PutIsSeen self.old (B.block_at backing.old) self.new (B.block_at backing.new) key block.now }
+        ensures entries { PutsEntry self.old key block.now result self.new }
+        ensures behind { PutsBehind B.puts B.breaks self.old key result self.new backing.old backing.new }
 
-        ensures present { IsSome (cached self.old key)
-            → (result ≡ Completion.Done) × (backing.new ≡ backing.old)
-            × (self.new ≡ with_entries self.old ((key, block.now) ∷ without_key self.old.entries key)) }
-        ensures absent { cached self.old key ≡ None
-            → result ≡ Completion.Done → TakesIn self.old self.new key block.now }
-        ensures puts { result ≡ Completion.Done
-            → InTurn B.puts (pushed_out self.old key ++ put_through self.new key) backing.old backing.new }
-        ensures broken { result ≡ Completion.Broken → self.new ≡ self.old }
-        ensures stopped { result ≡ Completion.Broken
-            → StopsInTurn B.puts B.breaks (pushed_out self.old key ++ key ∷ []) backing.old backing.new }
-
-        ensures fits { length self.new.entries ≤ self.new.capacity }
+        ensures answer { PutAnswers self.old key result self.new (B.is_broken backing.old) (B.is_broken backing.new) }
         ensures all_known { KnowsAll (B.knows backing.new) self.new }
-
-        ensures answer { IsHonest result (B.is_broken backing.old) (B.is_broken backing.new) }
-        ensures asked { cached self.old key ≡ None
-            → self.old.capacity ≤ length self.old.entries → result ≡ stored (B.is_broken backing.new) }
-        ensures through { cached self.new key ≡ None → result ≡ stored (B.is_broken backing.new) }
         ensures keeps { KeepsBacking B.geometry B.knows B.is_broken B.follows backing.old backing.new }
     {
         if replace(&mut self.entries, key, block) {
@@ -160,18 +145,13 @@ impl Cache {
 
         ensures entries { Flushes result self.old self.new }
         ensures idle { (result ≡ Flush.Idle) ↔ (self.old.entries ≡ []) }
-        ensures given { Destages result self.old.entries (B.block_at backing.old) (B.block_at backing.new) }
-        ensures put { IsPut B.puts result backing.old backing.new }
-        ensures stopped { result ≡ Flush.Broken
-            → StopsInTurn B.puts B.breaks (last_keys self.old.entries) backing.old backing.new }
-        ensures quiet { result ≡ Flush.Idle → backing.new ≡ backing.old }
-
+        ensures behind { DestagesLast B.block_at B.puts B.breaks self.old.entries result backing.old backing.new }
         ensures seen { answer_of result ≡ Completion.Done
             → SameReads self.old (B.block_at backing.old) self.new (B.block_at backing.new) }
-        ensures all_known { KnowsAll (B.knows backing.new) self.new }
 
         ensures answer { IsHonest (answer_of result) (B.is_broken backing.old) (B.is_broken backing.new) }
         ensures asked { 0 < length self.old.entries → answer_of result ≡ stored (B.is_broken backing.new) }
+        ensures all_known { KnowsAll (B.knows backing.new) self.new }
         ensures keeps { KeepsBacking B.geometry B.knows B.is_broken B.follows backing.old backing.new }
     {
         let answer = self.destage_last(backing);
@@ -186,26 +166,15 @@ impl Cache {
         requires geometry { B.geometry backing.old ≡ self.old.geometry }
         requires all_known { KnowsAll (B.knows backing.old) self.old }
 
-        ensures flushed { result ≡ Completion.Done
-            → self.new ≡ with_entries self.old (without_key self.old.entries key) }
-        ensures gone { result ≡ Completion.Done → cached self.new key ≡ None }
-        ensures others { result ≡ Completion.Done
-            → (other : Key) → other ≢ key → cached self.new other ≡ cached self.old other }
-        ensures given { result ≡ Completion.Done
-            → IfSome (cached self.old key)
-            (λ block. WritesKey (B.block_at backing.old) (B.block_at backing.new) key block) }
-        ensures put { result ≡ Completion.Done → IsSome (cached self.old key) → B.puts backing.old key backing.new }
+        ensures removed { result ≡ Completion.Done → RemovesEntry self.old key self.new }
         ensures broken { result ≡ Completion.Broken → self.new ≡ self.old }
-        ensures broke { result ≡ Completion.Broken → B.breaks backing.old key backing.new }
-        ensures absent { cached self.old key ≡ None
-            → (result ≡ Completion.Done) × (backing.new ≡ backing.old) }
-
+        ensures behind { DestagesKey B.block_at B.puts B.breaks self.old key result backing.old backing.new }
         ensures seen { result ≡ Completion.Done
             → SameReads self.old (B.block_at backing.old) self.new (B.block_at backing.new) }
-        ensures all_known { KnowsAll (B.knows backing.new) self.new }
 
         ensures answer { IsHonest result (B.is_broken backing.old) (B.is_broken backing.new) }
         ensures asked { IsSome (cached self.old key) → result ≡ stored (B.is_broken backing.new) }
+        ensures all_known { KnowsAll (B.knows backing.new) self.new }
         ensures keeps { KeepsBacking B.geometry B.knows B.is_broken B.follows backing.old backing.new }
     {
         let Some(block) = self.entries.peek(&key) else {
@@ -226,19 +195,15 @@ impl Cache {
         requires geometry { B.geometry backing.old ≡ self.old.geometry }
         requires all_known { KnowsAll (B.knows backing.old) self.old }
 
-        ensures emptied { result ≡ Completion.Done → self.new ≡ with_entries self.old [] }
-        ensures puts { result ≡ Completion.Done
-            → InTurn B.puts (reverse (keys_of self.old.entries)) backing.old backing.new }
-        ensures quiet { self.old.entries ≡ [] → backing.new ≡ backing.old }
+        ensures emptied { Empties B.puts self.old result self.new backing.old backing.new }
         ensures broken { result ≡ Completion.Broken
             → StopsAt B.block_at B.is_broken B.follows B.puts B.breaks self.old self.new backing.old backing.new }
-
         ensures seen { result ≡ Completion.Done
             → SameReads self.old (B.block_at backing.old) self.new (B.block_at backing.new) }
-        ensures all_known { KnowsAll (B.knows backing.new) self.new }
 
         ensures answer { IsHonest result (B.is_broken backing.old) (B.is_broken backing.new) }
         ensures asked { 0 < length self.old.entries → result ≡ stored (B.is_broken backing.new) }
+        ensures all_known { KnowsAll (B.knows backing.new) self.new }
         ensures keeps { KeepsBacking B.geometry B.knows B.is_broken B.follows backing.old backing.new }
     {
         while self.len() > 0 {
@@ -284,24 +249,13 @@ impl Cache {
         requires whole { length block.now ≡ block_len_of self.old.geometry }
         requires absent { cached self.old key ≡ None }
 
-        ensures sees { result ≡ Completion.Done
-            → Sees self.old (B.block_at backing.old) self.new (B.block_at backing.new) key block.now }
-        ensures blocks { result ≡ Completion.Done
-            → KeepsOtherBlocks self.old (B.block_at backing.old) self.new (B.block_at backing.new) key }
+        ensures seen { result ≡ Completion.Done
+            → PutIsSeen self.old (B.block_at backing.old) self.new (B.block_at backing.new) key block.now }
+        ensures entries { PutsEntry self.old key block.now result self.new }
+        ensures behind { PutsBehind B.puts B.breaks self.old key result self.new backing.old backing.new }
 
-        ensures taken { result ≡ Completion.Done → TakesIn self.old self.new key block.now }
-        ensures puts { result ≡ Completion.Done
-            → InTurn B.puts (giving_way self.old ++ put_through self.new key) backing.old backing.new }
-        ensures broken { result ≡ Completion.Broken → self.new ≡ self.old }
-        ensures stopped { result ≡ Completion.Broken
-            → StopsInTurn B.puts B.breaks (giving_way self.old ++ key ∷ []) backing.old backing.new }
-
-        ensures fits { length self.new.entries ≤ self.new.capacity }
+        ensures answer { PutAnswers self.old key result self.new (B.is_broken backing.old) (B.is_broken backing.new) }
         ensures all_known { KnowsAll (B.knows backing.new) self.new }
-
-        ensures answer { IsHonest result (B.is_broken backing.old) (B.is_broken backing.new) }
-        ensures asked { self.old.capacity ≤ length self.old.entries → result ≡ stored (B.is_broken backing.new) }
-        ensures through { cached self.new key ≡ None → result ≡ stored (B.is_broken backing.new) }
         ensures keeps { KeepsBacking B.geometry B.knows B.is_broken B.follows backing.old backing.new }
     {
         if self.capacity == 0 {
@@ -323,21 +277,13 @@ impl Cache {
         requires absent { cached self.old key ≡ None }
         requires room { length self.old.entries < self.old.capacity }
 
-        ensures sees { result ≡ Completion.Done
-            → Sees self.old (B.block_at backing.old) self.new (B.block_at backing.new) key block.now }
-        ensures blocks { result ≡ Completion.Done
-            → KeepsOtherBlocks self.old (B.block_at backing.old) self.new (B.block_at backing.new) key }
+        ensures seen { result ≡ Completion.Done
+            → PutIsSeen self.old (B.block_at backing.old) self.new (B.block_at backing.new) key block.now }
+        ensures entries { PutsEntry self.old key block.now result self.new }
+        ensures behind { PutsBehind B.puts B.breaks self.old key result self.new backing.old backing.new }
 
-        ensures taken { result ≡ Completion.Done → TakesIn self.old self.new key block.now }
-        ensures puts { result ≡ Completion.Done → InTurn B.puts (put_through self.new key) backing.old backing.new }
-        ensures broken { result ≡ Completion.Broken → self.new ≡ self.old }
-        ensures broke { result ≡ Completion.Broken → B.breaks backing.old key backing.new }
-
-        ensures fits { length self.new.entries ≤ self.new.capacity }
+        ensures answer { PutAnswers self.old key result self.new (B.is_broken backing.old) (B.is_broken backing.new) }
         ensures all_known { KnowsAll (B.knows backing.new) self.new }
-
-        ensures answer { IsHonest result (B.is_broken backing.old) (B.is_broken backing.new) }
-        ensures through { cached self.new key ≡ None → result ≡ stored (B.is_broken backing.new) }
         ensures keeps { KeepsBacking B.geometry B.knows B.is_broken B.follows backing.old backing.new }
     {
         if self.insert(key, block) {
@@ -356,23 +302,13 @@ impl Cache {
         requires full { self.old.capacity ≤ length self.old.entries }
         requires some { 0 < self.old.capacity }
 
-        ensures sees { result ≡ Completion.Done
-            → Sees self.old (B.block_at backing.old) self.new (B.block_at backing.new) key block.now }
-        ensures blocks { result ≡ Completion.Done
-            → KeepsOtherBlocks self.old (B.block_at backing.old) self.new (B.block_at backing.new) key }
+        ensures seen { result ≡ Completion.Done
+            → PutIsSeen self.old (B.block_at backing.old) self.new (B.block_at backing.new) key block.now }
+        ensures entries { PutsEntry self.old key block.now result self.new }
+        ensures behind { PutsBehind B.puts B.breaks self.old key result self.new backing.old backing.new }
 
-        ensures taken { result ≡ Completion.Done → TakesIn self.old self.new key block.now }
-        ensures puts { result ≡ Completion.Done
-            → InTurn B.puts (last_keys self.old.entries ++ put_through self.new key) backing.old backing.new }
-        ensures broken { result ≡ Completion.Broken → self.new ≡ self.old }
-        ensures stopped { result ≡ Completion.Broken
-            → StopsInTurn B.puts B.breaks (last_keys self.old.entries ++ key ∷ []) backing.old backing.new }
-
-        ensures fits { length self.new.entries ≤ self.new.capacity }
+        ensures answer { PutAnswers self.old key result self.new (B.is_broken backing.old) (B.is_broken backing.new) }
         ensures all_known { KnowsAll (B.knows backing.new) self.new }
-
-        ensures answer { IsHonest result (B.is_broken backing.old) (B.is_broken backing.new) }
-        ensures asked { result ≡ stored (B.is_broken backing.new) }
         ensures keeps { KeepsBacking B.geometry B.knows B.is_broken B.follows backing.old backing.new }
     {
         if let Flush::Broken = self.destage_last(backing) {
@@ -396,11 +332,7 @@ impl Cache {
         requires all_known { KnowsAll (B.knows backing.old) self.now }
 
         ensures sound { IsValidCache self.now }
-        ensures given { Destages result self.now.entries (B.block_at backing.old) (B.block_at backing.new) }
-        ensures put { IsPut B.puts result backing.old backing.new }
-        ensures stopped { result ≡ Flush.Broken
-            → StopsInTurn B.puts B.breaks (last_keys self.now.entries) backing.old backing.new }
-        ensures quiet { result ≡ Flush.Idle → backing.new ≡ backing.old }
+        ensures behind { DestagesLast B.block_at B.puts B.breaks self.now.entries result backing.old backing.new }
 
         ensures answer { IsHonest (answer_of result) (B.is_broken backing.old) (B.is_broken backing.new) }
         ensures asked { 0 < length self.now.entries → answer_of result ≡ stored (B.is_broken backing.new) }

@@ -8,21 +8,30 @@ use Rattle.ar_cache.proofs.Lookups.{others_without_key, lookup-without_key, seen
 use Rattle.ar_cache.proofs.Sound.{cached_whole}
 use Rattle.ar_cache.proofs.cache.Cache.flush_key.Goals as goal
 
-pub returns-in_default-clause-flushed : goal.returns-in_default-clause-flushed
-returns-in_default-clause-flushed g c done =
+pub returns-in_default-clause-removed : goal.returns-in_default-clause-removed
+returns-in_default-clause-removed g c done =
     let old = c.args.self.now in
     let miss = subst (λ s. cached s c.args.key ≡ None) c.self.view_is (sym c.in_default.ensures) in
-    ap (with_entries old) (sym (without_absent old.entries c.args.key miss))
+    record {
+      entries = ap (with_entries old) (sym (without_absent old.entries c.args.key miss));
+      gone = miss;
+      others = λ other apart. refl;
+    }
 
 pub returns-in_default-clause-asked : goal.returns-in_default-clause-asked
 returns-in_default-clause-asked g c is =
     let miss = subst (λ s. cached s c.args.key ≡ None) c.self.view_is (sym c.in_default.ensures) in
     absurd (false≢true (rw miss at is))
 
-pub returns-in_default-clause-put : goal.returns-in_default-clause-put
-returns-in_default-clause-put g c done is =
+pub returns-in_default-clause-behind : goal.returns-in_default-clause-behind
+returns-in_default-clause-behind g c =
     let miss = subst (λ s. cached s c.args.key ≡ None) c.self.view_is (sym c.in_default.ensures) in
-    absurd (false≢true (rw miss at is))
+    record {
+      given = λ done. rw miss tt;
+      put = λ done is. absurd (false≢true (rw miss at is));
+      broke = λ lost. cc;
+      absent = λ _. (refl, refl);
+    }
 
 pub put-requires-clause-known : goal.put-requires-clause-known
 put-requires-clause-known g c =
@@ -35,21 +44,41 @@ put-requires-clause-whole g c =
     let hit = subst (λ s. cached s c.args.key ≡ Some c.in-Some.block.now) c.self.view_is (sym c.in-Some.ensures) in
     ap length c.bytes.ensures ∙ cached_whole c.args.self.now c.args.key c.in-Some.block.now sound hit ∙ ap block_len_of (sym c.requires.geometry)
 
-pub returns-in-Done-clause-gone : goal.returns-in-Done-clause-gone
-returns-in-Done-clause-gone g c done =
-    let sound : IsValidCache c.args.self.now = subst IsValidCache c.self.view_is c.self.invariant.0 in
-    let es = c.args.self.now.entries in
-    subst (λ s. cached s c.args.key ≡ None) (sym c.take_out.ensures) (rw (lookup-without_key es c.args.key c.args.key sound.distinct, same_key_refl c.args.key))
+pub returns-in-Done-clause-removed : goal.returns-in-Done-clause-removed
+returns-in-Done-clause-removed g c done =
+    record {
+      entries = c.take_out.ensures;
+      gone =
+          let sound : IsValidCache c.args.self.now = subst IsValidCache c.self.view_is c.self.invariant.0 in
+          let es = c.args.self.now.entries in
+          subst (λ s. cached s c.args.key ≡ None) (sym c.take_out.ensures) (rw (lookup-without_key es c.args.key c.args.key sound.distinct, same_key_refl c.args.key));
+      others = λ other apart.
+          let sound : IsValidCache c.args.self.now = subst IsValidCache c.self.view_is c.self.invariant.0 in
+          subst (λ s. cached s other ≡ cached c.args.self.now other) (sym c.take_out.ensures)
+          (others_without_key c.args.self.now.entries c.args.key other sound.distinct apart);
+    }
 
-pub returns-in-Done-clause-absent : goal.returns-in-Done-clause-absent
-returns-in-Done-clause-absent g c miss =
+pub returns-in-Done-clause-behind : goal.returns-in-Done-clause-behind
+returns-in-Done-clause-behind g c =
     let hit = subst (λ s. cached s c.args.key ≡ Some c.in-Some.block.now) c.self.view_is (sym c.in-Some.ensures) in
-    cc
+    let f = g.B.Backing.block_at c.args.backing.now in
+    let h = g.B.Backing.block_at c.put.new.self in
+    record {
+      given = λ done. rw hit (subst (λ bytes. WritesKey f h c.args.key bytes) c.bytes.ensures (c.in-Done.ensures.written refl));
+      put = λ done is. c.in-Done.ensures.puts refl;
+      broke = λ lost. cc;
+      absent = λ miss. cc;
+    }
 
-pub returns-in-Broken-clause-absent : goal.returns-in-Broken-clause-absent
-returns-in-Broken-clause-absent g c miss =
+pub returns-in-Broken-clause-behind : goal.returns-in-Broken-clause-behind
+returns-in-Broken-clause-behind g c =
     let hit = subst (λ s. cached s c.args.key ≡ Some c.in-Some.block.now) c.self.view_is (sym c.in-Some.ensures) in
-    cc
+    record {
+      given = λ done. cc;
+      put = λ done is. cc;
+      broke = λ lost. c.in-Broken.ensures.breaks refl;
+      absent = λ miss. cc;
+    }
 
 pub returns-in-Done-clause-seen : goal.returns-in-Done-clause-seen
 returns-in-Done-clause-seen g c done =
@@ -69,12 +98,3 @@ returns-in-Done-clause-all_known g c =
     let kept = known_kept (knows c.args.backing.now) (knows c.put.new.self) c.args.self.now c.in-Done.ensures.keeps.same_keys c.requires.all_known in
     subst (KnowsAll (knows c.put.new.self)) (sym c.take_out.ensures)
     (known_without_key (knows c.put.new.self) c.args.self.now c.args.key sound.distinct kept)
-
-pub returns-in_default-clause-others : goal.returns-in_default-clause-others
-returns-in_default-clause-others g c done other apart = refl
-
-pub returns-in-Done-clause-others : goal.returns-in-Done-clause-others
-returns-in-Done-clause-others g c done other apart =
-    let sound : IsValidCache c.args.self.now = subst IsValidCache c.self.view_is c.self.invariant.0 in
-    subst (λ s. cached s other ≡ cached c.args.self.now other) (sym c.take_out.ensures)
-    (others_without_key c.args.self.now.entries c.args.key other sound.distinct apart)

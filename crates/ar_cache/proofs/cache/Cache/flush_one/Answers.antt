@@ -8,7 +8,7 @@ returns-in-Flushed-clause-seen g c done =
     let old = c.args.self.now in
     let f = g.B.Backing.block_at c.args.backing.now in
     let h = g.B.Backing.block_at c.destage_last-answer.new.backing in
-    let given = c.in-Flushed.ensures.given in
+    let given = c.in-Flushed.ensures.behind.given in
     subst (λ s. SameReads old f s h) (sym c.drop_last.ensures)
     (seen_without_last old f h c.in-Flushed.field-0 given.0 c.in-Flushed.ensures.sound.distinct given.1 given.2)
 

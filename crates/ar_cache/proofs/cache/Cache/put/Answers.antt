@@ -1,7 +1,7 @@
-use Rattle.std.proofs.Common.{◌∷◌, refl, sym, ap, ◌∙◌, subst}
+use Rattle.std.proofs.Common.{◌≡◌, ◌∷◌, Some, refl, sym, ap, ◌∙◌, subst}
 use Rattle.std.specs.Map.{lookup}
 use Rattle.ar_disks.specs.Geometry.{block_len_of}
-use Rattle.ar_cache.specs.Cache.{IsValidCache, Sees, KnowsAll, same_key, with_entries, without_key}
+use Rattle.ar_cache.specs.Cache.{cached, IsValidCache, Sees, KnowsAll, same_key, with_entries, without_key}
 use Rattle.ar_cache.proofs.Closing.{kept_replaced, seen_as}
 use Rattle.ar_cache.proofs.Lookups.{seen_replaced, known_front, known_without_key}
 use Rattle.ar_cache.proofs.Uses.{some_is}
@@ -15,22 +15,32 @@ invariant_of-self g c =
     let kept = kept_replaced i.geometry i.capacity i.entries c.replace.new.entries c.args.key c.args.block.now found.0 (c.self.invariant.0, c.self.invariant.1) found.1 whole c.if-replace.ensures.put in
     (kept.0, kept.1, c.self.invariant.2)
 
-pub returns-then-replace-clause-sees : goal.returns-then-replace-clause-sees
-returns-then-replace-clause-sees g c done =
+pub returns-then-replace-clause-seen : goal.returns-then-replace-clause-seen
+returns-then-replace-clause-seen g c done =
     let i = c.self.inside in
     let old = c.args.self.now in
     let at = g.B.Backing.block_at c.args.backing.now in
     let sound : IsValidCache old = subst IsValidCache c.self.view_is c.self.invariant.0 in
     let new = seen_as i.geometry i.capacity i.entries c.replace.new.entries old (λ t. (c.args.key, c.args.block.now) ∷ without_key t.entries c.args.key) c.self.view_is (ap (λ m. m.entries) c.if-replace.ensures.put) in
-    subst (λ s. Sees old at s at c.args.key c.args.block.now) (sym new) (seen_replaced old at c.args.key c.args.block.now sound.distinct)
+    record {
+      sees = subst (λ s. Sees old at s at c.args.key c.args.block.now) (sym new) (seen_replaced old at c.args.key c.args.block.now sound.distinct);
+      behind = record { others = λ q ne apart. refl; held = λ is. refl };
+    }
 
-pub returns-then-replace-clause-fits : goal.returns-then-replace-clause-fits
-returns-then-replace-clause-fits g c =
+pub returns-then-replace-clause-entries : goal.returns-then-replace-clause-entries
+returns-then-replace-clause-entries g c =
     let i = c.self.inside in
+    let old = c.args.self.now in
     let found = some_is (lookup (same_key c.args.key) i.entries.entries) (c.if-replace.ensures.found.0 refl) in
+    let hit = subst (λ s. cached s c.args.key ≡ Some found.0) c.self.view_is found.1 in
     let whole = c.requires.whole ∙ sym (ap (λ s. block_len_of s.geometry) c.self.view_is) in
     let kept = kept_replaced i.geometry i.capacity i.entries c.replace.new.entries c.args.key c.args.block.now found.0 (c.self.invariant.0, c.self.invariant.1) found.1 whole c.if-replace.ensures.put in
-    kept.0.fits
+    record {
+      present = λ is. seen_as i.geometry i.capacity i.entries c.replace.new.entries old (λ t. (c.args.key, c.args.block.now) ∷ without_key t.entries c.args.key) c.self.view_is (ap (λ m. m.entries) c.if-replace.ensures.put);
+      absent = λ miss done. cc;
+      broken = λ lost. cc;
+      fits = kept.0.fits;
+    }
 
 pub returns-then-replace-clause-all_known : goal.returns-then-replace-clause-all_known
 returns-then-replace-clause-all_known g c =

@@ -1,15 +1,18 @@
-use Rattle.std.proofs.Common.{◌∷◌, sym, ap, ◌∙◌, subst}
+use Rattle.std.proofs.Common.{◌∷◌, refl, sym, ap, ◌∙◌, subst}
 use Rattle.ar_cache.specs.Cache.{Sees, KnowsAll, with_entries}
 use Rattle.ar_cache.proofs.Lookups.{seen_front, known_front}
 use Rattle.ar_cache.proofs.Uses.{with_room_spare}
 use Rattle.ar_cache.proofs.cache.Cache.put_beside.Goals as goal
 
-pub returns-then-insert-clause-sees : goal.returns-then-insert-clause-sees
-returns-then-insert-clause-sees g c done =
+pub returns-then-insert-clause-seen : goal.returns-then-insert-clause-seen
+returns-then-insert-clause-seen g c done =
     let old = c.args.self.now in
     let at = g.B.Backing.block_at c.args.backing.now in
     let put = c.if-insert.ensures.put ∙ ap (λ es. with_entries old ((c.args.key, c.args.block.now) ∷ es)) (with_room_spare old c.requires.room) in
-    subst (λ s. Sees old at s at c.args.key c.args.block.now) (sym put) (seen_front old at c.args.key c.args.block.now)
+    record {
+      sees = subst (λ s. Sees old at s at c.args.key c.args.block.now) (sym put) (seen_front old at c.args.key c.args.block.now);
+      behind = record { others = λ q ne apart. refl; held = λ is. refl };
+    }
 
 pub returns-then-insert-clause-all_known : goal.returns-then-insert-clause-all_known
 returns-then-insert-clause-all_known g c =

@@ -22,7 +22,7 @@ pub returns-clause-puts : goal.returns-clause-puts
 returns-clause-puts g c = λ done.
     subst (λ (s : ArrayState). InTurn PutsStored (reverse (keys_of s.cache.entries)) s.store c.flush_all.new.backing.store) c.self.view_is
     (in_turn_seen (λ (b : Behind g.row.D.Denot). b.store) (λ (o : Behind g.row.D.Denot) (k : Key) (n : Behind g.row.D.Denot). PutsStored o.store k n.store) PutsStored (λ o m k h. h)
-    (reverse (keys_of c.self.inside.cache.entries)) c.self.inside.behind c.flush_all.new.backing (c.flush_all.ensures.puts done))
+    (reverse (keys_of c.self.inside.cache.entries)) c.self.inside.behind c.flush_all.new.backing (c.flush_all.ensures.emptied.put done))
 
 pub returns-clause-stopped : goal.returns-clause-stopped
 returns-clause-stopped g c = λ lost.
@@ -51,8 +51,8 @@ returns-clause-quiet g c =
     let sound = ap is_broken c.self.view_is ∙ sym c.is_broken.ensures.broken ∙ c.if-is_broken.false in
     subst (λ (s : ArrayState). s.cache.entries ≡ [] → new ≡ s) c.self.view_is
     (λ none.
-    let store = ap (λ (b : Behind g.row.D.Denot). b.store) (call.quiet none) in
+    let store = ap (λ (b : Behind g.row.D.Denot). b.store) (call.emptied.quiet none) in
     let cache = emptied_same c.flush_all.result (is_broken old) (is_broken new) c.self.inside.cache c.flush_all.new.self call.answer sound
-    (ap (λ s. is_broken (record { store = s; cache = c.flush_all.new.self })) store) call.emptied none in
+    (ap (λ s. is_broken (record { store = s; cache = c.flush_all.new.self })) store) call.emptied.entries none in
     ap (λ s. (let made : ArrayState = record { store = s; cache = c.flush_all.new.self } in made)) store
     ∙ ap (λ e. (let made : ArrayState = record { store = old.store; cache = e } in made)) cache)

@@ -12,7 +12,7 @@ returns-clause-flushes g c =
     let new : ArrayState = record { store = c.flush_one.new.backing.store; cache = c.flush_one.new.self } in
     subst (λ (s : ArrayState). FlushesOne s c.flush_one.result new) c.self.view_is
     (flushed_one (λ (b : Behind g.row.D.Denot). b.store) c.flush_one.result c.self.inside.behind c.flush_one.new.backing c.self.inside.cache c.flush_one.new.self
-    (ap is_broken c.self.view_is ∙ sym c.is_broken.ensures.broken ∙ c.if-is_broken.false) call.entries call.idle call.given call.put call.stopped call.quiet call.answer call.keeps.joined)
+    (ap is_broken c.self.view_is ∙ sym c.is_broken.ensures.broken ∙ c.if-is_broken.false) call.entries call.idle call.behind.given call.behind.put call.behind.stopped call.behind.quiet call.answer call.keeps.joined)
 
 pub returns-clause-seen : goal.returns-clause-seen
 returns-clause-seen g c = λ sound.
