@@ -21,6 +21,7 @@ use Rattle.ar_core.specs.Step.{Steps, is_busy, addr_in, entry_at}
 use Rattle.ar_core.specs.declared.event.EventOf.TheVariants.{Cmd as CmdEvent}
 use Rattle.ar_core.specs.declared.event.OutcomeOf.TheVariants.{Cmd as CmdOutcome}
 use Rattle.ar_core.proofs.Causes.{was_sound}
+use Rattle.ar_history.specs.declared.counts.Counts.{Counts}
 use Rattle.ar_history.specs.declared.entry.Entry.{Entry}
 use Rattle.ar_history.specs.declared.entry.Entry.TheVariants.{Cmd}
 use Rattle.ar_history.specs.History.{replay, is_command}
@@ -222,31 +223,11 @@ recorded old before lun cdb payload reply position new after ours theirs kept st
   sound = now;
 }
 
--- what an array and a seat are seen as, but for their rooms
-same_kept : (old : KeptState) (s : ArrayState) (history : List Entry) → s ≡ old.array → history ≡ old.history
-    → record { array = s; history = history; room = old.room } ≡ old
-same_kept old s history array entries =
-    let first : KeptState = record { array = s; history = history; room = old.room } in
-    let second : KeptState = record { array = old.array; history = history; room = old.room } in
-    let one : first ≡ second = ap (λ (x : ArrayState). record { array = x; history = history; room = old.room }) array in
-    let two : second ≡ old = ap (λ (l : List Entry). record { array = old.array; history = l; room = old.room }) entries in
-    one ∙ two
-
-same_seat : (before : SeatState) (host : Host) (transcript : List Exchange) → host ≡ before.host → transcript ≡ before.transcript
-    → record { host = host; transcript = transcript; room = before.room } ≡ before
-same_seat before host transcript hosts lines =
-    let first : SeatState = record { host = host; transcript = transcript; room = before.room } in
-    let second : SeatState = record { host = before.host; transcript = transcript; room = before.room } in
-    let one : first ≡ second = ap (λ (h : Host). record { host = h; transcript = transcript; room = before.room }) hosts in
-    let two : second ≡ before = ap (λ (l : List Exchange). record { host = before.host; transcript = l; room = before.room }) lines in
-    one ∙ two
-
 -- a command is served as well from an array and a seat with more room
-serves_roomy : (old roomy : KeptState) (before ready : SeatState) (lun : ℕ) (cdb payload : List ℕ) (reply : Reply) (at : Option ℕ) (new : KeptState) (after : SeatState)
-    → ServesHost roomy ready lun cdb payload reply at new after
-    → ServesHost (record { array = roomy.array; history = roomy.history; room = old.room }) (record { host = ready.host; transcript = ready.transcript; room = before.room })
-    lun cdb payload reply at new after
-serves_roomy old roomy before ready lun cdb payload reply None new after serves = record {
+serves_roomy : (old : KeptState) (before : SeatState) (room seat_room : ℕ) (lun : ℕ) (cdb payload : List ℕ) (reply : Reply) (at : Option ℕ) (new : KeptState) (after : SeatState)
+    → ServesHost (record old { room = room }) (record before { room = seat_room }) lun cdb payload reply at new after
+    → ServesHost old before lun cdb payload reply at new after
+serves_roomy old before room seat_room lun cdb payload reply None new after serves = record {
   history = serves.history;
   transcript = serves.transcript;
   busy_is = serves.busy_is;
@@ -254,7 +235,7 @@ serves_roomy old roomy before ready lun cdb payload reply None new after serves 
   broken = serves.broken;
   shapes = serves.shapes;
 }
-serves_roomy old roomy before ready lun cdb payload reply (Some position) new after serves = record {
+serves_roomy old before room seat_room lun cdb payload reply (Some position) new after serves = record {
   position_is = serves.position_is;
   history = serves.history;
   transcript = serves.transcript;
@@ -264,10 +245,30 @@ serves_roomy old roomy before ready lun cdb payload reply (Some position) new af
 }
 
 pub serves_from : (old roomy : KeptState) (before ready : SeatState) (lun : ℕ) (cdb payload : List ℕ) (reply : Reply) (at : Option ℕ) (new : KeptState) (after : SeatState)
-    → roomy.array ≡ old.array → roomy.history ≡ old.history → ready.host ≡ before.host → ready.transcript ≡ before.transcript
+    → roomy ≡ record old { room = roomy.room } → ready ≡ record before { room = ready.room }
     → ServesHost roomy ready lun cdb payload reply at new after → ServesHost old before lun cdb payload reply at new after
-serves_from old roomy before ready lun cdb payload reply at new after array history host transcript serves =
-    let mid : SeatState = record { host = ready.host; transcript = ready.transcript; room = before.room } in
-    subst (λ (s : SeatState). ServesHost old s lun cdb payload reply at new after) (same_seat before ready.host ready.transcript host transcript)
-    (subst (λ (k : KeptState). ServesHost k mid lun cdb payload reply at new after) (same_kept old roomy.array roomy.history array history)
-    (serves_roomy old roomy before ready lun cdb payload reply at new after serves))
+serves_from old roomy before ready lun cdb payload reply at new after same same_seat serves =
+    serves_roomy old before roomy.room ready.room lun cdb payload reply at new after
+    (subst (λ (s : SeatState). ServesHost (record old { room = roomy.room }) s lun cdb payload reply at new after) same_seat
+    (subst (λ (k : KeptState). ServesHost k ready lun cdb payload reply at new after) same serves))
+
+-- what is counted changes nothing of it
+pub serves_counted : (old : KeptState) (before : SeatState) (lun : ℕ) (cdb payload : List ℕ) (reply : Reply) (at : Option ℕ) (new : KeptState) (after : SeatState)
+    (counts : Counts) (events : ℕ) → ServesHost old before lun cdb payload reply at new after
+    → ServesHost old before lun cdb payload reply at (record new { counts = counts; events = events }) after
+serves_counted old before lun cdb payload reply None new after counts events serves = record {
+  history = serves.history;
+  transcript = serves.transcript;
+  busy_is = serves.busy_is;
+  images = serves.images;
+  broken = serves.broken;
+  shapes = serves.shapes;
+}
+serves_counted old before lun cdb payload reply (Some position) new after counts events serves = record {
+  position_is = serves.position_is;
+  history = serves.history;
+  transcript = serves.transcript;
+  reply_is = serves.reply_is;
+  not_busy = serves.not_busy;
+  sound = serves.sound;
+}

@@ -1,5 +1,5 @@
 -- What a command leaves that was answered BUSY.
-use Rattle.std.proofs.Common.{◌≡◌, ◌≢◌, ℕ, Bool, true, false, cond, not, Option, Some, None, List, [], ◌∷◌, length, refl, sym, ap, subst, ◌∙◌, inl, inr}
+use Rattle.std.proofs.Common.{◌≡◌, ◌≢◌, ℕ, Bool, true, false, cond, not, Option, Some, None, List, [], refl, sym, ap, subst, ◌∙◌, inl, inr}
 use Rattle.std.specs.Map.{lookup}
 use Rattle.std.specs.Prelude.{◌==◌, ◌&&◌, Result, Ok, Err, is_some, unwrap_or}
 use Rattle.ar_disks.specs.declared.address.Addr.{Addr}
@@ -7,28 +7,30 @@ use Rattle.ar_disks.specs.declared.address.Host.{Host}
 use Rattle.ar_scsi.specs.declared.command.Command.{Command}
 use Rattle.ar_scsi.specs.declared.command.Command.TheVariants.{TestReady, Inquiry, Capacity, Read, Write}
 use Rattle.ar_scsi.specs.declared.reply.Reply.{Reply}
-use Rattle.ar_scsi.specs.declared.reply.Status.{Status}
-use Rattle.ar_scsi.specs.declared.reply.Status.TheVariants.{Good, CheckCondition, Busy}
+use Rattle.ar_scsi.specs.declared.reply.Status.TheVariants.{Busy}
 use Rattle.ar_scsi.specs.declared.sense.Sense.{Sense}
 use Rattle.ar_scsi.specs.Field.{operation_code}
 use Rattle.ar_scsi.specs.Reading.{reading}
-use Rattle.ar_scsi.specs.Reply.{busy, check}
+use Rattle.ar_scsi.specs.Reply.{check}
 use Rattle.ar_scsi.specs.Sense.{internal_target_failure, capacity_data_has_changed}
 use Rattle.ar_extents.specs.Follows.{Keeps, Anywhere}
 use Rattle.ar_extents.proofs.Follows.{keeps_refl}
 use Rattle.ar_disks.specs.Addresses.{same_addr}
 use Rattle.ar_book.specs.Tables.{UnitTableState, no_unit}
 use Rattle.ar_book.specs.Changes.{unmarked}
-use Rattle.ar_unit.specs.Unit.{UnitState, Absent, Present, Answered, leaving, obeyed, answer}
-use Rattle.ar_unit.specs.Broken.{Shape, shape_of, is_good, needs_blocks, where_broken, broken_answer}
+use Rattle.ar_unit.specs.Unit.{UnitState, Absent, Present, leaving, obeyed, answer}
+use Rattle.ar_unit.specs.Broken.{Shape, shape_of, is_good, needs_blocks, where_broken}
 use Rattle.ar_unit.proofs.Laws.{broken_answer-is, answer-takes_no_memory}
-use Rattle.ar_volume.specs.Image.{ArrayState, is_broken, length_at, attention_at, image_at}
-use Rattle.ar_volume.proofs.Images.{shape_by, shape_here}
+use Rattle.ar_volume.specs.Image.{ArrayState, is_broken, attention_at, image_at}
+use Rattle.ar_volume.proofs.Images.{shape_here}
 use Rattle.ar_core.specs.Step.{Steps, Obeys, MovesNothing, is_busy, is_write, addr_in, told}
 use Rattle.ar_core.specs.declared.event.EventOf.TheVariants.{Cmd as CmdEvent}
 use Rattle.ar_core.specs.declared.event.OutcomeOf.TheVariants.{Cmd as CmdOutcome}
 use Rattle.ar_history.proofs.Commands.{busy_is}
-use Rattle.ar_history.specs.Serving.{IsUncopied, Begins, DoesCommand, LeavesStorage}
+use Rattle.ar_history.specs.declared.counts.Counts.{Counts}
+use Rattle.ar_history.specs.Kept.{KeptState}
+use Rattle.ar_history.specs.Seat.{SeatState}
+use Rattle.ar_history.specs.Serving.{IsUncopied, Begins, BeginsByPlace, DoesCommand, LeavesStorage}
 
 -- no growth is told where the reply has bytes
 tells_none : (u : UnitState) (cdb bytes : List ℕ) → (answer u cdb bytes).reply.payload ≢ []
@@ -140,3 +142,14 @@ leaves_blocks old new host lun cdb payload reply does is =
 pub begun_does : (old new : ArrayState) (host : Host) (lun : ℕ) (cdb payload : List ℕ) (reply : Reply)
     → Begins old host lun cdb payload reply new → DoesCommand old host lun cdb payload reply new
 begun_does old new host lun cdb payload reply begun = elim begun [ inl steps ↦ inl (inl steps) | inr lost ↦ inr lost ]
+
+-- what is counted changes nothing of it
+pub begins_counted : (old : KeptState) (before : SeatState) (lun : ℕ) (cdb payload : List ℕ) (reply : Reply) (new : KeptState) (after : SeatState)
+    (counts : Counts) (events : ℕ) → BeginsByPlace old before lun cdb payload reply new after
+    → BeginsByPlace old before lun cdb payload reply (record new { counts = counts; events = events }) after
+begins_counted old before lun cdb payload reply new after counts events begins = record {
+  begun = λ place.
+      begins.begun (record { history = place.history; transcript = place.transcript; no_data = place.no_data });
+  unbegun = begins.unbegun;
+  seat_unbegun = begins.seat_unbegun;
+}

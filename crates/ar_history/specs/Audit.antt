@@ -1,5 +1,5 @@
 -- The audit: transcripts compared with a history.
-use Rattle.std.specs.Prelude.{◌≡◌, ◌≢◌, ℕ, ◌<◌, ◌≤◌, Bool, true, false, ◌==◌, if◌then◌else◌, Option, Some, None, List, [], ◌∷◌, ◌++◌, take, slice_get, length}
+use Rattle.std.specs.Prelude.{◌≡◌, ◌≢◌, ℕ, ◌<◌, ◌≤◌, Bool, true, false, ◌==◌, if◌then◌else◌, Option, Some, None, List, ◌∷◌, ◌++◌, take, slice_get, length}
 use Rattle.ar_disks.specs.declared.address.Host.{Host}
 use Rattle.ar_unit.specs.Unit.{answer}
 use Rattle.ar_history.specs.declared.entry.Exchange.{Exchange}

@@ -9,16 +9,19 @@ use Rattle.ar_core.specs.Events.{Event, Outcome}
 use Rattle.ar_core.specs.Step.{is_busy}
 use Rattle.ar_core.specs.declared.event.EventOf.TheVariants.{Make as MakeEvent, Grow as GrowEvent, Remove as RemoveEvent, Cmd as CmdEvent}
 use Rattle.ar_core.specs.declared.event.OutcomeOf.TheVariants.{Make as MakeOutcome, Grow as GrowOutcome, Remove as RemoveOutcome, Cmd as CmdOutcome}
+use Rattle.ar_history.specs.declared.counts.Counts.{Counts}
 use Rattle.ar_history.specs.declared.entry.Exchange.{Exchange}
 use Rattle.ar_history.specs.declared.entry.Entry.{Entry}
 use Rattle.ar_history.specs.declared.entry.Entry.TheVariants.{Make, Grow, Remove, Cmd}
 use Rattle.ar_history.specs.History.{IsLegal, replay}
 
--- the array, the history, and its capacity in entries
+-- the array, the history, its capacity in entries, what was counted, and the number of events
 pub record KeptState : Type 0 where
   pub array : ArrayState
   pub history : List Entry
   pub room : ℕ
+  pub counts : Counts
+  pub events : ℕ
 
 -- a list keeps its capacity, or doubles it; it grows by at least four
 abbrev pub MayDouble : ℕ → ℕ → Type 0
@@ -35,6 +38,11 @@ pub record HistoryAgrees (s : ArrayState) (history : List Entry) : Type 0 where
   pub legal : IsLegal history
   pub images : is_broken s ≡ false → (a : Address) → image s a ≡ replay history a
   pub lengths : (a : Address) → SameLength (image s a) (replay history a)
+
+-- the array and its history were kept before and after
+pub record StaysKept (old new : KeptState) : Type 0 where
+  pub before : HistoryAgrees old.array old.history
+  pub after : HistoryAgrees new.array new.history
 
 -- a unit whose pending UNIT ATTENTION is `mark`
 abbrev pub with_attention : Bool → UnitState → UnitState

@@ -1,4 +1,5 @@
 pub mod Audit
+pub mod Counts
 pub mod History
 pub mod Kept
 pub mod Operations

@@ -14,7 +14,7 @@ use Rattle.ar_core.specs.declared.event.OutcomeOf.TheVariants.{Cmd as CmdOutcome
 use Rattle.ar_history.specs.declared.entry.Exchange.{Exchange}
 use Rattle.ar_history.specs.declared.entry.Entry.TheVariants.{Cmd}
 use Rattle.ar_history.specs.History.{replay}
-use Rattle.ar_history.specs.Kept.{KeptState, exchange_of, history_unit}
+use Rattle.ar_history.specs.Kept.{KeptState, MayDouble, exchange_of, history_unit}
 use Rattle.ar_history.specs.Operations.{Does}
 use Rattle.ar_history.specs.Seat.{SeatState}
 
@@ -85,6 +85,14 @@ pub record HasCapacity (old new : KeptState) (before after : SeatState) (payload
   pub transcript : length before.transcript < after.room
   pub no_data : payload ≡ []
 
+-- A command with capacity in both lists and no data to share is begun. Until the array fails, one without capacity in
+-- either list is not.
+pub record BeginsByPlace (old : KeptState) (before : SeatState) (lun : ℕ) (cdb payload : List ℕ) (reply : Reply) (new : KeptState)
+    (after : SeatState) : Type 0 where
+  pub begun : HasCapacity old new before after payload → Begins old.array before.host lun cdb payload reply new.array
+  pub unbegun : new.room ≡ length old.history → is_broken old.array ≡ false → new.array ≡ old.array
+  pub seat_unbegun : after.room ≡ length before.transcript → is_broken old.array ≡ false → new.array ≡ old.array
+
 -- no table, no cache entry and no row of any disk has changed
 pub record LeavesStorage (old new : ArrayState) : Type 0 where
   pub tables : new.store.book ≡ old.store.book
@@ -96,3 +104,13 @@ pub record GrowsNothing (old : KeptState) (before : SeatState) (new : KeptState)
   pub history : new.history ≡ old.history
   pub room : new.room ≡ old.room
   pub seat : after ≡ before
+
+-- The memory that is allocated to record a command: a list with capacity left keeps it, a full one may double it. If the
+-- history gets no capacity, neither does the transcript, and nothing grows for a failed array.
+pub record Allocates (old : KeptState) (before : SeatState) (new : KeptState) (after : SeatState) : Type 0 where
+  pub placed : length old.history < old.room → new.room ≡ old.room
+  pub seat_placed : length before.transcript < before.room → after.room ≡ before.room
+  pub grown : MayDouble old.room new.room
+  pub seat_grown : MayDouble before.room after.room
+  pub seat_unasked : new.room ≡ length old.history → after.room ≡ before.room
+  pub lost : is_broken old.array ≡ true → GrowsNothing old before new after

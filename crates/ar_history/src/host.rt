@@ -4,8 +4,9 @@ ghost use Rattle.std.specs.Prelude.{◌≡◌, ◌≢◌, ◌⊎◌, ◌+◌, �
 ghost use Rattle.ar_volume.specs.Image.{is_broken};
 ghost use Rattle.ar_scsi.specs.Reply.{busy};
 ghost use Rattle.ar_core.specs.Step.{Steps, is_busy};
-ghost use Rattle.ar_history.specs.Kept.{MayDouble, exchange_of};
-ghost use Rattle.ar_history.specs.Serving.{ServesHost, Begins, DoesCommand, HasCapacity, LeavesStorage, GrowsNothing, IsBusyFor, with_reply};
+ghost use Rattle.ar_history.specs.Counts.{CountsCommand, CountsNothing};
+ghost use Rattle.ar_history.specs.Kept.{StaysKept, exchange_of};
+ghost use Rattle.ar_history.specs.Serving.{ServesHost, Begins, BeginsByPlace, DoesCommand, HasCapacity, LeavesStorage, Allocates, IsBusyFor, with_reply};
 
 use crate::entry::shared;
 use crate::operate::{is_lost, reserve_place};
@@ -42,22 +43,33 @@ impl<D: Disk + Drop, L: Ledger> Kept<D, L> {
         ensures serves { ServesHost self.old seat.old lun cdb payload result.reply result.at self.new seat.new }
         ensures does { DoesCommand self.old.array seat.old.host lun cdb payload result.reply self.new.array }
         ensures host { seat.new.host ≡ seat.old.host }
+        ensures kept { StaysKept self.old self.new }
+        ensures counts { CountsCommand self.old seat.old.host.number (length payload) result.reply self.new }
 
-        // Out of memory, and what BUSY leaves unchanged.
-        ensures begun { HasCapacity self.old self.new seat.old seat.new payload
-            → Begins self.old.array seat.old.host lun cdb payload result.reply self.new.array }
-        ensures unbegun { self.new.room ≡ length self.old.history → is_broken self.old.array ≡ false → self.new.array ≡ self.old.array }
-        ensures seat_unbegun { seat.new.room ≡ length seat.old.transcript → is_broken self.old.array ≡ false → self.new.array ≡ self.old.array }
+        // Out of memory, and what BUSY leaves unchanged. A list with capacity left keeps it; a full one may double it.
+        // Nothing grows for a failed array.
+        ensures begun { BeginsByPlace self.old seat.old lun cdb payload result.reply self.new seat.new }
         ensures busy { is_busy result.reply.status ≡ true → LeavesStorage self.old.array self.new.array }
-        ensures lost { is_broken self.old.array ≡ true → GrowsNothing self.old seat.old self.new seat.new }
+        ensures memory { Allocates self.old seat.old self.new seat.new }
+    {
+        let events = self.events.saturating_add(1);
+        let sent = payload.len() as u64;
+        let served = self.execute(seat, lun, cdb, payload);
+        self.counts.add_command(seat.host, sent, &served.reply);
+        self.events = events;
+        served
+    }
 
-        // A list with capacity left keeps it; a full one may double it.
-        ensures placed { length self.old.history < self.old.room → self.new.room ≡ self.old.room }
-        ensures seat_placed { length seat.old.transcript < seat.old.room → seat.new.room ≡ seat.old.room }
-        ensures grown { MayDouble self.old.room self.new.room }
-        ensures seat_grown { MayDouble seat.old.room seat.new.room }
-        // If the history can't grow, the transcript doesn't.
-        ensures seat_unasked { self.new.room ≡ length self.old.history → seat.new.room ≡ seat.old.room }
+    // Executes a command of the seat's host, and counts nothing.
+    fn execute(&mut self, seat: &mut Seat<L>, lun: u8, cdb: [u8; 16], payload: Bytes) -> Served
+        ensures serves { ServesHost self.old seat.old lun cdb payload result.reply result.at self.new seat.new }
+        ensures does { DoesCommand self.old.array seat.old.host lun cdb payload result.reply self.new.array }
+        ensures host { seat.new.host ≡ seat.old.host }
+        ensures uncounted { CountsNothing self.old self.new }
+
+        ensures begun { BeginsByPlace self.old seat.old lun cdb payload result.reply self.new seat.new }
+        ensures busy { is_busy result.reply.status ≡ true → LeavesStorage self.old.array self.new.array }
+        ensures memory { Allocates self.old seat.old self.new seat.new }
     {
         if is_lost(&self.array) {
             return self.unrecorded(seat.host, lun, cdb, payload);
@@ -76,6 +88,7 @@ impl<D: Disk + Drop, L: Ledger> Kept<D, L> {
         ensures at { result.at ≡ None }
         ensures history { self.new.history ≡ self.old.history }
         ensures room { self.new.room ≡ self.old.room }
+        ensures uncounted { CountsNothing self.old self.new }
     {
         let reply = command(&mut self.array, self.alloc, host, lun, cdb, payload);
         Served { reply, at: None }
@@ -89,21 +102,16 @@ impl<D: Disk + Drop, L: Ledger> Kept<D, L> {
         cdb: [u8; 16],
         payload: &Bytes,
     ) -> Result<Copies, AllocError>
-        ensures ours { IfOk result (λ copies. copies.ours ≡ exchange_of lun cdb payload.now busy) }
-        ensures theirs { IfOk result (λ copies. copies.theirs ≡ exchange_of lun cdb payload.now busy) }
+        requires { is_broken self.old.array ≡ false }
+        ensures copies { IfOk result (λ copies. (copies.ours ≡ exchange_of lun cdb payload.now busy)
+            × (copies.theirs ≡ exchange_of lun cdb payload.now busy)) }
         ensures room { OnOk result (length self.new.history < self.new.room) }
         ensures seat_room { OnOk result (length seat.new.transcript < seat.new.room) }
         ensures granted { HasCapacity self.old self.new seat.old seat.new payload.now → IsOk result }
-        ensures placed { length self.old.history < self.old.room → self.new.room ≡ self.old.room }
-        ensures seat_placed { length seat.old.transcript < seat.old.room → seat.new.room ≡ seat.old.room }
-        ensures grown { MayDouble self.old.room self.new.room }
-        ensures seat_grown { MayDouble seat.old.room seat.new.room }
-        ensures seat_unasked { self.new.room ≡ length self.old.history → seat.new.room ≡ seat.old.room }
+        ensures memory { Allocates self.old seat.old self.new seat.new }
 
-        ensures array { self.new.array ≡ self.old.array }
-        ensures history { self.new.history ≡ self.old.history }
-        ensures transcript { seat.new.transcript ≡ seat.old.transcript }
-        ensures host { seat.new.host ≡ seat.old.host }
+        ensures same { self.new ≡ record self.old { room = self.new.room } }
+        ensures same_seat { seat.new ≡ record seat.old { room = seat.new.room } }
     {
         reserve_place(&mut self.history)?;
         reserve_place(&mut seat.transcript)?;
@@ -124,6 +132,7 @@ impl<D: Disk + Drop, L: Ledger> Kept<D, L> {
 
         ensures kept_room { self.new.room ≡ self.old.room }
         ensures kept_seat_room { seat.new.room ≡ seat.old.room }
+        ensures uncounted { CountsNothing self.old self.new }
     {
         let reply = command(
             &mut self.array,

@@ -1,11 +1,11 @@
 // The array and its history. Until data loss every unit is what its entries make it; presence and length stay so for
 // good (`HistoryAgrees`). The ledger's total is the number of commands in the history.
 ghost use Rattle.std.specs.Prelude.{◌≡◌, ◌<◌, ◌+◌, [], ◌∷◌, map};
-ghost use Rattle.ar_book.specs.Tables.{free_groups};
+ghost use Rattle.ar_history.specs.Counts.{no_counts};
 ghost use Rattle.ar_history.specs.Kept.{HistoryAgrees};
 ghost use Rattle.ar_history.specs.Seat.{SeatState};
 
-use crate::{Entry, Seat};
+use crate::{Counts, Entry, Seat};
 use ar_core::Array;
 use ar_disks::{Disk, Host};
 use std::alloc::Global;
@@ -23,6 +23,9 @@ pub struct Kept<D: Disk, L: Ledger> {
     pub(crate) array: Array<D>,
     pub(crate) history: Vec<Entry>,
     pub(crate) book: Book<L>,
+    pub(crate) counts: Counts,
+    // What has happened to the array; see `Kept::events`.
+    pub(crate) events: u64,
 }
 
 impl<D: Disk, L: Ledger> Model for Kept<D, L> {
@@ -32,7 +35,13 @@ impl<D: Disk, L: Ledger> Model for Kept<D, L> {
 
     ghost Value = { KeptState };
 
-    ghost view = { λ k. record { array = k.array; history = k.history.items; room = vec_capacity k.history } };
+    ghost view = { λ k. record {
+      array = k.array;
+      history = k.history.items;
+      room = vec_capacity k.history;
+      counts = k.counts;
+      events = k.events;
+    } };
 
     ghost invariant = { λ k. HistoryAgrees k.array k.history.items × (k.book.total ≡ count_by is_command k.history.items) };
 }
@@ -46,6 +55,8 @@ impl<D: Disk, L: Ledger> Kept<D, L> {
         requires no_unit { array.store.book.units ≡ [] }
         ensures array { result.0.array ≡ array }
         ensures history { result.0.history ≡ [] }
+        ensures counts { result.0.counts ≡ no_counts }
+        ensures events { result.0.events ≡ 0 }
         ensures hosts { map (λ (s : SeatState). s.host.number) result.1 ≡ 0 ∷ 1 ∷ 2 ∷ 3 ∷ [] }
         ensures transcripts { map (λ (s : SeatState). s.transcript) result.1 ≡ [] ∷ [] ∷ [] ∷ [] ∷ [] }
 
@@ -59,6 +70,8 @@ impl<D: Disk, L: Ledger> Kept<D, L> {
             array,
             history: Vec::new(alloc),
             book,
+            counts: Counts::new(),
+            events: 0,
         };
         (kept, seats(alloc, &mut rest))
     }
@@ -72,11 +85,27 @@ impl<D: Disk, L: Ledger> Kept<D, L> {
         self.history.as_slice()
     }
 
-    /// How many groups are free.
-    pub fn free_groups(&self) -> u32
-        ensures { result ≡ free_groups self.now.array.store.book }
+    /// Returns the array, for its views.
+    pub fn array(&self) -> &Array<D>
+        ensures array { result.now ≡ self.now.array }
+        ensures kept { HistoryAgrees self.now.array self.now.history }
     {
-        self.array.free_groups()
+        &self.array
+    }
+
+    /// Returns what was counted since the start.
+    pub fn counts(&self) -> Counts
+        ensures { result ≡ self.now.counts }
+    {
+        self.counts
+    }
+
+    /// Returns a number that is raised by each command, each operation, and each step of background work that did
+    /// something. While it stays, nothing has changed the array.
+    pub fn events(&self) -> u64
+        ensures { result ≡ self.now.events }
+    {
+        self.events
     }
 }
 

@@ -4,6 +4,7 @@
 #![tactic(auto)]
 
 mod audit;
+mod counts;
 mod entry;
 mod host;
 mod kept;
@@ -12,6 +13,7 @@ mod operation;
 mod seat;
 
 pub use audit::{Mismatch, Report, first_difference};
+pub use counts::{Counts, HostCounts, TaskCounts, is_idle};
 pub use entry::{Entry, Exchange};
 pub use host::Served;
 pub use kept::Kept;

@@ -1,13 +1,14 @@
 // Operations and background work. Capacity for an entry is reserved before the array acts, so that each create, resize
 // or delete that is done is recorded.
-ghost use Rattle.std.specs.Prelude.{◌≡◌, ◌≢◌, ◌⊎◌, ◌<◌, ◌++◌, true, false, Some, None, IsTrue, IsOk, OnOk, length, vec_len, vec_capacity};
+ghost use Rattle.std.specs.Prelude.{◌≡◌, ◌≢◌, ◌⊎◌, ◌<◌, ◌++◌, true, false, if◌then◌else◌, Some, None, IsTrue, IsOk, OnOk, length, vec_len, vec_capacity};
 ghost use Rattle.ar_volume.specs.Image.{is_broken, image};
 ghost use Rattle.ar_volume.specs.Sectors.{Address};
 ghost use Rattle.ar_core.specs.Step.{Steps, is_quiet};
-ghost use Rattle.ar_history.specs.Kept.{MayDouble, history_entry};
-ghost use Rattle.ar_history.specs.Operations.{Does, IsRefused, event_of, event_of_task, entry_asked, is_done};
+ghost use Rattle.ar_history.specs.Counts.{CountsNothing, CountsOperation, CountsTask, raised, task_counts_after};
+ghost use Rattle.ar_history.specs.Kept.{HistoryAgrees, MayDouble, StaysKept, history_entry};
+ghost use Rattle.ar_history.specs.Operations.{Does, IsRefused, AllocatesFor, event_of, event_of_task, entry_asked, is_done};
 
-use crate::{Entry, Kept, Operation, OperationOf, Task};
+use crate::{Entry, Kept, Operation, OperationOf, Task, is_idle};
 use ar_core::{Array, Event, EventOf, Health, Outcome, OutcomeOf, Refusal, UnitRefusal};
 use ar_disks::{Addr, Disk};
 use std::alloc::AllocError;
@@ -26,16 +27,60 @@ impl<D: Disk + Drop, L: Ledger> Kept<D, L> {
     pub fn operate(&mut self, operation: Operation<D>) -> Outcome<D>
         ensures does { Does self.old.array (event_of operation) result self.new.array }
         ensures recorded { self.new.history ≡ self.old.history ++ history_entry (event_of operation) result }
+        ensures kept { StaysKept self.old self.new }
+        ensures counts { CountsOperation self.old self.new }
 
         // The operation fails for lack of memory only if the history has no capacity and gets none, or if the array
         // says so.
         ensures begun { length self.old.history < self.new.room → Steps self.old.array (event_of operation) result self.new.array }
         ensures unbegun { self.new.room ≡ length self.old.history → is_broken self.old.array ≡ false → entry_asked (event_of operation) ≢ None
             → IsRefused self.old.array (event_of operation) result self.new.array }
-        ensures placed { length self.old.history < self.old.room → self.new.room ≡ self.old.room }
-        ensures grown { MayDouble self.old.room self.new.room }
-        ensures unasked { entry_asked (event_of operation) ≡ None → self.new.room ≡ self.old.room }
-        ensures lost { is_broken self.old.array ≡ true → self.new.room ≡ self.old.room }
+        ensures memory { AllocatesFor (event_of operation) self.old self.new }
+    {
+        let events = self.events.saturating_add(1);
+        let outcome = self.perform(operation);
+        self.events = events;
+        outcome
+    }
+
+    /// Executes one piece of background work and returns the array's outcome. The history doesn't change, nor until
+    /// data loss does any unit. A step that did something is counted.
+    pub fn background(&mut self, task: Task) -> Outcome<D>
+        ensures steps { Steps self.old.array (event_of_task task) result self.new.array }
+        ensures history { self.new.history ≡ self.old.history }
+        ensures room { self.new.room ≡ self.old.room }
+        ensures images { is_broken self.new.array ≡ false → (a : Address) → image self.new.array a ≡ image self.old.array a }
+        ensures kept { StaysKept self.old self.new }
+        ensures counts { CountsTask self.old task result self.new }
+    {
+        let outcome = self.quiet(event_in(task));
+        self.count_task(task, is_idle(&outcome));
+        outcome
+    }
+
+    // Counts a step of background work, unless it was idle.
+    fn count_task(&mut self, task: Task, idle: bool)
+        ensures same { self.new ≡ record self.old { counts = self.new.counts; events = self.new.events } }
+        ensures counts { self.new.counts ≡ (if idle then self.old.counts
+            else record self.old.counts { tasks = task_counts_after self.old.counts.tasks task }) }
+        ensures events { self.new.events ≡ (if idle then self.old.events else raised self.old.events 1) }
+        ensures kept { HistoryAgrees self.new.array self.new.history }
+    {
+        if !idle {
+            self.counts.add_task(task);
+            self.events = self.events.saturating_add(1);
+        }
+    }
+
+    // Executes an operation, and counts nothing.
+    fn perform(&mut self, operation: Operation<D>) -> Outcome<D>
+        ensures does { Does self.old.array (event_of operation) result self.new.array }
+        ensures recorded { self.new.history ≡ self.old.history ++ history_entry (event_of operation) result }
+        ensures begun { length self.old.history < self.new.room → Steps self.old.array (event_of operation) result self.new.array }
+        ensures unbegun { self.new.room ≡ length self.old.history → is_broken self.old.array ≡ false → entry_asked (event_of operation) ≢ None
+            → IsRefused self.old.array (event_of operation) result self.new.array }
+        ensures memory { AllocatesFor (event_of operation) self.old self.new }
+        ensures uncounted { CountsNothing self.old self.new }
     {
         match operation {
             OperationOf::Make(addr, sectors) => self.make(addr, sectors),
@@ -47,32 +92,14 @@ impl<D: Disk + Drop, L: Ledger> Kept<D, L> {
         }
     }
 
-    /// Executes one piece of background work and returns the array's outcome. The history doesn't change, nor until
-    /// data loss does any unit.
-    pub fn background(&mut self, task: Task) -> Outcome<D>
-        ensures steps { Steps self.old.array (event_of_task task) result self.new.array }
-        ensures history { self.new.history ≡ self.old.history }
-        ensures room { self.new.room ≡ self.old.room }
-        ensures images { is_broken self.new.array ≡ false → (a : Address) → image self.new.array a ≡ image self.old.array a }
-    {
-        match task {
-            Task::Flush => self.quiet(EventOf::Flush),
-            Task::Rebuild => self.quiet(EventOf::Rebuild),
-            Task::Clean => self.quiet(EventOf::Clean),
-            Task::Balance => self.quiet(EventOf::Balance),
-            Task::Demote => self.quiet(EventOf::Demote),
-        }
-    }
-
     fn make(&mut self, addr: Addr, sectors: u32) -> Outcome<D>
         ensures does { Does self.old.array (EventOf.Make addr sectors) result self.new.array }
         ensures recorded { self.new.history ≡ self.old.history ++ history_entry (EventOf.Make addr sectors) result }
         ensures begun { length self.old.history < self.new.room → Steps self.old.array (EventOf.Make addr sectors) result self.new.array }
         ensures unbegun { self.new.room ≡ length self.old.history → is_broken self.old.array ≡ false
             → IsRefused self.old.array (EventOf.Make addr sectors) result self.new.array }
-        ensures placed { length self.old.history < self.old.room → self.new.room ≡ self.old.room }
-        ensures grown { MayDouble self.old.room self.new.room }
-        ensures lost { is_broken self.old.array ≡ true → self.new.room ≡ self.old.room }
+        ensures memory { AllocatesFor (EventOf.Make addr sectors) self.old self.new }
+        ensures uncounted { CountsNothing self.old self.new }
     {
         if !self.can_record() {
             return OutcomeOf::Make(Err(NO_MEMORY));
@@ -86,9 +113,8 @@ impl<D: Disk + Drop, L: Ledger> Kept<D, L> {
         ensures begun { length self.old.history < self.new.room → Steps self.old.array (EventOf.Grow addr sectors) result self.new.array }
         ensures unbegun { self.new.room ≡ length self.old.history → is_broken self.old.array ≡ false
             → IsRefused self.old.array (EventOf.Grow addr sectors) result self.new.array }
-        ensures placed { length self.old.history < self.old.room → self.new.room ≡ self.old.room }
-        ensures grown { MayDouble self.old.room self.new.room }
-        ensures lost { is_broken self.old.array ≡ true → self.new.room ≡ self.old.room }
+        ensures memory { AllocatesFor (EventOf.Grow addr sectors) self.old self.new }
+        ensures uncounted { CountsNothing self.old self.new }
     {
         if !self.can_record() {
             return OutcomeOf::Grow(Err(NO_MEMORY));
@@ -102,9 +128,8 @@ impl<D: Disk + Drop, L: Ledger> Kept<D, L> {
         ensures begun { length self.old.history < self.new.room → Steps self.old.array (EventOf.Remove addr) result self.new.array }
         ensures unbegun { self.new.room ≡ length self.old.history → is_broken self.old.array ≡ false
             → IsRefused self.old.array (EventOf.Remove addr) result self.new.array }
-        ensures placed { length self.old.history < self.old.room → self.new.room ≡ self.old.room }
-        ensures grown { MayDouble self.old.room self.new.room }
-        ensures lost { is_broken self.old.array ≡ true → self.new.room ≡ self.old.room }
+        ensures memory { AllocatesFor (EventOf.Remove addr) self.old self.new }
+        ensures uncounted { CountsNothing self.old self.new }
     {
         if !self.can_record() {
             return OutcomeOf::Remove(Err(NO_MEMORY));
@@ -119,6 +144,8 @@ impl<D: Disk + Drop, L: Ledger> Kept<D, L> {
         ensures history { self.new.history ≡ self.old.history }
         ensures room { self.new.room ≡ self.old.room }
         ensures images { is_broken self.new.array ≡ false → (a : Address) → image self.new.array a ≡ image self.old.array a }
+        ensures kept { HistoryAgrees self.old.array self.old.history }
+        ensures uncounted { CountsNothing self.old self.new }
     {
         self.array.step(self.alloc, event)
     }
@@ -130,6 +157,7 @@ impl<D: Disk + Drop, L: Ledger> Kept<D, L> {
         ensures steps { Steps self.old.array event result self.new.array }
         ensures recorded { self.new.history ≡ self.old.history ++ history_entry event result }
         ensures room { self.new.room ≡ self.old.room }
+        ensures uncounted { CountsNothing self.old self.new }
     {
         let outcome = self.array.step(self.alloc, event);
         if is_done(&outcome) {
@@ -149,6 +177,7 @@ impl<D: Disk + Drop, L: Ledger> Kept<D, L> {
         ensures placed { length self.old.history < self.old.room → self.new.room ≡ self.old.room }
         ensures grown { MayDouble self.old.room self.new.room }
         ensures lost { is_broken self.old.array ≡ true → self.new.room ≡ self.old.room }
+        ensures uncounted { CountsNothing self.old self.new }
     {
         is_lost(&self.array) || reserve_place(&mut self.history).is_ok()
     }
@@ -173,6 +202,20 @@ pub(crate) fn is_lost<D: Disk>(array: &Array<D>) -> bool
     ensures { result ≡ is_broken array.now }
 {
     matches!(array.health(), Health::Broken)
+}
+
+// The event of a piece of background work.
+fn event_in<D: Disk>(task: Task) -> Event<D>
+    ensures event { result ≡ event_of_task task }
+    ensures quiet { is_quiet result ≡ true }
+{
+    match task {
+        Task::Flush => EventOf::Flush,
+        Task::Rebuild => EventOf::Rebuild,
+        Task::Clean => EventOf::Clean,
+        Task::Balance => EventOf::Balance,
+        Task::Demote => EventOf::Demote,
+    }
 }
 
 // Whether a unit was created, extended or deleted.

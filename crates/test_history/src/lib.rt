@@ -5,6 +5,8 @@
 #[cfg(test)]
 mod calls;
 #[cfg(test)]
+mod counts;
+#[cfg(test)]
 mod drawn;
 #[cfg(test)]
 mod forged;

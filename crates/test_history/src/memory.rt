@@ -91,7 +91,7 @@ fn ask_starved<L: Ledger>(rig: &mut Rig<L>) -> Starved {
         busy,
         refused,
         entries: entries as u64,
-        kept: rig.history().len() == entries && rig.transcript(0).len() == entries,
+        kept: recorded(rig, 0) == [entries as u64; 3],
     }
 }
 
@@ -246,20 +246,30 @@ fn is_made<L: Ledger>(rig: &mut Rig<L>, host: u8) -> bool {
 }
 
 fn served_at_last<L: Ledger, R: Abort + AllocGlobal>(rt: &R, rig: &mut Rig<L>, ask: Ask) -> Served {
-    let before = [rig.history().len(), rig.transcript(ask.host).len()];
+    let before = recorded(rig, ask.host);
     let served = ask_once(rt, rig, ask);
     if returned_of(&served.reply) != Return::Busy {
         return served;
     }
     let is_unrecorded = served.at.is_none();
     drop(served);
-    let after = [rig.history().len(), rig.transcript(ask.host).len()];
+    let after = recorded(rig, ask.host);
     holds(
         rt,
         is_unrecorded && after == before,
-        "a BUSY command is recorded",
+        "a BUSY command is recorded or counted",
     );
     ask_once(rt, rig, ask)
+}
+
+// The entries, the commands of a host's transcript, and those that were counted of it.
+fn recorded<L: Ledger>(rig: &Rig<L>, host: u8) -> [u64; 3] {
+    let counts = rig.counts();
+    [
+        rig.history().len() as u64,
+        rig.transcript(host).len() as u64,
+        counts.hosts[usize::from(host % 4)].commands,
+    ]
 }
 
 fn ask_once<L: Ledger, R: Abort + AllocGlobal>(rt: &R, rig: &mut Rig<L>, ask: Ask) -> Served {

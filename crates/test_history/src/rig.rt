@@ -3,13 +3,14 @@ ghost use Rattle.std.specs.Prelude.{◌≡◌, ◌∷◌, [], map};
 ghost use Rattle.ar_history.specs.Seat.{SeatState};
 
 use crate::calls::{After, plays_rows};
+use crate::counts::{Count, counts_rows};
 use crate::drawn::ask_commands;
 use crate::forged::try_forgeries;
 use crate::memory::{ask_at_last, starve};
 use ar_core::{Array, Event, EventOf, Outcome, OutcomeOf};
 use ar_disks::FuseDisk;
 use ar_history::{
-    Entry, Exchange, Kept, Mismatch, Operation, OperationOf, Report, Seat, Served, Task,
+    Counts, Entry, Exchange, Kept, Mismatch, Operation, OperationOf, Report, Seat, Served, Task,
 };
 use bytes::Bytes;
 use std::alloc::Global;
@@ -76,7 +77,11 @@ impl<L: Ledger> Rig<L> {
     }
 
     pub fn free_groups(&self) -> u32 {
-        self.kept.free_groups()
+        self.kept.array().free_groups()
+    }
+
+    pub fn counts(&self) -> Counts {
+        self.kept.counts()
     }
 
     pub fn history(&self) -> &[Entry] {
@@ -98,6 +103,8 @@ impl<L: Ledger> Rig<L> {
 pub enum Play<'a> {
     /// A table is played, after which the array holds this.
     Rows(&'a [Row], After),
+    /// A table is played, each row of which adds to the counts.
+    Count(&'a [Count]),
     /// Transcripts are tampered with.
     Forge,
     /// All memory is taken, and given back.
@@ -139,6 +146,7 @@ fn play_on<L: Ledger, R: Abort + AllocGlobal>(
 ) {
     match play {
         Play::Rows(rows, after) => plays_rows(rt, shape, rig, rows, after),
+        Play::Count(rows) => counts_rows(rt, shape, rig, rows),
         Play::Forge => try_forgeries(rt, shape, rig),
         Play::Starve => starve(rt, rig),
         Play::AskAtLast => ask_at_last(rt, rig),

@@ -3,7 +3,7 @@ use Rattle.std.specs.Prelude.{All, OnOk, IfOk, count_by, ◌≡◌, sum}
 use Rattle.ar_history.specs.declared.entry.Entry.{Entry}
 use Rattle.ar_history.specs.History.{IsLegal, is_command}
 use Rattle.ar_history.specs.Kept.{KeptState}
-use Rattle.ar_history.specs.Audit.{IsHostsPart, IsTranscriptIsolated}
+use Rattle.ar_history.specs.Audit.{IsTranscriptIsolated}
 use Rattle.ar_history.proofs.Auditing.{all_isolated, none_else}
 use Rattle.ar_history.proofs.kept.Kept.close.Goals as goal
 

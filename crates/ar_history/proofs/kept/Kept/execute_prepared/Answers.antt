@@ -25,8 +25,8 @@ invariant_of-self g c = (
 
 pub returns-then-is_lost-clause-serves : goal.returns-then-is_lost-clause-serves
 returns-then-is_lost-clause-serves g c =
-    let old : KeptState = record { array = c.self.inside.array; history = c.self.inside.history.items; room = vec_capacity c.self.inside.history } in
-    let new : KeptState = record { array = c.command-reply.new.array; history = c.self.inside.history.items; room = vec_capacity c.self.inside.history } in
+    let old : KeptState = record { array = c.self.inside.array; history = c.self.inside.history.items; room = vec_capacity c.self.inside.history; counts = c.self.inside.counts; events = c.self.inside.events } in
+    let new : KeptState = record { array = c.command-reply.new.array; history = c.self.inside.history.items; room = vec_capacity c.self.inside.history; counts = c.self.inside.counts; events = c.self.inside.events } in
     let before : SeatState = record { host = c.seat.inside.host; transcript = c.seat.inside.transcript.items; room = vec_capacity c.seat.inside.transcript } in
     subst (λ (k : KeptState). IsUnrecorded k c.args.seat.now c.args.copies.ours.lun c.args.copies.ours.cdb c.args.payload c.command-reply.result new c.args.seat.now) c.self.view_is
     (subst (λ (s : SeatState). IsUnrecorded old s c.args.copies.ours.lun c.args.copies.ours.cdb c.args.payload c.command-reply.result new s) c.seat.view_is
@@ -48,8 +48,8 @@ pub returns-then-not-answer-clause-serves : goal.returns-then-not-answer-clause-
 returns-then-not-answer-clause-serves g c =
     let none : IsBusyFor c.command-reply.result = c.if-not-answer.ensures.busy refl in
     let now : is_broken c.command-reply.new.array ≡ false = sym c.is_lost.ensures ∙ c.if-is_lost.false in
-    let old : KeptState = record { array = c.self.inside.array; history = c.self.inside.history.items; room = vec_capacity c.self.inside.history } in
-    let new : KeptState = record { array = c.command-reply.new.array; history = c.self.inside.history.items; room = vec_capacity c.self.inside.history } in
+    let old : KeptState = record { array = c.self.inside.array; history = c.self.inside.history.items; room = vec_capacity c.self.inside.history; counts = c.self.inside.counts; events = c.self.inside.events } in
+    let new : KeptState = record { array = c.command-reply.new.array; history = c.self.inside.history.items; room = vec_capacity c.self.inside.history; counts = c.self.inside.counts; events = c.self.inside.events } in
     let before : SeatState = record { host = c.seat.inside.host; transcript = c.seat.inside.transcript.items; room = vec_capacity c.seat.inside.transcript } in
     subst (λ (at : Option ℕ). ServesHost c.args.self.now c.args.seat.now c.args.copies.ours.lun c.args.copies.ours.cdb c.args.payload c.busy.result.reply at new c.args.seat.now) (sym c.busy.ensures.at)
     (subst (λ (r : Reply). IsUnrecorded c.args.self.now c.args.seat.now c.args.copies.ours.lun c.args.copies.ours.cdb c.args.payload r new c.args.seat.now) (sym c.busy.ensures.reply)
@@ -93,8 +93,8 @@ returns-clause-serves g c =
     let second : c.answer.new.self.theirs ≡ exchange_of c.args.copies.ours.lun c.args.copies.ours.cdb c.args.copies.ours.payload c.command-reply.result = search rules in
     let full : exchange_of c.args.copies.ours.lun c.args.copies.ours.cdb c.args.copies.ours.payload c.command-reply.result ≡ exchange_of c.args.copies.ours.lun c.args.copies.ours.cdb c.args.payload c.command-reply.result =
     ap (λ (l : List ℕ). exchange_of c.args.copies.ours.lun c.args.copies.ours.cdb l c.command-reply.result) c.requires.payload in
-    let old : KeptState = record { array = c.self.inside.array; history = c.self.inside.history.items; room = vec_capacity c.self.inside.history } in
-    let new : KeptState = record { array = c.command-reply.new.array; history = c.record-at.new.history.items; room = vec_capacity c.record-at.new.history } in
+    let old : KeptState = record { array = c.self.inside.array; history = c.self.inside.history.items; room = vec_capacity c.self.inside.history; counts = c.self.inside.counts; events = c.self.inside.events } in
+    let new : KeptState = record { array = c.command-reply.new.array; history = c.record-at.new.history.items; room = vec_capacity c.record-at.new.history; counts = c.self.inside.counts; events = c.self.inside.events } in
     let steps : Steps c.self.inside.array (CmdEvent c.args.seat.now.host c.args.copies.ours.lun c.args.copies.ours.cdb c.args.payload) (CmdOutcome c.command-reply.result) c.command-reply.new.array =
     subst (λ (s : SeatState). Steps c.self.inside.array (CmdEvent s.host c.args.copies.ours.lun c.args.copies.ours.cdb c.args.payload) (CmdOutcome c.command-reply.result) c.command-reply.new.array)
     c.seat.view_is c.command-reply.ensures in
