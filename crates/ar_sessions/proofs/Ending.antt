@@ -7,7 +7,7 @@ use Rattle.ar_sessions.specs.declared.sessions.ConnectionEnd.{ConnectionEnd}
 use Rattle.ar_sessions.specs.declared.sessions.ConnectionEnd.TheVariants.{Served, NoThread}
 use Rattle.ar_sessions.specs.declared.sessions.Pending.{Pending}
 use Rattle.ar_sessions.specs.declared.sessions.Pending.TheVariants as pending
-use Rattle.ar_sessions.specs.Ends.{HasAccepted, IsBegun, Becomes, ConnectionEnds, EndOf}
+use Rattle.ar_sessions.specs.Ends.{IsBegun, Becomes, ConnectionEnds, EndOf}
 
 module _ {D P H : Type 0} (opens : D → Option P → D → Type 0) (keeps : H → SessionEnd → Type 0) (served : P → SessionEnd → Type 0) where
   -- one that was opened, and was begun with a thread that keeps an end of it, or with none

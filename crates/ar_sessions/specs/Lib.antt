@@ -4,6 +4,7 @@ pub mod Ends
 pub mod Port
 -- definitions of lower crates that clauses of this crate cite
 pub use Rattle.ar_history.specs.Seat
+pub use Rattle.ar_history.specs.Counts
 pub use Rattle.ar_history.specs.Kept
 pub use Rattle.ar_history.specs.Serving
 pub use Rattle.ar_history.specs.Operations

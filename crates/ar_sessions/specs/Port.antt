@@ -1,31 +1,29 @@
 -- Logins and commands at a port to the shared array.
-use Rattle.std.specs.Prelude.{◌≡◌, ◌⊎◌, ℕ, Bool, true, false, ◌&&◌, List, [], ◌∷◌, ◌++◌, length, Option, Some}
+use Rattle.std.specs.Prelude.{◌≡◌, ◌⊎◌, ℕ, Bool, true, ◌&&◌, List, [], ◌∷◌, ◌++◌, Option, Some}
 use Rattle.ar_scsi.specs.declared.reply.Reply.{Reply}
 use Rattle.ar_scsi.specs.Reading.{reading}
 use Rattle.ar_unit.specs.Broken.{needs_blocks, is_good}
-use Rattle.ar_volume.specs.Image.{is_broken}
-use Rattle.ar_history.specs.Kept.{KeptState, MayDouble, exchange_of}
+use Rattle.ar_history.specs.Kept.{KeptState, StaysKept, exchange_of}
 use Rattle.ar_history.specs.Seat.{SeatState}
-use Rattle.ar_history.specs.Serving.{ServesHost, Begins, DoesCommand, HasCapacity, GrowsNothing}
+use Rattle.ar_history.specs.Serving.{ServesHost, BeginsByPlace, DoesCommand, Allocates}
 use Rattle.ar_frames.specs.declared.port.Login.{Login}
 use Rattle.ar_frames.specs.declared.port.Login.TheVariants.{Taken, BadHost, InUse}
 
--- A host's command was executed atomically: there are a state of an array before it and one after it, between which it
--- is served as `Kept::host` serves it. That these are states of the array behind the lock is not specified; the
--- transcript's entry (`RecordsExchange`) is.
+-- A host's command was executed atomically: there are a state of an array before it and one after it, in both of which
+-- each unit is what its history makes it, and between them the command is served as `Kept::host` serves it. That these
+-- are states of the array behind the lock is not specified; the transcript's entry (`RecordsExchange`) is.
 pub record AtOneMoment (before : SeatState) (lun : ℕ) (cdb payload : List ℕ) (reply : Reply) (after : SeatState) : Type 0 where
   pub old : KeptState
   pub new : KeptState
   pub position : Option ℕ
+  pub kept : StaysKept old new
   pub serves : ServesHost old before lun cdb payload reply position new after
   pub does : DoesCommand old.array before.host lun cdb payload reply new.array
   pub host : after.host ≡ before.host
-  -- memory: a command without data is begun if history and transcript have room for it, and without room in the
-  -- transcript none is; the transcript's capacity stays or doubles, and nothing grows for a failed array
-  pub begun : HasCapacity old new before after payload → Begins old.array before.host lun cdb payload reply new.array
-  pub unbegun : after.room ≡ length before.transcript → is_broken old.array ≡ false → new.array ≡ old.array
-  pub grown : MayDouble before.room after.room
-  pub lost : is_broken old.array ≡ true → GrowsNothing old before new after
+  -- memory: a command without data is begun if history and transcript have room for it, and without room in one of them
+  -- none is; their capacity stays or doubles, and nothing grows for a failed array
+  pub begun : BeginsByPlace old before lun cdb payload reply new after
+  pub memory : Allocates old before new after
 
 -- a command that needs the unit's blocks, or tests whether they are accessible, ended with GOOD
 abbrev pub is_good_access : List ℕ → Reply → Bool

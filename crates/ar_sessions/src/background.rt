@@ -1,12 +1,10 @@
 // Background maintenance, one step of the array at a time. A step leaves the history as it is and, unless the array has
-// failed, the contents of all units.
-ghost use Rattle.std.specs.Prelude.{◌≡◌, nat_lt};
-ghost use Rattle.ar_sessions.specs.Background.{idle_after, pause_after, task_after, is_due, is_idle, TakesTurn};
-ghost use Rattle.ar_book.specs.Tables.{free_groups};
+// failed, the contents of all units. While nothing happens to the array, an idle round costs a look at one number.
+ghost use Rattle.std.specs.Prelude.{◌≡◌, ◌<◌, nat_lt};
+ghost use Rattle.ar_sessions.specs.Background.{is_due, is_long, is_resting, begun, paused, stepped, pause_after, task_after, TakesTurn, MakesPass};
 
-use ar_core::{Balance, Flush, Move, Outcome, OutcomeOf, Rebuild};
 use ar_disks::Disk;
-use ar_history::{Kept, Task};
+use ar_history::{Kept, Task, is_idle};
 use std::sync::atomic::{AtomicBool, Ordering};
 use std::sync::ledger::Ledger;
 use std::sync::{Mutex, Wait};
@@ -22,66 +20,129 @@ const ROUND: u32 = 5;
 /// Milliseconds of the pause after the first round in which nothing was done.
 const SHORTEST_PAUSE: u64 = 1;
 
-/// Milliseconds of the longest pause, after many such rounds in a row. When hosts write again, blocks in the cache may
-/// wait this long, too.
+/// Milliseconds of the longest such pause. When hosts write again, blocks in the cache may wait this long, too.
 const LONGEST_PAUSE: u64 = 16;
 
-// How long the maintenance has been idle.
+/// Pauses in a row after which an idle array is looked at all the same: a step that lacked memory may have it then.
+const PAUSES: u32 = 64;
+
+/// Milliseconds of the pause after a step that may have copied an extent under the lock, about ten times as long as the
+/// step: meanwhile hosts have the array.
+const BREATH: u64 = 2;
+
+// Where the maintenance is in its rotation.
 #[derive(Clone, Copy)]
-struct Idleness {
-    // Idle steps in a row since the last pause.
+struct Rotation {
+    // The next task.
+    task: Task,
+    // Steps in a row that did nothing, and the pauses after them.
     turns: u32,
-    // Milliseconds of the next pause.
+    // Milliseconds of the next pause for want of work.
     pause: u64,
+    // The array's events before the first of these steps.
+    seen: u64,
 }
 
 /// Runs background maintenance until `stop` is set: one task a step, in the rotation Flush, Rebuild, Clean, Balance,
 /// Demote. Each step takes the lock once. After a round in which there was nothing to do it sleeps for 1 ms, so that it
-/// costs the sessions little, and twice as long after each further one, up to 16 ms.
+/// costs the sessions little, and twice as long after each further one, up to 16 ms; until something happens to the
+/// array, these rounds are skipped. After a step that may have copied an extent it sleeps for 2 ms.
 pub fn run_background<R: Wait + Clock, D: Disk + Drop, L: Ledger>(
     rt: &R,
     kept: &Mutex<Kept<D, L>>,
     stop: &AtomicBool,
 ) {
-    let mut task = Task::Flush;
-    let mut idleness = Idleness::NONE;
+    let mut rotation = Rotation::new();
     for _ in rt.forever() {
         if stop.load(Ordering::SeqCst) {
             break;
         }
-        let has_worked = take_turn(&mut kept.lock(rt), task);
-        match idleness.after_turn(has_worked) {
+        match rotation.advance(&mut kept.lock(rt)) {
             Some(pause) => thread::sleep(rt, Duration::from_millis(pause)),
             None => thread::yield_now(),
         }
-        task = next(task);
     }
 }
 
-impl Idleness {
-    const NONE: Idleness = Idleness {
-        turns: 0,
-        pause: SHORTEST_PAUSE,
-    };
+impl Rotation {
+    fn new() -> Rotation {
+        Rotation {
+            task: Task::Flush,
+            turns: 0,
+            pause: SHORTEST_PAUSE,
+            seen: 0,
+        }
+    }
 
-    // Counts a step, and returns for how many milliseconds to pause before the next one, if at all.
-    fn after_turn(&mut self, has_worked: bool) -> Option<u64>
-        ensures next { self.new ≡ idle_after self.old has_worked }
+    // Performs the next task, unless the maintenance rests. Returns for how many milliseconds to pause then, if at all.
+    fn advance<D: Disk + Drop, L: Ledger>(&mut self, kept: &mut Kept<D, L>) -> Option<u64>
+        ensures { MakesPass kept.old self.old result kept.new self.new }
+    {
+        let events = kept.events();
+        if self.is_resting(events) {
+            return Some(self.rest());
+        }
+        self.begin(events);
+        let has_worked = take_turn(kept, self.task);
+        self.after_turn(has_worked, kept.events())
+    }
+
+    // Whether there was nothing to do, and nothing has happened since.
+    fn is_resting(&self, events: u64) -> bool
+        ensures { result ≡ is_resting self.now events }
+    {
+        ROUND <= self.turns && self.turns < ROUND + PAUSES && self.seen == events
+    }
+
+    // Begins another round after one in which there was nothing to do.
+    fn begin(&mut self, events: u64)
+        ensures { self.new ≡ begun self.old events }
+    {
+        if self.turns >= ROUND {
+            self.turns = 0;
+            self.seen = events;
+        }
+    }
+
+    // Returns the milliseconds of a pause for want of work; the next one is longer.
+    fn rest(&mut self) -> u64
+        requires { self.old.turns < 69 }
+        ensures next { self.new ≡ paused self.old }
+        ensures pause { result ≡ self.old.pause }
+    {
+        let pause = self.pause;
+        self.turns += 1;
+        self.pause = pause.saturating_mul(2).min(LONGEST_PAUSE);
+        pause
+    }
+
+    // Counts a step, after which there were `events`, and returns for how many milliseconds to pause, if at all.
+    fn after_turn(&mut self, has_worked: bool, events: u64) -> Option<u64>
+        requires { self.old.turns < 5 }
+        ensures next { self.new ≡ stepped self.old has_worked events }
         ensures pause { result ≡ pause_after self.old has_worked }
     {
+        let task = self.task;
+        self.task = next(task);
         if has_worked {
-            *self = Idleness::NONE;
+            self.turns = 0;
+            self.pause = SHORTEST_PAUSE;
+            self.seen = events;
+            return if is_long(task) { Some(BREATH) } else { None };
+        }
+        if self.turns + 1 < ROUND {
+            self.turns += 1;
             return None;
         }
-        self.turns = self.turns.saturating_add(1);
-        if self.turns < ROUND {
-            return None;
-        }
-        let pause = self.pause;
-        self.turns = 0;
-        self.pause = pause.saturating_mul(2).min(LONGEST_PAUSE);
-        Some(pause)
+        Some(self.rest())
     }
+}
+
+// Whether a step of a task may copy a whole extent.
+fn is_long(task: Task) -> bool
+    ensures { result ≡ is_long task }
+{
+    matches!(task, Task::Rebuild | Task::Balance)
 }
 
 // The task after `task` in the rotation.
@@ -101,7 +162,7 @@ fn next(task: Task) -> Task
 fn take_turn<D: Disk + Drop, L: Ledger>(kept: &mut Kept<D, L>, task: Task) -> bool
     ensures { TakesTurn kept.old task result kept.new }
 {
-    if !is_due(task, kept.free_groups()) {
+    if !is_due(task, kept.array().free_groups()) {
         return false;
     }
     let outcome = kept.background(task);
@@ -116,18 +177,4 @@ fn is_due(task: Task, free: u32) -> bool
         Task::Demote => free < FEW_GROUPS,
         _ => true,
     }
-}
-
-// Whether a task had nothing to do, or could do nothing.
-fn is_idle<D: Disk>(outcome: &Outcome<D>) -> bool
-    ensures { result ≡ is_idle outcome.now }
-{
-    matches!(
-        outcome,
-        OutcomeOf::Flush(Flush::Idle | Flush::Broken)
-            | OutcomeOf::Demote(Move::Idle | Move::Broken)
-            | OutcomeOf::Clean(Move::Idle | Move::Broken)
-            | OutcomeOf::Balance(Balance::Idle | Balance::NoMemory | Balance::Broken)
-            | OutcomeOf::Rebuild(Rebuild::Idle | Rebuild::Broken)
-    )
 }

@@ -1,6 +1,7 @@
 // Work in the background, which shows in the number of free groups.
 use crate::gates::{Held, door, is_answered_meanwhile};
 use crate::rig::{Play, Rig, is_done, plays};
+use ar_core::Health;
 use ar_disks::FuseDisk;
 use ar_frames::{Login, Port};
 use ar_history::{Kept, OperationOf};
@@ -81,7 +82,7 @@ fn work<L: Ledger + Send + Sync, R: Threads + Wait + Clock + Abort + Sync>(
 // So many groups are free in the end.
 fn comes_to<L: Ledger, R: Wait + Abort>(rt: &R, kept: &Mutex<Kept<FuseDisk, L>>, groups: u32) {
     for _ in 0..LOOKS {
-        if kept.lock(rt).free_groups() == groups {
+        if kept.lock(rt).array().free_groups() == groups {
             return;
         }
         thread::yield_now();
@@ -98,6 +99,68 @@ fn add<L: Ledger, R: Wait + Abort>(
     let disk = shape.new_disk(alloc, u64::MAX).expect(rt, "memory");
     let is_added = is_done(rt, kept, OperationOf::AddDisk(disk));
     assert!(rt; is_added, "the disk is added");
+}
+
+/// Extents of each disk of an array that is rebuilt.
+const EXTENTS: u16 = 16;
+
+/// Writes after which a rebuild counts as starved: far more than the pauses of its steps leave time for.
+const WRITES: u32 = 400_000;
+
+#[test]
+fn a_rebuild_ends_while_a_host_writes(rt: HostRuntime) {
+    for cache in [0, 4] {
+        let shape = Shape {
+            cache,
+            extents: EXTENTS,
+            ..FOUR_GROUPS
+        };
+        plays(&rt, shape, Play::Rebuild, &[]);
+    }
+}
+
+/// A host writes without a pause, from before a disk is replaced until its rebuild has ended.
+pub fn rebuilds<L: Ledger + Send + Sync, R: Threads + Wait + Clock + Abort + Sync>(
+    rt: &R,
+    alloc: Global,
+    shape: Shape,
+    rig: &Rig<L>,
+) {
+    rig.make(rt, 0);
+    write(rt, alloc, rig);
+    let disk = shape.new_disk(alloc, u64::MAX).expect(rt, "memory");
+    let is_out = is_done(rt, &rig.kept, OperationOf::DiskOut(0));
+    let is_replaced = is_done(rt, &rig.kept, OperationOf::Replace(0, disk));
+    assert!(rt; is_out && is_replaced, "a disk is replaced");
+    let stop = AtomicBool::new(false);
+    let flag = &stop;
+    thread::scope(thread::scope_env(), rt, |scope| {
+        let started = scope.spawn(move || run_background(rt, &rig.kept, flag));
+        assert!(rt; started.is_ok(), "a thread");
+        write_until_whole(rt, alloc, rig);
+        flag.store(true, Ordering::SeqCst);
+    });
+}
+
+// The host's writes never leave a pause; among so many the rebuild ends.
+fn write_until_whole<L: Ledger, R: Wait + Abort>(rt: &R, alloc: Global, rig: &Rig<L>) {
+    for _ in 0..WRITES {
+        write(rt, alloc, rig);
+        if is_whole(rt, &rig.kept) {
+            return;
+        }
+    }
+    assert!(rt; false, "the rebuild ends");
+}
+
+// Whether all disks are there, each of whose 16 extents was rebuilt in a step that was counted.
+fn is_whole<L: Ledger, R: Wait + Abort>(rt: &R, kept: &Mutex<Kept<FuseDisk, L>>) -> bool {
+    let kept = kept.lock(rt);
+    let is_whole = matches!(kept.array().health(), Health::Whole);
+    let steps = kept.counts().tasks.rebuilt;
+    drop(kept);
+    assert!(rt; !is_whole || steps == u64::from(EXTENTS), "{steps} steps");
+    is_whole
 }
 
 #[test]

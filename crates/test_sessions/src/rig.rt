@@ -1,7 +1,7 @@
 // A kept array of small disks and its desk, and what is played on them.
 ghost use Rattle.std.specs.Prelude.{◌≡◌, ◌≤◌, [], length};
 
-use crate::background::{lasts, works};
+use crate::background::{lasts, rebuilds, works};
 use crate::drawn::draw;
 use crate::gates::{meet, meet_held, meet_jammed};
 use crate::scarce::meet_briefly;
@@ -72,7 +72,7 @@ impl<L: Ledger> Rig<L> {
     }
 }
 
-/// Whether a create, a grow, or the addition of a disk is done.
+/// Whether an operation is done.
 pub fn is_done<L: Ledger>(
     rt: &impl Wait,
     kept: &Mutex<Kept<FuseDisk, L>>,
@@ -81,7 +81,11 @@ pub fn is_done<L: Ledger>(
     let outcome = kept.lock(rt).operate(operation);
     let is_done = matches!(
         outcome,
-        OutcomeOf::Make(Ok(())) | OutcomeOf::Grow(Ok(())) | OutcomeOf::AddDisk(Ok(()))
+        OutcomeOf::Make(Ok(()))
+            | OutcomeOf::Grow(Ok(()))
+            | OutcomeOf::AddDisk(Ok(()))
+            | OutcomeOf::DiskOut(Ok(()))
+            | OutcomeOf::Replace(Ok(()))
     );
     drop(outcome);
     is_done
@@ -106,6 +110,8 @@ pub enum Play<'a> {
     Welcome(Guests, usize),
     /// A block is flushed and a disk added by the work in the background.
     Work,
+    /// A replaced disk is rebuilt while a host writes.
+    Rebuild,
     /// A disk is added while a session lasts.
     Last,
 }
@@ -163,6 +169,7 @@ fn play_on<
         Play::MeetBriefly => meet_briefly(rt, alloc, rig),
         Play::Welcome(guests, connections) => welcome(rt, alloc, rig, guests, connections),
         Play::Work => works(rt, alloc, shape, rig),
+        Play::Rebuild => rebuilds(rt, alloc, shape, rig),
         Play::Last => lasts(rt, alloc, shape, rig),
     }
 }
