@@ -15,11 +15,11 @@ pub(crate) enum FillResult {
     Failed(usize),
 }
 
-// How far a buffer was written.
+/// How far a buffer was written.
 #[derive(Clone, Copy)]
-pub(crate) enum Sent {
+pub enum Sent {
     Whole,
-    // A write faulted after this many bytes.
+    /// A write faulted after this many bytes.
     Part(usize),
 }
 
@@ -38,8 +38,8 @@ pub(crate) fn fill<R: Source>(reader: &mut R, into: &mut [u8]) -> FillResult
     FillResult::Full
 }
 
-// Writes all of `from`. An empty one makes no write.
-pub(crate) fn send<W: Sink>(writer: &mut W, from: &[u8]) -> Sent
+/// Writes all of `from`. An empty one makes no write.
+pub fn send<W: Sink>(writer: &mut W, from: &[u8]) -> Sent
     ensures { Sending (W.state writer.old) (W.state writer.new) from.now result }
 {
     let mut at = 0;

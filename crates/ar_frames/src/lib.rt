@@ -22,6 +22,7 @@ mod stream;
 
 pub use client::{AskFault, ask, hello};
 pub use end::{EndReason, SessionEnd};
+pub use fill::{Sent, send};
 pub use frame::{MOST_DATA, Request};
 pub use linked::Linked;
 pub use login::LOGIN_NAME;

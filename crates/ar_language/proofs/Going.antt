@@ -290,7 +290,7 @@ no_end_there front buffered whole some = at (position (λ byte. byte == 10) buff
         none end 0 there.0 (eqb-true _ _ there.1)
 
 -- bytes without a fault tell none
-sound_line : (line : List ℕ) → IsLine line → line_fault line ≡ None
+pub sound_line : (line : List ℕ) → IsLine line → line_fault line ≡ None
 sound_line line whole =
     let all : take 4096 line ≡ line = take_all 4096 line whole.short in
     ap (λ l. cond (list_all is_printable l) (cond (nat_lt 4096 (length line)) (Some LineTooLong) None) (Some BadCharacter)) all

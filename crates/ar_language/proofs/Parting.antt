@@ -197,7 +197,7 @@ all_false p (suc n) [] ys h = absurd (cc)
 all_false p (suc n) (x ∷ xs) ys h = and_false (p x) (list_all p (take n xs)) (list_all p (take n (xs ++ ys))) h (all_false p n xs ys)
 
 -- what is wrong with a part is wrong with the line
-fault_of : (line part more : List ℕ) (kind : FaultKind) → IsLine line → part_fault (4096 - length line) part ≡ Some kind → line_fault ((line ++ part) ++ more) ≡ Some kind
+pub fault_of : (line part more : List ℕ) (kind : FaultKind) → IsLine line → part_fault (4096 - length line) part ≡ Some kind → line_fault ((line ++ part) ++ more) ≡ Some kind
 fault_of line part more kind whole wrong =
     let room = 4096 - length line in
     let few = whole.short in

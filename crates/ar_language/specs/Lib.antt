@@ -4,4 +4,5 @@ pub mod Left
 pub mod Lines
 pub mod Notations
 pub mod Parts
+pub mod Texts
 pub mod Words

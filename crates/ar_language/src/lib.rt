@@ -16,3 +16,4 @@ pub use lines::Lines;
 pub use next::next_line;
 pub use order::{Action, Data, Notation, Order, Question};
 pub use parse::{order_in, unit_and_number};
+pub use words::{MOST_WORDS, first_words, number};
