@@ -47,6 +47,11 @@ pub record ReadsRow (place : Place) (row : ℕ) (old new : ArrayState) : Type 0 
   pub looks : LooksAt old new
   pub images : is_broken new ≡ false → (addr : Addr) → image_at new addr ≡ image_at old addr
 
+-- a query that reads no disk
+abbrev pub IsView : Question → Type 0
+IsView (Block disk extent row) = ⊥
+IsView question = Unit {0}
+
 -- the effect of a query on an array: none, if no disk is read for it
 abbrev pub Looks : Question → ArrayState → ArrayState → Type 0
 Looks (Levels addr) old new = new ≡ old

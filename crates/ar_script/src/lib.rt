@@ -4,12 +4,14 @@
 
 mod drawing;
 mod filled;
+mod question;
 mod run;
 mod runner;
 mod runs;
 mod text;
 
 pub use drawing::picture_of;
+pub use question::write_answer;
 pub use run::{Setup, run_on, run_script};
-pub use runner::{Runner, start_array};
+pub use runner::{Runner, new_disk, start_array};
 pub use text::{write_health, write_outcome};

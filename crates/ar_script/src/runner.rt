@@ -10,9 +10,10 @@ ghost use Rattle.ar_script.specs.Pictures.{IsPicture};
 ghost use Rattle.ar_script.specs.Setups.{disks_of, new_disk, new_disk_for};
 
 use crate::Setup;
-use crate::drawing::{picture_of, write_picture};
+use crate::drawing::picture_of;
 use crate::filled::Filled;
-use crate::text::{write_groups, write_health, write_home, write_levels, write_outcome, write_row};
+use crate::question::write_answer;
+use crate::text::{write_outcome, write_row};
 use ar_core::{Array, CAPACITY_LIMIT, Event, EventOf, NewDisk, Outcome};
 use ar_disks::{Block, Geometry, MemDisk};
 use ar_language::{Action, Fault, FaultKind, Order, Question};
@@ -154,25 +155,13 @@ impl Runner {
         ensures adds { OnOk result (HasAnswer (Order.Ask question) → AddsSome (W.contents out.old) (W.contents out.new)) }
         ensures looks { Looks question self.old self.new }
     {
-        let written = match question {
-            Question::Levels(addr) => write_levels(out, &self.array, addr),
-            Question::Home(addr, rb) => write_home(out, self.array.home_of(addr, rb)),
-            Question::Groups => {
-                let groups = self.array.groups(alloc).map_err(|_| FaultKind::NoMemory)?;
-                write_groups(out, &groups)
-            }
-            Question::Room => {
-                let room = self.array.free_room();
-                writeln!(out, "room {room}")
-            }
-            Question::Health => write_health(out, self.array.health()),
-            Question::Picture => return write_picture(alloc, &self.array, out),
+        match question {
             Question::Block { disk, extent, row } => {
                 let shown = self.array.block_at(disk, extent, row, &mut self.row);
-                write_row(out, shown, self.row.bytes())
+                write_row(out, shown, self.row.bytes()).map_err(|_| FaultKind::WriteFault)
             }
-        };
-        written.map_err(|_| FaultKind::WriteFault)
+            _ => write_answer(alloc, &self.array, question, out),
+        }
     }
 }
 
@@ -203,8 +192,8 @@ fn new_disks(alloc: Global, setup: Setup) -> Result<Vec<MemDisk>, AllocError>
     Ok(disks)
 }
 
-// A disk that is filled with one byte.
-fn new_disk(alloc: Global, geometry: Geometry, extents: u16) -> Result<MemDisk, AllocError>
+/// A new disk, which is filled with one byte. Fails only when out of memory.
+pub fn new_disk(alloc: Global, geometry: Geometry, extents: u16) -> Result<MemDisk, AllocError>
     ensures { IfOk result (λ disk. disk ≡ new_disk geometry extents) }
 {
     MemDisk::filled(alloc, geometry, extents, NEW_BYTE)
