@@ -1,0 +1,6 @@
+pub mod Controller
+pub mod Executing
+pub mod Faults
+pub mod Lines
+pub mod Orders
+pub mod Talk

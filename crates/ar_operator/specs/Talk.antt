@@ -1,0 +1,170 @@
+-- A conversation, line by line.
+use Rattle.std.specs.Prelude.{◌≡◌, ◌⊎◌, ◌≤◌, ℕ, Bool, true, false, List, [], ◌∷◌, ◌++◌, length, codes, Option, Some, None, Result, Ok, Err, alloc_error}
+use Rattle.std.specs.Io.KnownBytes.{IsAtEnd}
+use Rattle.ar_frames.specs.Stream.{SourceState, SinkState, Reading, Sending}
+use Rattle.ar_frames.specs.declared.fill.Sent.{Sent}
+use Rattle.ar_frames.specs.declared.fill.Sent.TheVariants.{Whole, Part}
+use Rattle.ar_language.specs.Lines.{line_fault}
+use Rattle.ar_language.specs.declared.fault.FaultKind.{FaultKind}
+use Rattle.ar_language.specs.declared.fault.FaultKind.TheVariants.{NoMemory}
+use Rattle.ar_operator.specs.declared.order.OperatorOrder.{OperatorOrder}
+use Rattle.ar_operator.specs.declared.order.OperatorOrder.TheVariants as orders
+use Rattle.ar_operator.specs.declared.order.LineFault.{LineFault}
+use Rattle.ar_operator.specs.declared.order.LineFault.TheVariants.{Line}
+use Rattle.ar_operator.specs.declared.conversation.OperatorEnd.{OperatorEnd}
+use Rattle.ar_operator.specs.declared.conversation.OperatorEnd.TheVariants as ends
+use Rattle.ar_operator.specs.declared.conversation.Said.{Said}
+use Rattle.ar_operator.specs.declared.conversation.Said.TheVariants as said
+use Rattle.ar_operator.specs.declared.conversation.Turn.{Turn}
+use Rattle.ar_operator.specs.declared.conversation.Turn.TheVariants.{Answered, Ended}
+use Rattle.ar_operator.specs.Controller.{OperatorAnswers}
+use Rattle.ar_operator.specs.Faults.{line_fault_text}
+use Rattle.ar_operator.specs.Lines.{TakesLine, TakesPart, seen_behind}
+use Rattle.ar_operator.specs.Orders.{ReadsOperatorLine}
+
+-- the answer to a line with a fault
+abbrev pub fault_answer : LineFault → List ℕ
+fault_answer fault = codes "fault: " ++ line_fault_text fault ++ 10 ∷ []
+
+-- the answer when out of memory for another
+abbrev pub no_memory : List ℕ
+no_memory = fault_answer (Line NoMemory)
+
+-- whether an order ends the service
+abbrev pub is_stop : OperatorOrder → Bool
+is_stop orders.Stop = true
+is_stop order = false
+
+-- what a line is read as, by the fault of its bytes, if they have one, or by its text
+abbrev pub ReadsBytes : Option FaultKind → List ℕ → Result (Option OperatorOrder) LineFault → Type 0
+ReadsBytes (Some kind) text read = read ≡ Err (Line kind)
+ReadsBytes None text read = ReadsOperatorLine text read
+
+-- the controller executed the order, and there is no memory for its answer
+pub record IsForgotten {C : Type 0} (answers : OperatorAnswers C) (old : C) (order : OperatorOrder) (new : C) : Type 0 where
+  pub lost : List ℕ
+  pub answered : answers old order (Err alloc_error) lost new
+
+-- an order was given to the controller once: its answer or, out of memory, that
+abbrev pub ObeysOrder : {C : Type 0} → OperatorAnswers C → C → OperatorOrder → List ℕ → Bool → C → Type 0
+ObeysOrder answers old order answer stop new =
+    (answers old order (Ok tt) answer new × (stop ≡ is_stop order))
+    ⊎ (IsForgotten answers old order new × (answer ≡ no_memory) × (stop ≡ false))
+
+-- The answer to what a line is read as, and whether the service ends with it. A line without an order leaves the
+-- controller as it was.
+abbrev pub SaysRead : {C : Type 0} → OperatorAnswers C → C → Result (Option OperatorOrder) LineFault → List ℕ → Bool → C → Type 0
+SaysRead answers old (Ok None) answer stop new = (answer ≡ []) × (stop ≡ false) × (new ≡ old)
+SaysRead answers old (Ok (Some order)) answer stop new = ObeysOrder answers old order answer stop new
+SaysRead answers old (Err fault) answer stop new = ((answer ≡ fault_answer fault) ⊎ (answer ≡ no_memory)) × (stop ≡ false) × (new ≡ old)
+
+-- the answer to a line, by the fault of its bytes or by its text
+pub record SaysAnswer {C : Type 0} (answers : OperatorAnswers C) (fault : Option FaultKind) (text : List ℕ) (old : C) (answer : List ℕ)
+    (stop : Bool) (new : C) : Type 0 where
+  pub read : Result (Option OperatorOrder) LineFault
+  pub reads : ReadsBytes fault text read
+  pub says : SaysRead answers old read answer stop new
+
+-- a line was answered, and its answer was written, whole or up to a fault
+pub record Replies {C : Type 0} (answers : OperatorAnswers C) (fault : Option FaultKind) (text : List ℕ) (old : C) (sink : SinkState)
+    (stop : Bool) (sent : Sent) (new : C) (sink' : SinkState) : Type 0 where
+  pub answer : List ℕ
+  pub said : SaysAnswer answers fault text old answer stop new
+  pub sending : Sending sink sink' answer sent
+
+-- what becomes of the conversation after a line
+abbrev pub turn_by : Bool → Sent → Turn
+turn_by stop (Part n) = Ended ends.Write
+turn_by true Whole = Ended ends.Stop
+turn_by false Whole = Answered
+
+-- the same, by the result
+pub record TurnsLine {C : Type 0} (answers : OperatorAnswers C) (fault : Option FaultKind) (text : List ℕ) (old : C) (sink : SinkState)
+    (turn : Turn) (new : C) (sink' : SinkState) : Type 0 where
+  pub stop : Bool
+  pub sent : Sent
+  pub replies : Replies answers fault text old sink stop sent new sink'
+  pub turn_is : turn ≡ turn_by stop sent
+
+-- the bytes of an answer: those in the buffer, or that there is no memory for them
+abbrev pub said_bytes : Said → List ℕ → List ℕ
+said_bytes said.Answer buffer = buffer
+said_bytes said.Stop buffer = buffer
+said_bytes said.NoMemory buffer = no_memory
+
+-- whether the service ends
+abbrev pub is_stopped : Said → Bool
+is_stopped said.Answer = false
+is_stopped said.Stop = true
+is_stopped said.NoMemory = false
+
+-- where a conversation is: its streams, and the controller
+pub record TalkPlace (C : Type 0) : Type 0 where
+  pub source : SourceState
+  pub sink : SinkState
+  pub controller : C
+
+-- a line was read, and answered as its bytes say
+pub record SaysLine {C : Type 0} (answers : OperatorAnswers C) (old : TalkPlace C) (line : List ℕ) (stop : Bool) (sent : Sent) (new : TalkPlace C)
+    : Type 0 where
+  pub takes : TakesLine old.source new.source line
+  pub replies : Replies answers (line_fault line) line old.controller old.sink stop sent new.controller new.sink
+
+-- These lines were read and answered whole, one after another, none of them with `stop`.
+abbrev pub Talks : {C : Type 0} → OperatorAnswers C → TalkPlace C → List (List ℕ) → TalkPlace C → Type 0
+Talks answers old [] new = new ≡ old
+Talks {C = C} answers old (line ∷ lines) new = (middle : TalkPlace C) × SaysLine answers old line false Whole middle × Talks answers middle lines new
+
+-- this many lines were
+pub record HasTalked {C : Type 0} (answers : OperatorAnswers C) (old : TalkPlace C) (count : ℕ) (new : TalkPlace C) : Type 0 where
+  pub lines : List (List ℕ)
+  pub count_is : length lines ≡ count
+  pub talks : Talks answers old lines new
+
+-- nothing was answered
+pub record IsSilent {C : Type 0} (old new : TalkPlace C) : Type 0 where
+  pub sink : new.sink ≡ old.sink
+  pub controller : new.controller ≡ old.controller
+
+-- the last line was `stop`, and was accepted
+pub record IsStoppedByOrder {C : Type 0} (answers : OperatorAnswers C) (old new : TalkPlace C) : Type 0 where
+  pub line : List ℕ
+  pub says : SaysLine answers old line true Whole new
+
+-- the answer to the last line wasn't written whole
+pub record IsAnswerCut {C : Type 0} (answers : OperatorAnswers C) (old new : TalkPlace C) : Type 0 where
+  pub line : List ℕ
+  pub stop : Bool
+  pub count : ℕ
+  pub says : SaysLine answers old line stop (Part count) new
+
+-- how a conversation ends
+abbrev pub ClosesTalk : {C : Type 0} → OperatorAnswers C → TalkPlace C → OperatorEnd → TalkPlace C → Type 0
+ClosesTalk answers old ends.End new = Reading old.source new.source [] false × IsAtEnd new.source.left × IsSilent old new
+ClosesTalk answers old ends.Stop new = IsStoppedByOrder answers old new
+ClosesTalk answers old ends.Read new = TakesPart old.source new.source true × IsSilent old new
+ClosesTalk answers old ends.Write new = IsAnswerCut answers old new
+ClosesTalk answers old ends.Bound new = TakesPart old.source new.source false × IsSilent old new
+ClosesTalk answers old ends.NoMemory new = new ≡ old
+
+-- one more line was answered, or the conversation ended
+abbrev pub TurnsNext : {C : Type 0} → OperatorAnswers C → TalkPlace C → Turn → TalkPlace C → Type 0
+TurnsNext answers old Answered new = (line : List ℕ) × SaysLine answers old line false Whole new
+TurnsNext answers old (Ended end) new = ClosesTalk answers old end new
+
+-- A conversation: lines of the input were given to the controller, each once and in order, and their answers written,
+-- in order; and then its end came.
+pub record Converses {C : Type 0} (answers : OperatorAnswers C) (old : TalkPlace C) (end : OperatorEnd) (new : TalkPlace C) : Type 0 where
+  pub lines : List (List ℕ)
+  pub few : length lines ≤ 1000000
+  pub middle : TalkPlace C
+  pub talks : Talks answers old lines middle
+  pub closes : ClosesTalk answers middle end new
+
+-- The same over streams. Bytes that were read behind the last line are dropped.
+pub record OperatorTalk {C : Type 0} (answers : OperatorAnswers C) (source source' : SourceState) (sink sink' : SinkState) (old new : C)
+    (end : OperatorEnd) : Type 0 where
+  pub dropped : List ℕ
+  pub converses :
+      Converses answers (record { source = source; sink = sink; controller = old }) end
+      (record { source = seen_behind dropped source'; sink = sink'; controller = new })

@@ -1,0 +1,219 @@
+// Disks in memory that can be told to fail while the array runs. A fuse is set under the array's lock, as every access
+// to a disk is made, so that loads and stores suffice.
+ghost use Rattle.std.specs.Prelude.{◌≡◌, ◌≤◌, IfOk, IfErr, IsTrue, OnOk, None, true, false, length};
+ghost use Rattle.std.specs.Bool.{OnTrue, OnFalse};
+ghost use Rattle.ar_disks.specs.Geometry.{block_len_of};
+ghost use Rattle.ar_disks.specs.Disk.{HasPlace, Reads, Writes, counted};
+ghost use Rattle.ar_extents.specs.Changes.{start_fault};
+ghost use Rattle.ar_volume.specs.Start.{IsStarted};
+ghost use Rattle.ar_script.specs.Setups.{disks_of, new_disk};
+
+use crate::DiskMaker;
+use ar_core::{Array, CAPACITY_LIMIT};
+use ar_disks::{Block, Disk, Geometry, MemDisk};
+use ar_language::Fault;
+use ar_script::{Setup, new_disk};
+use std::alloc::{AllocError, Global};
+use std::marker::Model;
+use std::sync::atomic::{AtomicU64, Ordering};
+
+// A fuse that lets every access pass.
+const OFF: u64 = u64::MAX;
+
+/// How many accesses a disk still passes. It is off at first: the disk passes all.
+#[derive(Drop)]
+pub struct Fuse {
+    left: AtomicU64,
+}
+
+impl Fuse {
+    /// A fuse that is off.
+    pub fn new() -> Fuse {
+        Fuse {
+            left: AtomicU64::new(OFF),
+        }
+    }
+
+    /// Twelve fuses that are off, one for each disk that an array may have.
+    pub fn twelve() -> [Fuse; 12] {
+        [
+            Fuse::new(),
+            Fuse::new(),
+            Fuse::new(),
+            Fuse::new(),
+            Fuse::new(),
+            Fuse::new(),
+            Fuse::new(),
+            Fuse::new(),
+            Fuse::new(),
+            Fuse::new(),
+            Fuse::new(),
+            Fuse::new(),
+        ]
+    }
+
+    /// Lets this many more accesses pass, or all if None.
+    pub fn set(&self, accesses: Option<u64>) {
+        self.left.store(accesses.unwrap_or(OFF), Ordering::SeqCst);
+    }
+
+    // Uses up one access; false if none is left. While the fuse is off, this is one load.
+    fn passes(&self) -> bool {
+        match self.left.load(Ordering::SeqCst) {
+            OFF => true,
+            0 => false,
+            left => {
+                self.left.store(left - 1, Ordering::SeqCst);
+                true
+            }
+        }
+    }
+}
+
+/// A disk in memory with a fuse that others can set: it fails at the access that the fuse doesn't pass.
+#[derive(Drop)]
+pub struct FusedDisk<'a> {
+    disk: MemDisk,
+    fuse: &'a Fuse,
+    gone: bool,
+    faults: u64,
+}
+
+impl<'a> Model for FusedDisk<'a> {
+    ghost use Rattle.ar_disks.specs.Disk.{DiskState};
+
+    ghost Value = { DiskState };
+
+    ghost view = { λ f. record f.disk { gone = f.gone; faults = f.faults } };
+}
+
+impl<'a> FusedDisk<'a> {
+    /// The disk `disk` on a fuse. It has not failed yet and has counted no fault.
+    pub fn new(disk: MemDisk, fuse: &'a Fuse) -> FusedDisk<'a>
+        ensures { result ≡ disk }
+    {
+        FusedDisk {
+            disk,
+            fuse,
+            gone: false,
+            faults: 0,
+        }
+    }
+
+    // Uses up one access of the fuse, or fails the disk and counts a fault if none is left or it had failed before.
+    fn passes(&mut self) -> bool
+        ensures passed { OnTrue result (self.new ≡ self.old) }
+        ensures there { IsTrue result → self.old.gone ≡ false }
+        ensures blown { OnFalse result (self.new ≡ record self.old { gone = true; faults = counted self.old.faults }) }
+    {
+        if !self.gone && self.fuse.passes() {
+            return true;
+        }
+        self.gone = true;
+        self.faults = self.faults.saturating_add(1);
+        false
+    }
+}
+
+impl<'a> Disk for FusedDisk<'a> {
+    ghost state = { λ fused. fused };
+
+    fn geometry(&self) -> Geometry {
+        self.disk.geometry()
+    }
+
+    fn extents(&self) -> u16 {
+        self.disk.extents()
+    }
+
+    fn read(&mut self, ext: u16, row: u16, into: &mut Block) -> bool
+        requires place { HasPlace self.old ext row }
+        requires whole { length into.old ≡ block_len_of self.old.geometry }
+        ensures read { Reads self.old self.new ext row result into.new }
+        ensures len { length into.new ≡ length into.old }
+    {
+        self.passes() && self.disk.read(ext, row, into)
+    }
+
+    fn write(&mut self, ext: u16, row: u16, from: &[u8]) -> bool
+        requires place { HasPlace self.old ext row }
+        requires whole { length from.now ≡ block_len_of self.old.geometry }
+        ensures written { Writes self.old self.new ext row result from.now }
+    {
+        self.passes() && self.disk.write(ext, row, from)
+    }
+
+    fn faults(&self) -> u64 {
+        self.faults
+    }
+}
+
+/// Makes disks that are on the fuses of their numbers. A disk that the array takes begins with its fuse off.
+#[derive(Clone, Copy)]
+pub struct FusedMaker<'a> {
+    fuses: &'a [Fuse; 12],
+}
+
+impl<'a> FusedMaker<'a> {
+    pub fn new(fuses: &'a [Fuse; 12]) -> FusedMaker<'a> {
+        FusedMaker { fuses }
+    }
+
+    // The fuse of a disk. No array has a disk of a number above 11, or takes one.
+    fn fuse(&self, number: u8) -> &'a Fuse {
+        let fuses = self.fuses;
+        let fuses = &fuses[..];
+        &fuses[usize::from(number % 12)]
+    }
+}
+
+impl<'a> DiskMaker<FusedDisk<'a>> for FusedMaker<'a> {
+    fn make(
+        &mut self,
+        alloc: Global,
+        number: u8,
+        geometry: Geometry,
+        extents: u16,
+    ) -> Result<FusedDisk<'a>, AllocError> {
+        let disk = new_disk(alloc, geometry, extents)?;
+        Ok(FusedDisk::new(disk, self.fuse(number)))
+    }
+
+    fn placed(&mut self, number: u8) {
+        self.fuse(number).set(None);
+    }
+}
+
+/// Makes a new array on new disks, each on the fuse of its number. `Start` is returned as `start_array` returns it.
+pub fn start_fused<'a>(
+    alloc: Global,
+    setup: Setup,
+    fuses: &'a [Fuse; 12],
+) -> Result<Array<FusedDisk<'a>>, Fault>
+    ensures refused { IfErr result (λ fault. fault ≡ Fault.Start) }
+    ensures few { OnOk result (setup.cache ≤ 65536) }
+    ensures taken { OnOk result (start_fault (disks_of setup) ≡ None) }
+    ensures started { IfOk result (IsStarted (disks_of setup) setup.cache) }
+{
+    if setup.cache > CAPACITY_LIMIT {
+        return Err(Fault::Start);
+    }
+    let disks = fused_disks(alloc, setup, FusedMaker::new(fuses)).map_err(|_| Fault::Start)?;
+    let array = Array::start(alloc, disks, setup.cache).map_err(|_| Fault::Start)?;
+    Ok(array)
+}
+
+// The disks of a setup, each on the fuse of its number.
+fn fused_disks<'a>(
+    alloc: Global,
+    setup: Setup,
+    mut maker: FusedMaker<'a>,
+) -> Result<Vec<FusedDisk<'a>>, AllocError>
+    ensures { IfOk result (λ disks. disks.items ≡ disks_of setup) }
+{
+    let mut disks = Vec::new(alloc);
+    for number in 0..setup.disks {
+        disks.push(maker.make(alloc, number, setup.geometry, setup.extents)?)?;
+    }
+    Ok(disks)
+}

@@ -1,0 +1,185 @@
+// What an operator's line asks for: a word of the operator's own, or a word of scripts that is no host's.
+ghost use Rattle.std.specs.Prelude.{◌≡◌, map, IfOk, IfSome};
+ghost use Rattle.std.specs.Option.{SomeIff};
+ghost use Rattle.ar_language.specs.Forms.{Gives, IsNumberOf, value};
+ghost use Rattle.ar_operator.specs.Orders.{AreAccesses, AsksFuse, HasFuse, IsFuse, IsOperatorOrder, ReadsAlone, ReadsArguments, ReadsFirstWord, ReadsOperatorLine, ReadsOperatorWord, ReadsSharedWord, accesses_in, as_operator, is_host_word, text_of};
+
+use ar_language::{Action, FaultKind, MOST_WORDS, Order, Question, first_words, number, order_in};
+use std::fmt;
+use std::fmt::{Display, Formatter};
+use thiserror::Error;
+
+/// An operator's order.
+#[derive(Clone, Copy)]
+pub enum OperatorOrder {
+    /// Execute an action on the array, other than a SCSI command.
+    Act(Action),
+    /// Show the result of a query, other than the bytes of a row.
+    Ask(Question),
+    /// `sessions`: show the connected hosts.
+    Sessions,
+    /// `counts`: show what was counted since the start.
+    Counts,
+    /// `fail`: let a disk, by its number, pass this many more accesses and fault at the next one. None: `off`.
+    Fail { disk: u8, accesses: Option<u64> },
+    /// `help`: show the operator's words.
+    Help,
+    /// `stop`: end the service.
+    Stop,
+}
+
+/// What is wrong with an operator's line.
+#[derive(Clone, Copy, Debug, PartialEq, Eq, Error)]
+pub enum LineFault {
+    /// What may be wrong with a line of a script, too.
+    Line(FaultKind),
+    /// The first word is a host's, or shows the bytes of a row.
+    NotOperatorWord,
+}
+
+// (By hand: the text that a derived `Display` writes is not specified.)
+impl Display for LineFault {
+    ghost use Rattle.std.specs.Prelude.{Some};
+    ghost use Rattle.ar_operator.specs.Faults.{line_fault_text};
+
+    ghost output = { λ fault. Some (line_fault_text fault) };
+
+    fn fmt<W: fmt::Write>(&self, f: &mut Formatter<W>) -> fmt::Result {
+        match self {
+            LineFault::Line(kind) => kind.fmt(f),
+            LineFault::NotOperatorWord => f.write_str("not an operator's word"),
+        }
+    }
+}
+
+/// Parses a line; an empty one and one that begins with `#` ask for nothing. The faults are `UnknownWord`,
+/// `BadArgument` and `NotOperatorWord`. It allocates nothing.
+pub fn operator_order_in(line: &str) -> Result<Option<OperatorOrder>, LineFault>
+    ensures reads { ReadsOperatorLine line.now result }
+    ensures allowed { IfOk result (λ asked. IfSome asked IsOperatorOrder) }
+{
+    if line.is_empty() || line.starts_with('#') {
+        return Ok(None);
+    }
+    let mut words = [""; MOST_WORDS];
+    let Some(count) = first_words(line, &mut words) else {
+        return Err(LineFault::Line(FaultKind::BadArgument));
+    };
+    order_in_words(line, &words[..count])
+}
+
+// Parses the words of a line, or its first eight.
+fn order_in_words(line: &str, words: &[&str]) -> Result<Option<OperatorOrder>, LineFault>
+    ensures reads { ReadsFirstWord line.now words.now result }
+    ensures allowed { IfOk result (λ asked. IfSome asked IsOperatorOrder) }
+{
+    match words.split_first() {
+        Some((name, arguments)) => order_named(line, name, arguments),
+        None => Ok(None),
+    }
+}
+
+// Parses a line by its first word. The words after it are in `arguments`, at most seven of them.
+fn order_named(
+    line: &str,
+    name: &str,
+    arguments: &[&str],
+) -> Result<Option<OperatorOrder>, LineFault>
+    ensures reads { ReadsOperatorWord line.now name.now (map text_of arguments.now) result }
+    ensures allowed { IfOk result (λ asked. IfSome asked IsOperatorOrder) }
+{
+    match name {
+        "sessions" => alone(arguments, OperatorOrder::Sessions),
+        "counts" => alone(arguments, OperatorOrder::Counts),
+        "fail" => fail(arguments),
+        "help" => alone(arguments, OperatorOrder::Help),
+        "stop" => alone(arguments, OperatorOrder::Stop),
+        _ => shared_order(line, name),
+    }
+}
+
+// Parses a line as a script's, unless its first word is a host's.
+fn shared_order(line: &str, name: &str) -> Result<Option<OperatorOrder>, LineFault>
+    ensures reads { ReadsSharedWord line.now name.now result }
+    ensures allowed { IfOk result (λ asked. IfSome asked IsOperatorOrder) }
+{
+    if is_host_word(name) {
+        return Err(LineFault::NotOperatorWord);
+    }
+    as_operator(order_in(line))
+}
+
+// Whether a word is a host's, or shows the bytes of a row.
+fn is_host_word(name: &str) -> bool
+    ensures { result ≡ is_host_word name.now }
+{
+    matches!(
+        name,
+        "tur" | "inquiry" | "capacity" | "read" | "write" | "read16" | "write16" | "cdb" | "block"
+    )
+}
+
+// A script's order as an operator's. (A host's word doesn't come here, but `Action` and `Question` have theirs.)
+fn as_operator(read: Result<Option<Order>, FaultKind>) -> Result<Option<OperatorOrder>, LineFault>
+    ensures same { result ≡ as_operator read }
+    ensures allowed { IfOk result (λ asked. IfSome asked IsOperatorOrder) }
+{
+    match read {
+        Ok(None) => Ok(None),
+        Ok(Some(Order::Act(Action::Command { .. }) | Order::Ask(Question::Block { .. }))) => {
+            Err(LineFault::NotOperatorWord)
+        }
+        Ok(Some(Order::Act(action))) => Ok(Some(OperatorOrder::Act(action))),
+        Ok(Some(Order::Ask(question))) => Ok(Some(OperatorOrder::Ask(question))),
+        Err(kind) => Err(LineFault::Line(kind)),
+    }
+}
+
+// An order without arguments.
+fn alone(arguments: &[&str], order: OperatorOrder) -> Result<Option<OperatorOrder>, LineFault>
+    requires { IsOperatorOrder order }
+    ensures reads { ReadsAlone (map text_of arguments.now) order result }
+    ensures allowed { IfOk result (λ asked. IfSome asked IsOperatorOrder) }
+{
+    if arguments.is_empty() {
+        Ok(Some(order))
+    } else {
+        Err(LineFault::Line(FaultKind::BadArgument))
+    }
+}
+
+fn fail(arguments: &[&str]) -> Result<Option<OperatorOrder>, LineFault>
+    ensures reads { ReadsArguments (HasFuse (map text_of arguments.now)) (AsksFuse (map text_of arguments.now)) result }
+    ensures allowed { IfOk result (λ asked. IfSome asked IsOperatorOrder) }
+{
+    match fuse_in(arguments) {
+        Some((disk, accesses)) => Ok(Some(OperatorOrder::Fail { disk, accesses })),
+        None => Err(LineFault::Line(FaultKind::BadArgument)),
+    }
+}
+
+// A disk, and the accesses that it still passes.
+fn fuse_in(arguments: &[&str]) -> Option<(u8, Option<u64>)>
+    ensures { Gives (HasFuse (map text_of arguments.now)) (IsFuse (map text_of arguments.now)) result }
+{
+    let [disk, accesses] = arguments else {
+        return None;
+    };
+    Some((disk_number(disk)?, accesses_in(accesses)?))
+}
+
+fn disk_number(word: &str) -> Option<u8>
+    ensures { SomeIff result (IsNumberOf 8 word.now) (value word.now) }
+{
+    u8::try_from(number(word)?).ok()
+}
+
+// A number of accesses, or `off`.
+fn accesses_in(word: &str) -> Option<Option<u64>>
+    ensures { SomeIff result (AreAccesses word.now) (accesses_in word.now) }
+{
+    match word {
+        "off" => Some(None),
+        _ => Some(Some(number(word)?)),
+    }
+}

@@ -1,0 +1,114 @@
+// What each word is answered with, by the tables of scripts.
+use crate::rig::{Play, plays};
+
+#[test]
+fn units_and_views(rt: HostRuntime) {
+    plays(
+        &rt,
+        rt.alloc(),
+        Play::Rows(&[
+            (b"room\n", b"room 18\n"),
+            (b"make 0 0 4\nroom\n", b"ok\nroom 16\n"),
+            (b"make 0 0 4\n", b"refused M1 Exists\n"),
+            (b"make 0 8 4\n", b"refused M7 BadLun\n"),
+            (b"make 1 0 0\n", b"refused M2 Size\n"),
+            (b"make 1 0 4096\n", b"refused M3 NoRoom 16\n"),
+            (b"grow 0 0 8\n", b"ok\n"),
+            (b"grow 0 0 8\n", b"refused M2 Size\n"),
+            (b"levels 0 0\n", b"----\n"),
+            (b"levels 3 7\n", b"refused M5 Absent\n"),
+            (b"home 0 0 0\nhome 0 0 4\n", b"home none\noutside\n"),
+            (
+                b"groups\n",
+                b"group 0 free 0\ngroup 1 free 0\ngroup 2 free 0\ngroup 3 free 0\n",
+            ),
+            (b"drop 0 0\ndrop 0 0\n", b"ok\nrefused M5 Absent\n"),
+            (b"health\n", b"whole\n"),
+            (
+                b"picture\n",
+                b"4 disks (columns) of 4 extents (lines)
+              0    1    2    3
+   0..3      --   --   --   --
+M mirrored, P with parity; 0 to 9: how full, in ninths of its slots
+-- in a free group, .. in no group, ! can't be used
+all disks are sound
+",
+            ),
+        ]),
+    );
+}
+
+#[test]
+fn disks_and_maintenance(rt: HostRuntime) {
+    plays(
+        &rt,
+        rt.alloc(),
+        Play::Rows(&[
+            (
+                b"flush\ndemote\nclean\nbalance\nrebuild\n",
+                b"idle\nidle\nidle\nidle\nidle\n",
+            ),
+            (
+                b"out 4\nreplace 1\n",
+                b"refused E4 NoSuchDisk\nrefused E3 NotOut\n",
+            ),
+            (b"replace 4\n", b"refused E4 NoSuchDisk\n"),
+            (b"out 1\nhealth\n", b"ok\nout 1\n"),
+            (b"replace 1\nhealth\n", b"ok\nrebuilding 1 0\n"),
+            (
+                b"rebuild\nrebuild\nrebuild\nrebuild\nrebuild\n",
+                b"rebuilt 0 left 3\nrebuilt 1 left 2\nrebuilt 2 left 1\nfinished\nidle\n",
+            ),
+            (b"health\nadd\n", b"whole\nok\n"),
+            (b"fail 4 off\nfail 5 off\n", b"ok\nrefused E4 NoSuchDisk\n"),
+            (
+                b"counts\n",
+                b"host 0 commands 0 read 0 written 0
+host 1 commands 0 read 0 written 0
+host 2 commands 0 read 0 written 0
+host 3 commands 0 read 0 written 0
+flushed 0
+demoted 0
+cleaned 0
+balanced 0
+rebuilt 4
+",
+            ),
+        ]),
+    );
+}
+
+#[test]
+fn help_names_each_word(rt: HostRuntime) {
+    plays(
+        &rt,
+        rt.alloc(),
+        Play::Rows(&[(
+            b"help\n",
+            b"make H L SECTORS
+grow H L SECTORS
+drop H L
+add
+out D
+replace D
+fail D N
+fail D off
+flush
+demote
+clean
+balance
+rebuild
+levels H L
+home H L RB
+groups
+room
+health
+picture
+sessions
+counts
+help
+stop
+",
+        )]),
+    );
+}
