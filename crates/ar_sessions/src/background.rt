@@ -26,9 +26,9 @@ const LONGEST_PAUSE: u64 = 16;
 /// Pauses in a row after which an idle array is looked at all the same: a step that lacked memory may have it then.
 const PAUSES: u32 = 64;
 
-/// Milliseconds of the pause after a step that may have copied an extent under the lock, about ten times as long as the
-/// step: meanwhile hosts have the array.
-const BREATH: u64 = 2;
+/// Milliseconds of the pause after a step that may have copied an extent under the lock. It is several times as long as
+/// the step, so that hosts keep most of their rate.
+const EXTENT_PAUSE: u64 = 2;
 
 // Where the maintenance is in its rotation.
 #[derive(Clone, Copy)]
@@ -37,7 +37,7 @@ struct Rotation {
     task: Task,
     // Steps in a row that did nothing, and the pauses after them.
     turns: u32,
-    // Milliseconds of the next pause for want of work.
+    // Milliseconds of the next pause when there is nothing to do.
     pause: u64,
     // The array's events before the first of these steps.
     seen: u64,
@@ -57,7 +57,9 @@ pub fn run_background<R: Wait + Clock, D: Disk + Drop, L: Ledger>(
         if stop.load(Ordering::SeqCst) {
             break;
         }
-        match rotation.advance(&mut kept.lock(rt)) {
+        // A statement of its own, so that the lock is free before the pause.
+        let pause = rotation.advance(&mut kept.lock(rt));
+        match pause {
             Some(pause) => thread::sleep(rt, Duration::from_millis(pause)),
             None => thread::yield_now(),
         }
@@ -104,7 +106,7 @@ impl Rotation {
         }
     }
 
-    // Returns the milliseconds of a pause for want of work; the next one is longer.
+    // Returns the milliseconds of a pause when there is nothing to do; the next one is longer.
     fn rest(&mut self) -> u64
         requires { self.old.turns < 69 }
         ensures next { self.new ≡ paused self.old }
@@ -128,7 +130,11 @@ impl Rotation {
             self.turns = 0;
             self.pause = SHORTEST_PAUSE;
             self.seen = events;
-            return if is_long(task) { Some(BREATH) } else { None };
+            return if is_long(task) {
+                Some(EXTENT_PAUSE)
+            } else {
+                None
+            };
         }
         if self.turns + 1 < ROUND {
             self.turns += 1;
