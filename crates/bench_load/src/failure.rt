@@ -6,7 +6,7 @@ use thiserror::Error;
 #[derive(Clone, Copy, Debug, Error)]
 pub enum Failure {
     /// The words are not the program's options and their values.
-    #[error("bad command line: bench_load --port PORT [--echo] [--echo-port PORT] [--hosts 1..4] [--bytes 512|4096|65536] [--seconds 1..10]")]
+    #[error("bad command line: bench_load --port PORT [--echo] [--echo-port PORT] [--hosts 1..4] [--bytes 512|4096|65536] [--seconds 1..10] or bench_load --verify --port PORT [--hosts 1..4] [--units 1..8] [--sectors 1..1048576] [--requests 1..900000] [--seed N] [--may-break] [--until-closed]")]
     CommandLine,
     /// Nothing listens at the port.
     #[error("connect fault")]
@@ -23,6 +23,9 @@ pub enum Failure {
     /// The bare echo can't be reached, or can't be set up.
     #[error("echo fault")]
     Echo,
+    /// A reply was not right, or a session ended early, as the lines on standard output say.
+    #[error("not verified")]
+    NotVerified,
     /// The clock can't be read.
     #[error("no clock")]
     Clock,

@@ -1,5 +1,5 @@
-//! What a served array takes: hosts ask it over sockets, request after request, and beside it a bare echo, which is this program,
-//! too.
+//! Hosts of a served array, which ask it over sockets, request after request. They measure what it takes, and beside it a bare echo,
+//! which is this program, too; or they verify that what they read is what they wrote.
 #![tactic(auto)]
 
 mod command_line;
@@ -12,6 +12,7 @@ mod measure;
 mod plan;
 mod request;
 mod stream;
+mod verify;
 
 use ar_cli::{end_with, words_of};
 use command_line::{Options, options_in};
@@ -26,6 +27,7 @@ use std::net::{Net, TcpListener, TcpStream};
 use std::process::ExitCode;
 use std::thread::Threads;
 use std::time::Clock;
+use verify::verify;
 
 fn main(rt: HostRuntime) -> ExitCode {
     let done = match options(&rt) {
@@ -42,7 +44,7 @@ fn options(rt: &HostRuntime) -> Result<Options, Failure> {
     options_in(alloc, words.as_slice())
 }
 
-// Is the echo, or measures reads and then overwrites.
+// Is the echo, verifies, or measures reads and then overwrites.
 fn run<R: Threads + Clock + Net<Listener = TcpListener, Stream = TcpStream> + Print + Sync>(
     rt: &R,
     alloc: Global,
@@ -51,6 +53,9 @@ fn run<R: Threads + Clock + Net<Listener = TcpListener, Stream = TcpStream> + Pr
     let sectors = options.sectors;
     if options.is_echo {
         return serve_echo(rt, alloc, options.port, options.hosts, sectors);
+    }
+    if let Some(verification) = options.verification {
+        return verify(rt, alloc, options.port, options.hosts, verification);
     }
     for kind in Kind::ALL {
         run_shape(rt, alloc, options, Shape { kind, sectors })?;
