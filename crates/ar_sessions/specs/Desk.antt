@@ -1,7 +1,10 @@
 -- The seats on a desk.
-use Rattle.std.specs.Prelude.{◌≡◌, ℕ, List, length, get_or, Option, Some, None, option_map}
+use Rattle.std.specs.Prelude.{◌≡◌, ℕ, ◌+◌, ◌-◌, ◌^◌, min, if◌then◌else◌, List, length, get_or, Option, Some, None, option_map}
 use Rattle.ar_disks.specs.declared.address.Host.{Host}
+use Rattle.ar_scsi.specs.declared.reply.Reply.{Reply}
+use Rattle.ar_unit.specs.Broken.{is_good}
 use Rattle.ar_history.specs.Seat.{SeatState}
+use Rattle.ar_sessions.specs.declared.desk.SessionCounts.{SessionCounts}
 
 -- a place for each host, in order: its seat, or none while that is missing
 abbrev pub Places : Type 0
@@ -28,3 +31,15 @@ receipt_of seat = record { host = seat.host; commands = length seat.transcript }
 -- the receipt for a port's seat, or none for a port without one
 abbrev pub receipt_for : Option SeatState → Option ReceiptState
 receipt_for port = option_map receipt_of port
+
+-- a sum of 64 bits that saturates
+abbrev pub saturated : ℕ → ℕ → ℕ
+saturated count more = min (count + more) (2 ^ 64 - 1)
+
+-- a session's counts after a command with `sent` bytes of data: they count as written only with GOOD
+abbrev pub session_after : SessionCounts → ℕ → Reply → SessionCounts
+session_after counts sent reply = record {
+  frames = saturated counts.frames 1;
+  read = saturated counts.read (length reply.payload);
+  written = saturated counts.written (if is_good reply.status then sent else 0);
+}

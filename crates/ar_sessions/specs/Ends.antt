@@ -10,6 +10,8 @@ use Rattle.ar_sessions.specs.declared.sessions.ConnectionEnd.{ConnectionEnd}
 use Rattle.ar_sessions.specs.declared.sessions.ConnectionEnd.TheVariants.{Served, NoThread}
 use Rattle.ar_sessions.specs.declared.sessions.Pending.{Pending}
 use Rattle.ar_sessions.specs.declared.sessions.Pending.TheVariants as pending
+use Rattle.ar_sessions.specs.declared.pool.Next.{Next}
+use Rattle.ar_sessions.specs.declared.pool.Next.TheVariants as next
 use Rattle.ar_sessions.specs.Desk.{ReceiptState, receipt_for}
 use Rattle.ar_sessions.specs.Port.{TakesSeat, AsksKept}
 
@@ -92,3 +94,9 @@ abbrev pub EndOf : {H : Type 0} → (H → SessionEnd → Type 0) → Pending H 
 EndOf keeps (pending.Served handle) end = IsOfSession (keeps handle) end
 EndOf keeps pending.Unopened end = end ≡ Served unopened
 EndOf keeps pending.NoThread end = end ≡ NoThread
+
+-- what waiting at a door did: its next connection was opened, or couldn't be, or the door was not used
+abbrev pub TakesNext : {D S W : Type 0} → (D → Option (S × W) → D → Type 0) → D → Next S W → D → Type 0
+TakesNext opens old (next.Opened number reader writer) new = opens old (Some (reader, writer)) new
+TakesNext opens old next.Unopened new = opens old None new
+TakesNext opens old next.Closed new = new ≡ old

@@ -1,11 +1,12 @@
 // The seats that no session holds. A place has its own host's seat or none, so that a host has one session at a time.
-ghost use Rattle.std.specs.Prelude.{◌≡◌, ◌<◌, [], ◌∷◌, map, set, Some, None, is_some, true, false, IfOk, IfErr, OnErr, IfSome};
+ghost use Rattle.std.specs.Prelude.{◌≡◌, ◌<◌, [], ◌∷◌, map, set, Some, None, is_some, not, true, false, IfOk, IfErr, OnErr, IfSome};
 ghost use Rattle.std.specs.List.{list_all};
 ghost use Rattle.ar_history.specs.Seat.{SeatState};
-ghost use Rattle.ar_sessions.specs.Desk.{seat_at, receipt_of};
+ghost use Rattle.ar_sessions.specs.Desk.{seat_at, receipt_of, session_after};
 
 use ar_disks::Host;
 use ar_history::Seat;
+use ar_scsi::{Reply, Status};
 use std::marker::Model;
 use std::sync::ledger::Ledger;
 
@@ -13,6 +14,19 @@ use std::sync::ledger::Ledger;
 #[derive(Drop)]
 pub struct Desk<L: Ledger> {
     places: [Option<Seat<L>>; 4],
+    // By host, what its session did so far; zero while it has none. No contract sees them.
+    counts: [SessionCounts; 4],
+}
+
+/// What a session did so far. The numbers saturate.
+#[derive(Clone, Copy, Debug, PartialEq, Eq)]
+pub struct SessionCounts {
+    /// Frames whose commands were executed or answered BUSY.
+    pub frames: u64,
+    /// Bytes of data in replies.
+    pub read: u64,
+    /// Bytes of data of commands that ended with GOOD.
+    pub written: u64,
 }
 
 impl<L: Ledger> Model for Desk<L> {
@@ -41,6 +55,38 @@ impl Model for Receipt {
     ghost view = { λ receipt. record { host = receipt.host; commands = receipt.commands } };
 }
 
+impl SessionCounts {
+    const NONE: SessionCounts = SessionCounts {
+        frames: 0,
+        read: 0,
+        written: 0,
+    };
+
+    // The counts after a command, by the number of bytes of its data and its reply.
+    fn after(self, sent: usize, reply: &Reply) -> SessionCounts
+        ensures { result ≡ session_after self sent reply.now }
+    {
+        let accepted = match reply.status {
+            Status::Good => sent as u64,
+            _ => 0,
+        };
+        SessionCounts {
+            frames: self.frames.saturating_add(1),
+            read: self.read.saturating_add(reply.payload.len() as u64),
+            written: self.written.saturating_add(accepted),
+        }
+    }
+}
+
+impl Receipt {
+    /// Whose seat was returned.
+    pub fn host(&self) -> Host
+        ensures { result ≡ self.now.host }
+    {
+        self.host
+    }
+}
+
 impl<L: Ledger> Desk<L> {
     /// A desk with all four seats, in order of host.
     pub fn new(seats: [Seat<L>; 4]) -> Desk<L>
@@ -49,6 +95,7 @@ impl<L: Ledger> Desk<L> {
     {
         Desk {
             places: seats.map(Some),
+            counts: [SessionCounts::NONE; 4],
         }
     }
 
@@ -61,6 +108,24 @@ impl<L: Ledger> Desk<L> {
         self.places[usize::from(host.number())].take()
     }
 
+    /// Counts a command of a host's session, by the number of bytes of its data and its reply.
+    pub fn count(&mut self, host: Host, sent: usize, reply: &Reply)
+        ensures { self.new ≡ self.old }
+    {
+        let counts = &mut self.counts[usize::from(host.number())];
+        *counts = counts.after(sent, reply);
+    }
+
+    /// What a host's session did so far. None: it has no session.
+    pub fn counts(&self, host: Host) -> Option<SessionCounts>
+        ensures { is_some result ≡ not (is_some (seat_at self.now host.number)) }
+    {
+        match &self.places[usize::from(host.number())] {
+            Some(_) => None,
+            None => Some(self.counts[usize::from(host.number())]),
+        }
+    }
+
     /// Returns a seat to its host's place, for a receipt. A seat that is in the place already is dropped; of one array
     /// there is no second.
     pub fn give(&mut self, seat: Seat<L>) -> Receipt
@@ -69,6 +134,7 @@ impl<L: Ledger> Desk<L> {
     {
         let host = seat.host();
         let commands = seat.transcript().len();
+        self.counts[usize::from(host.number())] = SessionCounts::NONE;
         self.places[usize::from(host.number())] = Some(seat);
         Receipt { host, commands }
     }

@@ -29,6 +29,11 @@ pub trait Door {
     fn left(&self) -> usize
         ensures { result ≡ to_come self.now };
 
+    /// Whether it is to open no more connections, whatever is still to come.
+    fn is_closed(&self) -> bool {
+        false
+    }
+
     /// Waits for the next connection. None: it couldn't be opened; it counts all the same.
     fn accept(&mut self) -> Option<(Self::Reader, Self::Writer)>
         requires { 0 < to_come self.old }

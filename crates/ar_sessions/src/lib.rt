@@ -7,13 +7,18 @@
 mod background;
 mod desk;
 mod door;
+mod notes;
+mod pool;
 mod port;
 mod sessions;
+mod socket;
 mod tcp;
 
 pub use background::run_background;
-pub use desk::{Desk, Receipt};
+pub use desk::{Desk, Receipt, SessionCounts};
 pub use door::{Door, MemDoor};
+pub use pool::{Entrance, MOST_AT_ONCE, Next, run_pool};
 pub use port::LockPort;
 pub use sessions::{ConnectionEnd, NoMemory, run_beside_background, run_sessions};
-pub use tcp::{ListenFault, TcpDoor};
+pub use socket::{SocketReader, SocketWriter};
+pub use tcp::{ANY_NUMBER, ListenFault, TcpDoor, TcpReader, TcpWriter, Timeouts, wake};

@@ -85,10 +85,30 @@ impl<'a, R: Wait, D: Disk + Drop, L: Ledger> Port for LockPort<'a, R, D, L> {
 
     fn command(&mut self, lun: u8, cdb: &[u8; 16], payload: Bytes) -> Reply {
         match &mut self.seat {
-            Some(seat) => ask_kept(self.rt, self.kept, seat, lun, cdb, payload),
+            Some(seat) => ask_counted(self.rt, self.kept, self.desk, seat, lun, cdb, payload),
             None => unreachable!(),
         }
     }
+}
+
+// Executes a command, and then counts it at the desk.
+fn ask_counted<R: Wait, D: Disk + Drop, L: Ledger>(
+    rt: &R,
+    kept: &Mutex<Kept<D, L>>,
+    desk: &Mutex<Desk<L>>,
+    seat: &mut Seat<L>,
+    lun: u8,
+    cdb: &[u8; 16],
+    payload: Bytes,
+) -> Reply
+    ensures moment { AtOneMoment seat.old lun cdb.now payload result seat.new }
+    ensures reply { IsReply result }
+{
+    let host = seat.host();
+    let sent = payload.len();
+    let reply = ask_kept(rt, kept, seat, lun, cdb, payload);
+    desk.lock(rt).count(host, sent, &reply);
+    reply
 }
 
 // Executes a command under the lock.

@@ -6,10 +6,12 @@ ghost use Rattle.std.specs.VecDeque.{deque_len, deque_capacity};
 ghost use Rattle.ar_cache.specs.Backing.{InTurn};
 ghost use Rattle.ar_sessions.specs.Ends.{IsServedOver, IsPromised, GivesBack, LeavesOff, IsBegun, Becomes, ConnectionEnds, EndOf};
 
+use crate::notes::{note_end, note_start};
 use crate::{Desk, Door, LockPort, Receipt, run_background};
 use ar_disks::Disk;
 use ar_frames::{EndReason, Gate, SessionEnd, Sink, Source, serve_gated};
 use ar_history::Kept;
+use log::Log;
 use std::alloc::Global;
 use std::collections::VecDeque;
 use std::snapshot::Snapshot;
@@ -33,19 +35,19 @@ pub enum ConnectionEnd {
 #[derive(Clone, Copy, Debug, PartialEq, Eq)]
 pub struct NoMemory;
 
-// The state that all sessions share.
+/// The state that all sessions share.
 #[derive(Drop)]
-struct Shared<'a, R: Wait, D: Disk + Drop, L: Ledger, G: Gate> {
-    rt: &'a R,
-    alloc: Global,
-    kept: &'a Mutex<Kept<D, L>>,
-    desk: &'a Mutex<Desk<L>>,
-    gate: &'a G,
+pub struct Shared<'a, R: Wait, D: Disk + Drop, L: Ledger, G: Gate> {
+    pub rt: &'a R,
+    pub alloc: Global,
+    pub kept: &'a Mutex<Kept<D, L>>,
+    pub desk: &'a Mutex<Desk<L>>,
+    pub gate: &'a G,
 }
 
-// A connection, with the state that its session shares with the others.
+/// A connection, with the state that its session shares with the others.
 #[derive(Drop)]
-struct Connection<
+pub struct Connection<
     'a,
     R: Wait,
     D: Disk + Drop,
@@ -55,6 +57,8 @@ struct Connection<
     W: Sink + Drop,
 > {
     shared: &'a Shared<'a, R, D, L, G>,
+    // Its number among all connections, from 1.
+    number: u64,
     reader: S,
     writer: W,
 }
@@ -100,7 +104,7 @@ struct JoinList<H> {
 /// which they were opened. `gate` observes each command. At `NoMemory` no connection was opened, and the door is
 /// unchanged.
 pub fn run_sessions<
-    R: Threads + Wait + Sync,
+    R: Threads + Wait + Clock + Log + Sync,
     D: Disk + Drop + Send,
     L: Ledger + Send + Sync,
     O: Door + Drop,
@@ -151,7 +155,7 @@ pub fn run_sessions<
 /// Serves connections as `run_sessions` does, beside a thread that runs background maintenance until all have ended. At
 /// `NoMemory`, which also means that this thread couldn't be started, no connection was opened.
 pub fn run_beside_background<
-    R: Threads + Wait + Clock + Sync,
+    R: Threads + Wait + Clock + Log + Sync,
     D: Disk + Drop + Send,
     L: Ledger + Send + Sync,
     O: Door + Drop,
@@ -196,7 +200,7 @@ pub fn run_beside_background<
 fn serve_all<
     's,
     E,
-    R: Threads + Wait + Sync,
+    R: Threads + Wait + Clock + Log + Sync,
     D: Disk + Drop + Send,
     L: Ledger + Send + Sync,
     O: Door,
@@ -221,16 +225,17 @@ where
         left,
     } = join_list;
     for _ in 0..left {
-        pending.push_back_reserved(open_next(scope, shared, door));
+        let number = (pending.len() as u64).saturating_add(1);
+        pending.push_back_reserved(open_next(scope, shared, number, door));
     }
     join_all(shared.rt, pending, ends)
 }
 
-// Waits for the next connection, and starts its thread.
+// Waits for the next connection, and starts its thread. The connection has a number, from 1.
 fn open_next<
     's,
     E,
-    R: Threads + Wait + Sync,
+    R: Threads + Wait + Clock + Log + Sync,
     D: Disk + Drop + Send,
     L: Ledger + Send + Sync,
     O: Door,
@@ -238,6 +243,7 @@ fn open_next<
 >(
     scope: &'s Scope<'s, E>,
     shared: &'s Shared<'s, R, D, L, G>,
+    number: u64,
     door: &mut O,
 ) -> Pending<Handle<O::Reader, O::Writer>>
 where
@@ -253,6 +259,7 @@ where
     };
     let connection = Connection {
         shared,
+        number,
         reader,
         writer,
     };
@@ -263,7 +270,7 @@ where
 fn begin<
     's,
     E,
-    R: Wait + Sync,
+    R: Wait + Clock + Log + Sync,
     D: Disk + Drop + Send,
     L: Ledger + Send + Sync,
     O: Door<Reader = S, Writer = W>,
@@ -282,7 +289,7 @@ fn begin<
     let session = move || -> (SessionEnd, Option<Receipt>)
         ensures { GivesBack (S.state connection.entry.reader) (W.state connection.entry.writer) result.0 result.1 }
     {
-        let (end, receipt, _reader, _writer) = connection.run_session();
+        let (end, receipt, _reader, _writer) = connection.serve_logged();
         (end, receipt)
     };
     match scope.spawn_with(promise, session) {
@@ -344,15 +351,43 @@ impl<H: Drop> JoinList<H> {
     }
 }
 
-impl<R: Wait, D: Disk + Drop, L: Ledger, G: Gate, S: Source + Drop, W: Sink + Drop> Connection<
-    '_,
-    R,
-    D,
-    L,
-    G,
-    S,
-    W,
-> {
+impl<
+    'a,
+    R: Wait + Clock + Log,
+    D: Disk + Drop,
+    L: Ledger,
+    G: Gate,
+    S: Source + Drop,
+    W: Sink + Drop,
+> Connection<'a, R, D, L, G, S, W> {
+    /// A connection of a number, from 1.
+    pub fn new(
+        shared: &'a Shared<'a, R, D, L, G>,
+        number: u64,
+        reader: S,
+        writer: W,
+    ) -> Connection<'a, R, D, L, G, S, W>
+        ensures { (result.reader ≡ reader) × (result.writer ≡ writer) }
+    {
+        Connection {
+            shared,
+            number,
+            reader,
+            writer,
+        }
+    }
+
+    /// Serves the connection's session as `serve` does, and logs its start and its end.
+    pub fn serve_logged(self) -> (SessionEnd, Option<Receipt>, S, W)
+        ensures { LeavesOff (S.state self.entry.reader) (S.state result.2) (W.state self.entry.writer) (W.state result.3) result.0 result.1 }
+    {
+        let (rt, number) = (self.shared.rt, self.number);
+        let began = note_start(rt, number);
+        let (end, receipt, reader, writer) = self.run_session();
+        note_end(rt, number, began, &receipt, end);
+        (end, receipt, reader, writer)
+    }
+
     // Serves the connection's session, and returns its seat to the desk for a receipt. The streams are returned as the
     // session left them, so that they are dropped, and so closed, only once the seat is back.
     fn run_session(self) -> (SessionEnd, Option<Receipt>, S, W)
@@ -360,6 +395,7 @@ impl<R: Wait, D: Disk + Drop, L: Ledger, G: Gate, S: Source + Drop, W: Sink + Dr
     {
         let Connection {
             shared,
+            number: _,
             mut reader,
             mut writer,
         } = self;

@@ -1,26 +1,59 @@
-// Connections over TCP. A door listens at 127.0.0.1, so that only this machine can connect.
+// Connections over TCP. A door listens at 127.0.0.1, so that only this machine can connect, and stops listening once no
+// connection is left to come.
 ghost use Rattle.std.specs.Prelude.{◌≡◌, ◌<◌, ◌+◌, IfOk, true, ⊤};
 
 use crate::Door;
+use crate::socket::{Limits, SocketReader, SocketWriter};
 use ar_frames::Linked;
+use log::{Log, warn};
 use std::alloc::Global;
-use std::io::{self, BufReader};
+use std::io::{self, BufReader, ErrorKind};
 use std::marker::Model;
 use std::net::{Net, TcpListener, TcpStream};
+use std::sync::atomic::AtomicBool;
+use std::thread;
+use std::time::{Clock, Duration};
 
 /// The port can't be listened at: another program has it, or the system refuses it.
 #[derive(Clone, Copy, Debug, PartialEq, Eq)]
 pub struct ListenFault;
 
-/// A door to TCP connections at a port of 127.0.0.1.
-#[derive(Drop)]
-pub struct TcpDoor {
-    alloc: Global,
-    listener: TcpListener,
-    left: usize,
+/// How long a connection may be silent, in seconds. None: for good.
+#[derive(Clone, Copy, Debug, PartialEq, Eq)]
+pub struct Timeouts {
+    /// From its opening until the nine bytes of its login have come.
+    pub login: Option<u32>,
+    /// Until the next byte comes, or the peer takes more of a reply.
+    pub idle: Option<u32>,
 }
 
-impl Model for TcpDoor {
+/// The reader of a connection over TCP.
+pub type TcpReader<'a, R> = Linked<BufReader<SocketReader<'a, R>>>;
+
+/// The writer of a connection over TCP.
+pub type TcpWriter<'a> = Linked<SocketWriter<'a>>;
+
+/// As the number of connections to accept: any number.
+pub const ANY_NUMBER: usize = usize::MAX;
+
+/// Milliseconds between an accept that failed and the next, and between attempts to end a wait.
+const PAUSE: u64 = 100;
+
+/// How often it is tried to end a wait at a door.
+const ATTEMPTS: u32 = 100;
+
+/// A door to TCP connections at a port of 127.0.0.1.
+#[derive(Drop)]
+pub struct TcpDoor<'a, R: Clock + Log> {
+    rt: &'a R,
+    alloc: Global,
+    // None: no connection is left to come, or the door is closed.
+    listener: Option<TcpListener>,
+    left: usize,
+    limits: Limits<'a>,
+}
+
+impl<'a, R: Clock + Log> Model for TcpDoor<'a, R> {
     ghost use Rattle.std.specs.Prelude.{ℕ};
 
     ghost Value = { ℕ };
@@ -28,37 +61,105 @@ impl Model for TcpDoor {
     ghost view = { λ door. door.left };
 }
 
-impl TcpDoor {
-    /// Listens at `port` of 127.0.0.1 for `sessions` connections. With port 0 the system chooses one.
-    pub fn listen<R: Net<Listener = TcpListener, Stream = TcpStream>>(
-        rt: &R,
+impl Timeouts {
+    /// No limit.
+    pub const NONE: Timeouts = Timeouts {
+        login: None,
+        idle: None,
+    };
+}
+
+impl<'a, R: Clock + Log + Net<Listener = TcpListener, Stream = TcpStream>> TcpDoor<'a, R> {
+    /// Listens at `port` of 127.0.0.1 for `sessions` connections, or `ANY_NUMBER`. With port 0 the system
+    /// chooses one.
+    pub fn listen(
+        rt: &'a R,
         alloc: Global,
         port: u16,
         sessions: usize,
-    ) -> Result<TcpDoor, ListenFault>
+    ) -> Result<TcpDoor<'a, R>, ListenFault>
         ensures { IfOk result (λ door. door ≡ sessions) }
     {
         match TcpListener::bind(rt, ("127.0.0.1", port)) {
             Ok(listener) => Ok(TcpDoor {
+                rt,
                 alloc,
-                listener,
+                listener: Some(listener),
                 left: sessions,
+                limits: Limits::NONE,
             }),
             Err(_) => Err(ListenFault),
+        }
+    }
+}
+
+impl<'a, R: Clock + Log> TcpDoor<'a, R> {
+    /// The door with limits for the connections that it opens. Once `stop` is set they read no more, and it opens none.
+    pub fn limited(self, timeouts: Timeouts, stop: Option<&'a AtomicBool>) -> TcpDoor<'a, R>
+        ensures { result ≡ self.entry }
+    {
+        let TcpDoor {
+            rt,
+            alloc,
+            listener,
+            left,
+            ..
+        } = self;
+        TcpDoor {
+            rt,
+            alloc,
+            listener,
+            left,
+            limits: Limits { timeouts, stop },
         }
     }
 
     /// The port at which it listens, if the system reports it.
     pub fn port(&self) -> Option<u16> {
-        let address = self.listener.local_addr().ok()?;
-        Some(address.port())
+        match &self.listener {
+            Some(listener) => port_of(listener),
+            None => None,
+        }
+    }
+
+    // Waits for a connection. An accept that fails, as for want of descriptors, is tried again after a pause, with one
+    // line of the log until one succeeds. None: the door is closed.
+    fn stream(&self) -> Option<TcpStream> {
+        let Some(listener) = &self.listener else {
+            return None;
+        };
+        let mut has_failed = false;
+        for _ in 0..u64::MAX {
+            if self.limits.is_stopped() {
+                break;
+            }
+            match listener.accept() {
+                Ok((stream, _)) => return self.unless_stopped(stream),
+                Err(error) => {
+                    if !has_failed {
+                        warn!(self.rt; "no connection can be accepted: {error}");
+                    }
+                    has_failed = true;
+                    thread::sleep(self.rt, Duration::from_millis(PAUSE));
+                }
+            }
+        }
+        None
+    }
+
+    // A connection that came before the stop. One that came after it may be no client: it may only have ended the wait.
+    fn unless_stopped(&self, stream: TcpStream) -> Option<TcpStream> {
+        if self.limits.is_stopped() {
+            return None;
+        }
+        Some(stream)
     }
 }
 
-impl Door for TcpDoor {
-    type Reader = Linked<BufReader<TcpStream>>;
+impl<'a, R: Clock + Log + Sync> Door for TcpDoor<'a, R> {
+    type Reader = TcpReader<'a, R>;
 
-    type Writer = Linked<TcpStream>;
+    type Writer = TcpWriter<'a>;
 
     ghost to_come = { λ door. door };
 
@@ -71,20 +172,45 @@ impl Door for TcpDoor {
         self.left
     }
 
-    fn accept(&mut self) -> Option<(Linked<BufReader<TcpStream>>, Linked<TcpStream>)> {
+    fn is_closed(&self) -> bool {
+        self.limits.is_stopped()
+    }
+
+    fn accept(&mut self) -> Option<(TcpReader<'a, R>, TcpWriter<'a>)> {
         self.left -= 1;
-        opened(self.alloc, &self.listener).ok()
+        let stream = self.stream();
+        if self.left == 0 || self.limits.is_stopped() {
+            self.listener = None;
+        }
+        opened(self.rt, self.alloc, stream?, self.limits).ok()
     }
 }
 
-// Waits for a connection. Reads are buffered, so that a small frame takes one system call; writes are sent at once.
-fn opened(
+// The streams of a connection. Reads are buffered, so that a small frame takes one system call; writes are sent at once.
+fn opened<'a, R: Clock>(
+    rt: &'a R,
     alloc: Global,
-    listener: &TcpListener,
-) -> io::Result<(Linked<BufReader<TcpStream>>, Linked<TcpStream>)> {
-    let (stream, _) = listener.accept()?;
-    stream.set_nodelay(true)?;
-    let writer = stream.try_clone()?;
-    let reader = BufReader::new(alloc, stream)?;
+    stream: TcpStream,
+    limits: Limits<'a>,
+) -> io::Result<(TcpReader<'a, R>, TcpWriter<'a>)> {
+    let (reader, writer) = SocketReader::open(rt, alloc, stream, limits)?;
+    let reader = BufReader::new(alloc, reader)?;
     Ok((Linked::new(reader), Linked::new(writer)))
+}
+
+/// Ends a wait for a connection at the door of a port whose stop flag is set, by a connection. It is tried again while
+/// none can be made, as for want of descriptors; one that is refused finds the door closed.
+pub fn wake<R: Clock + Net<Listener = TcpListener, Stream = TcpStream>>(rt: &R, port: u16) {
+    for _ in 0..ATTEMPTS {
+        match TcpStream::connect(rt, ("127.0.0.1", port)) {
+            Ok(_stream) => return,
+            Err(error) if error.kind() == ErrorKind::ConnectionRefused => return,
+            Err(_) => thread::sleep(rt, Duration::from_millis(PAUSE)),
+        }
+    }
+}
+
+fn port_of(listener: &TcpListener) -> Option<u16> {
+    let address = listener.local_addr().ok()?;
+    Some(address.port())
 }

@@ -9,6 +9,7 @@ use ar_frames::NoGate;
 use ar_history::{Kept, Mismatch, OperationOf, Report};
 use ar_script::start_array;
 use ar_sessions::{Desk, ListenFault, NoMemory, TcpDoor, run_beside_background};
+use log::Log;
 use std::alloc::Global;
 use std::io;
 use std::marker::Brand;
@@ -48,7 +49,13 @@ pub enum ServeFault {
 /// Creates the units, listens, serves the connections with one maintenance thread beside them, and then compares the
 /// hosts' transcripts with the history.
 pub fn run_server<
-    R: Threads + Wait + Clock + Net<Listener = TcpListener, Stream = TcpStream> + Print + Sync,
+    R: Threads
+        + Wait
+        + Clock
+        + Net<Listener = TcpListener, Stream = TcpStream>
+        + Print
+        + Log
+        + Sync,
 >(rt: &R, alloc: Global, service: &Service) -> Result<(), ServeFault> {
     let Ok(array) = start_array(alloc, service.setup) else {
         return Err(ServeFault::Start);
@@ -60,7 +67,13 @@ pub fn run_server<
 fn serve_array<
     L: Ledger + Send + Sync,
     D: Disk + Drop + Send,
-    R: Threads + Wait + Clock + Net<Listener = TcpListener, Stream = TcpStream> + Print + Sync,
+    R: Threads
+        + Wait
+        + Clock
+        + Net<Listener = TcpListener, Stream = TcpStream>
+        + Print
+        + Log
+        + Sync,
 >(rt: &R, alloc: Global, blank: Blank, array: Array<D>, service: &Service) -> Result<(), ServeFault>
     requires name { blank.name ≡ L.name }
     requires parts { blank.parts ≡ L.parts }
@@ -81,7 +94,13 @@ fn serve_array<
 fn serve_hosts<
     L: Ledger + Send + Sync,
     D: Disk + Drop + Send,
-    R: Threads + Wait + Clock + Net<Listener = TcpListener, Stream = TcpStream> + Print + Sync,
+    R: Threads
+        + Wait
+        + Clock
+        + Net<Listener = TcpListener, Stream = TcpStream>
+        + Print
+        + Log
+        + Sync,
 >(
     rt: &R,
     alloc: Global,

@@ -7,6 +7,7 @@ use ar_frames::{Login, Port};
 use ar_history::{Kept, OperationOf};
 use ar_scsi::{Reply, Status};
 use ar_sessions::{LockPort, run_background, run_beside_background};
+use log::Log;
 use std::alloc::Global;
 use std::process::Abort;
 use std::sync::atomic::{AtomicBool, Ordering};
@@ -169,7 +170,7 @@ fn a_new_disk_is_used_while_a_session_lasts(rt: HostRuntime) {
 }
 
 /// The session's one command is held. Meanwhile a disk is added, of which the work beside the session forms a group.
-pub fn lasts<L: Ledger + Send + Sync, R: Threads + Wait + Clock + Abort + Sync>(
+pub fn lasts<L: Ledger + Send + Sync, R: Threads + Wait + Clock + Log + Abort + Sync>(
     rt: &R,
     alloc: Global,
     shape: Shape,

@@ -6,6 +6,7 @@ use crate::rig::{Play, Rig, plays, sink};
 use ar_disks::Host;
 use ar_frames::{EndReason, Gate, MemSink, MemSource, NoGate, SessionEnd};
 use ar_sessions::{ConnectionEnd, Door, MemDoor, run_sessions};
+use log::Log;
 use std::alloc::Global;
 use std::collections::VecDeque;
 use std::process::Abort;
@@ -14,6 +15,7 @@ use std::sync::atomic::{AtomicBool, Ordering};
 use std::sync::ledger::Ledger;
 use std::thread;
 use std::thread::Threads;
+use std::time::Clock;
 use test_support::FOUR_GROUPS;
 
 /// How often a flag is looked at before it counts as never set.
@@ -94,14 +96,12 @@ fn push(
 }
 
 // Serves a door where hosts 0 and 1 have units.
-fn serve<L: Ledger + Send + Sync, O: Door + Drop, G: Gate + Sync, R: Threads + Wait + Abort + Sync>(
-    rt: &R,
-    alloc: Global,
-    rig: &Rig<L>,
-    door: O,
-    gate: &G,
-    wanted: &[ConnectionEnd],
-) {
+fn serve<
+    L: Ledger + Send + Sync,
+    O: Door + Drop,
+    G: Gate + Sync,
+    R: Threads + Wait + Clock + Log + Abort + Sync,
+>(rt: &R, alloc: Global, rig: &Rig<L>, door: O, gate: &G, wanted: &[ConnectionEnd]) {
     rig.make(rt, 0);
     rig.make(rt, 1);
     let (door, ends) = run_sessions(rt, alloc, door, &rig.kept, &rig.desk, gate);
@@ -125,7 +125,7 @@ fn two_sessions_at_once(rt: HostRuntime) {
 }
 
 /// Serves two sessions at once, of which the first waits for the second.
-pub fn meet_held<L: Ledger + Send + Sync, R: Threads + Wait + Abort + Sync>(
+pub fn meet_held<L: Ledger + Send + Sync, R: Threads + Wait + Clock + Log + Abort + Sync>(
     rt: &R,
     alloc: Global,
     rig: &Rig<L>,
@@ -146,7 +146,7 @@ pub fn is_answered_meanwhile(rt: &impl Abort, gate: &Held) {
 }
 
 /// Serves sessions: the host and the number of commands of each.
-pub fn meet<L: Ledger + Send + Sync, R: Threads + Wait + Abort + Sync>(
+pub fn meet<L: Ledger + Send + Sync, R: Threads + Wait + Clock + Log + Abort + Sync>(
     rt: &R,
     alloc: Global,
     rig: &Rig<L>,
@@ -201,7 +201,7 @@ fn a_connection_that_does_not_open(rt: HostRuntime) {
 }
 
 /// Serves two connections that do not open.
-pub fn meet_jammed<L: Ledger + Send + Sync, R: Threads + Wait + Abort + Sync>(
+pub fn meet_jammed<L: Ledger + Send + Sync, R: Threads + Wait + Clock + Log + Abort + Sync>(
     rt: &R,
     alloc: Global,
     rig: &Rig<L>,

@@ -12,6 +12,7 @@ use ar_disks::FuseDisk;
 use ar_frames::{MemSink, SessionEnd, Source, serve_session};
 use ar_history::{Kept, Operation, OperationOf, Task};
 use ar_sessions::{ConnectionEnd, Desk, LockPort};
+use log::Log;
 use std::alloc::Global;
 use std::marker::Brand;
 use std::net::{Net, TcpListener, TcpStream};
@@ -121,6 +122,7 @@ pub fn plays<
     R: Threads
         + Wait
         + Clock
+        + Log
         + Abort
         + AllocGlobal
         + Net<Listener = TcpListener, Stream = TcpStream>
@@ -135,6 +137,7 @@ fn plays_on<
     R: Threads
         + Wait
         + Clock
+        + Log
         + Abort
         + AllocGlobal
         + Net<Listener = TcpListener, Stream = TcpStream>
@@ -155,6 +158,7 @@ fn play_on<
     R: Threads
         + Wait
         + Clock
+        + Log
         + Abort
         + AllocGlobal
         + Net<Listener = TcpListener, Stream = TcpStream>

@@ -5,6 +5,7 @@ ghost use Rattle.std.specs.Prelude.{true, ⊤};
 use crate::rig::{Play, Rig, plays};
 use ar_frames::{EndReason, MemSink, MemSource, NoGate, SessionEnd};
 use ar_sessions::{ConnectionEnd, Door, run_beside_background};
+use log::Log;
 use std::alloc::Global;
 use std::process::Abort;
 use std::sync::Wait;
@@ -51,7 +52,7 @@ fn a_thread_that_does_not_start(rt: HostRuntime) {
 }
 
 /// Serves connections that end before a login.
-pub fn meet_briefly<L: Ledger + Send + Sync, R: Threads + Wait + Clock + Abort + Sync>(
+pub fn meet_briefly<L: Ledger + Send + Sync, R: Threads + Wait + Clock + Log + Abort + Sync>(
     rt: &R,
     alloc: Global,
     rig: &Rig<L>,

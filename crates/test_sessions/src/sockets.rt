@@ -7,6 +7,7 @@ use crate::rig::{Play, Rig, plays};
 use ar_frames::{EndReason, Linked, NoGate, SessionEnd, ask, hello};
 use ar_scsi::{Reply, Status};
 use ar_sessions::{ConnectionEnd, ListenFault, TcpDoor, run_beside_background};
+use log::Log;
 use std::alloc::Global;
 use std::io::{Read, Write};
 use std::net::{Net, Shutdown, TcpListener, TcpStream};
@@ -38,7 +39,13 @@ pub enum Guests {
 /// Serves guests, each host of whom has a unit, and compares how their connections ended.
 pub fn welcome<
     L: Ledger + Send + Sync,
-    R: Threads + Wait + Clock + Abort + Net<Listener = TcpListener, Stream = TcpStream> + Sync,
+    R: Threads
+        + Wait
+        + Clock
+        + Log
+        + Abort
+        + Net<Listener = TcpListener, Stream = TcpStream>
+        + Sync,
 >(rt: &R, alloc: Global, rig: &Rig<L>, guests: Guests, connections: usize) {
     for host in 0..4 {
         rig.make(rt, host);
@@ -51,7 +58,13 @@ pub fn welcome<
 // Opens a door for guests, and answers how their connections ended.
 fn meets<
     L: Ledger + Send + Sync,
-    R: Threads + Wait + Clock + Abort + Net<Listener = TcpListener, Stream = TcpStream> + Sync,
+    R: Threads
+        + Wait
+        + Clock
+        + Log
+        + Abort
+        + Net<Listener = TcpListener, Stream = TcpStream>
+        + Sync,
 >(rt: &R, alloc: Global, rig: &Rig<L>, guests: Guests, connections: usize) -> Vec<ConnectionEnd> {
     let door = TcpDoor::listen(rt, alloc, 0, connections).expect(rt, "a port");
     let port = door.port().expect(rt, "its number");

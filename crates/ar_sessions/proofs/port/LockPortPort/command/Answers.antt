@@ -5,9 +5,9 @@ use Rattle.ar_sessions.proofs.port.LockPortPort.command.Goals as goal
 pub returns-clause-command : goal.returns-clause-command
 returns-clause-command g c = record {
   before = c.in-Some.seat;
-  after = c.ask_kept.new.seat;
+  after = c.ask_counted.new.seat;
   held = search rules;
   kept = refl;
-  moment = c.ask_kept.ensures.moment;
-  entry = enters _ _ _ _ _ _ c.ask_kept.ensures.moment;
+  moment = c.ask_counted.ensures.moment;
+  entry = enters _ _ _ _ _ _ c.ask_counted.ensures.moment;
 }

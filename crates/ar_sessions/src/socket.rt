@@ -1,0 +1,236 @@
+// The two streams of a connection over TCP. Each waits in slices: between them it looks at its limits and at the stop
+// flag, so that no peer holds a session for longer than the limits say. A limit that is reached is a fault of the stream.
+use crate::tcp::Timeouts;
+use std::alloc::Global;
+use std::io::{self, ErrorKind, Read, Write};
+use std::net::{Shutdown, TcpStream};
+use std::sync::Arc;
+use std::sync::atomic::{AtomicBool, Ordering};
+use std::time::{Clock, Duration, Instant};
+
+/// Milliseconds that a stream waits before it looks at its limits and at the stop flag.
+const SLICE: u64 = 250;
+
+/// Bytes of a login.
+const LOGIN_LEN: usize = 9;
+
+/// Milliseconds that a peer has to take more of a reply once the stop flag is set.
+const GRACE: u64 = 5_000;
+
+/// Milliseconds for which input is dropped at the end.
+const LINGER: u64 = 500;
+
+/// Bytes that one read drops at the end.
+const PIECE: usize = 4_096;
+
+/// How many reads drop input at the end: 1 MiB at most.
+const PIECES: u32 = 256;
+
+// When the streams of a connection stop waiting.
+#[derive(Clone, Copy, Drop)]
+pub struct Limits<'a> {
+    pub timeouts: Timeouts,
+    // Set once no more frame is read.
+    pub stop: Option<&'a AtomicBool>,
+}
+
+/// The requests of a connection. When it is dropped, replies that were written are delivered first.
+pub struct SocketReader<'a, R: Clock> {
+    rt: &'a R,
+    socket: Arc<TcpStream>,
+    limits: Limits<'a>,
+    // When the connection was opened.
+    opened: Instant,
+    // Bytes of the login that have not come.
+    login_left: usize,
+    // Milliseconds since the last byte, in whole slices.
+    silent: u64,
+    // Whether more may come.
+    is_open: bool,
+}
+
+/// The replies of a connection.
+#[derive(Drop)]
+pub struct SocketWriter<'a> {
+    socket: Arc<TcpStream>,
+    limits: Limits<'a>,
+}
+
+impl Limits<'_> {
+    /// None.
+    pub const NONE: Limits<'static> = Limits {
+        timeouts: Timeouts::NONE,
+        stop: None,
+    };
+
+    /// Whether the stop flag is set.
+    pub fn is_stopped(&self) -> bool {
+        match self.stop {
+            Some(stop) => stop.load(Ordering::SeqCst),
+            None => false,
+        }
+    }
+
+    // Whether a peer was silent for too long.
+    fn is_idle(&self, silent: u64) -> bool {
+        match self.timeouts.idle {
+            Some(seconds) => silent >= u64::from(seconds) * 1_000,
+            None => false,
+        }
+    }
+}
+
+impl<'a, R: Clock> SocketReader<'a, R> {
+    /// The two streams of a connection that was opened now. Their waits are cut into slices here, once.
+    pub fn open(
+        rt: &'a R,
+        alloc: Global,
+        stream: TcpStream,
+        limits: Limits<'a>,
+    ) -> io::Result<(SocketReader<'a, R>, SocketWriter<'a>)> {
+        stream.set_nodelay(true)?;
+        stream.set_read_timeout(Some(Duration::from_millis(SLICE)))?;
+        stream.set_write_timeout(Some(Duration::from_millis(SLICE)))?;
+        let opened = Instant::now(rt)?;
+        let socket = Arc::new(alloc, stream)?;
+        let writer = SocketWriter {
+            socket: Arc::try_clone(&socket)?,
+            limits,
+        };
+        let reader = SocketReader {
+            rt,
+            socket,
+            limits,
+            opened,
+            login_left: LOGIN_LEN,
+            silent: 0,
+            is_open: true,
+        };
+        Ok((reader, writer))
+    }
+
+    // Whether no byte is waited for any longer.
+    fn is_over(&self) -> bool {
+        self.limits.is_stopped() || self.limits.is_idle(self.silent) || self.is_login_late()
+    }
+
+    // Whether the login should have come whole by now. A clock that can't be read ends the wait, too.
+    fn is_login_late(&self) -> bool {
+        if self.login_left == 0 {
+            return false;
+        }
+        match (self.limits.timeouts.login, self.opened.elapsed(self.rt)) {
+            (Some(seconds), Ok(elapsed)) => elapsed >= Duration::from_secs(u64::from(seconds)),
+            (Some(_), Err(_)) => true,
+            (None, _) => false,
+        }
+    }
+
+    // Notes what a read has brought.
+    fn note(&mut self, count: usize) {
+        self.login_left = self.login_left.saturating_sub(count);
+        self.silent = 0;
+        self.is_open = count > 0;
+    }
+}
+
+impl<R: Clock> Read for SocketReader<'_, R> {
+    fn read(&mut self, buf: &mut [u8]) -> io::Result<usize> {
+        for _ in 0..u64::MAX {
+            if self.is_over() {
+                break;
+            }
+            match (&*self.socket).read(buf) {
+                Ok(count) => {
+                    self.note(count);
+                    return Ok(count);
+                }
+                Err(error) if error.kind() == ErrorKind::WouldBlock => {
+                    self.silent = self.silent.saturating_add(SLICE);
+                }
+                Err(error) => {
+                    self.is_open = false;
+                    return Err(error);
+                }
+            }
+        }
+        Err(ErrorKind::TimedOut.into())
+    }
+}
+
+impl SocketWriter<'_> {
+    // Whether a peer that has taken nothing for so many milliseconds is waited for no longer.
+    fn is_over(&self, silent: u64) -> bool {
+        self.limits.is_idle(silent) || (self.limits.is_stopped() && silent >= GRACE)
+    }
+}
+
+impl Write for SocketWriter<'_> {
+    fn write(&mut self, buf: &[u8]) -> io::Result<usize> {
+        let mut silent: u64 = 0;
+        for _ in 0..u64::MAX {
+            match (&*self.socket).write(buf) {
+                Err(error) if error.kind() == ErrorKind::WouldBlock => {
+                    silent = silent.saturating_add(SLICE);
+                }
+                done => return done,
+            }
+            if self.is_over(silent) {
+                break;
+            }
+        }
+        Err(ErrorKind::TimedOut.into())
+    }
+
+    fn flush(&mut self) -> io::Result<()> {
+        Ok(())
+    }
+}
+
+// A socket that is closed over unread input resets the connection, and its peer may lose the last reply. So the
+// end of the replies is sent first, and input is dropped until the peer has closed, or for a moment.
+impl<R: Clock> Drop for SocketReader<'_, R> {
+    fn drop(self) {
+        if self.is_open {
+            linger(self.rt, &self.socket);
+        }
+        let Self {
+            rt: _,
+            socket: _socket,
+            limits: _,
+            opened: _,
+            login_left: _,
+            silent: _,
+            is_open: _,
+        } = self;
+    }
+}
+
+// Ends the replies, and drops input until its end, for at most `LINGER` and a slice.
+fn linger<R: Clock>(rt: &R, socket: &TcpStream) {
+    if socket.shutdown(Shutdown::Write).is_err() {
+        return;
+    }
+    let Ok(began) = Instant::now(rt) else {
+        return;
+    };
+    let mut dropped = [0; PIECE];
+    let mut from = socket;
+    for _ in 0..PIECES {
+        let is_over = match from.read(&mut dropped) {
+            Ok(0) | Err(_) => true,
+            Ok(_) => is_past(rt, began),
+        };
+        if is_over {
+            return;
+        }
+    }
+}
+
+// Whether `LINGER` has passed since, or the time can't be read.
+fn is_past<R: Clock>(rt: &R, began: Instant) -> bool {
+    match began.elapsed(rt) {
+        Ok(elapsed) => elapsed >= Duration::from_millis(LINGER),
+        Err(_) => true,
+    }
+}
