@@ -1,11 +1,14 @@
 -- What an order and a line leave, once what was answered is told.
-use Rattle.std.proofs.Common.{◌≡◌, sym, subst, refl, Option, Result, Ok, Err, IfErr}
+use Rattle.std.proofs.Common.{◌≡◌, ℕ, List, sym, subst, refl, Option, Some, Result, Ok, Err, IfErr, OnOk}
 use Rattle.ar_volume.specs.Image.{ArrayState}
 use Rattle.ar_language.specs.declared.fault.FaultKind.{FaultKind}
 use Rattle.ar_language.specs.declared.fault.FaultKind.TheVariants.{WriteFault}
 use Rattle.ar_language.specs.declared.order.Action.{Action}
 use Rattle.ar_language.specs.declared.order.Order.{Order}
 use Rattle.ar_language.specs.declared.order.Order.TheVariants.{Act}
+use Rattle.ar_language.specs.Forms.{ReadsLine}
+use Rattle.ar_language.specs.Lines.{IsLine}
+use Rattle.ar_script.specs.Answers.{AnswersLine, AppendsAnswer}
 use Rattle.ar_script.specs.Orders.{Acts, Leaves, MeetsParsed}
 
 -- an action that was done stays done where its answer could not be written
@@ -20,3 +23,10 @@ pub unread : (s : ArrayState) (read : Result (Option Order) FaultKind) (r : Resu
     → read ≡ Err kind → r ≡ Err kind → MeetsParsed read s r s
 unread s read r kind was is =
     let P : Result (Option Order) FaultKind → Type 0 = λ x. MeetsParsed x s r s in subst P (sym was) (is, refl)
+
+-- a line that asks for something was answered, unless its answer was lost
+pub answered_line : (line : List ℕ) (order : Order) (r : Result (Unit {0}) FaultKind) (old new : ArrayState) (before after : Option (List ℕ)) → IsLine line
+    → ReadsLine line (Ok (Some order)) → Leaves order old r new → OnOk r (AppendsAnswer order old new before after) → OnOk r (AnswersLine line old new before after)
+answered_line line order (Ok done) old new before after sound reads leaves answers =
+    record { sound = sound; read = Ok (Some order); reads = reads; answered = (leaves, answers) }
+answered_line line order (Err kind) old new before after sound reads leaves answers = tt

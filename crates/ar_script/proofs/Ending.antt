@@ -8,13 +8,18 @@ use Rattle.ar_language.specs.declared.fault.Fault.TheVariants.{Start, Line}
 use Rattle.ar_language.specs.declared.fault.FaultKind.{FaultKind}
 use Rattle.ar_language.specs.declared.fault.FaultKind.TheVariants.{TooManyLines, NoMemory, ReadFault, WriteFault}
 use Rattle.ar_language.specs.Lines.{Took, AreThere, IsOfStream, IsReached, IsAllTaken, first_of, line_at, line_fault, IsToldOfNext, IsNextLineFault, IsNumbered, IsOfNext, is_write_fault}
-use Rattle.ar_script.specs.Orders.{MeetsParsed, MeetsLine}
+use Rattle.std.specs.Io.KnownBytes.{Appends, Keeps}
+use Rattle.ar_picture.specs.Writing.{AddsBytes}
+use Rattle.ar_picture.proofs.Growing.{grows_then, kept_grows}
+use Rattle.ar_script.specs.Answers.{AnswersLine}
+use Rattle.ar_script.specs.Orders.{MeetsLine}
 use Rattle.ar_language.proofs.Going.{none_there, there_behind}
 use Rattle.ar_script.specs.Ends.{Ends}
 use Rattle.std.specs.declared.io.traits.Read.{Ghosts}
 use Rattle.ar_language.specs.declared.lines.Lines.{Lines}
 use Rattle.ar_language.specs.Left.{lines_begun, EndsReading}
-use Rattle.ar_script.specs.Plays.{IsToldAt, IsToldOf, IsLineThere, IsLostAt, IsUnanswered, NeedsMemory, AreFirst, AreAll, SaysWrong, IsSo, PlaysScript, PlaysAll, PlaysTo}
+use Rattle.ar_script.specs.Plays.{IsToldAt, IsToldOf, IsLineThere, IsLostAt, IsUnanswered, NeedsMemory, AreFirst, AreAll, SaysWrong, IsSo, PlaysScript, PlaysAll, PlaysTo, AnswersScript, WritesScript}
+use Rattle.ar_script.proofs.Appending.{appends_kept, appends_none, appends_then}
 use Rattle.ar_script.proofs.Playing.{none_played, met_all, met_or_not}
 
 -- ---- lines that were taken
@@ -110,20 +115,84 @@ so_answered script left rest lines line n kind took count next told =
 -- ---- one line after another
 
 pub plays_none : (script : Option (List (List ℕ))) (s : ArrayState) → PlaysAll script script s s 0
-plays_none script s = record { lines = []; plays = none_played s; all = refl; took = took_none script }
+plays_none script s = record { lines = []; text = []; plays = none_played s; all = refl; took = took_none script }
 
 one_taken : (lines : List (List ℕ)) (line : List ℕ) (n : ℕ) → length lines ≡ n → length (lines ++ line ∷ []) ≡ suc n
 one_taken lines line n is = let more = length-append lines (line ∷ []) in omega arith
 
-pub plays_line : (script left rest : Option (List (List ℕ))) (old mid new : ArrayState) (n : ℕ) (line : List ℕ) (answer : Result (Unit {0}) FaultKind)
-    → PlaysAll script left old mid n → Took left rest (line ∷ []) → answer ≡ Ok tt → MeetsLine line mid answer new → PlaysAll script rest old new (suc n)
-plays_line script left rest old mid new n line answer before next is line_met = record {
-  lines = before.lines ++ line ∷ [];
-  plays = met_all before.lines old mid new line line_met.read before.plays line_met.sound line_met.reads
-      (subst (λ (r : Result (Unit {0}) FaultKind). MeetsParsed line_met.read mid r new) is line_met.meets);
-  all = one_taken before.lines line n before.all;
-  took = took_more script left rest before.lines (line ∷ []) before.took next;
-}
+-- so many lines were taken and executed, and their answers appended
+pub record WritesAll (script left : Option (List (List ℕ))) (old new : ArrayState) (begun : ℕ) (before after : Option (List ℕ)) : Type 0 where
+  pub all : PlaysAll script left old new begun
+  pub appends : Appends before after all.text
+
+pub writes_none : (script : Option (List (List ℕ))) (s : ArrayState) (before : Option (List ℕ)) → WritesAll script script s s 0 before before
+writes_none script s before = record { all = record { lines = []; text = []; plays = none_played s; all = refl; took = took_none script }; appends = appends_none before }
+
+-- one line more, before which the output was flushed
+pub writes_line : (script left rest : Option (List (List ℕ))) (old mid new : ArrayState) (n : ℕ) (line : List ℕ) (before far flushed after : Option (List ℕ))
+    → WritesAll script left old mid n before far → Keeps far flushed → Took left rest (line ∷ []) → AnswersLine line mid new flushed after
+    → WritesAll script rest old new (suc n) before after
+writes_line script left rest old mid new n line before far flushed after written kept next answered =
+    let done = written.all in
+    let one = met_all done.lines old mid new line done.text answered.read flushed after done.plays answered.sound answered.reads answered.answered in
+    record {
+      all = record {
+        lines = done.lines ++ line ∷ [];
+        text = done.text ++ one.answer;
+        plays = one.plays;
+        all = one_taken done.lines line n done.all;
+        took = took_more script left rest done.lines (line ∷ []) done.took next;
+      };
+      appends = appends_then before flushed after done.text one.answer (appends_kept before far flushed done.text written.appends kept) one.appends;
+    }
+
+-- all lines of the script
+pub writes_ended : (script left rest : Option (List (List ℕ))) (old new : ArrayState) (n : ℕ) (before far after : Option (List ℕ)) → WritesAll script left old new n before far
+    → Keeps far after → Took left rest [] → IsAllTaken rest → WritesScript script old new before after
+writes_ended script left rest old new n before far after written kept next none =
+    let done = written.all in
+    let took = took_more script left rest done.lines [] done.took next in
+    let took_all : Took script rest done.lines = subst (λ (l : List (List ℕ)). Took script rest l) (append-nil done.lines) took in
+    record {
+      lines = done.lines;
+      text = done.text;
+      plays = done.plays;
+      whole = taken_all script rest done.lines took_all none;
+      appends = appends_kept before far after done.text written.appends kept;
+    }
+
+-- some bytes were appended
+pub writes_some : (script left : Option (List (List ℕ))) (old new : ArrayState) (n : ℕ) (before after : Option (List ℕ)) → WritesAll script left old new n before after → AddsBytes before after
+writes_some script left old new n before after written = record { more = written.all.text; appends = written.appends }
+
+-- at a fault
+pub answered_fault : (script : Option (List (List ℕ))) (old new : ArrayState) (result : Result (Unit {0}) Fault) (before after : Option (List ℕ)) → IsErr result → AddsBytes before after
+    → AnswersScript script result old new before after
+answered_fault script old new (Ok done) before after is added = absurd (cc)
+answered_fault script old new (Err fault) before after is added = λ told. added
+
+-- once what was left of the answers is written, or can't be
+pub answered_finished : (script : Option (List (List ℕ))) (old new : ArrayState) (begun : ℕ) (done result : Result (Unit {0}) Fault) (before far after : Option (List ℕ))
+    → AnswersScript script done old new before far → Ends begun done result → Keeps far after → AnswersScript script result old new before after
+answered_finished script old new begun (Ok end) (Ok done) before far after answered ends kept =
+    record {
+      lines = answered.lines;
+      text = answered.text;
+      plays = answered.plays;
+      whole = answered.whole;
+      appends = appends_kept before far after answered.text answered.appends kept;
+    }
+answered_finished script old new begun (Err fault) (Ok done) before far after answered (inl write) kept = absurd (cc)
+answered_finished script old new begun (Err fault) (Ok done) before far after answered (inr same) kept = let no = same.0 in absurd (cc)
+answered_finished script old new begun done (Err fault) before far after answered (inl write) kept =
+    λ told. let is : fault ≡ Line (max begun 1) WriteFault = (let same = write in cc) in
+    let yes : is_write_fault {T = Unit {0}} (Err fault) ≡ true = ap (λ (f : Fault). is_write_fault {T = Unit {0}} (Err f)) is in
+    absurd (cc)
+answered_finished script old new begun (Ok end) (Err fault) before far after answered (inr same) kept = let no = same.0 in absurd (cc)
+answered_finished script old new begun (Err told) (Err fault) before far after answered (inr same) kept =
+    λ quiet. let is : told ≡ fault = (let one = same.0 in cc) in
+    let also : is_write_fault {T = Unit {0}} (Err told) ≡ false = ap (λ (f : Fault). is_write_fault {T = Unit {0}} (Err f)) is ∙ quiet in
+    grows_then (answered also) (kept_grows far after kept)
 
 -- ---- how a script ends
 
@@ -136,6 +205,7 @@ plays_ended script left rest old new n begun done next none few most within =
     record {
       plays = record {
         lines = done.lines;
+        text = done.text;
         plays = done.plays;
         few = (let all = done.all in omega arith);
         first = taken_first script rest done.lines took_all;
@@ -158,6 +228,7 @@ plays_stopped script left old new n begun m kind fault done is after so few most
     (record {
       plays = record {
         lines = done.lines;
+        text = done.text;
         plays = done.plays;
         few = (let all = done.all in omega arith);
         first = taken_first script left done.lines done.took;
@@ -212,16 +283,17 @@ plays_fault script left rest old mid new n line kind fault before next line_met 
     let lines = before.lines ++ line ∷ [] in
     let taken : length lines ≡ suc n = one_taken before.lines line n before.all in
     let last : line_at lines (n + 1) ≡ line = next_at lines before.lines (line ∷ []) n refl before.all in
-    elim (met_or_not before.lines old mid new line line_met.read kind before.plays line_met.sound line_met.reads line_met.meets) [
+    elim (met_or_not before.lines old mid new line line_met.read kind before.text before.plays line_met.sound line_met.reads line_met.meets) [
       | inl unmet ↦
-          plays_stopped script left old new n (suc n) (n + 1) kind fault (record { lines = before.lines; plays = unmet; all = before.all; took = before.took }) is_next
+          plays_stopped script left old new n (suc n) (n + 1) kind fault (record { lines = before.lines; text = before.text; plays = unmet; all = before.all; took = before.took }) is_next
           (inl (ap (λ k. k + 1) (sym before.all))) so
           (omega arith) (omega arith) within
       | inr met ↦
           plays_stopped script rest old new (suc n) (suc n) (n + 1) kind fault
           (record {
             lines = before.lines ++ line ∷ [];
-            plays = met.0;
+            text = met.0.text;
+            plays = met.0.plays;
             all = one_taken before.lines line n before.all;
             took = took_more script left rest before.lines (line ∷ []) before.took next;
           })
@@ -237,6 +309,7 @@ plays_finished script old new begun done result played (inl write) =
     subst (λ (r : Result (Unit {0}) Fault). PlaysScript script r old new) (sym write)
     (record {
       lines = met;
+      text = played.plays.text;
       plays = played.plays.plays;
       few = played.plays.few;
       first = played.plays.first;

@@ -1,5 +1,5 @@
 -- One line after another.
-use Rattle.std.proofs.Common.{◌≡◌, ◌⊎◌, inl, inr, ℕ, List, [], ◌∷◌, ◌++◌, Option, Some, None, Result, Ok, Err, refl, sym, subst, ◌∙◌}
+use Rattle.std.proofs.Common.{◌≡◌, ◌⊎◌, inl, inr, ℕ, List, [], ◌∷◌, ◌++◌, Option, Some, None, Result, Ok, Err, map, codes, append_assoc, append-nil, refl, sym, ap, subst, ◌∙◌}
 use Rattle.ar_store.proofs.Fills.{accessed_refl}
 use Rattle.ar_volume.specs.Image.{ArrayState, geometry_of}
 use Rattle.ar_volume.specs.Laws.{places_refl}
@@ -14,53 +14,70 @@ use Rattle.ar_language.specs.declared.order.Question.{Question}
 use Rattle.ar_language.specs.declared.order.Question.TheVariants.{Levels, Home, Groups, Room, Health, Picture, Block}
 use Rattle.ar_language.specs.Forms.{ReadsLine}
 use Rattle.ar_language.specs.Lines.{IsLine}
+use Rattle.std.specs.Fmt.{decimal}
+use Rattle.std.specs.Io.KnownBytes.{Appends}
+use Rattle.ar_book.specs.Tables.{room}
+use Rattle.ar_core.specs.Views.{home_of, use_of}
+use Rattle.ar_language.specs.Notations.{notation_in}
+use Rattle.ar_script.specs.Answers.{IsAnsweredBy, IsAnswerTo}
 use Rattle.ar_script.specs.Orders.{event_in, Acts, IsOrderFault, Leaves, Looks, MeetsParsed}
+use Rattle.ar_script.specs.Texts.{groups_text, health_text, home_text, levels_text, line as line_of, outcome_text, row_text}
+use Rattle.ar_script.proofs.Appending.{appends_none}
 use Rattle.ar_script.specs.Plays.{ExecutesLine, HasNoOrder, AreMet, IsLostAt, Plays}
 
 -- no line at all
-pub none_played : (s : ArrayState) → Plays [] s s
+pub none_played : (s : ArrayState) → Plays [] s s []
 none_played s = record {
   turns = [];
   run = record { states = []; run = tt; last = refl; isolated = run-isolated s [] [] tt };
-  met = tt;
+  met = refl;
   geometry = refl;
   extents = refl;
 }
 
 -- one more line that asks for nothing
-nothing-more : (lines : List (List ℕ)) (old : ArrayState) (turns : List Turn) (states : List ArrayState) (line : List ℕ) → AreMet lines old turns states
-    → HasNoOrder line → AreMet (lines ++ line ∷ []) old turns states
-nothing-more [] old [] [] line all one = (one, tt)
-nothing-more [] old [] (s ∷ states) line all one = absurd all
-nothing-more [] old (t ∷ turns) states line all one = absurd all
-nothing-more (l ∷ lines) old [] [] line all one = (all.0, nothing-more lines old [] [] line all.1 one)
-nothing-more (l ∷ lines) old [] (s ∷ states) line all one = absurd all
-nothing-more (l ∷ lines) old (t ∷ turns) [] line all one = absurd all
-nothing-more (l ∷ lines) old (t ∷ turns) (s ∷ states) line all one =
+nothing-more : (lines : List (List ℕ)) (old : ArrayState) (turns : List Turn) (states : List ArrayState) (text line : List ℕ) → AreMet lines old turns states text
+    → HasNoOrder line → AreMet (lines ++ line ∷ []) old turns states text
+nothing-more [] old [] [] text line all one = (one, all)
+nothing-more [] old [] (s ∷ states) text line all one = absurd all
+nothing-more [] old (t ∷ turns) states text line all one = absurd all
+nothing-more (l ∷ lines) old [] [] text line all one = (all.0, nothing-more lines old [] [] text line all.1 one)
+nothing-more (l ∷ lines) old [] (s ∷ states) text line all one = absurd all
+nothing-more (l ∷ lines) old (t ∷ turns) [] text line all one = absurd all
+nothing-more (l ∷ lines) old (t ∷ turns) (s ∷ states) text line all one =
     elim all [
-      | inl none ↦ inl (none.0, nothing-more lines old (t ∷ turns) (s ∷ states) line none.1 one)
-      | inr some ↦ inr (some.0, nothing-more lines s turns states line some.1 one)
+      | inl none ↦ inl (none.0, nothing-more lines old (t ∷ turns) (s ∷ states) text line none.1 one)
+      | inr some ↦ inr (some.0, some.1, some.2, some.3, nothing-more lines s turns states some.1 line some.4 one)
     ]
 
--- one more line and its turn
-met-more : (lines : List (List ℕ)) (old : ArrayState) (turns : List Turn) (states : List ArrayState) (line : List ℕ) (turn : Turn) (new : ArrayState)
-    → AreMet lines old turns states → ExecutesLine line (last_of old states) turn new → AreMet (lines ++ line ∷ []) old (turns ++ turn ∷ []) (states ++ new ∷ [])
-met-more [] old [] [] line turn new all one = inr (one, tt)
-met-more [] old [] (s ∷ states) line turn new all one = absurd all
-met-more [] old (t ∷ turns) states line turn new all one = absurd all
-met-more (l ∷ lines) old [] [] line turn new all one = inl (all.0, met-more lines old [] [] line turn new all.1 one)
-met-more (l ∷ lines) old [] (s ∷ states) line turn new all one = absurd all
-met-more (l ∷ lines) old (t ∷ turns) [] line turn new all one = absurd all
-met-more (l ∷ lines) old (t ∷ turns) (s ∷ states) line turn new all one =
+-- one more line, its turn and its answer
+met-more : (lines : List (List ℕ)) (old : ArrayState) (turns : List Turn) (states : List ArrayState) (text line : List ℕ) (turn : Turn) (new : ArrayState) (answer : List ℕ)
+    → AreMet lines old turns states text → ExecutesLine line (last_of old states) turn new answer
+    → AreMet (lines ++ line ∷ []) old (turns ++ turn ∷ []) (states ++ new ∷ []) (text ++ answer)
+met-more [] old [] [] text line turn new answer all one =
+    inr (answer, [], ap (λ (t : List ℕ). t ++ answer) all ∙ sym (append-nil answer), one, refl)
+met-more [] old [] (s ∷ states) text line turn new answer all one = absurd all
+met-more [] old (t ∷ turns) states text line turn new answer all one = absurd all
+met-more (l ∷ lines) old [] [] text line turn new answer all one = inl (all.0, met-more lines old [] [] text line turn new answer all.1 one)
+met-more (l ∷ lines) old [] (s ∷ states) text line turn new answer all one = absurd all
+met-more (l ∷ lines) old (t ∷ turns) [] text line turn new answer all one = absurd all
+met-more (l ∷ lines) old (t ∷ turns) (s ∷ states) text line turn new answer all one =
     elim all [
-      | inl none ↦ inl (none.0, met-more lines old (t ∷ turns) (s ∷ states) line turn new none.1 one)
-      | inr some ↦ inr (some.0, met-more lines s turns states line turn new some.1 one)
+      | inl none ↦ inl (none.0, met-more lines old (t ∷ turns) (s ∷ states) text line turn new answer none.1 one)
+      | inr some ↦
+          inr (
+            some.0,
+            some.1 ++ answer,
+            ap (λ (t : List ℕ). t ++ answer) some.2 ∙ append_assoc some.0 some.1 answer,
+            some.3,
+            met-more lines s turns states some.1 line turn new answer some.4 one,
+          )
     ]
 
 -- lines and one line more
-more : (lines : List (List ℕ)) (old mid new : ArrayState) (line : List ℕ) (turn : Turn) → Plays lines old mid → ExecutesLine line mid turn new
-    → Meets mid turn new → geometry_of new ≡ geometry_of mid → new.store.disks.extents ≡ mid.store.disks.extents → Plays (lines ++ line ∷ []) old new
-more lines old mid new line turn before asks meets geometry extents =
+more : (lines : List (List ℕ)) (old mid new : ArrayState) (line : List ℕ) (turn : Turn) (text answer : List ℕ) → Plays lines old mid text → ExecutesLine line mid turn new answer
+    → Meets mid turn new → geometry_of new ≡ geometry_of mid → new.store.disks.extents ≡ mid.store.disks.extents → Plays (lines ++ line ∷ []) old new (text ++ answer)
+more lines old mid new line turn text answer before asks meets geometry extents =
     let states = before.run.states in
     let run = run-more before.turns states old turn new before.run.run (subst (λ (s : ArrayState). Meets s turn new) (sym before.run.last) meets) in
     record {
@@ -71,7 +88,8 @@ more lines old mid new line turn before asks meets geometry extents =
         last = last_of-more states old new;
         isolated = run-isolated old (before.turns ++ turn ∷ []) (states ++ new ∷ []) run;
       };
-      met = met-more lines old before.turns states line turn new before.met (subst (λ (s : ArrayState). ExecutesLine line s turn new) (sym before.run.last) asks);
+      met = met-more lines old before.turns states text line turn new answer before.met
+          (subst (λ (s : ArrayState). ExecutesLine line s turn new answer) (sym before.run.last) asks);
       geometry = geometry ∙ before.geometry;
       extents = extents ∙ before.extents;
     }
@@ -90,52 +108,98 @@ looked Health old new same = looks_refl old new same
 looked Picture old new same = looks_refl old new same
 looked (Block disk extent row) old new reads = reads.looks
 
-acted : (lines : List (List ℕ)) (old mid new : ArrayState) (line : List ℕ) (action : Action) → Plays lines old mid → IsLine line
-    → ReadsLine line (Ok (Some (Act action))) → Acts action mid new → Plays (lines ++ line ∷ []) old new
-acted lines old mid new line action before sound reads acts =
-    more lines old mid new line (Did (event_in mid action) acts.outcome) before
-    (record { sound = sound; order = Act action; reads = reads; met = refl }) acts.steps acts.steps.disks.geometry acts.steps.disks.extents
+acted : (lines : List (List ℕ)) (old mid new : ArrayState) (line : List ℕ) (action : Action) (text answer : List ℕ) → Plays lines old mid text → IsLine line
+    → ReadsLine line (Ok (Some (Act action))) → (acts : Acts action mid new) → answer ≡ outcome_text acts.outcome (notation_in action) → Plays (lines ++ line ∷ []) old new (text ++ answer)
+acted lines old mid new line action text answer before sound reads acts said =
+    more lines old mid new line (Did (event_in mid action) acts.outcome) text answer before
+    (record { sound = sound; order = Act action; reads = reads; met = (refl, said) }) acts.steps acts.steps.disks.geometry acts.steps.disks.extents
 
-asked : (lines : List (List ℕ)) (old mid new : ArrayState) (line : List ℕ) (question : Question) → Plays lines old mid → IsLine line
-    → ReadsLine line (Ok (Some (Ask question))) → Looks question mid new → Plays (lines ++ line ∷ []) old new
-asked lines old mid new line question before sound reads looks =
+asked : (lines : List (List ℕ)) (old mid new : ArrayState) (line : List ℕ) (question : Question) (text answer : List ℕ) → Plays lines old mid text → IsLine line
+    → ReadsLine line (Ok (Some (Ask question))) → Looks question mid new → IsAnswerTo question mid new answer → Plays (lines ++ line ∷ []) old new (text ++ answer)
+asked lines old mid new line question text answer before sound reads looks shows =
     let is : LooksAt mid new = looked question mid new looks in
-    more lines old mid new line Looked before
-    (record { sound = sound; order = Ask question; reads = reads; met = looks }) is is.accessed.follows.geometry is.accessed.follows.extents
+    more lines old mid new line Looked text answer before
+    (record { sound = sound; order = Ask question; reads = reads; met = (looks, shows) }) is is.accessed.follows.geometry is.accessed.follows.extents
 
-unchanged : (lines : List (List ℕ)) (old mid new : ArrayState) → Plays lines old mid → new ≡ mid → Plays lines old new
-unchanged lines old mid new before same = subst (λ (s : ArrayState). Plays lines old s) (sym same) before
+unchanged : (lines : List (List ℕ)) (old mid new : ArrayState) (text : List ℕ) → Plays lines old mid text → new ≡ mid → Plays lines old new text
+unchanged lines old mid new text before same = subst (λ (s : ArrayState). Plays lines old s text) (sym same) before
 
 -- a line that asks for nothing
-passed : (lines : List (List ℕ)) (old mid new : ArrayState) (line : List ℕ) → Plays lines old mid → HasNoOrder line → new ≡ mid → Plays (lines ++ line ∷ []) old new
-passed lines old mid new line before nothing same =
-    unchanged (lines ++ line ∷ []) old mid new
+passed : (lines : List (List ℕ)) (old mid new : ArrayState) (line text : List ℕ) → Plays lines old mid text → HasNoOrder line → new ≡ mid → Plays (lines ++ line ∷ []) old new text
+passed lines old mid new line text before nothing same =
+    unchanged (lines ++ line ∷ []) old mid new text
     (record {
       turns = before.turns;
       run = before.run;
-      met = nothing-more lines old before.turns before.run.states line before.met nothing;
+      met = nothing-more lines old before.turns before.run.states text line before.met nothing;
       geometry = before.geometry;
       extents = before.extents;
     })
     same
 
+-- a line was executed, and its answer appended
+pub record OneMore (lines : List (List ℕ)) (old new : ArrayState) (text : List ℕ) (before after : Option (List ℕ)) : Type 0 where
+  pub answer : List ℕ
+  pub plays : Plays lines old new (text ++ answer)
+  pub appends : Appends before after answer
+
 -- a line that was answered was met
-pub met_all : (lines : List (List ℕ)) (old mid new : ArrayState) (line : List ℕ) (read : Result (Option Order) FaultKind) → Plays lines old mid → IsLine line
-    → ReadsLine line read → MeetsParsed read mid (Ok tt) new → Plays (lines ++ line ∷ []) old new
-met_all lines old mid new line (Ok None) before sound reads meets = passed lines old mid new line before (record { sound = sound; reads = reads }) meets.1
-met_all lines old mid new line (Ok (Some (Ask question))) before sound reads meets = asked lines old mid new line question before sound reads meets.0
-met_all lines old mid new line (Ok (Some (Act action))) before sound reads meets = acted lines old mid new line action before sound reads meets.0
-met_all lines old mid new line (Err kind) before sound reads meets = let no = meets.0 in absurd (cc)
+pub met_all : (lines : List (List ℕ)) (old mid new : ArrayState) (line text : List ℕ) (read : Result (Option Order) FaultKind) (before after : Option (List ℕ))
+    → Plays lines old mid text → IsLine line → ReadsLine line read → IsAnsweredBy read mid new before after → OneMore (lines ++ line ∷ []) old new text before after
+met_all lines old mid new line text (Ok None) before after plays sound reads answered = record {
+  answer = [];
+  plays = subst (λ (t : List ℕ). Plays (lines ++ line ∷ []) old new t) (sym (append-nil text))
+      (passed lines old mid new line text plays (record { sound = sound; reads = reads }) answered.0);
+  appends = subst (λ (o : Option (List ℕ)). Appends before o []) (sym answered.1) (appends_none before);
+}
+met_all lines old mid new line text (Ok (Some (Ask question))) before after plays sound reads answered = record {
+  answer = answered.1.text;
+  plays = asked lines old mid new line question text answered.1.text plays sound reads answered.0 answered.1.is;
+  appends = answered.1.appends;
+}
+met_all lines old mid new line text (Ok (Some (Act action))) before after plays sound reads answered = record {
+  answer = answered.1.text;
+  plays = acted lines old mid new line action text answered.1.text plays sound reads answered.1.is.0 answered.1.is.1;
+  appends = answered.1.appends;
+}
+met_all lines old mid new line text (Err kind) before after plays sound reads answered = absurd answered
+
+-- the text that a query would be answered by
+shown_for : (question : Question) (old new : ArrayState) → Looks question old new → (text : List ℕ) × IsAnswerTo question old new text
+shown_for (Levels addr) old new looks = (levels_text old.store.book addr, refl)
+shown_for (Home addr rb) old new looks = (home_text (home_of old.store.book addr rb), refl)
+shown_for Groups old new looks = (groups_text 0 (map use_of old.store.book.groups), refl)
+shown_for Room old new looks = (line_of (codes "room" ∷ decimal (room old.store.book) ∷ []), refl)
+shown_for Health old new looks = (health_text old.store.disks.health, refl)
+shown_for Picture old new looks = (10 ∷ [], λ none. cc)
+shown_for (Block disk extent row) old new looks = (row_text looks.shown looks.bytes, (looks, refl))
+
+-- the array executed these lines, with any answers
+pub record IsPlayed (lines : List (List ℕ)) (old new : ArrayState) : Type 0 where
+  pub text : List ℕ
+  pub plays : Plays lines old new text
+
+acted_too : (lines : List (List ℕ)) (old mid new : ArrayState) (line : List ℕ) (action : Action) (text : List ℕ) → Plays lines old mid text → IsLine line
+    → ReadsLine line (Ok (Some (Act action))) → Acts action mid new → IsPlayed (lines ++ line ∷ []) old new
+acted_too lines old mid new line action text before sound reads acts =
+    let answer = outcome_text acts.outcome (notation_in action) in
+    record { text = text ++ answer; plays = acted lines old mid new line action text answer before sound reads acts refl }
+
+asked_too : (lines : List (List ℕ)) (old mid new : ArrayState) (line : List ℕ) (question : Question) (text : List ℕ) → Plays lines old mid text → IsLine line
+    → ReadsLine line (Ok (Some (Ask question))) → Looks question mid new → IsPlayed (lines ++ line ∷ []) old new
+asked_too lines old mid new line question text before sound reads looks =
+    let shown = shown_for question mid new looks in
+    record { text = text ++ shown.0; plays = asked lines old mid new line question text shown.0 before sound reads looks shown.1 }
 
 -- an action for which memory was refused is none, and one whose answer couldn't be written was done
-unacted : (lines : List (List ℕ)) (old mid new : ArrayState) (line : List ℕ) (action : Action) (kind : FaultKind) → Plays lines old mid
+unacted : (lines : List (List ℕ)) (old mid new : ArrayState) (line : List ℕ) (action : Action) (kind : FaultKind) (text : List ℕ) → Plays lines old mid text
     → IsLine line → ReadsLine line (Ok (Some (Act action))) → Leaves (Act action) mid (Err kind) new → IsOrderFault (Act action) kind
-    → Plays lines old new ⊎ (Plays (lines ++ line ∷ []) old new × IsLostAt line kind)
-unacted lines old mid new line action kind before sound reads leaves lost =
+    → Plays lines old new text ⊎ (IsPlayed (lines ++ line ∷ []) old new × IsLostAt line kind)
+unacted lines old mid new line action kind text before sound reads leaves lost =
     let P : FaultKind → Type 0 = λ k. Leaves (Act action) mid (Err k) new in
     elim lost [
-      | inl write ↦ inr (acted lines old mid new line action before sound reads (subst P write leaves), inl write)
-      | inr memory ↦ inl (unchanged lines old mid new before (subst P memory.0 leaves))
+      | inl write ↦ inr (acted_too lines old mid new line action text before sound reads (subst P write leaves), inl write)
+      | inr memory ↦ inl (unchanged lines old mid new text before (subst P memory.0 leaves))
     ]
 
 -- the answer to a question is lost where memory for it was refused, or it could not be written
@@ -144,10 +208,11 @@ unseen line question kind reads lost =
     elim lost [ inl write ↦ inl write | inr memory ↦ inr (memory.0, record { question = question; reads = reads; takes = memory.1 }) ]
 
 -- a line that was answered with a fault was met and its answer lost, or nothing was done
-pub met_or_not : (lines : List (List ℕ)) (old mid new : ArrayState) (line : List ℕ) (read : Result (Option Order) FaultKind) (kind : FaultKind) → Plays lines old mid
-    → IsLine line → ReadsLine line read → MeetsParsed read mid (Err kind) new → Plays lines old new ⊎ (Plays (lines ++ line ∷ []) old new × IsLostAt line kind)
-met_or_not lines old mid new line (Ok None) kind before sound reads meets = let no = meets.0 in absurd (cc)
-met_or_not lines old mid new line (Ok (Some (Ask question))) kind before sound reads meets = inr (asked lines old mid new line question before sound reads meets.0, unseen line question kind reads meets.1)
-met_or_not lines old mid new line (Ok (Some (Act action))) kind before sound reads meets =
-    unacted lines old mid new line action kind before sound reads meets.0 meets.1
-met_or_not lines old mid new line (Err other) kind before sound reads meets = inl (unchanged lines old mid new before meets.1)
+pub met_or_not : (lines : List (List ℕ)) (old mid new : ArrayState) (line : List ℕ) (read : Result (Option Order) FaultKind) (kind : FaultKind) (text : List ℕ) → Plays lines old mid text
+    → IsLine line → ReadsLine line read → MeetsParsed read mid (Err kind) new → Plays lines old new text ⊎ (IsPlayed (lines ++ line ∷ []) old new × IsLostAt line kind)
+met_or_not lines old mid new line (Ok None) kind text before sound reads meets = let no = meets.0 in absurd (cc)
+met_or_not lines old mid new line (Ok (Some (Ask question))) kind text before sound reads meets =
+    inr (asked_too lines old mid new line question text before sound reads meets.0, unseen line question kind reads meets.1)
+met_or_not lines old mid new line (Ok (Some (Act action))) kind text before sound reads meets =
+    unacted lines old mid new line action kind text before sound reads meets.0 meets.1
+met_or_not lines old mid new line (Err other) kind text before sound reads meets = inl (unchanged lines old mid new text before meets.1)

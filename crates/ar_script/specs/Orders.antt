@@ -19,7 +19,6 @@ use Rattle.ar_language.specs.declared.order.Order.{Order}
 use Rattle.ar_language.specs.declared.order.Order.TheVariants.{Act, Ask}
 use Rattle.ar_language.specs.declared.order.Question.{Question}
 use Rattle.ar_language.specs.declared.order.Question.TheVariants.{Levels, Home, Groups, Room, Health, Picture, Block}
-use Rattle.ar_picture.specs.Writing.{AddsSome}
 use Rattle.ar_script.specs.Setups.{new_disk_for}
 
 -- the array's event for an action: data are repetitions of one byte, and a disk that is added is new and of the array's
@@ -96,12 +95,6 @@ abbrev pub MeetsParsed : Result (Option Order) FaultKind → ArrayState → Resu
 MeetsParsed (Ok None) old result new = (result ≡ Ok tt) × (new ≡ old)
 MeetsParsed (Ok (Some order)) old result new = Leaves order old result new × IfErr result (IsOrderFault order)
 MeetsParsed (Err kind) old result new = (result ≡ Err kind) × (new ≡ old)
-
--- some bytes were appended for a line whose answer is never empty
-pub record AnswersLine (line : List ℕ) (old new : Option (List ℕ)) : Type 0 where
-  pub read : Result (Option Order) FaultKind
-  pub reads : ReadsLine line read
-  pub some : (order : Order) → read ≡ Ok (Some order) → HasAnswer order → AddsSome old new
 
 -- the effect of a line on an array, whose bytes have no fault
 pub record MeetsLine (line : List ℕ) (old : ArrayState) (result : Result (Unit {0}) FaultKind) (new : ArrayState) : Type 0 where

@@ -1,5 +1,6 @@
 -- The run of a script on an array, line by line.
-use Rattle.std.specs.Prelude.{◌≡◌, ◌⊎◌, ⊤, ℕ, ◌+◌, ◌<◌, ◌≤◌, max, List, [], ◌∷◌, length, take, Option, Some, None, Result, Ok, Err, OnOk, IfErr}
+use Rattle.std.specs.Prelude.{◌≡◌, ◌⊎◌, ⊤, ℕ, ◌+◌, ◌<◌, ◌≤◌, max, false, List, [], ◌∷◌, ◌++◌, length, take, Option, Some, None, Result, Ok, Err, OnOk, IfErr}
+use Rattle.std.specs.Io.KnownBytes.{Appends}
 use Rattle.ar_disks.specs.Disk.{DiskState}
 use Rattle.ar_volume.specs.Image.{ArrayState, geometry_of}
 use Rattle.ar_volume.specs.Start.{IsStarted}
@@ -15,22 +16,26 @@ use Rattle.std.specs.declared.io.traits.Read.{Ghosts}
 use Rattle.ar_language.specs.declared.lines.Lines.{Lines}
 use Rattle.ar_language.specs.Forms.{ReadsLine}
 use Rattle.ar_language.specs.Left.{EndsReading}
-use Rattle.ar_language.specs.Lines.{line_fault, line_at, IsLine, IsOfStream, Took}
+use Rattle.ar_language.specs.Lines.{is_write_fault, line_fault, line_at, IsLine, IsOfStream, Took}
+use Rattle.ar_language.specs.Notations.{notation_in}
+use Rattle.ar_picture.specs.Writing.{AddsBytes}
+use Rattle.ar_script.specs.Answers.{IsAnswerTo}
 use Rattle.ar_script.specs.Orders.{event_in, Looks, TakesMemory}
+use Rattle.ar_script.specs.Texts.{outcome_text}
 
--- the order is executed in this step of a run, to this state: an action as its event, a query as a look at what it asks
--- for alone
-abbrev pub IsTurn : Order → ArrayState → Turn → ArrayState → Type 0
-IsTurn (Act action) old (Did event outcome) new = event ≡ event_in old action
-IsTurn (Ask question) old Looked new = Looks question old new
-IsTurn order old turn new = ⊥
+-- the order is executed in this step of a run, to this state, and answered by this text: an action as its event, a
+-- query as a look at what it asks for alone
+abbrev pub IsTurn : Order → ArrayState → Turn → ArrayState → List ℕ → Type 0
+IsTurn (Act action) old (Did event outcome) new text = (event ≡ event_in old action) × (text ≡ outcome_text outcome (notation_in action))
+IsTurn (Ask question) old Looked new text = Looks question old new × IsAnswerTo question old new text
+IsTurn order old turn new text = ⊥
 
--- the line has no fault and asks for something, which is executed in this step
-pub record ExecutesLine (line : List ℕ) (old : ArrayState) (turn : Turn) (new : ArrayState) : Type 0 where
+-- the line has no fault and asks for something, which is executed in this step and answered by this text
+pub record ExecutesLine (line : List ℕ) (old : ArrayState) (turn : Turn) (new : ArrayState) (text : List ℕ) : Type 0 where
   pub sound : IsLine line
   pub order : Order
   pub reads : ReadsLine line (Ok (Some order))
-  pub met : IsTurn order old turn new
+  pub met : IsTurn order old turn new text
 
 -- the line has no fault and asks for nothing
 pub record HasNoOrder (line : List ℕ) : Type 0 where
@@ -43,21 +48,22 @@ pub record SaysWrong (line : List ℕ) (kind : FaultKind) : Type 0 where
   pub reads : ReadsLine line (Err kind)
 
 -- These lines are executed in these steps, in order: each that asks for something in one step, and there is no other
--- step. From its first state the array goes through these states.
-abbrev pub AreMet : List (List ℕ) → ArrayState → List Turn → List ArrayState → Type 0
-AreMet [] old [] [] = Unit {0}
-AreMet (line ∷ lines) old [] [] = HasNoOrder line × AreMet lines old [] []
-AreMet (line ∷ lines) old (turn ∷ turns) (new ∷ states) =
-    (HasNoOrder line × AreMet lines old (turn ∷ turns) (new ∷ states)) ⊎ (ExecutesLine line old turn new × AreMet lines new turns states)
-AreMet lines old turns states = ⊥
+-- step. From its first state the array goes through these states. The text is that of the answers, one after another.
+abbrev pub AreMet : List (List ℕ) → ArrayState → List Turn → List ArrayState → List ℕ → Type 0
+AreMet [] old [] [] text = text ≡ []
+AreMet (line ∷ lines) old [] [] text = HasNoOrder line × AreMet lines old [] [] text
+AreMet (line ∷ lines) old (turn ∷ turns) (new ∷ states) text =
+    (HasNoOrder line × AreMet lines old (turn ∷ turns) (new ∷ states) text)
+    ⊎ ((answer : List ℕ) × (rest : List ℕ) × (text ≡ answer ++ rest) × ExecutesLine line old turn new answer × AreMet lines new turns states rest)
+AreMet lines old turns states text = ⊥
 
--- The array executed these lines, one after another, from its old state to its new one. The isolation theorem holds of
--- their steps (`IsRun`): each unit replied as one plain list of sectors that only its own lines change. The geometry of
--- its disks stays.
-pub record Plays (lines : List (List ℕ)) (old new : ArrayState) : Type 0 where
+-- The array executed these lines, one after another, from its old state to its new one, and this text is that of their
+-- answers. The isolation theorem holds of their steps (`IsRun`): each unit replied as one plain list of sectors that
+-- only its own lines change. The geometry of its disks stays.
+pub record Plays (lines : List (List ℕ)) (old new : ArrayState) (text : List ℕ) : Type 0 where
   pub turns : List Turn
   pub run : IsRun old turns new
-  pub met : AreMet lines old turns run.states
+  pub met : AreMet lines old turns run.states text
   pub geometry : geometry_of new ≡ geometry_of old
   pub extents : new.store.disks.extents ≡ old.store.disks.extents
 
@@ -138,17 +144,32 @@ IsLineThere (Some lines) (Line n kind) = (kind ≡ ReadFault) ⊎ (kind ≡ TooM
 -- fault.
 pub record PlaysScript (script : Option (List (List ℕ))) (result : Result (Unit {0}) Fault) (old new : ArrayState) : Type 0 where
   pub lines : List (List ℕ)
-  pub plays : Plays lines old new
+  pub text : List ℕ
+  pub plays : Plays lines old new text
   -- no more than a million lines are executed
   pub few : length lines ≤ 1000000
   pub first : AreFirst script lines
   pub whole : OnOk result (AreAll script lines)
   pub told : IfErr result (IsToldAfter script lines)
 
+-- the array executed all lines of a script, and the text of their answers was appended
+pub record WritesScript (script : Option (List (List ℕ))) (old new : ArrayState) (before after : Option (List ℕ)) : Type 0 where
+  pub lines : List (List ℕ)
+  pub text : List ℕ
+  pub plays : Plays lines old new text
+  pub whole : AreAll script lines
+  pub appends : Appends before after text
+
+-- what was appended for a script: the answers to all lines or, at a fault other than a write fault, some bytes
+abbrev pub AnswersScript : Option (List (List ℕ)) → Result (Unit {0}) Fault → ArrayState → ArrayState → Option (List ℕ) → Option (List ℕ) → Type 0
+AnswersScript script (Ok done) old new before after = WritesScript script old new before after
+AnswersScript script (Err fault) old new before after = is_write_fault {T = Unit {0}} (Err fault) ≡ false → AddsBytes before after
+
 -- `begun` lines were taken from a script, and the array executed each; `left` are left
 pub record PlaysAll (script left : Option (List (List ℕ))) (old new : ArrayState) (begun : ℕ) : Type 0 where
   pub lines : List (List ℕ)
-  pub plays : Plays lines old new
+  pub text : List ℕ
+  pub plays : Plays lines old new text
   pub all : length lines ≡ begun
   pub took : Took script left lines
 

@@ -2,6 +2,7 @@
 ghost use Rattle.std.specs.Prelude.{◌≡◌, ◌≢◌, IfErr, OnOk, Err};
 ghost use Rattle.ar_language.specs.declared.order.Order.TheVariants.{Ask};
 ghost use Rattle.ar_picture.specs.Writing.{AddsBytes, AddsSome};
+ghost use Rattle.ar_script.specs.Answers.{AppendsAnswer};
 ghost use Rattle.ar_script.specs.Orders.{HasAnswer, IsOrderFault, IsView};
 
 use crate::drawing::write_picture;
@@ -25,6 +26,7 @@ pub fn write_answer<W: Write, D: Disk>(
     ensures memory { result ≡ Err FaultKind.NoMemory → out.new ≡ out.old }
     ensures grows { result ≢ Err FaultKind.WriteFault → AddsBytes (W.contents out.old) (W.contents out.new) }
     ensures adds { OnOk result (HasAnswer (Ask question) → AddsSome (W.contents out.old) (W.contents out.new)) }
+    ensures answers { OnOk result (AppendsAnswer (Ask question) array.now array.now (W.contents out.old) (W.contents out.new)) }
 {
     let written = match question {
         Question::Levels(addr) => write_levels(out, array, addr),

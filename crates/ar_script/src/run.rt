@@ -9,8 +9,9 @@ ghost use Rattle.ar_language.specs.Left.{lines_left, lines_begun, IsFresh};
 ghost use Rattle.ar_language.specs.Lines.{lines_of, is_write_fault as tells_write_fault, AreThere, IsNumbered, IsReached};
 ghost use Rattle.ar_picture.specs.Writing.{AddsBytes};
 ghost use Rattle.ar_script.specs.Ends.{Ends};
-ghost use Rattle.ar_script.specs.Orders.{MeetsLine, AnswersLine};
-ghost use Rattle.ar_script.specs.Plays.{SaysWrong, IsUnanswered, IsLineThere, IsToldAt, IsToldOf, PlaysScript, PlaysTo, HasPlayed};
+ghost use Rattle.ar_script.specs.Answers.{AnswersLine};
+ghost use Rattle.ar_script.specs.Orders.{MeetsLine};
+ghost use Rattle.ar_script.specs.Plays.{SaysWrong, IsUnanswered, IsLineThere, IsToldAt, IsToldOf, PlaysScript, PlaysTo, AnswersScript, HasPlayed};
 ghost use Rattle.ar_script.specs.Setups.{disks_of};
 
 use crate::runner::Runner;
@@ -109,9 +110,10 @@ fn answer_all<R: Read + Drop, W: Write + Drop>(
     ensures ended { OnOk result (lines.new.is_at_end ≡ true) }
     ensures reached { IfErr result (IsReached (lines_begun lines.new)) }
     ensures told { IfErr result (IsToldOf lines.new) }
-    // Unless a write fault is reported, all answers are written, in order, behind what the writer had.
+    // Unless a write fault is reported, all answers are written, in order, behind what the writer had; without a fault
+    // these are the answers to all lines.
     ensures written { tells_write_fault result ≡ false → writer_buffer out.new ≡ [] }
-    ensures grows { tells_write_fault result ≡ false → AddsBytes (writer_contents W.contents out.old) (writer_contents W.contents out.new) }
+    ensures grows { AnswersScript (lines_left lines.old) result runner.old runner.new (writer_contents W.contents out.old) (writer_contents W.contents out.new) }
 {
     let done = run_lines(alloc, runner, lines, out);
     finish(out, lines.number(), done)
@@ -143,8 +145,8 @@ fn run_lines<R: Read + Drop, W: Write + Drop>(
     // `ReadFault` is reported only while a line is awaited, and a fault of a line only if the line has it.
     ensures told { IfErr result (IsToldAt lines.new) }
     ensures numbered { IfErr result IsNumbered }
-    // Each answer is appended to those before it.
-    ensures grows { tells_write_fault result ≡ false → AddsBytes (writer_contents W.contents out.old) (writer_contents W.contents out.new) }
+    // Each answer is appended to those before it; without a fault these are the answers to all lines.
+    ensures grows { AnswersScript (lines_left lines.old) result runner.old runner.new (writer_contents W.contents out.old) (writer_contents W.contents out.new) }
 {
     for _ in 0..u32::MAX {
         if !next_line(lines, out)? {
@@ -169,7 +171,7 @@ fn answer_line<R: Read + Drop, W: Write + Drop>(
     ensures few { IfErr result (λ kind. kind ≢ FaultKind.TooManyLines) }
     ensures grows { result ≢ Err FaultKind.WriteFault → AddsBytes (writer_contents W.contents out.old) (writer_contents W.contents out.new) }
     ensures adds { OnOk result
-        (AnswersLine lines.now.line.items (writer_contents W.contents out.old) (writer_contents W.contents out.new)) }
+        (AnswersLine lines.now.line.items runner.old runner.new (writer_contents W.contents out.old) (writer_contents W.contents out.new)) }
     ensures memory { result ≡ Err FaultKind.NoMemory → out.new ≡ out.old }
     // A line that asks for nothing writes nothing, and neither does one with an unknown word or a bad argument.
     ensures silent { is_silent lines.now.line.items ≡ true → out.new ≡ out.old }

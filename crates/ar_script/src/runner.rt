@@ -5,6 +5,7 @@ ghost use Rattle.ar_extents.specs.Changes.{start_fault};
 ghost use Rattle.ar_volume.specs.Start.{IsStarted};
 ghost use Rattle.ar_core.specs.Step.{Steps};
 ghost use Rattle.ar_picture.specs.Writing.{AddsBytes, AddsSome};
+ghost use Rattle.ar_script.specs.Answers.{AppendsAnswer};
 ghost use Rattle.ar_script.specs.Orders.{event_in, Looks, TakesMemory, HasAnswer, IsOrderFault, Leaves};
 ghost use Rattle.ar_script.specs.Pictures.{IsPicture};
 ghost use Rattle.ar_script.specs.Setups.{disks_of, new_disk, new_disk_for};
@@ -73,6 +74,7 @@ impl Runner {
         ensures memory { result ≡ Err FaultKind.NoMemory → out.new ≡ out.old }
         ensures grows { result ≢ Err FaultKind.WriteFault → AddsBytes (W.contents out.old) (W.contents out.new) }
         ensures adds { OnOk result (HasAnswer order → AddsSome (W.contents out.old) (W.contents out.new)) }
+        ensures answers { OnOk result (AppendsAnswer order self.old self.new (W.contents out.old) (W.contents out.new)) }
         ensures leaves { Leaves order self.old result self.new }
     {
         match order {
@@ -153,6 +155,7 @@ impl Runner {
         ensures memory { result ≡ Err FaultKind.NoMemory → out.new ≡ out.old }
         ensures grows { result ≢ Err FaultKind.WriteFault → AddsBytes (W.contents out.old) (W.contents out.new) }
         ensures adds { OnOk result (HasAnswer (Order.Ask question) → AddsSome (W.contents out.old) (W.contents out.new)) }
+        ensures answers { OnOk result (AppendsAnswer (Order.Ask question) self.old self.new (W.contents out.old) (W.contents out.new)) }
         ensures looks { Looks question self.old self.new }
     {
         match question {

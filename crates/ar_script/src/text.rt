@@ -1,6 +1,10 @@
-// Answers as text, appended to the output. The wording is tested, not proved.
-ghost use Rattle.std.specs.Prelude.{◌≡◌, ◌<◌, OnOk};
-ghost use Rattle.ar_picture.specs.Writing.{AddsBytes, AddsSome};
+// Answers as text, appended to the output: each function appends exactly the text that specs/Texts.antt gives.
+ghost use Rattle.std.specs.Prelude.{◌≡◌, ◌<◌, true, [], ◌∷◌, OnOk, map, codes};
+ghost use Rattle.std.specs.Fmt.{digit_glyph};
+ghost use Rattle.std.specs.Io.KnownBytes.{Appends};
+ghost use Rattle.ar_book.specs.Tables.{has_unit};
+ghost use Rattle.ar_picture.specs.Writing.{AddsSome};
+ghost use Rattle.ar_script.specs.Texts.{balance_text, class_name, data_words, done_text, flush_text, gap, group_text, groups_text, health_text, hex_byte, home_text, level_mark, levels_text, line, marks_text, move_text, outcome_text, rebuild_text, reply_text, row_text, run_text, runs_of, sense_text, taken_text, words};
 
 use crate::runs::run_len;
 use ar_core::{
@@ -22,6 +26,7 @@ pub fn write_outcome<W: Write, N>(
     outcome: &OutcomeOf<N>,
     notation: Notation,
 ) -> io::Result<()>
+    ensures text { OnOk result (Appends (W.contents out.old) (W.contents out.new) (outcome_text outcome.now notation)) }
     ensures adds { OnOk result (AddsSome (W.contents out.old) (W.contents out.new)) }
 {
     match outcome {
@@ -40,7 +45,7 @@ pub fn write_outcome<W: Write, N>(
 
 // Writes whether a new disk was accepted.
 fn write_taken<W: Write, N>(out: &mut W, done: &Result<(), (Refusal, N)>) -> io::Result<()>
-    ensures adds { OnOk result (AddsSome (W.contents out.old) (W.contents out.new)) }
+    ensures text { OnOk result (Appends (W.contents out.old) (W.contents out.new) (taken_text done.now)) }
 {
     match done {
         Ok(()) => write_done(out, Ok(())),
@@ -49,7 +54,7 @@ fn write_taken<W: Write, N>(out: &mut W, done: &Result<(), (Refusal, N)>) -> io:
 }
 
 fn write_done<W: Write>(out: &mut W, done: Result<(), Refusal>) -> io::Result<()>
-    ensures adds { OnOk result (AddsSome (W.contents out.old) (W.contents out.new)) }
+    ensures text { OnOk result (Appends (W.contents out.old) (W.contents out.new) (done_text done)) }
 {
     match done {
         Ok(()) => writeln!(out, "ok"),
@@ -58,21 +63,46 @@ fn write_done<W: Write>(out: &mut W, done: Result<(), Refusal>) -> io::Result<()
 }
 
 fn write_reply<W: Write>(out: &mut W, reply: &Reply, notation: Notation) -> io::Result<()>
-    ensures adds { OnOk result (AddsSome (W.contents out.old) (W.contents out.new)) }
+    ensures text { OnOk result (Appends (W.contents out.old) (W.contents out.new) (reply_text reply.now notation)) }
 {
     match (reply.status, reply.sense) {
-        (Status::CheckCondition, Some(sense)) => {
-            let (key, asc, ascq) = (sense[2] & 0x0F, sense[12], sense[13]);
-            writeln!(out, "check {key:02X}/{asc:02X}/{ascq:02X}")
-        }
+        (Status::CheckCondition, Some(sense)) => write_check(out, &sense),
         (Status::Busy, _) => writeln!(out, "busy"),
         _ => write_good(out, reply.payload.as_slice(), notation),
     }
 }
 
+// Writes `check` and what the sense data say.
+fn write_check<W: Write>(out: &mut W, sense: &[u8; 18]) -> io::Result<()>
+    ensures text { OnOk result (Appends (W.contents out.old) (W.contents out.new) (line (codes "check" ∷ sense_text sense.now ∷ []))) }
+{
+    out.write_all(b"check ")?;
+    out.write_all(&sense_text(sense))?;
+    out.write_all(b"\n")
+}
+
+// The sense key, the additional sense code and its qualifier of sense data.
+fn sense_text(sense: &[u8; 18]) -> [u8; 8]
+    ensures { result ≡ sense_text sense.now }
+{
+    let [key_high, key_low] = hex_byte(sense[2] & 0x0F);
+    let [code_high, code_low] = hex_byte(sense[12]);
+    let [qualifier_high, qualifier_low] = hex_byte(sense[13]);
+    [
+        key_high,
+        key_low,
+        b'/',
+        code_high,
+        code_low,
+        b'/',
+        qualifier_high,
+        qualifier_low,
+    ]
+}
+
 // Writes `good` and the bytes of the reply.
 fn write_good<W: Write>(out: &mut W, bytes: &[u8], notation: Notation) -> io::Result<()>
-    ensures adds { OnOk result (AddsSome (W.contents out.old) (W.contents out.new)) }
+    ensures text { OnOk result (Appends (W.contents out.old) (W.contents out.new) (line (codes "good" ∷ data_words notation bytes.now))) }
 {
     if bytes.is_empty() {
         return out.write_all(b"good\n");
@@ -84,7 +114,7 @@ fn write_good<W: Write>(out: &mut W, bytes: &[u8], notation: Notation) -> io::Re
 
 // Writes a reply's bytes, in the notation of its command.
 fn write_data<W: Write>(out: &mut W, bytes: &[u8], notation: Notation) -> io::Result<()>
-    ensures grows { OnOk result (AddsBytes (W.contents out.old) (W.contents out.new)) }
+    ensures text { OnOk result (Appends (W.contents out.old) (W.contents out.new) (words (data_words notation bytes.now))) }
 {
     match notation {
         Notation::Bytes => write_bytes(out, bytes),
@@ -93,7 +123,7 @@ fn write_data<W: Write>(out: &mut W, bytes: &[u8], notation: Notation) -> io::Re
 }
 
 fn write_flush<W: Write>(out: &mut W, flush: Flush) -> io::Result<()>
-    ensures adds { OnOk result (AddsSome (W.contents out.old) (W.contents out.new)) }
+    ensures text { OnOk result (Appends (W.contents out.old) (W.contents out.new) (flush_text flush)) }
 {
     match flush {
         Flush::Flushed(key) => {
@@ -106,7 +136,7 @@ fn write_flush<W: Write>(out: &mut W, flush: Flush) -> io::Result<()>
 }
 
 fn write_move<W: Write>(out: &mut W, answer: Move) -> io::Result<()>
-    ensures adds { OnOk result (AddsSome (W.contents out.old) (W.contents out.new)) }
+    ensures text { OnOk result (Appends (W.contents out.old) (W.contents out.new) (move_text answer)) }
 {
     match answer {
         Move::Moved { key, to } => {
@@ -120,7 +150,7 @@ fn write_move<W: Write>(out: &mut W, answer: Move) -> io::Result<()>
 }
 
 fn write_balance<W: Write>(out: &mut W, answer: Balance) -> io::Result<()>
-    ensures adds { OnOk result (AddsSome (W.contents out.old) (W.contents out.new)) }
+    ensures text { OnOk result (Appends (W.contents out.old) (W.contents out.new) (balance_text answer)) }
 {
     match answer {
         Balance::Formed(group) => writeln!(out, "formed {group}"),
@@ -136,7 +166,7 @@ fn write_balance<W: Write>(out: &mut W, answer: Balance) -> io::Result<()>
 }
 
 fn write_rebuild<W: Write>(out: &mut W, answer: Rebuild) -> io::Result<()>
-    ensures adds { OnOk result (AddsSome (W.contents out.old) (W.contents out.new)) }
+    ensures text { OnOk result (Appends (W.contents out.old) (W.contents out.new) (rebuild_text answer)) }
 {
     match answer {
         Rebuild::Rebuilt(extent, left) => writeln!(out, "rebuilt {extent} left {left}"),
@@ -150,33 +180,46 @@ fn write_rebuild<W: Write>(out: &mut W, answer: Rebuild) -> io::Result<()>
 /// Writes the level of each block of a unit, as a line with a character for each: `M` mirrored, `P` parity, `-` without
 /// a home.
 pub fn write_levels<W: Write, D: Disk>(out: &mut W, array: &Array<D>, addr: Addr) -> io::Result<()>
-    ensures adds { OnOk result (AddsSome (W.contents out.old) (W.contents out.new)) }
+    ensures text { OnOk result (Appends (W.contents out.old) (W.contents out.new) (levels_text array.now.store.book addr)) }
 {
     if let LevelOf::Absent = array.level(addr, 0) {
         return write_done(out, Err(NO_UNIT));
     }
+    write_marks(out, array, addr)?;
+    out.write_all(b"\n")
+}
+
+// Writes a character for the level of each block of an existing unit.
+fn write_marks<W: Write, D: Disk>(out: &mut W, array: &Array<D>, addr: Addr) -> io::Result<()>
+    requires unit { has_unit array.now.store.book addr ≡ true }
+    ensures text { OnOk result (Appends (W.contents out.old) (W.contents out.new) (marks_text array.now.store.book addr)) }
+{
+    // It does nothing, but says that the tables are consistent, so that no unit has more blocks than are counted.
+    let _health = array.health();
     for rb in 0..u32::MAX {
         let Some(mark) = level_mark(array.level(addr, rb)) else {
             break;
         };
-        write!(out, "{mark}")?;
+        out.write_all(&[mark])?;
     }
-    writeln!(out)
+    Ok(())
 }
 
 // The character for the level of an existing block.
-fn level_mark(level: LevelOf) -> Option<char> {
+fn level_mark(level: LevelOf) -> Option<u8>
+    ensures { result ≡ level_mark level }
+{
     match level {
         LevelOf::Absent | LevelOf::Outside => None,
-        LevelOf::Unplaced => Some('-'),
-        LevelOf::Mirrored => Some('M'),
-        LevelOf::Parity => Some('P'),
+        LevelOf::Unplaced => Some(b'-'),
+        LevelOf::Mirrored => Some(b'M'),
+        LevelOf::Parity => Some(b'P'),
     }
 }
 
 /// Writes the group and slot where a block of a unit is stored, as a line.
 pub fn write_home<W: Write>(out: &mut W, home: HomeOf) -> io::Result<()>
-    ensures adds { OnOk result (AddsSome (W.contents out.old) (W.contents out.new)) }
+    ensures text { OnOk result (Appends (W.contents out.old) (W.contents out.new) (home_text home)) }
 {
     match home {
         HomeOf::Absent => write_done(out, Err(NO_UNIT)),
@@ -191,17 +234,25 @@ pub fn write_home<W: Write>(out: &mut W, home: HomeOf) -> io::Result<()>
 
 /// Writes what groups are used for, as a line for each.
 pub fn write_groups<W: Write>(out: &mut W, groups: &[GroupUse]) -> io::Result<()>
-    ensures grows { OnOk result (AddsBytes (W.contents out.old) (W.contents out.new)) }
+    ensures text { OnOk result (Appends (W.contents out.old) (W.contents out.new) (groups_text 0 groups.now)) }
 {
     for (number, group) in groups.iter().enumerate() {
-        let class = class_name(group.class);
-        let blocks = group.blocks;
-        writeln!(out, "group {number} {class} {blocks}")?;
+        write_group(out, number, *group)?;
     }
     Ok(())
 }
 
-fn class_name(class: Class) -> &'static str {
+fn write_group<W: Write>(out: &mut W, number: usize, group: GroupUse) -> io::Result<()>
+    ensures text { OnOk result (Appends (W.contents out.old) (W.contents out.new) (group_text number group)) }
+{
+    let class = class_name(group.class);
+    let blocks = group.blocks;
+    writeln!(out, "group {number} {class} {blocks}")
+}
+
+fn class_name(class: Class) -> &'static str
+    ensures { result.now ≡ class_name class }
+{
     match class {
         Class::Free => "free",
         Class::Mirrored => "mirrored",
@@ -212,6 +263,7 @@ fn class_name(class: Class) -> &'static str {
 /// Writes the health of an array, as a line: `whole` (all disks present), `out` with the missing disk, `rebuilding` with
 /// the replaced one, or `broken` (failed: two disks missing at once).
 pub fn write_health<W: Write>(out: &mut W, health: Health) -> io::Result<()>
+    ensures text { OnOk result (Appends (W.contents out.old) (W.contents out.new) (health_text health)) }
     ensures adds { OnOk result (AddsSome (W.contents out.old) (W.contents out.new)) }
 {
     match health {
@@ -224,7 +276,7 @@ pub fn write_health<W: Write>(out: &mut W, health: Health) -> io::Result<()>
 
 /// Writes the bytes of a row, or why there are none, as a line.
 pub fn write_row<W: Write>(out: &mut W, shown: Shown, bytes: &[u8]) -> io::Result<()>
-    ensures adds { OnOk result (AddsSome (W.contents out.old) (W.contents out.new)) }
+    ensures text { OnOk result (Appends (W.contents out.old) (W.contents out.new) (row_text shown bytes.now)) }
 {
     match shown {
         Shown::Outside => writeln!(out, "outside"),
@@ -239,27 +291,27 @@ pub fn write_row<W: Write>(out: &mut W, shown: Shown, bytes: &[u8]) -> io::Resul
 
 // Writes each byte, separated by spaces.
 fn write_bytes<W: Write>(out: &mut W, bytes: &[u8]) -> io::Result<()>
-    ensures grows { OnOk result (AddsBytes (W.contents out.old) (W.contents out.new)) }
+    ensures text { OnOk result (Appends (W.contents out.old) (W.contents out.new) (words (map hex_byte bytes.now))) }
 {
     for (place, byte) in bytes.iter().enumerate() {
         write_gap(out, place)?;
-        write!(out, "{byte:02X}")?;
+        out.write_all(&hex_byte(*byte))?;
     }
     Ok(())
 }
 
 // Writes the longest runs of equal bytes, separated by spaces.
 fn write_runs<W: Write>(out: &mut W, bytes: &[u8]) -> io::Result<()>
-    ensures grows { OnOk result (AddsBytes (W.contents out.old) (W.contents out.new)) }
+    ensures text { OnOk result (Appends (W.contents out.old) (W.contents out.new) (words (map run_text (runs_of bytes.now)))) }
 {
     let mut rest = bytes;
     for place in 0..bytes.len() {
-        let Some(byte) = rest.first() else {
+        if rest.is_empty() {
             break;
-        };
+        }
         let count = run_len(rest);
         write_gap(out, place)?;
-        write_run(out, count, *byte)?;
+        write_run(out, count, rest[0])?;
         rest = &rest[count..];
     }
     Ok(())
@@ -267,23 +319,36 @@ fn write_runs<W: Write>(out: &mut W, bytes: &[u8]) -> io::Result<()>
 
 // Writes a run. (Without `write!`, which took a sixth of the time of a line that reads a small block.)
 fn write_run<W: Write>(out: &mut W, count: usize, byte: u8) -> io::Result<()>
-    ensures grows { OnOk result (AddsBytes (W.contents out.old) (W.contents out.new)) }
+    ensures text { OnOk result (Appends (W.contents out.old) (W.contents out.new) (run_text (count, byte))) }
 {
     let mut digits = itoa::Buffer::new();
     out.write_all(digits.format(count).as_bytes())?;
-    out.write_all(&[b'x', hex_digit(byte >> 4), hex_digit(byte & 15)])
+    let [high, low] = hex_byte(byte);
+    out.write_all(&[b'x', high, low])
+}
+
+// A byte as two hexadecimal digits.
+fn hex_byte(byte: u8) -> [u8; 2]
+    ensures { result ≡ hex_byte byte }
+{
+    [hex_digit(byte >> 4), hex_digit(byte & 15)]
 }
 
 // A number below 16 as a hexadecimal digit.
 fn hex_digit(number: u8) -> u8
     requires { number < 16 }
+    ensures { result ≡ digit_glyph true number }
 {
-    b"0123456789ABCDEF"[usize::from(number)]
+    if number < 10 {
+        b'0' + number
+    } else {
+        b'A' + (number - 10)
+    }
 }
 
 // Writes the space between a word and the one before it.
 fn write_gap<W: Write>(out: &mut W, place: usize) -> io::Result<()>
-    ensures grows { OnOk result (AddsBytes (W.contents out.old) (W.contents out.new)) }
+    ensures text { OnOk result (Appends (W.contents out.old) (W.contents out.new) (gap place)) }
 {
     if place > 0 {
         out.write_all(b" ")?;

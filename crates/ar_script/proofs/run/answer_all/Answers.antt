@@ -1,6 +1,7 @@
 use Rattle.std.proofs.Common.{rules}
+use Rattle.std.specs.Io.Buffered.{writer_contents}
 use Rattle.ar_language.specs.Left.{lines_left}
-use Rattle.ar_script.proofs.Ending.{plays_finished, there_ended, told_ended}
+use Rattle.ar_script.proofs.Ending.{answered_finished, plays_finished, there_ended, told_ended}
 use Rattle.ar_script.proofs.run.answer_all.Goals as goal
 
 pub returns-clause-plays : goal.returns-clause-plays
@@ -12,3 +13,9 @@ returns-clause-there g c = there_ended (lines_left c.args.lines.now) c.number.re
 
 pub returns-clause-told : goal.returns-clause-told
 returns-clause-told g c = told_ended c.run_lines-done.new.lines c.number.result c.run_lines-done.result c.finish.result c.run_lines-done.ensures.told c.finish.ensures.ends
+
+pub returns-clause-grows : goal.returns-clause-grows
+returns-clause-grows g c =
+    answered_finished (lines_left c.args.lines.now) c.args.runner.now c.run_lines-done.new.runner c.number.result c.run_lines-done.result c.finish.result
+    (writer_contents g.W.Write.contents c.args.out.now) (writer_contents g.W.Write.contents c.run_lines-done.new.out) (writer_contents g.W.Write.contents c.finish.new.out)
+    c.run_lines-done.ensures.grows c.finish.ensures.ends c.finish.ensures.given

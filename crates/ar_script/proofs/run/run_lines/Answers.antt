@@ -3,18 +3,21 @@ use Rattle.ar_language.specs.declared.fault.Fault.TheVariants.{Line}
 use Rattle.ar_language.specs.Left.{lines_left, lines_begun, EndsReading}
 use Rattle.ar_language.proofs.Going.{begun_there}
 use Rattle.ar_language.specs.Lines.{AreThere, IsNextLineFault, IsOfNext, IsNumbered, is_given, is_lacking}
-use Rattle.ar_picture.proofs.Growing.{grows_same, kept_grows, grows_then}
-use Rattle.ar_script.specs.Plays.{PlaysAll, PlaysTo}
-use Rattle.ar_script.proofs.Ending.{plays_none, plays_line, plays_fault, plays_ended, plays_unread, begun_as, begun_within, there_begun, there_given, told_next, told_last, not_write}
+use Rattle.std.proofs.lemmas.Result.{IfOk-at_ok}
+use Rattle.std.specs.Io.Buffered.{writer_contents}
+use Rattle.ar_picture.proofs.Growing.{kept_grows, grows_then}
+use Rattle.ar_script.specs.Answers.{AnswersLine}
+use Rattle.ar_script.specs.Plays.{PlaysTo}
+use Rattle.ar_script.proofs.Ending.{WritesAll, answered_fault, writes_ended, writes_line, writes_none, writes_some, plays_fault, plays_ended, plays_unread, begun_as, begun_within, there_begun, there_given, told_next, told_last, not_write}
 use Rattle.ar_script.proofs.run.run_lines.Goals as goal
 
 pub loop-init : goal.loop-init
 loop-init g c =
-    let script = lines_left c.args.lines.now in (
+    let script = lines_left c.args.lines.now in
+    let before = writer_contents g.W.Write.contents c.args.out.now in (
       omega arith,
-      subst (λ n. PlaysAll script script c.args.runner.now c.args.runner.now n) (sym c.requires.fresh.none) (plays_none script c.args.runner.now),
+      subst (λ n. WritesAll script script c.args.runner.now c.args.runner.now n before before) (sym c.requires.fresh.none) (writes_none script c.args.runner.now before),
       record { some = λ begun. let no = c.requires.fresh.unbegun in absurd (cc) },
-      grows_same _,
     )
 
 pub returns-in_err-next_line-clause-plays : goal.returns-in_err-next_line-clause-plays
@@ -29,7 +32,7 @@ returns-in_err-next_line-clause-plays g c =
     let numbered : IfErr c.from_residual.result IsNumbered = search rules in
     let within = begun_within given new.given new.is_begun same in
     plays_unread (lines_left c.args.lines.now) left c.args.runner.now c.loop.runner given (lines_begun new) c.from_residual.result
-    c.loop.invariant.1 c.from_residual.ensures.0 stops next numbered within.0 within.1 new.few
+    c.loop.invariant.1.all c.from_residual.ensures.0 stops next numbered within.0 within.1 new.few
 
 pub returns-then-not-branch-clause-plays : goal.returns-then-not-branch-clause-plays
 returns-then-not-branch-clause-plays g c =
@@ -40,7 +43,7 @@ returns-then-not-branch-clause-plays g c =
     let lacking : is_lacking c.next_line.result ≡ true = search rules in
     let same : new.given ≡ given = search rules in
     let within = begun_within given new.given new.is_begun same in
-    plays_ended (lines_left c.args.lines.now) (lines_left c.loop.lines) (lines_left new) c.args.runner.now c.loop.runner given (lines_begun new) c.loop.invariant.1
+    plays_ended (lines_left c.args.lines.now) (lines_left c.loop.lines) (lines_left new) c.args.runner.now c.loop.runner given (lines_begun new) c.loop.invariant.1.all
     (goes.kept none) (goes.none lacking) within.0 within.1 new.few
 
 pub returns-in-Err-clause-plays : goal.returns-in-Err-clause-plays
@@ -55,7 +58,7 @@ returns-in-Err-clause-plays g c =
     let is = c.fault_at.ensures.same ∙ ap (λ m. Line (max m 1) c.in-Err.kind) (c.number.ensures.number ∙ begun) in
     subst (λ n. PlaysTo script (Err c.fault_at.result) c.args.runner.now c.answer_line.new.runner n) (sym begun)
     (plays_fault script (lines_left c.loop.lines) (lines_left new) c.args.runner.now c.loop.runner c.answer_line.new.runner c.loop.lines.given line c.in-Err.kind c.fault_at.result
-    c.loop.invariant.1 (goes.taken one) c.in-Err.ensures.meets c.in-Err.ensures.told is (subst (λ n. n ≤ 1000000) begun new.few))
+    c.loop.invariant.1.all (goes.taken one) c.in-Err.ensures.meets c.in-Err.ensures.told is (subst (λ n. n ≤ 1000000) begun new.few))
 
 pub loop-preserved : goal.loop-preserved
 loop-preserved g c =
@@ -66,13 +69,18 @@ loop-preserved g c =
     let one : is_given c.next_line.result ≡ true = search rules in
     let count : new.given ≡ c.loop.lines.given + 1 = search rules in
     let next : new.given ≡ suc c.loop.lines.given = omega arith in
-    let good : c.answer_line.result ≡ Ok tt = search rules in (
+    let before = writer_contents g.W.Write.contents c.args.out.now in
+    let far = writer_contents g.W.Write.contents c.loop.out in
+    let flushed = writer_contents g.W.Write.contents c.next_line.new.out in
+    let after = writer_contents g.W.Write.contents c.answer_line.new.out in
+    let good : c.answer_line.result ≡ Ok tt = search rules in
+    let answered : AnswersLine line c.loop.runner c.answer_line.new.runner flushed after =
+    IfOk-at_ok (λ _. AnswersLine line c.loop.runner c.answer_line.new.runner flushed after) good c.answer_line.ensures.adds in (
       (let few = c.loop.invariant.0 in omega arith),
-      subst (λ n. PlaysAll script (lines_left new) c.args.runner.now c.answer_line.new.runner n) (sym next)
-          (plays_line script (lines_left c.loop.lines) (lines_left new) c.args.runner.now c.loop.runner c.answer_line.new.runner c.loop.lines.given line c.answer_line.result
-          c.loop.invariant.1 (goes.taken one) good c.answer_line.ensures.meets),
+      subst (λ n. WritesAll script (lines_left new) c.args.runner.now c.answer_line.new.runner n before after) (sym next)
+          (writes_line script (lines_left c.loop.lines) (lines_left new) c.args.runner.now c.loop.runner c.answer_line.new.runner c.loop.lines.given line before far flushed after
+          c.loop.invariant.1 c.next_line.ensures.answers (goes.taken one) answered),
       c.next_line.ensures.begun c.loop.invariant.2,
-      grows_then c.loop.invariant.3 (grows_then (kept_grows _ _ c.next_line.ensures.answers) (c.answer_line.ensures.grows (λ write. absurd (cc)))),
     )
 
 pub returns-in_err-next_line-clause-there : goal.returns-in_err-next_line-clause-there
@@ -80,7 +88,7 @@ returns-in_err-next_line-clause-there g c =
     let new = c.next_line.new.lines in
     let given = c.loop.lines.given in
     let goes = c.in_err-next_line.ensures.goes_on in
-    there_begun (lines_left c.args.lines.now) (lines_left c.loop.lines) (lines_left new) c.args.runner.now c.loop.runner given new.given new.is_begun c.loop.invariant.1
+    there_begun (lines_left c.args.lines.now) (lines_left c.loop.lines) (lines_left new) c.args.runner.now c.loop.runner given new.given new.is_begun c.loop.invariant.1.all
     (goes.kept refl) (goes.count ∙ add-zero given) (begun_there new (c.next_line.ensures.begun c.loop.invariant.2))
 
 pub returns-then-not-branch-clause-there : goal.returns-then-not-branch-clause-there
@@ -90,7 +98,7 @@ returns-then-not-branch-clause-there g c =
     let goes = c.next_line.ensures.goes_on in
     let none : is_given c.next_line.result ≡ false = search rules in
     let same : new.given ≡ given = search rules in
-    there_begun (lines_left c.args.lines.now) (lines_left c.loop.lines) (lines_left new) c.args.runner.now c.loop.runner given new.given new.is_begun c.loop.invariant.1
+    there_begun (lines_left c.args.lines.now) (lines_left c.loop.lines) (lines_left new) c.args.runner.now c.loop.runner given new.given new.is_begun c.loop.invariant.1.all
     (goes.kept none) same (begun_there new (c.next_line.ensures.begun c.loop.invariant.2))
 
 pub returns-in-Err-clause-there : goal.returns-in-Err-clause-there
@@ -102,7 +110,7 @@ returns-in-Err-clause-there g c =
     let count : new.given ≡ c.loop.lines.given + 1 = search rules in
     let begun = begun_as c.loop.lines.given new.given new.is_begun count (goes.closed one) in
     subst (λ n. AreThere script n) (sym begun)
-    (there_given script (lines_left c.loop.lines) (lines_left new) c.args.runner.now c.loop.runner c.loop.lines.given new.line.items c.loop.invariant.1 (goes.taken one))
+    (there_given script (lines_left c.loop.lines) (lines_left new) c.args.runner.now c.loop.runner c.loop.lines.given new.line.items c.loop.invariant.1.all (goes.taken one))
 
 pub returns-in_err-next_line-clause-told : goal.returns-in_err-next_line-clause-told
 returns-in_err-next_line-clause-told g c =
@@ -120,12 +128,31 @@ returns-in-Err-clause-told g c =
     told_last new c.in-Err.kind c.fault_at.result (goes.closed one) (omega arith) is c.in-Err.ensures.told
 
 pub returns-in_err-next_line-clause-grows : goal.returns-in_err-next_line-clause-grows
-returns-in_err-next_line-clause-grows g c = λ told. grows_then c.loop.invariant.3 (kept_grows _ _ c.next_line.ensures.answers)
+returns-in_err-next_line-clause-grows g c =
+    let before = writer_contents g.W.Write.contents c.args.out.now in
+    let far = writer_contents g.W.Write.contents c.loop.out in
+    let after = writer_contents g.W.Write.contents c.next_line.new.out in
+    let script = lines_left c.args.lines.now in
+    let some = writes_some script (lines_left c.loop.lines) c.args.runner.now c.loop.runner c.loop.lines.given before far c.loop.invariant.1 in
+    answered_fault script c.args.runner.now c.loop.runner c.from_residual.result before after c.from_residual.ensures.0
+    (grows_then some (kept_grows far after c.next_line.ensures.answers))
 
 pub returns-then-not-branch-clause-grows : goal.returns-then-not-branch-clause-grows
-returns-then-not-branch-clause-grows g c = λ told. grows_then c.loop.invariant.3 (kept_grows _ _ c.next_line.ensures.answers)
+returns-then-not-branch-clause-grows g c =
+    let before = writer_contents g.W.Write.contents c.args.out.now in
+    let far = writer_contents g.W.Write.contents c.loop.out in
+    let after = writer_contents g.W.Write.contents c.next_line.new.out in
+    let goes = c.next_line.ensures.goes_on in
+    let none : is_given c.next_line.result ≡ false = search rules in
+    let lacking : is_lacking c.next_line.result ≡ true = search rules in
+    writes_ended (lines_left c.args.lines.now) (lines_left c.loop.lines) (lines_left c.next_line.new.lines) c.args.runner.now c.loop.runner c.loop.lines.given before far after
+    c.loop.invariant.1 c.next_line.ensures.answers (goes.kept none) (goes.none lacking)
 
 pub returns-in-Err-clause-grows : goal.returns-in-Err-clause-grows
 returns-in-Err-clause-grows g c = λ told.
+    let before = writer_contents g.W.Write.contents c.args.out.now in
+    let far = writer_contents g.W.Write.contents c.loop.out in
+    let flushed = writer_contents g.W.Write.contents c.next_line.new.out in
+    let some = writes_some (lines_left c.args.lines.now) (lines_left c.loop.lines) c.args.runner.now c.loop.runner c.loop.lines.given before far c.loop.invariant.1 in
     let added = c.answer_line.ensures.grows (not_write c.in-Err.kind _ c.fault_at.result c.answer_line.result (search rules) c.fault_at.ensures.same told) in
-    grows_then c.loop.invariant.3 (grows_then (kept_grows _ _ c.next_line.ensures.answers) added)
+    grows_then some (grows_then (kept_grows far flushed c.next_line.ensures.answers) added)
