@@ -65,9 +65,20 @@ impl<'a, L: Ledger> Rig<'a, L> {
         cdb[8] = 2;
         let bytes = vec![in self.alloc; byte; 1024].expect(rt, "memory");
         let payload = Bytes::from_vec(bytes).expect(rt, "memory");
-        let served = self.kept.host(&mut self.seats[0], 0, cdb, payload);
-        drop(served);
+        command(&mut self.kept, &mut self.seats, cdb, payload);
     }
+}
+
+// Executes a command of host 0 to its unit 0.
+fn command<L: Ledger>(
+    kept: &mut Kept<FusedDisk<'_>, L>,
+    seats: &mut [Seat<L>; 4],
+    cdb: [u8; 16],
+    payload: Bytes,
+) {
+    let seat = &mut seats[0];
+    let served = kept.host(seat, 0, cdb, payload);
+    drop(served);
 }
 
 impl<L: Ledger> Controller for Rig<'_, L> {
