@@ -10,19 +10,42 @@ mod unit;
 
 use ar_cli::{end_with, words_of};
 use ar_script::{Runner, Setup, run_on, run_script};
-use command_line::{Order, order_in};
+use command_line::{Order, Service, order_in};
 use drawing::draw;
 use failure::Failure;
-use serve::run_server;
+use log::sink::Console;
+use log::{Level, Logged};
+use serve::{ServeFault, run_server};
+use std::alloc::Global;
+use std::net::{Net, TcpListener, TcpStream};
 use std::process::ExitCode;
+use std::sync::Wait;
+use std::thread::Threads;
+use std::time::Clock;
 
 fn main(rt: HostRuntime) -> ExitCode {
     let done = match order(&rt) {
         Ok(Order::Run(setup, file)) => run(&rt, setup, &file),
-        Ok(Order::Serve(service)) => run_server(&rt, rt.alloc(), &service).map_err(Failure::Serve),
+        Ok(Order::Serve(service)) => {
+            serve_with_warnings(&rt, rt.alloc(), &service).map_err(Failure::Serve)
+        }
         Err(failure) => Err(failure),
     };
     end_with(&rt, done)
+}
+
+// Serves hosts, and logs warnings on standard error.
+fn serve_with_warnings<
+    R: Threads
+        + Wait
+        + Clock
+        + Net<Listener = TcpListener, Stream = TcpStream>
+        + Print
+        + Eprint
+        + Sync,
+>(rt: &R, alloc: Global, service: &Service) -> Result<(), ServeFault> {
+    let logged = Logged::new(rt, Level::Warn, Console(rt));
+    run_server(&logged, alloc, service)
 }
 
 // Reads the command line.
