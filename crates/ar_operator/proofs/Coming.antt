@@ -1,5 +1,5 @@
 -- A line, as its bytes come.
-use Rattle.std.proofs.Common.{◌≡◌, ◌≢◌, ◌∙◌, ◌+◌, ◌-◌, ◌<◌, ◌≤◌, ◌&&◌, ◌++◌, ℕ, zero, suc, Bool, true, false, cond, ltb, List, [], ◌∷◌, length, take, Option, Some, None, is_some, refl, sym, ap, subst, append_assoc, append-nil, length-append, inl, inr, arith}
+use Rattle.std.proofs.Common.{◌≡◌, ◌≢◌, ◌∙◌, ◌+◌, ◌-◌, ◌<◌, ◌&&◌, ◌++◌, ℕ, zero, suc, Bool, true, false, cond, ltb, List, [], ◌∷◌, length, Option, Some, None, is_some, refl, sym, ap, subst, append-nil, length-append, inl, inr, arith}
 use Rattle.std.proofs.lemmas.List.{take_all}
 use Rattle.std.proofs.lemmas.List.Elements.{All-append}
 use Rattle.std.proofs.lemmas.List.Folds.{list_all-append}
@@ -14,7 +14,7 @@ use Rattle.ar_language.specs.declared.fault.FaultKind.TheVariants.{LineTooLong, 
 use Rattle.ar_language.proofs.Parting.{fault_of}
 use Rattle.ar_language.proofs.Going.{sound_line}
 use Rattle.ar_operator.specs.declared.input.Next.TheVariants.{Byte, End, Fault}
-use Rattle.ar_operator.specs.Lines.{seen_behind, ComesNext, TakesLine, TakesPart, KeepsLine, ComesLine, ComesSoFar}
+use Rattle.ar_operator.specs.Lines.{seen_behind, ByteIsRead, TakesPart, KeepsLine, LineIsRead, LineSoFar}
 
 -- ---- what is kept of a line
 
@@ -105,7 +105,7 @@ one_byte : (byte : ℕ) → byte ≢ 10 → HasNoEnd (byte ∷ [])
 one_byte byte apart zero d within = apart
 one_byte byte apart (suc k) d within = absurd (omega arith)
 
-pub so_far_none : (s : SourceState) (text : List ℕ) (fault : Option FaultKind) → KeepsLine [] text fault → ComesSoFar s text fault 0 s
+pub so_far_none : (s : SourceState) (text : List ℕ) (fault : Option FaultKind) → KeepsLine [] text fault → LineSoFar s text fault 0 s
 so_far_none s text fault tells = record {
   line = [];
   one = λ k d within. absurd (omega arith);
@@ -114,9 +114,9 @@ so_far_none s text fault tells = record {
   tells = tells;
 }
 
-module _ (old mid new : SourceState) (text : List ℕ) (fault : Option FaultKind) (count : ℕ) (so_far : ComesSoFar old text fault count mid) where
-  pub so_far_more : (byte : ℕ) (text' : List ℕ) (fault' : Option FaultKind) → ComesNext mid (Byte byte) new → byte ≢ 10
-      → ((line : List ℕ) → KeepsLine line text fault → KeepsLine (line ++ byte ∷ []) text' fault') → ComesSoFar old text' fault' (count + 1) new
+module _ (old mid new : SourceState) (text : List ℕ) (fault : Option FaultKind) (count : ℕ) (so_far : LineSoFar old text fault count mid) where
+  pub so_far_more : (byte : ℕ) (text' : List ℕ) (fault' : Option FaultKind) → ByteIsRead mid (Byte byte) new → byte ≢ 10
+      → ((line : List ℕ) → KeepsLine line text fault → KeepsLine (line ++ byte ∷ []) text' fault') → LineSoFar old text' fault' (count + 1) new
   so_far_more byte text' fault' next apart keeps = record {
     line = so_far.line ++ byte ∷ [];
     one = All-append (λ b. b ≢ 10) so_far.line (byte ∷ []) so_far.one (one_byte byte apart);
@@ -126,18 +126,18 @@ module _ (old mid new : SourceState) (text : List ℕ) (fault : Option FaultKind
   }
 
   -- the line has its LF
-  pub comes_whole : ComesNext mid (Byte 10) new → ComesLine old text fault new
+  pub comes_whole : ByteIsRead mid (Byte 10) new → LineIsRead old text fault new
   comes_whole next = record {
     line = so_far.line;
     takes = record { one = so_far.one; read = inl (Reading-trans old mid new so_far.line (10 ∷ []) false so_far.read next) };
     tells = so_far.tells;
   }
 
-  pub comes_ended : (byte : ℕ) → byte ≡ 10 → ComesNext mid (Byte byte) new → ComesLine old text fault new
-  comes_ended byte is next = comes_whole (subst (λ b. ComesNext mid (Byte b) new) is next)
+  pub line_ended : (byte : ℕ) → byte ≡ 10 → ByteIsRead mid (Byte byte) new → LineIsRead old text fault new
+  line_ended byte is next = comes_whole (subst (λ b. ByteIsRead mid (Byte b) new) is next)
 
   -- the line ends with the input
-  pub comes_last : 0 < count → ComesNext mid End new → ComesLine old text fault new
+  pub comes_last : 0 < count → ByteIsRead mid End new → LineIsRead old text fault new
   comes_last some next = record {
     line = so_far.line;
     takes = record {
@@ -152,7 +152,7 @@ module _ (old mid new : SourceState) (text : List ℕ) (fault : Option FaultKind
   }
 
   -- there is no line
-  pub comes_none : count ≡ 0 → ComesNext mid End new → Reading old new [] false × IsAtEnd new.left
+  pub comes_none : count ≡ 0 → ByteIsRead mid End new → Reading old new [] false × IsAtEnd new.left
   comes_none none next = (
     Reading-same old new (so_far.line ++ []) [] false (append-nil so_far.line ∙ empty so_far.line (so_far.count_is ∙ none)) (Reading-trans old mid new so_far.line [] false so_far.read next.0),
     next.1,
@@ -162,14 +162,14 @@ module _ (old mid new : SourceState) (text : List ℕ) (fault : Option FaultKind
       empty [] is = refl
       empty (x ∷ xs) is = absurd (omega arith)
 
-  pub comes_cut : ComesNext mid Fault new → TakesPart old new true
+  pub comes_cut : ByteIsRead mid Fault new → TakesPart old new true
   comes_cut next = record {
     part = so_far.line;
     one = so_far.one;
     read = Reading-same old new (so_far.line ++ []) so_far.line true (append-nil so_far.line) (Reading-trans old mid new so_far.line [] true so_far.read next);
   }
 
-pub comes_endless : (old new : SourceState) (text : List ℕ) (fault : Option FaultKind) (count : ℕ) → ComesSoFar old text fault count new → TakesPart old new false
+pub comes_endless : (old new : SourceState) (text : List ℕ) (fault : Option FaultKind) (count : ℕ) → LineSoFar old text fault count new → TakesPart old new false
 comes_endless old new text fault count so_far = record { part = so_far.line; one = so_far.one; read = so_far.read }
 
 -- ---- a piece of a stream

@@ -1,13 +1,13 @@
 -- No order has more than two arguments, so that those behind the seventh count for nothing.
-use Rattle.std.proofs.Common.{◌≡◌, ◌≢◌, ◌∙◌, ◌+◌, ◌<◌, ◌≤◌, ◌==◌, ℕ, Bool, true, false, List, [], ◌∷◌, length, take, codes, bytes_eq, Option, Some, None, Result, Ok, Err, MatchBool, refl, sym, ap, subst, arith, ltb, map}
+use Rattle.std.proofs.Common.{◌≡◌, ◌∙◌, ◌<◌, ◌≤◌, ◌==◌, ℕ, Bool, true, false, List, [], ◌∷◌, length, take, codes, bytes_eq, Option, Some, None, Result, Ok, Err, MatchBool, refl, sym, ap, subst, arith, ltb, map}
 use Rattle.std.proofs.lemmas.List.{take_all, length-take}
 use Rattle.std.proofs.lemmas.Bool.{ltb-true, ltb-false}
 use Rattle.std.specs.List.{list_any, slice_split}
 use Rattle.ar_language.specs.Forms.{Words, is_silent, value}
 use Rattle.ar_operator.specs.declared.order.LineFault.{LineFault}
 use Rattle.ar_operator.specs.declared.order.OperatorOrder.{OperatorOrder}
-use Rattle.ar_operator.specs.declared.order.OperatorOrder.TheVariants.{Sessions, Counts, Fail, Help, Stop}
-use Rattle.ar_operator.specs.Orders.{HasFuse, IsFuse, AsksFuse, argument, ReadsArguments, ReadsAlone, ReadsOperatorWord, ReadsOperatorWords, ReadsOperatorLine, ReadsFirstWord, ReadsSharedWord, text_of}
+use Rattle.ar_operator.specs.declared.order.OperatorOrder.TheVariants.{Fail}
+use Rattle.ar_operator.specs.Orders.{HasFuse, IsFuse, AsksFuse, argument, ReadsArguments, ReadsAlone, ReadsOperatorWord, ReadsOperatorWords, ReadsOperatorLine, ReadsFirstWord, text_of}
 
 -- a name that is this text is read as it
 pub named : (line name text : List ℕ) (arguments : List (List ℕ)) (r : Result (Option OperatorOrder) LineFault)

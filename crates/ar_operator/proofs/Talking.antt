@@ -1,5 +1,5 @@
 -- A conversation, as its lines come.
-use Rattle.std.proofs.Common.{◌≡◌, ◌∙◌, ◌+◌, ◌≤◌, ℕ, Bool, true, false, List, [], ◌∷◌, ◌++◌, length, Option, Some, None, Result, refl, sym, ap, subst, length-append, arith}
+use Rattle.std.proofs.Common.{◌≡◌, ◌∙◌, ◌+◌, ◌≤◌, ℕ, Bool, true, false, List, [], ◌∷◌, ◌++◌, Option, Some, None, Result, refl, sym, ap, subst, length-append, arith}
 use Rattle.ar_frames.specs.Stream.{SourceState, SinkState}
 use Rattle.ar_frames.proofs.Streams.{Reading-none}
 use Rattle.ar_frames.specs.declared.fill.Sent.{Sent}
@@ -10,12 +10,12 @@ use Rattle.ar_operator.specs.declared.order.OperatorOrder.{OperatorOrder}
 use Rattle.ar_operator.specs.declared.order.LineFault.{LineFault}
 use Rattle.ar_operator.specs.declared.conversation.OperatorEnd.{OperatorEnd}
 use Rattle.ar_operator.specs.declared.conversation.OperatorEnd.TheVariants as ends
-use Rattle.ar_operator.specs.declared.conversation.Turn.{Turn}
-use Rattle.ar_operator.specs.declared.conversation.Turn.TheVariants.{Answered, Ended}
+use Rattle.ar_operator.specs.declared.conversation.LineResult.{LineResult}
+use Rattle.ar_operator.specs.declared.conversation.LineResult.TheVariants.{Answered}
 use Rattle.ar_operator.specs.Controller.{OperatorAnswers}
-use Rattle.ar_operator.specs.Lines.{KeepsLine, ComesLine, seen_behind}
+use Rattle.ar_operator.specs.Lines.{KeepsLine, LineIsRead, seen_behind}
 use Rattle.ar_operator.proofs.Coming.{piece_empty}
-use Rattle.ar_operator.specs.Talk.{ClosesTalk, OperatorTalk, Converses, HasTalked, ReadsBytes, Replies, TurnsLine, turn_by, TalkPlace, SaysLine, Talks, TurnsNext}
+use Rattle.ar_operator.specs.Talk.{ClosesTalk, OperatorTalk, Converses, HasTalked, ReadsBytes, Replies, LineIsAnswered, line_result_by, ConversationState, RespondsToLine, Talks, NextIsAnswered}
 
 -- what is kept of a line's bytes says what they are read as
 kept : (line text : List ℕ) (fault : Option FaultKind) (read : Result (Option OperatorOrder) LineFault) → KeepsLine line text fault
@@ -29,57 +29,57 @@ module _ {C : Type 0} (answers : OperatorAnswers C) where
       → KeepsLine line text fault → Replies answers fault text old sink stop sent new sink' → Replies answers (line_fault line) line old sink stop sent new sink'
   replies_kept line text fault old new sink sink' stop sent tells replies = record {
     answer = replies.answer;
-    said = record {
-      read = replies.said.read;
-      reads = kept line text fault replies.said.read tells replies.said.reads;
-      says = replies.said.says;
+    responds = record {
+      read = replies.responds.read;
+      reads = kept line text fault replies.responds.read tells replies.responds.reads;
+      responds = replies.responds.responds;
     };
     sending = replies.sending;
   }
 
   -- a line that was read and answered
-  pub turns_next : (source source' : SourceState) (sink sink' : SinkState) (old new : C) (text : List ℕ) (fault : Option FaultKind) (turn : Turn)
-      → ComesLine source text fault source' → TurnsLine answers fault text old sink turn new sink'
-      → TurnsNext answers (record { source = source; sink = sink; controller = old }) turn (record { source = source'; sink = sink'; controller = new })
-  turns_next source source' sink sink' old new text fault turn comes turns =
-      subst (λ t. TurnsNext answers before t after) (sym turns.turn_is) (at turns.stop turns.sent (said turns.stop turns.sent turns.replies))
+  pub next_is_answered : (source source' : SourceState) (sink sink' : SinkState) (old new : C) (text : List ℕ) (fault : Option FaultKind) (result : LineResult)
+      → LineIsRead source text fault source' → LineIsAnswered answers fault text old sink result new sink'
+      → NextIsAnswered answers (record { source = source; sink = sink; controller = old }) result (record { source = source'; sink = sink'; controller = new })
+  next_is_answered source source' sink sink' old new text fault result comes answered =
+      subst (λ t. NextIsAnswered answers before t after) (sym answered.result_is) (at answered.stop answered.sent (line_is answered.stop answered.sent answered.replies))
     where
-      before : TalkPlace C
+      before : ConversationState C
       before = record { source = source; sink = sink; controller = old }
 
-      after : TalkPlace C
+      after : ConversationState C
       after = record { source = source'; sink = sink'; controller = new }
 
-      said : (stop : Bool) (sent : Sent) → Replies answers fault text old sink stop sent new sink' → SaysLine answers before comes.line stop sent after
-      said stop sent replies = record {
+      line_is : (stop : Bool) (sent : Sent) → Replies answers fault text old sink stop sent new sink' → RespondsToLine answers before comes.line stop sent after
+      line_is stop sent replies = record {
         takes = comes.takes;
         replies = replies_kept comes.line text fault old new sink sink' stop sent comes.tells replies;
       }
 
-      at : (stop : Bool) (sent : Sent) → SaysLine answers before comes.line stop sent after → TurnsNext answers before (turn_by stop sent) after
-      at true Whole says = record { line = comes.line; says = says }
-      at false Whole says = (comes.line, says)
-      at true (Part n) says = record { line = comes.line; stop = true; count = n; says = says }
-      at false (Part n) says = record { line = comes.line; stop = false; count = n; says = says }
+      at : (stop : Bool) (sent : Sent) → RespondsToLine answers before comes.line stop sent after → NextIsAnswered answers before (line_result_by stop sent) after
+      at true Whole responds = record { line = comes.line; responds = responds }
+      at false Whole responds = (comes.line, responds)
+      at true (Part n) responds = record { line = comes.line; stop = true; count = n; responds = responds }
+      at false (Part n) responds = record { line = comes.line; stop = false; count = n; responds = responds }
 
   -- one more line
-  talks_more : (lines : List (List ℕ)) (line : List ℕ) (old middle new : TalkPlace C) → Talks answers old lines middle
-      → SaysLine answers middle line false Whole new → Talks answers old (lines ++ line ∷ []) new
-  talks_more [] line old middle new talks says = (new, subst (λ p. SaysLine answers p line false Whole new) talks says, refl)
-  talks_more (first ∷ lines) line old middle new talks says = (talks.0, talks.1, talks_more lines line talks.0 middle new talks.2 says)
+  talks_more : (lines : List (List ℕ)) (line : List ℕ) (old middle new : ConversationState C) → Talks answers old lines middle
+      → RespondsToLine answers middle line false Whole new → Talks answers old (lines ++ line ∷ []) new
+  talks_more [] line old middle new talks responds = (new, subst (λ p. RespondsToLine answers p line false Whole new) talks responds, refl)
+  talks_more (first ∷ lines) line old middle new talks responds = (talks.0, talks.1, talks_more lines line talks.0 middle new talks.2 responds)
 
-  pub talked_none : (place : TalkPlace C) → HasTalked answers place 0 place
+  pub talked_none : (place : ConversationState C) → HasTalked answers place 0 place
   talked_none place = record { lines = []; count_is = refl; talks = refl }
 
-  pub talked_more : (old middle new : TalkPlace C) (count : ℕ) → HasTalked answers old count middle → TurnsNext answers middle Answered new
+  pub talked_more : (old middle new : ConversationState C) (count : ℕ) → HasTalked answers old count middle → NextIsAnswered answers middle Answered new
       → HasTalked answers old (count + 1) new
-  talked_more old middle new count talked says = record {
-    lines = talked.lines ++ says.0 ∷ [];
-    count_is = omega (arith, length-append talked.lines (says.0 ∷ []), talked.count_is);
-    talks = talks_more talked.lines says.0 old middle new talked.talks says.1;
+  talked_more old middle new count talked responds = record {
+    lines = talked.lines ++ responds.0 ∷ [];
+    count_is = omega (arith, length-append talked.lines (responds.0 ∷ []), talked.count_is);
+    talks = talks_more talked.lines responds.0 old middle new talked.talks responds.1;
   }
 
-  pub talked_end : (old middle new : TalkPlace C) (count : ℕ) (end : OperatorEnd) → HasTalked answers old count middle → count ≤ 1000000
+  pub talked_end : (old middle new : ConversationState C) (count : ℕ) (end : OperatorEnd) → HasTalked answers old count middle → count ≤ 1000000
       → ClosesTalk answers middle end new → Converses answers old end new
   talked_end old middle new count end talked few closes = record {
     lines = talked.lines;
@@ -89,7 +89,7 @@ module _ {C : Type 0} (answers : OperatorAnswers C) where
     closes = closes;
   }
 
-  pub talked_full : (old new : TalkPlace C) (count : ℕ) → HasTalked answers old count new → count ≤ 1000000 → Converses answers old ends.Bound new
+  pub talked_full : (old new : ConversationState C) (count : ℕ) → HasTalked answers old count new → count ≤ 1000000 → Converses answers old ends.Bound new
   talked_full old new count talked few =
       talked_end old new new count ends.Bound talked few
       (record { part = []; one = λ k d within. absurd (omega arith); read = Reading-none new.source }, record { sink = refl; controller = refl })
@@ -100,8 +100,8 @@ module _ {C : Type 0} (answers : OperatorAnswers C) where
       (record { source = seen_behind dropped source'; sink = sink'; controller = new })
       → OperatorTalk answers source source' sink sink' old new end
   heard piece dropped source source' sink sink' old new end none converses =
-      let f : SourceState → TalkPlace C = λ s. record { source = s; sink = sink; controller = old } in
-      let after : TalkPlace C = record { source = seen_behind dropped source'; sink = sink'; controller = new } in
+      let f : SourceState → ConversationState C = λ s. record { source = s; sink = sink; controller = old } in
+      let after : ConversationState C = record { source = seen_behind dropped source'; sink = sink'; controller = new } in
       record {
         dropped = dropped;
         converses = subst (λ p. Converses answers p end after) (ap (λ l. f (seen_behind l source)) none ∙ ap f (piece_empty source)) converses;
@@ -110,8 +110,8 @@ module _ {C : Type 0} (answers : OperatorAnswers C) where
   -- nothing was read
   pub unheard : (source : SourceState) (sink : SinkState) (old : C) → OperatorTalk answers source source sink sink old old ends.NoMemory
   unheard source sink old =
-      let f : SourceState → TalkPlace C = λ s. record { source = s; sink = sink; controller = old } in
-      let place : TalkPlace C = f source in
+      let f : SourceState → ConversationState C = λ s. record { source = s; sink = sink; controller = old } in
+      let place : ConversationState C = f source in
       record {
         dropped = [];
         converses = record { lines = []; few = omega arith; middle = place; talks = refl; closes = ap f (piece_empty source) };

@@ -1,5 +1,5 @@
 -- Lines of a stream, byte by byte.
-use Rattle.std.specs.Prelude.{◌≡◌, ◌≢◌, ◌⊎◌, ◌≤◌, ℕ, Bool, true, false, List, [], ◌∷◌, ◌++◌, length, Option, Some, None}
+use Rattle.std.specs.Prelude.{◌≡◌, ◌≢◌, ◌⊎◌, ℕ, Bool, true, false, List, [], ◌∷◌, ◌++◌, length, Option, None}
 use Rattle.std.specs.Io.KnownBytes.{IsAtEnd, prepend_known}
 use Rattle.ar_frames.specs.Stream.{SourceState, Reading}
 use Rattle.ar_language.specs.Lines.{HasNoEnd, line_fault}
@@ -8,18 +8,18 @@ use Rattle.ar_operator.specs.declared.input.Next.{Next}
 use Rattle.ar_operator.specs.declared.input.Next.TheVariants.{Byte, End, Fault}
 use Rattle.ar_operator.specs.declared.input.Ready.{Ready}
 use Rattle.ar_operator.specs.declared.input.Ready.TheVariants as ready
-use Rattle.ar_operator.specs.declared.input.Came.{Came}
-use Rattle.ar_operator.specs.declared.input.Came.TheVariants as came
+use Rattle.ar_operator.specs.declared.input.LineRead.{LineRead}
+use Rattle.ar_operator.specs.declared.input.LineRead.TheVariants as line_read
 
 -- a stream with bytes before it that were read and not taken yet
 abbrev pub seen_behind : List ℕ → SourceState → SourceState
 seen_behind piece source = record { left = prepend_known piece source.left; faults = source.faults }
 
 -- the next byte of a stream, or why there is none
-abbrev pub ComesNext : SourceState → Next → SourceState → Type 0
-ComesNext old (Byte byte) new = Reading old new (byte ∷ []) false
-ComesNext old End new = Reading old new [] false × IsAtEnd new.left
-ComesNext old Fault new = Reading old new [] true
+abbrev pub ByteIsRead : SourceState → Next → SourceState → Type 0
+ByteIsRead old (Byte byte) new = Reading old new (byte ∷ []) false
+ByteIsRead old End new = Reading old new [] false × IsAtEnd new.left
+ByteIsRead old Fault new = Reading old new [] true
 
 -- a piece has a byte, or there is none
 abbrev pub HasNextByte : SourceState → Ready → List ℕ → SourceState → Type 0
@@ -46,20 +46,20 @@ pub record KeepsLine (line text : List ℕ) (fault : Option FaultKind) : Type 0 
   pub text_is : fault ≡ None → text ≡ line
 
 -- a line was read, and this is kept of it
-pub record ComesLine (old : SourceState) (text : List ℕ) (fault : Option FaultKind) (new : SourceState) : Type 0 where
+pub record LineIsRead (old : SourceState) (text : List ℕ) (fault : Option FaultKind) (new : SourceState) : Type 0 where
   pub line : List ℕ
   pub takes : TakesLine old new line
   pub tells : KeepsLine line text fault
 
 -- what was read where a line may begin, and what is kept of a line
-abbrev pub Comes : SourceState → Came → List ℕ → Option FaultKind → SourceState → Type 0
-Comes old came.Line text fault new = ComesLine old text fault new
-Comes old came.End text fault new = Reading old new [] false × IsAtEnd new.left
-Comes old came.Fault text fault new = TakesPart old new true
-Comes old came.Endless text fault new = TakesPart old new false
+abbrev pub LineReadIs : SourceState → LineRead → List ℕ → Option FaultKind → SourceState → Type 0
+LineReadIs old line_read.Line text fault new = LineIsRead old text fault new
+LineReadIs old line_read.End text fault new = Reading old new [] false × IsAtEnd new.left
+LineReadIs old line_read.Fault text fault new = TakesPart old new true
+LineReadIs old line_read.Endless text fault new = TakesPart old new false
 
 -- the bytes of a line so far
-pub record ComesSoFar (old : SourceState) (text : List ℕ) (fault : Option FaultKind) (count : ℕ) (new : SourceState) : Type 0 where
+pub record LineSoFar (old : SourceState) (text : List ℕ) (fault : Option FaultKind) (count : ℕ) (new : SourceState) : Type 0 where
   pub line : List ℕ
   pub one : HasNoEnd line
   pub count_is : length line ≡ count

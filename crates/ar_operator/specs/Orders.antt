@@ -1,5 +1,5 @@
 -- What an operator's line asks for, by its first word.
-use Rattle.std.specs.Prelude.{◌≡◌, ◌⊎◌, ◌==◌, ℕ, Bool, if◌then◌else◌, List, [], ◌∷◌, length, map, slice_index_or, codes, bytes_eq, Option, Some, None, Result, Ok, Err, MatchResult, MatchBool}
+use Rattle.std.specs.Prelude.{◌≡◌, ◌⊎◌, ◌==◌, ℕ, Bool, if◌then◌else◌, List, [], ◌∷◌, length, map, slice_index_or, codes, bytes_eq, Option, Some, None, Result, Ok, Err, MatchBool}
 use Rattle.std.specs.List.{list_any, slice_split}
 use Rattle.std.specs.Borrow.{Bor}
 use Rattle.ar_language.specs.declared.fault.FaultKind.{FaultKind}

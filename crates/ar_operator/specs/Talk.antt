@@ -13,10 +13,10 @@ use Rattle.ar_operator.specs.declared.order.LineFault.{LineFault}
 use Rattle.ar_operator.specs.declared.order.LineFault.TheVariants.{Line}
 use Rattle.ar_operator.specs.declared.conversation.OperatorEnd.{OperatorEnd}
 use Rattle.ar_operator.specs.declared.conversation.OperatorEnd.TheVariants as ends
-use Rattle.ar_operator.specs.declared.conversation.Said.{Said}
-use Rattle.ar_operator.specs.declared.conversation.Said.TheVariants as said
-use Rattle.ar_operator.specs.declared.conversation.Turn.{Turn}
-use Rattle.ar_operator.specs.declared.conversation.Turn.TheVariants.{Answered, Ended}
+use Rattle.ar_operator.specs.declared.conversation.Response.{Response}
+use Rattle.ar_operator.specs.declared.conversation.Response.TheVariants as response
+use Rattle.ar_operator.specs.declared.conversation.LineResult.{LineResult}
+use Rattle.ar_operator.specs.declared.conversation.LineResult.TheVariants.{Answered, Ended}
 use Rattle.ar_operator.specs.Controller.{OperatorAnswers}
 use Rattle.ar_operator.specs.Faults.{line_fault_text}
 use Rattle.ar_operator.specs.Lines.{TakesLine, TakesPart, seen_behind}
@@ -46,100 +46,100 @@ pub record IsForgotten {C : Type 0} (answers : OperatorAnswers C) (old : C) (ord
   pub answered : answers old order (Err alloc_error) lost new
 
 -- an order was given to the controller once: its answer or, out of memory, that
-abbrev pub ObeysOrder : {C : Type 0} → OperatorAnswers C → C → OperatorOrder → List ℕ → Bool → C → Type 0
-ObeysOrder answers old order answer stop new =
+abbrev pub ExecutesOrder : {C : Type 0} → OperatorAnswers C → C → OperatorOrder → List ℕ → Bool → C → Type 0
+ExecutesOrder answers old order answer stop new =
     (answers old order (Ok tt) answer new × (stop ≡ is_stop order))
     ⊎ (IsForgotten answers old order new × (answer ≡ no_memory) × (stop ≡ false))
 
 -- The answer to what a line is read as, and whether the service ends with it. A line without an order leaves the
 -- controller as it was.
-abbrev pub SaysRead : {C : Type 0} → OperatorAnswers C → C → Result (Option OperatorOrder) LineFault → List ℕ → Bool → C → Type 0
-SaysRead answers old (Ok None) answer stop new = (answer ≡ []) × (stop ≡ false) × (new ≡ old)
-SaysRead answers old (Ok (Some order)) answer stop new = ObeysOrder answers old order answer stop new
-SaysRead answers old (Err fault) answer stop new = ((answer ≡ fault_answer fault) ⊎ (answer ≡ no_memory)) × (stop ≡ false) × (new ≡ old)
+abbrev pub RespondsToRead : {C : Type 0} → OperatorAnswers C → C → Result (Option OperatorOrder) LineFault → List ℕ → Bool → C → Type 0
+RespondsToRead answers old (Ok None) answer stop new = (answer ≡ []) × (stop ≡ false) × (new ≡ old)
+RespondsToRead answers old (Ok (Some order)) answer stop new = ExecutesOrder answers old order answer stop new
+RespondsToRead answers old (Err fault) answer stop new = ((answer ≡ fault_answer fault) ⊎ (answer ≡ no_memory)) × (stop ≡ false) × (new ≡ old)
 
 -- the answer to a line, by the fault of its bytes or by its text
-pub record SaysAnswer {C : Type 0} (answers : OperatorAnswers C) (fault : Option FaultKind) (text : List ℕ) (old : C) (answer : List ℕ)
+pub record RespondsToBytes {C : Type 0} (answers : OperatorAnswers C) (fault : Option FaultKind) (text : List ℕ) (old : C) (answer : List ℕ)
     (stop : Bool) (new : C) : Type 0 where
   pub read : Result (Option OperatorOrder) LineFault
   pub reads : ReadsBytes fault text read
-  pub says : SaysRead answers old read answer stop new
+  pub responds : RespondsToRead answers old read answer stop new
 
 -- a line was answered, and its answer was written, whole or up to a fault
 pub record Replies {C : Type 0} (answers : OperatorAnswers C) (fault : Option FaultKind) (text : List ℕ) (old : C) (sink : SinkState)
     (stop : Bool) (sent : Sent) (new : C) (sink' : SinkState) : Type 0 where
   pub answer : List ℕ
-  pub said : SaysAnswer answers fault text old answer stop new
+  pub responds : RespondsToBytes answers fault text old answer stop new
   pub sending : Sending sink sink' answer sent
 
 -- what becomes of the conversation after a line
-abbrev pub turn_by : Bool → Sent → Turn
-turn_by stop (Part n) = Ended ends.Write
-turn_by true Whole = Ended ends.Stop
-turn_by false Whole = Answered
+abbrev pub line_result_by : Bool → Sent → LineResult
+line_result_by stop (Part n) = Ended ends.Write
+line_result_by true Whole = Ended ends.Stop
+line_result_by false Whole = Answered
 
 -- the same, by the result
-pub record TurnsLine {C : Type 0} (answers : OperatorAnswers C) (fault : Option FaultKind) (text : List ℕ) (old : C) (sink : SinkState)
-    (turn : Turn) (new : C) (sink' : SinkState) : Type 0 where
+pub record LineIsAnswered {C : Type 0} (answers : OperatorAnswers C) (fault : Option FaultKind) (text : List ℕ) (old : C) (sink : SinkState)
+    (result : LineResult) (new : C) (sink' : SinkState) : Type 0 where
   pub stop : Bool
   pub sent : Sent
   pub replies : Replies answers fault text old sink stop sent new sink'
-  pub turn_is : turn ≡ turn_by stop sent
+  pub result_is : result ≡ line_result_by stop sent
 
 -- the bytes of an answer: those in the buffer, or that there is no memory for them
-abbrev pub said_bytes : Said → List ℕ → List ℕ
-said_bytes said.Answer buffer = buffer
-said_bytes said.Stop buffer = buffer
-said_bytes said.NoMemory buffer = no_memory
+abbrev pub response_bytes : Response → List ℕ → List ℕ
+response_bytes response.Answer buffer = buffer
+response_bytes response.Stop buffer = buffer
+response_bytes response.NoMemory buffer = no_memory
 
 -- whether the service ends
-abbrev pub is_stopped : Said → Bool
-is_stopped said.Answer = false
-is_stopped said.Stop = true
-is_stopped said.NoMemory = false
+abbrev pub ends_service : Response → Bool
+ends_service response.Answer = false
+ends_service response.Stop = true
+ends_service response.NoMemory = false
 
 -- where a conversation is: its streams, and the controller
-pub record TalkPlace (C : Type 0) : Type 0 where
+pub record ConversationState (C : Type 0) : Type 0 where
   pub source : SourceState
   pub sink : SinkState
   pub controller : C
 
 -- a line was read, and answered as its bytes say
-pub record SaysLine {C : Type 0} (answers : OperatorAnswers C) (old : TalkPlace C) (line : List ℕ) (stop : Bool) (sent : Sent) (new : TalkPlace C)
+pub record RespondsToLine {C : Type 0} (answers : OperatorAnswers C) (old : ConversationState C) (line : List ℕ) (stop : Bool) (sent : Sent) (new : ConversationState C)
     : Type 0 where
   pub takes : TakesLine old.source new.source line
   pub replies : Replies answers (line_fault line) line old.controller old.sink stop sent new.controller new.sink
 
 -- These lines were read and answered whole, one after another, none of them with `stop`.
-abbrev pub Talks : {C : Type 0} → OperatorAnswers C → TalkPlace C → List (List ℕ) → TalkPlace C → Type 0
+abbrev pub Talks : {C : Type 0} → OperatorAnswers C → ConversationState C → List (List ℕ) → ConversationState C → Type 0
 Talks answers old [] new = new ≡ old
-Talks {C = C} answers old (line ∷ lines) new = (middle : TalkPlace C) × SaysLine answers old line false Whole middle × Talks answers middle lines new
+Talks {C = C} answers old (line ∷ lines) new = (middle : ConversationState C) × RespondsToLine answers old line false Whole middle × Talks answers middle lines new
 
 -- this many lines were
-pub record HasTalked {C : Type 0} (answers : OperatorAnswers C) (old : TalkPlace C) (count : ℕ) (new : TalkPlace C) : Type 0 where
+pub record HasTalked {C : Type 0} (answers : OperatorAnswers C) (old : ConversationState C) (count : ℕ) (new : ConversationState C) : Type 0 where
   pub lines : List (List ℕ)
   pub count_is : length lines ≡ count
   pub talks : Talks answers old lines new
 
 -- nothing was answered
-pub record IsSilent {C : Type 0} (old new : TalkPlace C) : Type 0 where
+pub record IsSilent {C : Type 0} (old new : ConversationState C) : Type 0 where
   pub sink : new.sink ≡ old.sink
   pub controller : new.controller ≡ old.controller
 
 -- the last line was `stop`, and was accepted
-pub record IsStoppedByOrder {C : Type 0} (answers : OperatorAnswers C) (old new : TalkPlace C) : Type 0 where
+pub record IsStoppedByOrder {C : Type 0} (answers : OperatorAnswers C) (old new : ConversationState C) : Type 0 where
   pub line : List ℕ
-  pub says : SaysLine answers old line true Whole new
+  pub responds : RespondsToLine answers old line true Whole new
 
 -- the answer to the last line wasn't written whole
-pub record IsAnswerCut {C : Type 0} (answers : OperatorAnswers C) (old new : TalkPlace C) : Type 0 where
+pub record IsAnswerCut {C : Type 0} (answers : OperatorAnswers C) (old new : ConversationState C) : Type 0 where
   pub line : List ℕ
   pub stop : Bool
   pub count : ℕ
-  pub says : SaysLine answers old line stop (Part count) new
+  pub responds : RespondsToLine answers old line stop (Part count) new
 
 -- how a conversation ends
-abbrev pub ClosesTalk : {C : Type 0} → OperatorAnswers C → TalkPlace C → OperatorEnd → TalkPlace C → Type 0
+abbrev pub ClosesTalk : {C : Type 0} → OperatorAnswers C → ConversationState C → OperatorEnd → ConversationState C → Type 0
 ClosesTalk answers old ends.End new = Reading old.source new.source [] false × IsAtEnd new.source.left × IsSilent old new
 ClosesTalk answers old ends.Stop new = IsStoppedByOrder answers old new
 ClosesTalk answers old ends.Read new = TakesPart old.source new.source true × IsSilent old new
@@ -148,16 +148,16 @@ ClosesTalk answers old ends.Bound new = TakesPart old.source new.source false ×
 ClosesTalk answers old ends.NoMemory new = new ≡ old
 
 -- one more line was answered, or the conversation ended
-abbrev pub TurnsNext : {C : Type 0} → OperatorAnswers C → TalkPlace C → Turn → TalkPlace C → Type 0
-TurnsNext answers old Answered new = (line : List ℕ) × SaysLine answers old line false Whole new
-TurnsNext answers old (Ended end) new = ClosesTalk answers old end new
+abbrev pub NextIsAnswered : {C : Type 0} → OperatorAnswers C → ConversationState C → LineResult → ConversationState C → Type 0
+NextIsAnswered answers old Answered new = (line : List ℕ) × RespondsToLine answers old line false Whole new
+NextIsAnswered answers old (Ended end) new = ClosesTalk answers old end new
 
 -- A conversation: lines of the input were given to the controller, each once and in order, and their answers written,
--- in order; and then its end came.
-pub record Converses {C : Type 0} (answers : OperatorAnswers C) (old : TalkPlace C) (end : OperatorEnd) (new : TalkPlace C) : Type 0 where
+-- in order; and then its end line_read.
+pub record Converses {C : Type 0} (answers : OperatorAnswers C) (old : ConversationState C) (end : OperatorEnd) (new : ConversationState C) : Type 0 where
   pub lines : List (List ℕ)
   pub few : length lines ≤ 1000000
-  pub middle : TalkPlace C
+  pub middle : ConversationState C
   pub talks : Talks answers old lines middle
   pub closes : ClosesTalk answers middle end new
 

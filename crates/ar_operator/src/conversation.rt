@@ -2,9 +2,9 @@
 ghost use Rattle.std.specs.Prelude.{◌≡◌, ◌⊎◌, [], false, Ok, IfOk, IfSome};
 ghost use Rattle.ar_operator.specs.Lines.{seen_behind};
 ghost use Rattle.ar_operator.specs.Orders.{IsOperatorOrder};
-ghost use Rattle.ar_operator.specs.Talk.{OperatorTalk, Converses, ObeysOrder, ReadsBytes, SaysAnswer, SaysRead, TurnsLine, TurnsNext, fault_answer, is_stop, is_stopped, said_bytes, turn_by, no_memory};
+ghost use Rattle.ar_operator.specs.Talk.{OperatorTalk, Converses, ExecutesOrder, ReadsBytes, RespondsToBytes, RespondsToRead, LineIsAnswered, NextIsAnswered, fault_answer, is_stop, ends_service, response_bytes, line_result_by, no_memory};
 
-use crate::input::{Came, Line, Piece, read_line};
+use crate::input::{Line, LineRead, Piece, read_line};
 use crate::{Controller, LineFault, OperatorOrder, operator_order_in};
 use ar_frames::{Sent, Sink, Source, send};
 use ar_language::FaultKind;
@@ -64,7 +64,7 @@ pub fn converse<R: Source, W: Sink, C: Controller>(
 
 // The result of a line.
 #[derive(Clone, Copy)]
-enum Turn {
+enum LineResult {
     Answered,
     Ended(OperatorEnd),
 }
@@ -84,8 +84,8 @@ fn answer_lines<R: Source, W: Sink, C: Controller>(
 {
     for _ in 0..MOST_LINES {
         match answer_next(reader, writer, controller, piece, line, answer) {
-            Turn::Answered => {}
-            Turn::Ended(end) => return end,
+            LineResult::Answered => {}
+            LineResult::Ended(end) => return end,
         }
     }
     OperatorEnd::Bound
@@ -99,17 +99,17 @@ fn answer_next<R: Source, W: Sink, C: Controller>(
     piece: &mut Piece,
     line: &mut Line,
     answer: &mut Vec<u8>,
-) -> Turn
-    ensures { TurnsNext C.answers
+) -> LineResult
+    ensures { NextIsAnswered C.answers
         (record { source = seen_behind piece.old (R.state reader.old); sink = W.state writer.old; controller = controller.old })
         result
         (record { source = seen_behind piece.new (R.state reader.new); sink = W.state writer.new; controller = controller.new }) }
 {
     match read_line(reader, piece, line) {
-        Came::Line => answer_line(writer, controller, line, answer),
-        Came::End => Turn::Ended(OperatorEnd::End),
-        Came::Fault => Turn::Ended(OperatorEnd::Read),
-        Came::Endless => Turn::Ended(OperatorEnd::Bound),
+        LineRead::Line => answer_line(writer, controller, line, answer),
+        LineRead::End => LineResult::Ended(OperatorEnd::End),
+        LineRead::Fault => LineResult::Ended(OperatorEnd::Read),
+        LineRead::Endless => LineResult::Ended(OperatorEnd::Bound),
     }
 }
 
@@ -119,38 +119,38 @@ fn answer_line<W: Sink, C: Controller>(
     controller: &mut C,
     line: &Line,
     answer: &mut Vec<u8>,
-) -> Turn
-    ensures { TurnsLine C.answers line.now.fault line.now.text.items controller.old (W.state writer.old) result
+) -> LineResult
+    ensures { LineIsAnswered C.answers line.now.fault line.now.text.items controller.old (W.state writer.old) result
         controller.new (W.state writer.new) }
 {
-    let said = say(controller, line, answer);
-    let sent = send(writer, bytes_of(said, answer));
-    turn_of(said, sent)
+    let response = respond(controller, line, answer);
+    let sent = send(writer, bytes_of(response, answer));
+    line_result(response, sent)
 }
 
 // The bytes of an answer.
-fn bytes_of(said: Said, answer: &Vec<u8>) -> &[u8]
-    ensures { result.now ≡ said_bytes said answer.now.items }
+fn bytes_of(response: Response, answer: &Vec<u8>) -> &[u8]
+    ensures { result.now ≡ response_bytes response answer.now.items }
 {
-    match said {
-        Said::NoMemory => NO_MEMORY,
-        Said::Answer | Said::Stop => answer.as_slice(),
+    match response {
+        Response::NoMemory => NO_MEMORY,
+        Response::Answer | Response::Stop => answer.as_slice(),
     }
 }
 
-fn turn_of(said: Said, sent: Sent) -> Turn
-    ensures { result ≡ turn_by (is_stopped said) sent }
+fn line_result(response: Response, sent: Sent) -> LineResult
+    ensures { result ≡ line_result_by (ends_service response) sent }
 {
-    match (said, sent) {
-        (_, Sent::Part(_)) => Turn::Ended(OperatorEnd::Write),
-        (Said::Stop, Sent::Whole) => Turn::Ended(OperatorEnd::Stop),
-        _ => Turn::Answered,
+    match (response, sent) {
+        (_, Sent::Part(_)) => LineResult::Ended(OperatorEnd::Write),
+        (Response::Stop, Sent::Whole) => LineResult::Ended(OperatorEnd::Stop),
+        _ => LineResult::Answered,
     }
 }
 
-// What is said to a line.
+// The response to a line.
 #[derive(Clone, Copy)]
-enum Said {
+enum Response {
     // What is in the buffer.
     Answer,
     // The same, and `stop` was accepted.
@@ -160,43 +160,43 @@ enum Said {
 }
 
 // Has a line answered, into an emptied buffer.
-fn say<C: Controller>(controller: &mut C, line: &Line, answer: &mut Vec<u8>) -> Said
-    ensures { SaysAnswer C.answers line.now.fault line.now.text.items controller.old (said_bytes result answer.new.items)
-        (is_stopped result) controller.new }
+fn respond<C: Controller>(controller: &mut C, line: &Line, answer: &mut Vec<u8>) -> Response
+    ensures { RespondsToBytes C.answers line.now.fault line.now.text.items controller.old (response_bytes result answer.new.items)
+        (ends_service result) controller.new }
 {
     answer.clear();
-    speak(controller, order_of(line), answer)
+    respond_to(controller, order_of(line), answer)
 }
 
 // Answers what a line is read as.
-fn speak<C: Controller>(
+fn respond_to<C: Controller>(
     controller: &mut C,
     read: Result<Option<OperatorOrder>, LineFault>,
     answer: &mut Vec<u8>,
-) -> Said
+) -> Response
     requires allowed { IfOk read (λ asked. IfSome asked IsOperatorOrder) }
     requires empty { answer.old.items ≡ [] }
-    ensures { SaysRead C.answers controller.old read (said_bytes result answer.new.items) (is_stopped result) controller.new }
+    ensures { RespondsToRead C.answers controller.old read (response_bytes result answer.new.items) (ends_service result) controller.new }
 {
     match read {
-        Ok(asked) => obey_asked(controller, asked, answer),
-        Err(fault) => blame(fault, answer),
+        Ok(asked) => respond_to_order(controller, asked, answer),
+        Err(fault) => write_fault(fault, answer),
     }
 }
 
 // Answers a line that asks for something, or for nothing.
-fn obey_asked<C: Controller>(
+fn respond_to_order<C: Controller>(
     controller: &mut C,
     asked: Option<OperatorOrder>,
     answer: &mut Vec<u8>,
-) -> Said
+) -> Response
     requires allowed { IfSome asked IsOperatorOrder }
     requires empty { answer.old.items ≡ [] }
-    ensures { SaysRead C.answers controller.old (Ok asked) (said_bytes result answer.new.items) (is_stopped result) controller.new }
+    ensures { RespondsToRead C.answers controller.old (Ok asked) (response_bytes result answer.new.items) (ends_service result) controller.new }
 {
     match asked {
-        Some(order) => obey(controller, order, answer),
-        None => Said::Answer,
+        Some(order) => execute_order(controller, order, answer),
+        None => Response::Answer,
     }
 }
 
@@ -212,15 +212,19 @@ fn order_of(line: &Line) -> Result<Option<OperatorOrder>, LineFault>
 }
 
 // Gives an order to the controller.
-fn obey<C: Controller>(controller: &mut C, order: OperatorOrder, answer: &mut Vec<u8>) -> Said
+fn execute_order<C: Controller>(
+    controller: &mut C,
+    order: OperatorOrder,
+    answer: &mut Vec<u8>,
+) -> Response
     requires allowed { IsOperatorOrder order }
     requires empty { answer.old.items ≡ [] }
-    ensures { ObeysOrder C.answers controller.old order (said_bytes result answer.new.items) (is_stopped result) controller.new }
+    ensures { ExecutesOrder C.answers controller.old order (response_bytes result answer.new.items) (ends_service result) controller.new }
 {
     match controller.answer(order, answer) {
-        Ok(()) if is_stop(order) => Said::Stop,
-        Ok(()) => Said::Answer,
-        Err(AllocError) => Said::NoMemory,
+        Ok(()) if is_stop(order) => Response::Stop,
+        Ok(()) => Response::Answer,
+        Err(AllocError) => Response::NoMemory,
     }
 }
 
@@ -231,13 +235,13 @@ fn is_stop(order: OperatorOrder) -> bool
 }
 
 // Writes a fault's text.
-fn blame(fault: LineFault, answer: &mut Vec<u8>) -> Said
+fn write_fault(fault: LineFault, answer: &mut Vec<u8>) -> Response
     requires empty { answer.old.items ≡ [] }
-    ensures said { (said_bytes result answer.new.items ≡ fault_answer fault) ⊎ (said_bytes result answer.new.items ≡ no_memory) }
-    ensures goes_on { is_stopped result ≡ false }
+    ensures response { (response_bytes result answer.new.items ≡ fault_answer fault) ⊎ (response_bytes result answer.new.items ≡ no_memory) }
+    ensures goes_on { ends_service result ≡ false }
 {
     match writeln!(answer, "fault: {fault}") {
-        Ok(()) => Said::Answer,
-        Err(_) => Said::NoMemory,
+        Ok(()) => Response::Answer,
+        Err(_) => Response::NoMemory,
     }
 }

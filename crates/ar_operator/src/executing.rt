@@ -1,13 +1,12 @@
 // An operator's order on a kept array: an action is exactly one event, a query changes nothing. The answer is written by
 // the functions that scripts use.
-ghost use Rattle.std.specs.Prelude.{◌≡◌, ◌++◌, IfOk, OnOk, OnErr, Some, length};
+ghost use Rattle.std.specs.Prelude.{◌≡◌, ◌++◌, IfOk, OnErr, length};
 ghost use Rattle.ar_history.specs.Kept.{StaysKept, history_entry};
 ghost use Rattle.ar_history.specs.Operations.{Does, event_of};
-ghost use Rattle.ar_picture.specs.Writing.{AddsBytes, AddsSome};
-ghost use Rattle.ar_script.specs.Orders.{HasAnswer, event_in};
+ghost use Rattle.ar_script.specs.Orders.{event_in};
 ghost use Rattle.ar_script.specs.Setups.{new_disk, new_disk_for};
 ghost use Rattle.ar_operator.specs.Orders.{IsOperatorAction};
-ghost use Rattle.ar_operator.specs.Executing.{IsArrayOrder, Operated, Operates};
+ghost use Rattle.ar_operator.specs.Executing.{Executes, IsArrayOrder, Operated};
 
 use ar_core::{Array, NewDisk, Outcome, OutcomeOf};
 use ar_disks::{Disk, Geometry};
@@ -47,9 +46,7 @@ pub fn execute<D: Disk + Drop, L: Ledger, M: DiskMaker<D>>(
     out: &mut Vec<u8>,
 ) -> Result<(), AllocError>
     requires allowed { IsArrayOrder order }
-    ensures operates { Operates order kept.old result kept.new }
-    ensures grows { OnOk result (AddsBytes (Some out.old.items) (Some out.new.items)) }
-    ensures adds { OnOk result (HasAnswer order → AddsSome (Some out.old.items) (Some out.new.items)) }
+    ensures { Executes order kept.old out.old.items result out.new.items kept.new }
 {
     match order {
         Order::Act(action) => execute_action(alloc, kept, disks, action, out),
@@ -67,8 +64,7 @@ fn execute_action<D: Disk + Drop, L: Ledger, M: DiskMaker<D>>(
     out: &mut Vec<u8>,
 ) -> Result<(), AllocError>
     requires allowed { IsOperatorAction action }
-    ensures operates { Operates (Order.Act action) kept.old result kept.new }
-    ensures adds { OnOk result (AddsSome (Some out.old.items) (Some out.new.items)) }
+    ensures { Executes (Order.Act action) kept.old out.old.items result out.new.items kept.new }
 {
     out.reserve(OUTCOME_MAX)?;
     let outcome = act(alloc, kept, disks, action)?;

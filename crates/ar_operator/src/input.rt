@@ -2,7 +2,7 @@
 // longest line takes no more memory than 4,096 bytes.
 ghost use Rattle.std.specs.Prelude.{◌≡◌, ◌≢◌, ◌≤◌, ◌++◌, ◌∷◌, [], ℕ, List, Some, None, MatchResult, length, vec_capacity};
 ghost use Rattle.ar_language.specs.Lines.{IsLine, is_printable};
-ghost use Rattle.ar_operator.specs.Lines.{Comes, ComesNext, HasNextByte, KeepsLine, seen_behind};
+ghost use Rattle.ar_operator.specs.Lines.{LineReadIs, ByteIsRead, HasNextByte, KeepsLine, seen_behind};
 
 use ar_frames::Source;
 use ar_language::FaultKind;
@@ -71,7 +71,7 @@ impl Piece {
 
     // Takes the next byte. The stream is read only if the piece is empty.
     pub fn next<R: Source>(&mut self, reader: &mut R) -> Next
-        ensures { ComesNext (seen_behind self.old (R.state reader.old)) result (seen_behind self.new (R.state reader.new)) }
+        ensures { ByteIsRead (seen_behind self.old (R.state reader.old)) result (seen_behind self.new (R.state reader.new)) }
     {
         match self.ready(reader) {
             Ready::Some => Next::Byte(self.take()),
@@ -175,7 +175,7 @@ fn is_printable(byte: u8) -> bool
 
 // What was read where a line may begin.
 #[derive(Clone, Copy)]
-pub enum Came {
+pub enum LineRead {
     // A line, with its LF or at the end of input.
     Line,
     // The input has ended, and no line begins.
@@ -187,19 +187,19 @@ pub enum Came {
 }
 
 // Reads a line. One that ends with the input ends there, unless it is empty.
-pub fn read_line<R: Source>(reader: &mut R, piece: &mut Piece, line: &mut Line) -> Came
-    ensures { Comes (seen_behind piece.old (R.state reader.old)) result line.new.text.items line.new.fault
+pub fn read_line<R: Source>(reader: &mut R, piece: &mut Piece, line: &mut Line) -> LineRead
+    ensures { LineReadIs (seen_behind piece.old (R.state reader.old)) result line.new.text.items line.new.fault
         (seen_behind piece.new (R.state reader.new)) }
 {
     line.clear();
     for taken in 0..MOST_BYTES {
         match piece.next(reader) {
-            Next::Byte(b'\n') => return Came::Line,
+            Next::Byte(b'\n') => return LineRead::Line,
             Next::Byte(byte) => line.take(byte),
-            Next::End if taken == 0 => return Came::End,
-            Next::End => return Came::Line,
-            Next::Fault => return Came::Fault,
+            Next::End if taken == 0 => return LineRead::End,
+            Next::End => return LineRead::Line,
+            Next::Fault => return LineRead::Fault,
         }
     }
-    Came::Endless
+    LineRead::Endless
 }

@@ -1,5 +1,5 @@
 use Rattle.std.proofs.Common.{rules, Result, Ok, Err, OnOk}
-use Rattle.ar_picture.specs.Writing.{AddsBytes, AddsSome}
+use Rattle.ar_picture.specs.Writing.{AddsSome}
 use Rattle.ar_picture.proofs.Growing.{grows_then, then_some}
 use Rattle.ar_operator.proofs.text.write_counts.Goals as goal
 
