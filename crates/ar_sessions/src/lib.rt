@@ -17,7 +17,7 @@ mod tcp;
 pub use background::run_background;
 pub use desk::{Desk, Receipt, SessionCounts};
 pub use door::{Door, MemDoor};
-pub use pool::{Entrance, MOST_AT_ONCE, Next, run_pool};
+pub use pool::{Handler, MOST_AT_ONCE, SharedDoor, run_pool, start_pool};
 pub use port::LockPort;
 pub use sessions::{ConnectionEnd, NoMemory, run_beside_background, run_sessions};
 pub use socket::{SocketReader, SocketWriter};

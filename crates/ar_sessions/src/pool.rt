@@ -1,5 +1,5 @@
 // Threads that take turns at a door: one waits for the next connection, while the others serve theirs or wait for the
-// door. So at most as many sessions as threads are open at once, any number follow one another, and nothing grows.
+// door. So at most as many connections as threads are open at once, any number follow one another, and nothing grows.
 ghost use Rattle.std.specs.Prelude.{◌≡◌};
 ghost use Rattle.ar_sessions.specs.Ends.{TakesNext};
 
@@ -22,7 +22,7 @@ pub const MOST_AT_ONCE: u32 = 64;
 
 /// A door that threads take turns at.
 #[derive(Drop)]
-pub struct Entrance<O: Door + Drop> {
+pub struct SharedDoor<O: Door + Drop> {
     turn: Mutex<Numbered<O>>,
 }
 
@@ -33,15 +33,21 @@ struct Numbered<O: Door> {
     count: u64,
 }
 
-/// What came of waiting at a door.
+// What came of waiting at a door.
 #[derive(Drop)]
-pub enum Next<S, W> {
-    /// A connection: its number, from 1, and its streams.
+enum Next<S, W> {
+    // A connection: its number, from 1, and its streams.
     Opened(u64, S, W),
-    /// A connection that couldn't be opened.
+    // A connection that couldn't be opened.
     Unopened,
-    /// The door has no connection left, or is closed. It was not used.
+    // The door has no connection left, or is closed. It was not used.
     Closed,
+}
+
+/// What the threads of a pool do with the connections of a door.
+pub trait Handler<S, W> {
+    /// Serves a connection to its end. `number` counts the door's connections, from 1.
+    fn handle(&self, number: u64, reader: S, writer: W);
 }
 
 /// Serves the connections that `door` opens, at most 64 at once, beside a thread that runs background maintenance.
@@ -61,12 +67,12 @@ pub fn run_pool<
     desk: &Mutex<Desk<L>>,
     gate: &G,
 ) -> Result<(), NoMemory> {
-    let entrance = Entrance::new(door);
-    serve_entrance(rt, alloc, &entrance, kept, desk, gate)
+    let door = SharedDoor::new(door);
+    serve_door(rt, alloc, &door, kept, desk, gate)
 }
 
-// The same through an entrance.
-fn serve_entrance<
+// The same at a shared door.
+fn serve_door<
     R: Threads + Wait + Clock + Log + Sync,
     D: Disk + Drop + Send,
     L: Ledger + Send + Sync,
@@ -75,7 +81,7 @@ fn serve_entrance<
 >(
     rt: &R,
     alloc: Global,
-    entrance: &Entrance<O>,
+    door: &SharedDoor<O>,
     kept: &Mutex<Kept<D, L>>,
     desk: &Mutex<Desk<L>>,
     gate: &G,
@@ -86,7 +92,7 @@ fn serve_entrance<
         thread::scope_env(),
         rt,
         move |scope| -> Result<(), NoMemory> {
-            serve_beside(scope, rt, alloc, entrance, kept, desk, gate, flag)
+            serve_beside(scope, rt, alloc, door, kept, desk, gate, flag)
         },
     )
 }
@@ -104,7 +110,7 @@ fn serve_beside<
     scope: &'s Scope<'s, E>,
     rt: &'s R,
     alloc: Global,
-    entrance: &Entrance<O>,
+    door: &SharedDoor<O>,
     kept: &'s Mutex<Kept<D, L>>,
     desk: &Mutex<Desk<L>>,
     gate: &G,
@@ -113,7 +119,7 @@ fn serve_beside<
     let Ok(_worker) = scope.spawn(move || run_background(rt, kept, ended)) else {
         return Err(NoMemory);
     };
-    let served = serve_in_turn(rt, alloc, entrance, kept, desk, gate);
+    let served = serve_in_turn(rt, alloc, door, kept, desk, gate);
     ended.store(true, Ordering::SeqCst);
     served
 }
@@ -128,7 +134,7 @@ fn serve_in_turn<
 >(
     rt: &R,
     alloc: Global,
-    entrance: &Entrance<O>,
+    door: &SharedDoor<O>,
     kept: &Mutex<Kept<D, L>>,
     desk: &Mutex<Desk<L>>,
     gate: &G,
@@ -144,27 +150,28 @@ fn serve_in_turn<
     thread::scope(
         thread::scope_env(),
         rt,
-        move |scope| -> Result<(), NoMemory> { start_workers(scope, shared, entrance) },
+        move |scope| -> Result<(), NoMemory> { start_pool(scope, rt, MOST_AT_ONCE, door, shared) },
     )
 }
 
-// Starts the threads, as many as there is memory for, but at least one.
-fn start_workers<
+/// Starts threads that take turns at a door, at most `most`: as many as there is memory for, but at least one. Each
+/// ends once the door has no connection left, or is closed.
+pub fn start_pool<
     's,
     E,
-    R: Wait + Clock + Log + Sync,
-    D: Disk + Drop + Send,
-    L: Ledger + Send + Sync,
+    R: Wait + Sync,
     O: Door + Drop + Send,
-    G: Gate + Sync,
+    T: Handler<O::Reader, O::Writer> + Sync,
 >(
     scope: &'s Scope<'s, E>,
-    shared: &'s Shared<'s, R, D, L, G>,
-    entrance: &'s Entrance<O>,
+    rt: &'s R,
+    most: u32,
+    door: &'s SharedDoor<O>,
+    handler: &'s T,
 ) -> Result<(), NoMemory> {
     let mut started = Err(NoMemory);
-    for _ in 0..MOST_AT_ONCE {
-        if scope.spawn(move || work(shared, entrance)).is_err() {
+    for _ in 0..most {
+        if scope.spawn(move || handle_each(rt, door, handler)).is_err() {
             break;
         }
         started = Ok(());
@@ -172,43 +179,46 @@ fn start_workers<
     started
 }
 
-// Serves one connection after another.
-fn work<'h, R: Wait + Clock + Log, D: Disk + Drop, L: Ledger, O: Door + Drop, G: Gate>(
-    shared: &'h Shared<'h, R, D, L, G>,
-    entrance: &Entrance<O>,
+// Handles one connection after another.
+fn handle_each<R: Wait, O: Door + Drop, T: Handler<O::Reader, O::Writer>>(
+    rt: &R,
+    door: &SharedDoor<O>,
+    handler: &T,
 ) {
-    for _ in shared.rt.forever() {
-        match entrance.next(shared.rt) {
-            Next::Opened(number, reader, writer) => serve_next(shared, number, reader, writer),
+    for _ in rt.forever() {
+        match door.next(rt) {
+            Next::Opened(number, reader, writer) => handler.handle(number, reader, writer),
             Next::Unopened => {}
             Next::Closed => break,
         }
     }
 }
 
-// Serves a connection.
-fn serve_next<
-    'h,
+impl<
+    'a,
     R: Wait + Clock + Log,
     D: Disk + Drop,
     L: Ledger,
     G: Gate,
     S: Source + Drop,
     W: Sink + Drop,
->(shared: &'h Shared<'h, R, D, L, G>, number: u64, reader: S, writer: W) {
-    let _ended = Connection::new(shared, number, reader, writer).serve_logged();
+> Handler<S, W> for Shared<'a, R, D, L, G> {
+    // Serves a host's session.
+    fn handle(&self, number: u64, reader: S, writer: W) {
+        let _ended = Connection::new(self, number, reader, writer).serve_logged();
+    }
 }
 
-impl<O: Door + Drop> Entrance<O> {
-    /// An entrance through a door, by which nobody has come.
-    pub fn new(door: O) -> Entrance<O> {
-        Entrance {
+impl<O: Door + Drop> SharedDoor<O> {
+    /// A door by which nobody has come.
+    pub fn new(door: O) -> SharedDoor<O> {
+        SharedDoor {
             turn: Mutex::new(Numbered { door, count: 0 }),
         }
     }
 
-    /// Waits for the door, and at it for its next connection.
-    pub fn next<R: Wait>(&self, rt: &R) -> Next<O::Reader, O::Writer> {
+    // Waits for the door, and at it for its next connection.
+    fn next<R: Wait>(&self, rt: &R) -> Next<O::Reader, O::Writer> {
         self.turn.lock(rt).take_next()
     }
 }

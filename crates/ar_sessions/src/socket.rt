@@ -14,7 +14,7 @@ const SLICE: u64 = 250;
 /// Bytes of a login.
 const LOGIN_LEN: usize = 9;
 
-/// Milliseconds that a peer has to take more of a reply once the stop flag is set.
+/// Milliseconds that a peer has to take what it is owed once the stop flag is set.
 const GRACE: u64 = 5_000;
 
 /// Milliseconds for which input is dropped at the end.
@@ -51,9 +51,12 @@ pub struct SocketReader<'a, R: Clock> {
 
 /// The replies of a connection.
 #[derive(Drop)]
-pub struct SocketWriter<'a> {
+pub struct SocketWriter<'a, R: Clock> {
+    rt: &'a R,
     socket: Arc<TcpStream>,
     limits: Limits<'a>,
+    // When a write first saw the stop flag set.
+    stopped: Option<Instant>,
 }
 
 impl Limits<'_> {
@@ -87,15 +90,17 @@ impl<'a, R: Clock> SocketReader<'a, R> {
         alloc: Global,
         stream: TcpStream,
         limits: Limits<'a>,
-    ) -> io::Result<(SocketReader<'a, R>, SocketWriter<'a>)> {
+    ) -> io::Result<(SocketReader<'a, R>, SocketWriter<'a, R>)> {
         stream.set_nodelay(true)?;
         stream.set_read_timeout(Some(Duration::from_millis(SLICE)))?;
         stream.set_write_timeout(Some(Duration::from_millis(SLICE)))?;
         let opened = Instant::now(rt)?;
         let socket = Arc::new(alloc, stream)?;
         let writer = SocketWriter {
+            rt,
             socket: Arc::try_clone(&socket)?,
             limits,
+            stopped: None,
         };
         let reader = SocketReader {
             rt,
@@ -158,25 +163,37 @@ impl<R: Clock> Read for SocketReader<'_, R> {
     }
 }
 
-impl SocketWriter<'_> {
-    // Whether a peer that has taken nothing for so many milliseconds is waited for no longer.
-    fn is_over(&self, silent: u64) -> bool {
-        self.limits.is_idle(silent) || (self.limits.is_stopped() && silent >= GRACE)
+impl<R: Clock> SocketWriter<'_, R> {
+    // Whether a peer that has taken nothing for this many milliseconds is waited for no longer.
+    fn is_over(&mut self, silent: u64) -> bool {
+        self.limits.is_idle(silent) || (self.limits.is_stopped() && self.is_grace_over())
+    }
+
+    // Whether the peer has had its time since the stop. A clock that can't be read ends the wait, too.
+    fn is_grace_over(&mut self) -> bool {
+        if let Some(since) = self.stopped {
+            return has_passed(self.rt, since, GRACE);
+        }
+        let Ok(now) = Instant::now(self.rt) else {
+            return true;
+        };
+        self.stopped = Some(now);
+        false
     }
 }
 
-impl Write for SocketWriter<'_> {
+impl<R: Clock> Write for SocketWriter<'_, R> {
     fn write(&mut self, buf: &[u8]) -> io::Result<usize> {
         let mut silent: u64 = 0;
         for _ in 0..u64::MAX {
+            if self.is_over(silent) {
+                break;
+            }
             match (&*self.socket).write(buf) {
                 Err(error) if error.kind() == ErrorKind::WouldBlock => {
                     silent = silent.saturating_add(SLICE);
                 }
                 done => return done,
-            }
-            if self.is_over(silent) {
-                break;
             }
         }
         Err(ErrorKind::TimedOut.into())
@@ -219,7 +236,7 @@ fn linger<R: Clock>(rt: &R, socket: &TcpStream) {
     for _ in 0..PIECES {
         let is_over = match from.read(&mut dropped) {
             Ok(0) | Err(_) => true,
-            Ok(_) => is_past(rt, began),
+            Ok(_) => has_passed(rt, began, LINGER),
         };
         if is_over {
             return;
@@ -227,10 +244,10 @@ fn linger<R: Clock>(rt: &R, socket: &TcpStream) {
     }
 }
 
-// Whether `LINGER` has passed since, or the time can't be read.
-fn is_past<R: Clock>(rt: &R, began: Instant) -> bool {
-    match began.elapsed(rt) {
-        Ok(elapsed) => elapsed >= Duration::from_millis(LINGER),
+// Whether this many milliseconds have passed since, or the time can't be read.
+fn has_passed<R: Clock>(rt: &R, since: Instant, millis: u64) -> bool {
+    match since.elapsed(rt) {
+        Ok(elapsed) => elapsed >= Duration::from_millis(millis),
         Err(_) => true,
     }
 }

@@ -31,7 +31,7 @@ pub struct Timeouts {
 pub type TcpReader<'a, R> = Linked<BufReader<SocketReader<'a, R>>>;
 
 /// The writer of a connection over TCP.
-pub type TcpWriter<'a> = Linked<SocketWriter<'a>>;
+pub type TcpWriter<'a, R> = Linked<SocketWriter<'a, R>>;
 
 /// As the number of connections to accept: any number.
 pub const ANY_NUMBER: usize = usize::MAX;
@@ -159,7 +159,7 @@ impl<'a, R: Clock + Log> TcpDoor<'a, R> {
 impl<'a, R: Clock + Log + Sync> Door for TcpDoor<'a, R> {
     type Reader = TcpReader<'a, R>;
 
-    type Writer = TcpWriter<'a>;
+    type Writer = TcpWriter<'a, R>;
 
     ghost to_come = { λ door. door };
 
@@ -176,7 +176,7 @@ impl<'a, R: Clock + Log + Sync> Door for TcpDoor<'a, R> {
         self.limits.is_stopped()
     }
 
-    fn accept(&mut self) -> Option<(TcpReader<'a, R>, TcpWriter<'a>)> {
+    fn accept(&mut self) -> Option<(TcpReader<'a, R>, TcpWriter<'a, R>)> {
         self.left -= 1;
         let stream = self.stream();
         if self.left == 0 || self.limits.is_stopped() {
@@ -192,7 +192,7 @@ fn opened<'a, R: Clock>(
     alloc: Global,
     stream: TcpStream,
     limits: Limits<'a>,
-) -> io::Result<(TcpReader<'a, R>, TcpWriter<'a>)> {
+) -> io::Result<(TcpReader<'a, R>, TcpWriter<'a, R>)> {
     let (reader, writer) = SocketReader::open(rt, alloc, stream, limits)?;
     let reader = BufReader::new(alloc, reader)?;
     Ok((Linked::new(reader), Linked::new(writer)))
