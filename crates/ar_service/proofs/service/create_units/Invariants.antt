@@ -1,0 +1,7 @@
+-- the units so far were created
+use Rattle.std.proofs.Common.{take}
+use Rattle.ar_service.specs.Service.{AreCreated}
+use Rattle.ar_service.proofs.service.create_units.Given as goal
+
+abbrev pub invariant-loop-number : goal.invariant-loop-number
+invariant-loop-number g l = AreCreated (take l.number l.units) l.initial.kept l.kept

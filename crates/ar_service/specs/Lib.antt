@@ -1,0 +1,4 @@
+pub mod Control
+pub mod Service
+-- definitions of lower crates that clauses of this crate cite
+pub use Rattle.ar_operator.specs.Executing

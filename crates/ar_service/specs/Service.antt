@@ -1,0 +1,53 @@
+-- A whole service: the units at its start, and the audit at its end.
+use Rattle.std.specs.Prelude.{◌≡◌, ℕ, List, [], ◌∷◌, Option, Some, None, Result, Ok, Err, All, length, map, slice_get, take}
+use Rattle.ar_core.specs.Events.{Outcome}
+use Rattle.ar_core.specs.declared.event.OutcomeOf.{OutcomeOf}
+use Rattle.ar_core.specs.declared.event.OutcomeOf.TheVariants as outcomes
+use Rattle.ar_history.specs.Audit.{IsHostsPart}
+use Rattle.ar_history.specs.Kept.{KeptState}
+use Rattle.ar_history.specs.Seat.{SeatState}
+use Rattle.ar_history.specs.declared.audit.Report.{Report}
+use Rattle.ar_history.specs.declared.entry.Entry.{Entry}
+use Rattle.ar_language.specs.declared.order.Action.TheVariants as actions
+use Rattle.ar_operator.specs.Executing.{Operated}
+use Rattle.ar_service.specs.declared.service.NewUnit.{NewUnit}
+use Rattle.ar_sessions.specs.Desk.{Places}
+use Rattle.ar_volume.specs.declared.refusal.Refusal.{Refusal}
+
+-- why a unit was not created, or none if it was
+abbrev pub refusal_in : {N : Type 0} → OutcomeOf N → Option Refusal
+refusal_in (outcomes.Make (Err refusal)) = Some refusal
+refusal_in outcome = None
+
+-- a unit of the plan was created, as `make` creates it
+pub record IsCreated (unit : NewUnit) (old new : KeptState) : Type 0 where
+  pub outcome : Outcome
+  pub done : refusal_in outcome ≡ None
+  pub operated : Operated (actions.Make unit.addr unit.sectors) outcome old new
+
+-- these units were created, one after another
+abbrev pub AreCreated : List NewUnit → KeptState → KeptState → Type 0
+AreCreated [] old new = new ≡ old
+AreCreated (unit ∷ units) old new = (middle : KeptState) × IsCreated unit old middle × AreCreated units middle new
+
+-- the units were created up to the one of this number, which was refused
+pub record StopsCreating (units : List NewUnit) (number : ℕ) (refusal : Refusal) (old new : KeptState) : Type 0 where
+  pub unit : NewUnit
+  pub there : slice_get units number ≡ Some unit
+  pub middle : KeptState
+  pub before : AreCreated (take number units) old middle
+  pub outcome : Outcome
+  pub refused : refusal_in outcome ≡ Some refusal
+  pub operated : Operated (actions.Make unit.addr unit.sectors) outcome middle new
+
+-- all units of the plan were created, or those up to one that was refused
+abbrev pub CreatesUnits : List NewUnit → KeptState → Result (Unit {0}) (ℕ × Refusal) → KeptState → Type 0
+CreatesUnits units old (Ok done) new = AreCreated units old new
+CreatesUnits units old (Err refused) new = StopsCreating units refused.0 refused.1 old new
+
+-- The seats of the four hosts came back, and each transcript is its host's part of the history.
+pub record IsAudited (history : List Entry) (places : Places) (report : Report) : Type 0 where
+  pub seats : List SeatState
+  pub back : places ≡ map Some seats
+  pub parts : All (IsHostsPart history) seats
+  pub commands : report.commands ≡ map (λ (seat : SeatState). length seat.transcript) seats
