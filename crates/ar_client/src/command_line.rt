@@ -2,15 +2,15 @@
 use ar_cli::CommandLineFault;
 use ar_disks::Host;
 use clap::error::ErrorKind;
-use clap::{Arg, ArgMatches, Command, Error as ParseError, value_parser};
+use clap::{Arg, ArgAction, ArgMatches, Command, Error as ParseError, value_parser};
 use std::alloc::{AllocError, Global};
 use std::convert::AsStr;
 
-/// The host that the client logs in as, and the port of the server.
+/// Whom the client speaks for, and the port of the door.
 #[derive(Clone, Copy)]
-pub struct Account {
-    pub port: u16,
-    pub host: Host,
+pub enum Account {
+    Host { host: Host, port: u16 },
+    Operator { port: u16 },
 }
 
 /// Parses the words of a command line, the program's name first.
@@ -33,7 +33,8 @@ fn matches_of<'a, S: AsStr>(alloc: Global, words: &'a [S]) -> Result<ArgMatches<
 fn command<'a>(alloc: Global) -> Result<Command<'a>, AllocError> {
     Command::new(alloc, "ar_client")
         .arg(port(alloc))?
-        .arg(host(alloc))
+        .arg(host(alloc))?
+        .arg(operator(alloc))
 }
 
 fn port<'a>(alloc: Global) -> Arg<'a> {
@@ -47,13 +48,23 @@ fn host<'a>(alloc: Global) -> Arg<'a> {
     Arg::new(alloc, "host")
         .long("host")
         .value_parser(value_parser!(u8).range(0..=3))
-        .required(true)
 }
 
+fn operator<'a>(alloc: Global) -> Arg<'a> {
+    Arg::new(alloc, "operator")
+        .long("operator")
+        .action(ArgAction::SetTrue)
+}
+
+// A host, or else an operator.
 fn account_of(matches: &ArgMatches<'_>) -> Option<Account> {
-    let host = Host::new(matches.get_one("host")?)?;
-    Some(Account {
-        port: matches.get_one("port")?,
-        host,
-    })
+    let port = matches.get_one("port")?;
+    match (matches.get_one("host"), matches.get_flag("operator")) {
+        (Some(number), false) => Some(Account::Host {
+            host: Host::new(number)?,
+            port,
+        }),
+        (None, true) => Some(Account::Operator { port }),
+        _ => None,
+    }
 }

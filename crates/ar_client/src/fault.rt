@@ -21,6 +21,15 @@ pub enum Failure {
     /// The same at a line of the input, by its number from 1.
     #[error("line {0}: session fault")]
     SessionAt(u32),
+    /// An operator's line was answered by a fault.
+    #[error("faulty line")]
+    Faulty,
+    /// Out of memory, or a thread couldn't be started.
+    #[error("no memory")]
+    NoMemory,
+    /// Standard output can't be written.
+    #[error("write fault")]
+    Write,
     /// What went wrong at a line, as for a script.
     #[error(transparent)]
     Line(Fault),

@@ -1,24 +1,32 @@
-//! A host of a served array: `ar_client` sends the commands of a script on standard input to the server over TCP, and
-//! prints the answers as `autoraid run` does.
+//! A host or an operator of a served array. As a host, `ar_client` sends the commands of a script on standard input to the
+//! server over TCP, and prints the answers as `autoraid run` does; as an operator it sends the lines as they are.
 #![tactic(auto)]
 
 mod client;
 mod command_line;
 mod fault;
+mod operator;
 
 use ar_cli::{CommandLineFault, end_with, words_of};
+use ar_disks::Host;
 use ar_frames::Linked;
 use client::Client;
 use command_line::{Account, account_in};
 use fault::Failure;
+use operator::operate;
 use std::alloc::Global;
 use std::io::{self, BufReader, Read, Write};
 use std::net::{Net, TcpListener, TcpStream};
 use std::process::ExitCode;
+use std::thread::Threads;
 
 fn main(rt: HostRuntime) -> ExitCode {
+    let alloc = rt.alloc();
     let done = match account(&rt) {
-        Ok(account) => run(&rt, rt.alloc(), account, rt.stdin(), rt.stdout()),
+        Ok(Account::Host { host, port }) => run(&rt, alloc, host, port, rt.stdin(), rt.stdout()),
+        Ok(Account::Operator { port }) => {
+            run_operator(&rt, alloc, port, rt.stdin(), rt.stdout())
+        }
         Err(fault) => Err(Failure::CommandLine(fault)),
     };
     end_with(&rt, done)
@@ -31,20 +39,33 @@ fn account(rt: &HostRuntime) -> Result<Account, CommandLineFault> {
     account_in(alloc, words.as_slice())
 }
 
-// Logs in, and sends the commands of the input.
+// Logs a host in, and sends the commands of the input.
 fn run<R: Net<Listener = TcpListener, Stream = TcpStream>, I: Read + Drop, O: Write + Drop>(
     rt: &R,
     alloc: Global,
-    account: Account,
+    host: Host,
+    port: u16,
     input: I,
     output: O,
 ) -> Result<(), Failure> {
-    let Ok((reader, writer)) = connect(rt, alloc, account.port) else {
+    let Ok((reader, writer)) = connect(rt, alloc, port) else {
         return Err(Failure::Connect);
     };
     let (reader, writer) = (Linked::new(reader), Linked::new(writer));
-    let mut client = Client::log_in(alloc, account.host, reader, writer)?;
+    let mut client = Client::log_in(alloc, host, reader, writer)?;
     client.run(input, output)
+}
+
+// Sends the lines of the input to the operators' door.
+fn run_operator<
+    R: Threads + Net<Listener = TcpListener, Stream = TcpStream>,
+    I: Read + Send + Drop + 'static,
+    O: Write + Drop,
+>(rt: &R, alloc: Global, port: u16, input: I, output: O) -> Result<(), Failure> {
+    let Ok(stream) = TcpStream::connect(rt, ("127.0.0.1", port)) else {
+        return Err(Failure::Connect);
+    };
+    operate(rt, alloc, stream, input, output)
 }
 
 // A connection to a port of 127.0.0.1, without Nagle's delay; replies are read through a buffer.

@@ -1,9 +1,11 @@
 // Parses the command line: `run` a script, or `serve` hosts.
 use crate::failure::Failure;
-use crate::unit::Unit;
 use ar_cli::CommandLineFault;
 use ar_disks::Geometry;
+use ar_language::unit_and_number;
 use ar_script::Setup;
+use ar_service::{NewUnit, Plan};
+use ar_sessions::Timeouts;
 use clap::error::ErrorKind;
 use clap::{Arg, ArgAction, ArgMatches, Command, Error as ParseError, value_parser};
 use std::alloc::{AllocError, Global};
@@ -22,12 +24,29 @@ pub enum Order {
 #[derive(Drop)]
 pub struct Service {
     pub setup: Setup,
-    /// The TCP port to listen at, on 127.0.0.1.
+    /// Whether the start and the end of each session is logged.
+    pub log: bool,
     pub port: u16,
-    /// The number of connections to accept, 1 to 64.
-    pub sessions: u8,
-    /// The units to create before listening, in order.
-    pub units: Vec<Unit>,
+    pub sessions: Option<u8>,
+    pub operator: Option<u16>,
+    pub timeouts: Timeouts,
+    /// The units to create.
+    pub units: Vec<NewUnit>,
+    /// Their words.
+    pub words: Vec<String>,
+}
+
+impl Service {
+    /// The plan of the service.
+    pub fn plan(&self) -> Plan<'_> {
+        Plan {
+            units: self.units.as_slice(),
+            port: self.port,
+            sessions: self.sessions,
+            operator: self.operator,
+            timeouts: self.timeouts,
+        }
+    }
 }
 
 static GEOMETRIES: [&str; 2] = ["small", "paper"];
@@ -70,8 +89,12 @@ fn run_command<'a>(alloc: Global) -> Result<Command<'a>, AllocError> {
 // `serve`, its options, and the units.
 fn serve_command<'a>(alloc: Global) -> Result<Command<'a>, AllocError> {
     with_setup(alloc, Command::new(alloc, "serve"))?
-        .arg(port(alloc))?
+        .arg(port(alloc, "port").required(true))?
         .arg(sessions(alloc))?
+        .arg(port(alloc, "operator"))?
+        .arg(seconds(alloc, "login-timeout").default_value("10"))?
+        .arg(seconds(alloc, "idle-timeout"))?
+        .arg(log(alloc))?
         .arg(units(alloc))
 }
 
@@ -116,18 +139,29 @@ fn picture<'a>(alloc: Global) -> Arg<'a> {
     Arg::new(alloc, "picture").long("picture")
 }
 
-fn port<'a>(alloc: Global) -> Arg<'a> {
-    Arg::new(alloc, "port")
-        .long("port")
+fn port<'a>(alloc: Global, name: &'static str) -> Arg<'a> {
+    Arg::new(alloc, name)
+        .long(name)
         .value_parser(value_parser!(u16).range(1..=65_535))
-        .required(true)
+}
+
+// At most a day.
+fn seconds<'a>(alloc: Global, name: &'static str) -> Arg<'a> {
+    Arg::new(alloc, name)
+        .long(name)
+        .value_parser(value_parser!(u32).range(1..=86_400))
+}
+
+fn log<'a>(alloc: Global) -> Arg<'a> {
+    Arg::new(alloc, "log")
+        .long("log")
+        .action(ArgAction::SetTrue)
 }
 
 fn sessions<'a>(alloc: Global) -> Arg<'a> {
     Arg::new(alloc, "sessions")
         .long("sessions")
         .value_parser(value_parser!(u8).range(1..=64))
-        .required(true)
 }
 
 fn units<'a>(alloc: Global) -> Arg<'a> {
@@ -167,34 +201,48 @@ fn geometry_of(name: &str) -> Option<Geometry> {
 fn service_of(alloc: Global, options: &ArgMatches<'_>) -> Result<Service, Failure> {
     let setup = setup_of(options).ok_or(CommandLineFault::Bad)?;
     let port = options.get_one("port").ok_or(CommandLineFault::Bad)?;
-    let sessions = options.get_one("sessions").ok_or(CommandLineFault::Bad)?;
+    let sessions = options.get_one("sessions");
+    let operator = options.get_one("operator");
+    // Nothing else would end it.
+    if sessions.is_none() && operator.is_none() {
+        return Err(Failure::CommandLine(CommandLineFault::Bad));
+    }
     let words = options.get_strs("units").unwrap_or(&[]);
+    let (units, words) = units_of(alloc, words)?;
     Ok(Service {
         setup,
         port,
         sessions,
-        units: units_of(alloc, words)?,
+        operator,
+        timeouts: Timeouts {
+            login: options.get_one("login-timeout"),
+            idle: options.get_one("idle-timeout"),
+        },
+        log: options.get_flag("log"),
+        units,
+        words,
     })
 }
 
-// The units that these words name.
-fn units_of(alloc: Global, words: &[&str]) -> Result<Vec<Unit>, Failure> {
+// The units that these words name, and the words.
+fn units_of(alloc: Global, words: &[&str]) -> Result<(Vec<NewUnit>, Vec<String>), Failure> {
     let mut units = Vec::new(alloc);
+    let mut texts = Vec::new(alloc);
     for word in words {
-        let unit = unit_of(alloc, word)?;
+        let text = String::from_str(alloc, word).map_err(|_| CommandLineFault::NoMemory)?;
+        let Some(unit) = unit_named(word) else {
+            return Err(Failure::BadUnit(text));
+        };
         units.push(unit).map_err(|_| CommandLineFault::NoMemory)?;
+        texts.push(text).map_err(|_| CommandLineFault::NoMemory)?;
     }
-    Ok(units)
+    Ok((units, texts))
 }
 
-fn unit_of(alloc: Global, word: &str) -> Result<Unit, Failure> {
-    let text = String::from_str(alloc, word).map_err(|_| CommandLineFault::NoMemory)?;
-    match Unit::named(word) {
-        Some((addr, sectors)) => Ok(Unit {
-            addr,
-            sectors,
-            word: text,
-        }),
-        None => Err(Failure::BadUnit(text)),
-    }
+// The unit that a word `HOST:LUN:SECTORS` names, each number as in a script.
+fn unit_named(word: &str) -> Option<NewUnit> {
+    let (host, rest) = word.split_once(':')?;
+    let (lun, sectors) = rest.split_once(':')?;
+    let (addr, sectors) = unit_and_number(&[host, lun, sectors])?;
+    Some(NewUnit { addr, sectors })
 }

@@ -6,7 +6,6 @@ mod command_line;
 mod drawing;
 mod failure;
 mod serve;
-mod unit;
 
 use ar_cli::{end_with, words_of};
 use ar_script::{Runner, Setup, run_on, run_script};
@@ -14,7 +13,7 @@ use command_line::{Order, Service, order_in};
 use drawing::draw;
 use failure::Failure;
 use log::sink::Console;
-use log::{Level, Logged};
+use log::{Level, Log, Logged};
 use serve::{ServeFault, run_server};
 use std::alloc::Global;
 use std::net::{Net, TcpListener, TcpStream};
@@ -26,16 +25,23 @@ use std::time::Clock;
 fn main(rt: HostRuntime) -> ExitCode {
     let done = match order(&rt) {
         Ok(Order::Run(setup, file)) => run(&rt, setup, &file),
-        Ok(Order::Serve(service)) => {
-            serve_with_warnings(&rt, rt.alloc(), &service).map_err(Failure::Serve)
-        }
+        Ok(Order::Serve(service)) => serve_logging(&rt, rt.alloc(), &service).map_err(
+            Failure::Serve,
+        ),
         Err(failure) => Err(failure),
     };
     end_with(&rt, done)
 }
 
-// Serves hosts, and logs warnings on standard error.
-fn serve_with_warnings<
+// Reads the command line.
+fn order(rt: &HostRuntime) -> Result<Order, Failure> {
+    let alloc = rt.alloc();
+    let words = words_of(rt, alloc)?;
+    order_in(alloc, words.as_slice())
+}
+
+// Serves hosts, and logs what failed and, if that is asked for, the start and the end of each session.
+fn serve_logging<
     R: Threads
         + Wait
         + Clock
@@ -44,15 +50,13 @@ fn serve_with_warnings<
         + Eprint
         + Sync,
 >(rt: &R, alloc: Global, service: &Service) -> Result<(), ServeFault> {
-    let logged = Logged::new(rt, Level::Warn, Console(rt));
-    run_server(&logged, alloc, service)
-}
-
-// Reads the command line.
-fn order(rt: &HostRuntime) -> Result<Order, Failure> {
-    let alloc = rt.alloc();
-    let words = words_of(rt, alloc)?;
-    order_in(alloc, words.as_slice())
+    let level = if service.log {
+        Level::Info
+    } else {
+        Level::Warn
+    };
+    let logged = Logged::new(rt, level, Console(rt));
+    run_server(&logged.with_target("autoraid"), alloc, service)
 }
 
 // Runs a script, and draws the array if a file is named.

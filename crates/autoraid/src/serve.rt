@@ -1,21 +1,17 @@
-// Serves an array to hosts.
-ghost use Rattle.std.specs.Prelude.{◌≡◌, []};
-
+// Serves an array to hosts and operators, and prints what came of it.
 use crate::command_line::Service;
-use crate::unit::Unit;
-use ar_core::{Array, OutcomeOf, Refusal};
-use ar_disks::{Disk, MemDisk};
-use ar_frames::NoGate;
-use ar_history::{Kept, Mismatch, OperationOf, Report};
-use ar_script::start_array;
-use ar_sessions::{Desk, ListenFault, NoMemory, TcpDoor, run_beside_background};
+use ar_core::Refusal;
+use ar_history::{Mismatch, Report};
+use ar_operator::{Fuse, FusedDisk, FusedMaker, start_fused};
+use ar_service::{ServiceFault, TcpStops, serve_array};
 use log::Log;
 use std::alloc::Global;
 use std::io;
 use std::marker::Brand;
 use std::net::{Net, TcpListener, TcpStream};
-use std::sync::ledger::{Blank, Ledger};
-use std::sync::{Mutex, Wait};
+use std::sync::Wait;
+use std::sync::atomic::AtomicBool;
+use std::sync::ledger::Blank;
 use std::thread::Threads;
 use std::time::Clock;
 use thiserror::Error;
@@ -29,7 +25,7 @@ pub enum ServeFault {
     /// A unit can't be created.
     #[error("unit {word} refused {refusal}")]
     Unit { word: String, refusal: Refusal },
-    /// Listening at the port failed.
+    /// Listening at a port failed.
     #[error("listen fault")]
     Listen,
     /// A session did not return its seat.
@@ -46,8 +42,8 @@ pub enum ServeFault {
     NoMemory,
 }
 
-/// Creates the units, listens, serves the connections with one maintenance thread beside them, and then compares the
-/// hosts' transcripts with the history.
+/// Creates the array and its units, listens, serves hosts and operators, and then compares the hosts' transcripts with
+/// the history. Operators that have asked for the end are answered last.
 pub fn run_server<
     R: Threads
         + Wait
@@ -57,112 +53,63 @@ pub fn run_server<
         + Log
         + Sync,
 >(rt: &R, alloc: Global, service: &Service) -> Result<(), ServeFault> {
-    let Ok(array) = start_array(alloc, service.setup) else {
+    let fuses = Fuse::twelve();
+    let stop = AtomicBool::new(false);
+    let Ok(array) = start_fused(alloc, service.setup, &fuses) else {
         return Err(ServeFault::Start);
     };
-    serve_array::<Brand, MemDisk, R>(rt, alloc, Blank::new(4), array, service)
+    let disks = (&fuses, FusedMaker::new(&fuses));
+    let (stops, served) = serve_array::<Brand, FusedDisk<'_>, FusedMaker<'_>, R>(
+        rt,
+        alloc,
+        Blank::new(4),
+        array,
+        disks,
+        &stop,
+        service.plan(),
+    );
+    conclude(rt, alloc, service, stops, served)
 }
 
-// The same with an array that has no unit yet.
-fn serve_array<
-    L: Ledger + Send + Sync,
-    D: Disk + Drop + Send,
-    R: Threads
-        + Wait
-        + Clock
-        + Net<Listener = TcpListener, Stream = TcpStream>
-        + Print
-        + Log
-        + Sync,
->(rt: &R, alloc: Global, blank: Blank, array: Array<D>, service: &Service) -> Result<(), ServeFault>
-    requires name { blank.name ≡ L.name }
-    requires parts { blank.parts ≡ L.parts }
-    requires four { blank.parts ≡ 4 }
-    requires no_unit { array.store.book.units ≡ [] }
-{
-    let (kept, seats) = Kept::<D, L>::start(alloc, blank, array);
-    let kept = Mutex::new(kept);
-    let desk = Mutex::new(Desk::new(seats));
-    let served = serve_hosts(rt, alloc, &kept, &desk, service);
-    let kept = kept.into_inner();
-    let done = audit(rt, served, &kept, desk.into_inner());
-    drop(kept);
+// Prints what came of the service, and answers the operators that wait for it.
+fn conclude<R: Clock + Print>(
+    rt: &R,
+    alloc: Global,
+    service: &Service,
+    stops: TcpStops<'_, R>,
+    served: Result<Report, ServiceFault>,
+) -> Result<(), ServeFault> {
+    let done = tell(rt, alloc, service, served);
+    stops.answer(answer_after(&done));
     done
 }
 
-// Creates the units, listens, prints `listening PORT`, and serves `sessions` connections.
-fn serve_hosts<
-    L: Ledger + Send + Sync,
-    D: Disk + Drop + Send,
-    R: Threads
-        + Wait
-        + Clock
-        + Net<Listener = TcpListener, Stream = TcpStream>
-        + Print
-        + Log
-        + Sync,
->(
-    rt: &R,
-    alloc: Global,
-    kept: &Mutex<Kept<D, L>>,
-    desk: &Mutex<Desk<L>>,
-    service: &Service,
-) -> Result<(), ServeFault> {
-    make_units(alloc, &mut kept.lock(rt), &service.units)?;
-    let port = service.port;
-    let door = TcpDoor::listen(rt, alloc, port, usize::from(service.sessions))?;
-    println!(rt; "listening {port}").map_err(|_| ServeFault::Write)?;
-    let (_door, ends) = run_beside_background(rt, alloc, door, kept, desk, &NoGate);
-    ends?;
-    Ok(())
-}
-
-// Creates the units in their order.
-fn make_units<L: Ledger, D: Disk + Drop>(
-    alloc: Global,
-    kept: &mut Kept<D, L>,
-    units: &[Unit],
-) -> Result<(), ServeFault> {
-    for unit in units {
-        let made = kept.operate(OperationOf::Make(unit.addr, unit.sectors));
-        if let OutcomeOf::Make(Err(refusal)) = made {
-            return Err(refused(alloc, unit, refusal));
-        }
-    }
-    Ok(())
-}
-
-// The failure of a unit that can't be created.
-fn refused(alloc: Global, unit: &Unit, refusal: Refusal) -> ServeFault {
-    match String::from_str(alloc, unit.word.as_str()) {
-        Ok(word) => ServeFault::Unit { word, refusal },
-        Err(_) => ServeFault::NoMemory,
+// What an operator is answered to `stop`.
+fn answer_after(done: &Result<(), ServeFault>) -> &'static [u8] {
+    match done {
+        Ok(()) => b"stopped\n",
+        Err(ServeFault::Mismatch) => b"fault: mismatch\n",
+        Err(ServeFault::SeatOut) => b"fault: seat out\n",
+        Err(ServeFault::NoMemory) => b"fault: no memory\n",
+        Err(_) => b"fault: write fault\n",
     }
 }
 
-// Compares each host's transcript with the history after the sessions, and prints the result.
-fn audit<L: Ledger, D: Disk + Drop>(
+// Prints what came of the service.
+fn tell(
     rt: &impl Print,
-    served: Result<(), ServeFault>,
-    kept: &Kept<D, L>,
-    desk: Desk<L>,
+    alloc: Global,
+    service: &Service,
+    served: Result<Report, ServiceFault>,
 ) -> Result<(), ServeFault> {
-    served?;
-    match desk.seats() {
-        Ok(seats) => tell(rt, kept.close(&seats)),
-        Err(_) => Err(ServeFault::SeatOut),
-    }
-}
-
-// Prints the result of an audit.
-fn tell(rt: &impl Print, audited: Result<Report, Mismatch>) -> Result<(), ServeFault> {
-    match audited {
+    match served {
         Ok(report) => tell_report(rt, &report).map_err(|_| ServeFault::Write),
-        Err(Mismatch { host, position }) => {
-            let host = host.number();
-            println!(rt; "closed mismatch {host} {position}").map_err(|_| ServeFault::Write)?;
-            Err(ServeFault::Mismatch)
-        }
+        Err(ServiceFault::Mismatch(mismatch)) => Err(tell_mismatch(rt, mismatch)),
+        Err(ServiceFault::Unit(number, refusal)) => Err(refused(alloc, service, number, refusal)),
+        Err(ServiceFault::Listen) => Err(ServeFault::Listen),
+        Err(ServiceFault::Write) => Err(ServeFault::Write),
+        Err(ServiceFault::NoMemory) => Err(ServeFault::NoMemory),
+        Err(ServiceFault::SeatOut) => Err(ServeFault::SeatOut),
     }
 }
 
@@ -173,14 +120,23 @@ fn tell_report(rt: &impl Print, report: &Report) -> io::Result<()> {
     println!(rt; "closed ok")
 }
 
-impl From<ListenFault> for ServeFault {
-    fn from(_fault: ListenFault) -> ServeFault {
-        ServeFault::Listen
+fn tell_mismatch(rt: &impl Print, mismatch: Mismatch) -> ServeFault {
+    let Mismatch { host, position } = mismatch;
+    let host = host.number();
+    match println!(rt; "closed mismatch {host} {position}") {
+        Ok(()) => ServeFault::Mismatch,
+        Err(_) => ServeFault::Write,
     }
 }
 
-impl From<NoMemory> for ServeFault {
-    fn from(_fault: NoMemory) -> ServeFault {
-        ServeFault::NoMemory
+// The failure of a unit that can't be created, by its number on the command line.
+fn refused(alloc: Global, service: &Service, number: usize, refusal: Refusal) -> ServeFault {
+    let word = match service.words.get(number) {
+        Some(word) => word.as_str(),
+        None => "",
+    };
+    match String::from_str(alloc, word) {
+        Ok(word) => ServeFault::Unit { word, refusal },
+        Err(_) => ServeFault::NoMemory,
     }
 }
