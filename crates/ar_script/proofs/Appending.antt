@@ -1,13 +1,22 @@
 -- Texts that are appended one after another, and words that are.
 use Rattle.std.proofs.Common.{◌≡◌, ◌∙◌, ℕ, List, [], ◌∷◌, ◌++◌, Option, None, Some, Result, OnOk, length, append_assoc, append-nil, refl, sym, ap, subst, arith}
 use Rattle.std.proofs.lemmas.Result.{on_ok_weaker}
-use Rattle.std.specs.Io.KnownBytes.{Appends, Keeps}
+use Rattle.std.specs.Io.KnownBytes.{append_known, Appends, Keeps}
 use Rattle.ar_script.specs.Texts.{gap, words}
 
 -- nothing is written
 pub appends_none : (old : Option (List ℕ)) → Appends old old []
 appends_none None = tt
 appends_none (Some xs) = sym (append-nil xs)
+
+pub keeps_same : (old : Option (List ℕ)) → Keeps old old
+keeps_same None = tt
+keeps_same (Some xs) = refl
+
+-- an empty buffer
+pub unbuffered : (known : Option (List ℕ)) (buffer : List ℕ) → buffer ≡ [] → append_known known buffer ≡ known
+unbuffered None buffer none = refl
+unbuffered (Some xs) buffer none = ap (λ (b : List ℕ). Some (xs ++ b)) none ∙ ap (λ (l : List ℕ). Some l) (append-nil xs)
 
 -- a text, and then another
 pub appends_then : (old mid new : Option (List ℕ)) (xs ys : List ℕ) → Appends old mid xs → Appends mid new ys → Appends old new (xs ++ ys)

@@ -9,8 +9,6 @@ use Rattle.ar_language.specs.declared.fault.FaultKind.{FaultKind}
 use Rattle.ar_language.specs.declared.fault.FaultKind.TheVariants.{TooManyLines, NoMemory, ReadFault, WriteFault}
 use Rattle.ar_language.specs.Lines.{Took, AreThere, IsOfStream, IsReached, IsAllTaken, first_of, line_at, line_fault, IsToldOfNext, IsNextLineFault, IsNumbered, IsOfNext, is_write_fault}
 use Rattle.std.specs.Io.KnownBytes.{Appends, Keeps}
-use Rattle.ar_picture.specs.Writing.{AddsBytes}
-use Rattle.ar_picture.proofs.Growing.{grows_then, kept_grows}
 use Rattle.ar_script.specs.Answers.{AnswersLine}
 use Rattle.ar_script.specs.Orders.{MeetsLine}
 use Rattle.ar_language.proofs.Going.{none_there, there_behind}
@@ -18,9 +16,9 @@ use Rattle.ar_script.specs.Ends.{Ends}
 use Rattle.std.specs.declared.io.traits.Read.{Ghosts}
 use Rattle.ar_language.specs.declared.lines.Lines.{Lines}
 use Rattle.ar_language.specs.Left.{lines_begun, EndsReading}
-use Rattle.ar_script.specs.Plays.{IsToldAt, IsToldOf, IsLineThere, IsLostAt, IsUnanswered, NeedsMemory, AreFirst, AreAll, SaysWrong, IsSo, PlaysScript, PlaysAll, PlaysTo, AnswersScript, WritesScript}
-use Rattle.ar_script.proofs.Appending.{appends_kept, appends_none, appends_then}
-use Rattle.ar_script.proofs.Playing.{none_played, met_all, met_or_not}
+use Rattle.ar_script.specs.Plays.{IsToldAt, IsToldOf, IsLineThere, IsLostAt, IsUnanswered, NeedsMemory, AreFirst, AreAll, SaysWrong, IsSo, IsAtNext, Plays, PlaysScript, PlaysAll, PlaysTo, AnswersScript, WritesBefore, WritesScript}
+use Rattle.ar_script.proofs.Appending.{appends_kept, appends_none, appends_then, keeps_same}
+use Rattle.ar_script.proofs.Playing.{none_played, met_all, met_or_not, unmet}
 
 -- ---- lines that were taken
 
@@ -161,15 +159,47 @@ writes_ended script left rest old new n before far after written kept next none 
       appends = appends_kept before far after done.text written.appends kept;
     }
 
--- some bytes were appended
-pub writes_some : (script left : Option (List (List ℕ))) (old new : ArrayState) (n : ℕ) (before after : Option (List ℕ)) → WritesAll script left old new n before after → AddsBytes before after
-writes_some script left old new n before after written = record { more = written.all.text; appends = written.appends }
+-- where no write fault is told, none was met
+not_output : (kind : FaultKind) (n : ℕ) (fault : Fault) → fault ≡ Line n kind → is_write_fault {T = Unit {0}} (Err fault) ≡ false → kind ≢ WriteFault
+not_output kind n fault is told write =
+    let also : fault ≡ Line n WriteFault = is ∙ ap (Line n) write in
+    let yes : is_write_fault {T = Unit {0}} (Err fault) ≡ true = ap (λ (f : Fault). is_write_fault {T = Unit {0}} (Err f)) also in
+    absurd (cc)
 
--- at a fault
-pub answered_fault : (script : Option (List (List ℕ))) (old new : ArrayState) (result : Result (Unit {0}) Fault) (before after : Option (List ℕ)) → IsErr result → AddsBytes before after
-    → AnswersScript script result old new before after
-answered_fault script old new (Ok done) before after is added = absurd (cc)
-answered_fault script old new (Err fault) before after is added = λ told. added
+-- at a fault of the next line, for which nothing was done or written
+written_before : (script left : Option (List (List ℕ))) (old mid new : ArrayState) (n m : ℕ) (kind : FaultKind) (fault : Fault) (before far after : Option (List ℕ))
+    → WritesAll script left old mid n before far → new ≡ mid → Keeps far after → fault ≡ Line m kind → m ≡ n + 1 → WritesBefore script fault old new before after
+written_before script left old mid new n m kind fault before far after written same kept is next =
+    let done = written.all in
+    record {
+      lines = done.lines;
+      text = done.text;
+      plays = subst (λ (s : ArrayState). Plays done.lines old s done.text) (sym same) done.plays;
+      first = taken_first script left done.lines done.took;
+      next = subst (λ (f : Fault). IsAtNext done.lines f) (sym is) (next ∙ ap (λ k. k + 1) (sym done.all));
+      appends = appends_kept before far after done.text written.appends kept;
+    }
+
+-- where the next line couldn't be taken
+pub answered_unread : (script left : Option (List (List ℕ))) (old new : ArrayState) (n begun : ℕ) (result : Result (Unit {0}) Fault) (before far after : Option (List ℕ))
+    → WritesAll script left old new n before far → Keeps far after → IsErr result → IfErr result (IsOfNext n begun) → AnswersScript script result old new before after
+answered_unread script left old new n begun (Ok done) before far after written kept is next = absurd (cc)
+answered_unread script left old new n begun (Err Start) before far after written kept is next = absurd next
+answered_unread script left old new n begun (Err (Line m kind)) before far after written kept is (inl next) =
+    λ told. written_before script left old new new n m kind (Line m kind) before far after written refl kept refl next.1
+answered_unread script left old new n begun (Err (Line m kind)) before far after written kept is (inr write) =
+    λ told. let yes : is_write_fault {T = Unit {0}} (Err (Line m kind)) ≡ true = ap (λ (k : FaultKind). is_write_fault {T = Unit {0}} (Err (Line m k))) write.0 in
+    absurd (cc)
+
+-- at a line that was answered with a fault
+pub answered_fault : (script left : Option (List (List ℕ))) (old mid new : ArrayState) (n : ℕ) (line : List ℕ) (kind : FaultKind) (fault : Fault) (before far flushed after : Option (List ℕ))
+    → WritesAll script left old mid n before far → Keeps far flushed → (kind ≢ WriteFault → after ≡ flushed) → MeetsLine line mid (Err kind) new
+    → fault ≡ Line (max (suc n) 1) kind → AnswersScript script (Err fault) old new before after
+answered_fault script left old mid new n line kind fault before far flushed after written kept same met is =
+    λ told. let quiet : kind ≢ WriteFault = not_output kind (max (suc n) 1) fault is told in
+    let next : max (suc n) 1 ≡ n + 1 = omega arith in
+    written_before script left old mid new n (max (suc n) 1) kind fault before far after written (unmet mid new met.read kind met.meets quiet)
+    (subst (λ (o : Option (List ℕ)). Keeps far o) (sym (same quiet)) kept) is next
 
 -- once what was left of the answers is written, or can't be
 pub answered_finished : (script : Option (List (List ℕ))) (old new : ArrayState) (begun : ℕ) (done result : Result (Unit {0}) Fault) (before far after : Option (List ℕ))
@@ -192,7 +222,31 @@ answered_finished script old new begun (Ok end) (Err fault) before far after ans
 answered_finished script old new begun (Err told) (Err fault) before far after answered (inr same) kept =
     λ quiet. let is : told ≡ fault = (let one = same.0 in cc) in
     let also : is_write_fault {T = Unit {0}} (Err told) ≡ false = ap (λ (f : Fault). is_write_fault {T = Unit {0}} (Err f)) is ∙ quiet in
-    grows_then (answered also) (kept_grows far after kept)
+    let w = answered also in
+    record {
+      lines = w.lines;
+      text = w.text;
+      plays = w.plays;
+      first = w.first;
+      next = subst (λ (f : Fault). IsAtNext w.lines f) is w.next;
+      appends = appends_kept before far after w.text w.appends kept;
+    }
+
+-- of the writer itself, whose buffer was empty and is empty again
+pub answered_as : (script : Option (List (List ℕ))) (old new : ArrayState) (result : Result (Unit {0}) Fault) (before start after left : Option (List ℕ)) → before ≡ start
+    → (is_write_fault result ≡ false → after ≡ left) → AnswersScript script result old new before after → AnswersScript script result old new start left
+answered_as script old new (Ok done) before start after left first last answered =
+    let now = subst (λ (o : Option (List ℕ)). WritesScript script old new o after) first answered in
+    subst (λ (o : Option (List ℕ)). WritesScript script old new start o) (last refl) now
+answered_as script old new (Err fault) before start after left first last answered =
+    λ told. let now = subst (λ (o : Option (List ℕ)). WritesBefore script fault old new o after) first (answered told) in
+    subst (λ (o : Option (List ℕ)). WritesBefore script fault old new start o) (last told) now
+
+-- no line, where memory was refused before the first
+pub none_answered : (script : Option (List (List ℕ))) (s : ArrayState) (fault : Fault) (before : Option (List ℕ)) → fault ≡ Line (max 1 1) NoMemory
+    → AnswersScript script (Err fault) s s before before
+none_answered script s fault before is =
+    λ told. written_before script script s s s 0 (max 1 1) NoMemory fault before before before (writes_none script s before) refl (keeps_same before) is refl
 
 -- ---- how a script ends
 
@@ -418,12 +472,3 @@ told_ended lines begun (Ok end) (Err fault) told (inr same) = let no = same.0 in
 told_ended lines begun (Err before) (Err fault) told (inr same) =
     let is : before ≡ fault = (let one = same.0 in cc) in
     subst (λ (f : Fault). IsToldOf lines f) is (told_then lines before told)
-
--- where no write fault is told of a line's answer, none was met
-pub not_write : (kind : FaultKind) (n : ℕ) (fault : Fault) (r : Result (Unit {0}) FaultKind) → r ≡ Err kind → fault ≡ Line n kind
-    → is_write_fault {T = Unit {0}} (Err fault) ≡ false → r ≢ Err WriteFault
-not_write kind n fault r is same told write =
-    let met : kind ≡ WriteFault = cc in
-    let also : fault ≡ Line n WriteFault = same ∙ ap (Line n) met in
-    let yes : is_write_fault {T = Unit {0}} (Err fault) ≡ true = ap (λ (f : Fault). is_write_fault {T = Unit {0}} (Err f)) also in
-    absurd (cc)

@@ -1,5 +1,5 @@
 -- One line after another.
-use Rattle.std.proofs.Common.{◌≡◌, ◌⊎◌, inl, inr, ℕ, List, [], ◌∷◌, ◌++◌, Option, Some, None, Result, Ok, Err, map, codes, append_assoc, append-nil, refl, sym, ap, subst, ◌∙◌}
+use Rattle.std.proofs.Common.{◌≡◌, ◌≢◌, ◌⊎◌, inl, inr, ℕ, List, [], ◌∷◌, ◌++◌, Option, Some, None, Result, Ok, Err, map, codes, append_assoc, append-nil, refl, sym, ap, subst, ◌∙◌}
 use Rattle.ar_store.proofs.Fills.{accessed_refl}
 use Rattle.ar_volume.specs.Image.{ArrayState, geometry_of}
 use Rattle.ar_volume.specs.Laws.{places_refl}
@@ -7,6 +7,7 @@ use Rattle.ar_core.specs.Quiet.{LooksAt}
 use Rattle.ar_core.specs.Run.{Turn, Did, Looked, last_of, Meets}
 use Rattle.ar_core.proofs.Isolation.{run-isolated, run-more, last_of-more}
 use Rattle.ar_language.specs.declared.fault.FaultKind.{FaultKind}
+use Rattle.ar_language.specs.declared.fault.FaultKind.TheVariants.{WriteFault}
 use Rattle.ar_language.specs.declared.order.Action.{Action}
 use Rattle.ar_language.specs.declared.order.Order.{Order}
 use Rattle.ar_language.specs.declared.order.Order.TheVariants.{Act, Ask}
@@ -20,7 +21,7 @@ use Rattle.ar_book.specs.Tables.{room}
 use Rattle.ar_core.specs.Views.{home_of, use_of}
 use Rattle.ar_language.specs.Notations.{notation_in}
 use Rattle.ar_script.specs.Answers.{IsAnsweredBy, IsAnswerTo}
-use Rattle.ar_script.specs.Orders.{event_in, Acts, IsOrderFault, Leaves, Looks, MeetsParsed}
+use Rattle.ar_script.specs.Orders.{event_in, Acts, IsOrderFault, Leaves, Looks, MeetsParsed, TakesMemory}
 use Rattle.ar_script.specs.Texts.{groups_text, health_text, home_text, levels_text, line as line_of, outcome_text, row_text}
 use Rattle.ar_script.proofs.Appending.{appends_none}
 use Rattle.ar_script.specs.Plays.{ExecutesLine, HasNoOrder, AreMet, IsLostAt, Plays}
@@ -216,3 +217,22 @@ met_or_not lines old mid new line (Ok (Some (Ask question))) kind text before so
 met_or_not lines old mid new line (Ok (Some (Act action))) kind text before sound reads meets =
     unacted lines old mid new line action kind text before sound reads meets.0 meets.1
 met_or_not lines old mid new line (Err other) kind text before sound reads meets = inl (unchanged lines old mid new text before meets.1)
+
+-- a question for which memory was refused shows nothing
+unasked : (question : Question) (old new : ArrayState) → Looks question old new → TakesMemory (Ask question) → new ≡ old
+unasked (Levels addr) old new looks takes = looks
+unasked (Home addr rb) old new looks takes = looks
+unasked Groups old new looks takes = looks
+unasked Room old new looks takes = looks
+unasked Health old new looks takes = looks
+unasked Picture old new looks takes = looks
+unasked (Block disk extent row) old new looks takes = absurd takes
+
+-- a line with a fault, but for a write fault, leaves the array as it was
+pub unmet : (old new : ArrayState) (read : Result (Option Order) FaultKind) (kind : FaultKind) → MeetsParsed read old (Err kind) new → kind ≢ WriteFault → new ≡ old
+unmet old new (Ok None) kind meets quiet = let no = meets.0 in absurd (cc)
+unmet old new (Ok (Some (Ask question))) kind meets quiet = elim meets.1 [ inl write ↦ absurd (quiet write) | inr memory ↦ unasked question old new meets.0 memory.1 ]
+unmet old new (Ok (Some (Act action))) kind meets quiet =
+    let P : FaultKind → Type 0 = λ k. Leaves (Act action) old (Err k) new in
+    elim meets.1 [ inl write ↦ absurd (quiet write) | inr memory ↦ subst P memory.0 meets.0 ]
+unmet old new (Err other) kind meets quiet = meets.1

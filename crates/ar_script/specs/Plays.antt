@@ -18,7 +18,6 @@ use Rattle.ar_language.specs.Forms.{ReadsLine}
 use Rattle.ar_language.specs.Left.{EndsReading}
 use Rattle.ar_language.specs.Lines.{is_write_fault, line_fault, line_at, IsLine, IsOfStream, Took}
 use Rattle.ar_language.specs.Notations.{notation_in}
-use Rattle.ar_picture.specs.Writing.{AddsBytes}
 use Rattle.ar_script.specs.Answers.{IsAnswerTo}
 use Rattle.ar_script.specs.Orders.{event_in, Looks, TakesMemory}
 use Rattle.ar_script.specs.Texts.{outcome_text}
@@ -160,10 +159,24 @@ pub record WritesScript (script : Option (List (List ℕ))) (old new : ArrayStat
   pub whole : AreAll script lines
   pub appends : Appends before after text
 
--- what was appended for a script: the answers to all lines or, at a fault other than a write fault, some bytes
+-- a fault is reported at the line after these
+abbrev pub IsAtNext : List (List ℕ) → Fault → Type 0
+IsAtNext lines Start = ⊥
+IsAtNext lines (Line n kind) = n ≡ length lines + 1
+
+-- the array executed the lines of a script before a fault and nothing else, and the text of their answers was appended
+pub record WritesBefore (script : Option (List (List ℕ))) (fault : Fault) (old new : ArrayState) (before after : Option (List ℕ)) : Type 0 where
+  pub lines : List (List ℕ)
+  pub text : List ℕ
+  pub plays : Plays lines old new text
+  pub first : AreFirst script lines
+  pub next : IsAtNext lines fault
+  pub appends : Appends before after text
+
+-- what was appended for a script: the answers to all lines or, at a fault other than a write fault, to those before it
 abbrev pub AnswersScript : Option (List (List ℕ)) → Result (Unit {0}) Fault → ArrayState → ArrayState → Option (List ℕ) → Option (List ℕ) → Type 0
 AnswersScript script (Ok done) old new before after = WritesScript script old new before after
-AnswersScript script (Err fault) old new before after = is_write_fault {T = Unit {0}} (Err fault) ≡ false → AddsBytes before after
+AnswersScript script (Err fault) old new before after = is_write_fault {T = Unit {0}} (Err fault) ≡ false → WritesBefore script fault old new before after
 
 -- `begun` lines were taken from a script, and the array executed each; `left` are left
 pub record PlaysAll (script left : Option (List (List ℕ))) (old new : ArrayState) (begun : ℕ) : Type 0 where
@@ -185,3 +198,11 @@ pub record HasPlayed (disks : List DiskState) (cache : ℕ) (script : Option (Li
   pub last : ArrayState
   pub started : IsStarted disks cache first
   pub plays : PlaysScript script result first last
+
+-- an array that was started on these disks executed the script, and its answers were appended
+pub record HasAnswered (disks : List DiskState) (cache : ℕ) (script : Option (List (List ℕ))) (result : Result (Unit {0}) Fault) (before after : Option (List ℕ)) : Type 0 where
+  pub first : ArrayState
+  pub last : ArrayState
+  pub started : IsStarted disks cache first
+  pub plays : PlaysScript script result first last
+  pub answers : AnswersScript script result first last before after

@@ -12,6 +12,6 @@ mod text;
 
 pub use drawing::picture_of;
 pub use question::write_answer;
-pub use run::{Setup, run_on, run_script};
+pub use run::{Ended, Setup, run_on, run_script};
 pub use runner::{Runner, new_disk, start_array};
 pub use text::{write_health, write_outcome};

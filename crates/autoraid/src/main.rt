@@ -63,7 +63,9 @@ fn serve_logging<
 fn run(rt: &HostRuntime, setup: Setup, file: &Option<String>) -> Result<(), Failure> {
     match file {
         Some(file) => run_and_draw(rt, setup, file.as_str()),
-        None => run_script(rt.alloc(), rt.stdin(), rt.stdout(), setup).map_err(Failure::Script),
+        None => run_script(rt.alloc(), rt.stdin(), rt.stdout(), setup)
+            .end
+            .map_err(Failure::Script),
     }
 }
 
@@ -81,7 +83,7 @@ fn run_and_draw(rt: &HostRuntime, setup: Setup, file: &str) -> Result<(), Failur
 
 // The array is drawn also if a fault has ended the script; that fault takes precedence over one of drawing.
 fn play_and_draw(rt: &HostRuntime, runner: &mut Runner, file: &str) -> Result<(), Failure> {
-    let ended = run_on(rt.alloc(), runner, rt.stdin(), rt.stdout());
+    let ended = run_on(rt.alloc(), runner, rt.stdin(), rt.stdout()).end;
     let drawn = draw(rt, runner, file);
     match ended {
         Ok(()) => drawn.map_err(Failure::Drawing),

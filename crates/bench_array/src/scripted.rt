@@ -148,7 +148,7 @@ fn time_script<C: Clock>(
         end: None,
     };
     let mut counted = Counted { bytes: 0 };
-    let done = run_script(alloc, &mut script, &mut counted, setup_of(size));
+    let done = run_script(alloc, &mut script, &mut counted, setup_of(size)).end;
     let (Ok(()), Some(begin), Some(end)) = (done, script.begin, script.end) else {
         return Err(unanswered(scripted));
     };

@@ -32,7 +32,7 @@ fn answers<R: Abort + AllocGlobal, S: Read + Drop>(
     end: Result<(), Fault>,
 ) {
     let mut out = Vec::new(rt.alloc());
-    let done = run_script(rt.alloc(), script, &mut out, setup);
+    let done = run_script(rt.alloc(), script, &mut out, setup).end;
     is_answered(rt, name, done, end, out.as_slice() == wanted);
     drop(out);
 }
@@ -226,7 +226,7 @@ fn ends<R: Abort + AllocGlobal, S: Read + Drop>(
         ..
     } = writer;
     let mut writer = writer;
-    let done = run_script(rt.alloc(), script, &mut writer, setup);
+    let done = run_script(rt.alloc(), script, &mut writer, setup).end;
     assert!(rt;
         done == end,
         "room {room}, bad write {bad_write}, bad flush {bad_flush}: {done:?}, not {end:?}"

@@ -90,7 +90,7 @@ impl<'a> Play<'a> {
 
     /// Runs the script on a new array. The answers go to `shown`, and after them how it ended.
     pub fn run(&self, alloc: Global, setup: Setup, shown: &mut Vec<u8>) -> Result<(), AllocError> {
-        let done = run_script(alloc, self.script.as_bytes(), &mut *shown, setup);
+        let done = run_script(alloc, self.script.as_bytes(), &mut *shown, setup).end;
         let written = match done {
             Ok(()) => writeln!(shown, "{END}"),
             Err(fault) => writeln!(shown, "fault {fault}"),

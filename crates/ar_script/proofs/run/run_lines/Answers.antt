@@ -5,10 +5,10 @@ use Rattle.ar_language.proofs.Going.{begun_there}
 use Rattle.ar_language.specs.Lines.{AreThere, IsNextLineFault, IsOfNext, IsNumbered, is_given, is_lacking}
 use Rattle.std.proofs.lemmas.Result.{IfOk-at_ok}
 use Rattle.std.specs.Io.Buffered.{writer_contents}
-use Rattle.ar_picture.proofs.Growing.{kept_grows, grows_then}
+use Rattle.ar_script.proofs.AnswerLemmas.{silent_fault}
 use Rattle.ar_script.specs.Answers.{AnswersLine}
 use Rattle.ar_script.specs.Plays.{PlaysTo}
-use Rattle.ar_script.proofs.Ending.{WritesAll, answered_fault, writes_ended, writes_line, writes_none, writes_some, plays_fault, plays_ended, plays_unread, begun_as, begun_within, there_begun, there_given, told_next, told_last, not_write}
+use Rattle.ar_script.proofs.Ending.{WritesAll, answered_fault, answered_unread, writes_ended, writes_line, writes_none, plays_fault, plays_ended, plays_unread, begun_as, begun_within, there_begun, there_given, told_next, told_last}
 use Rattle.ar_script.proofs.run.run_lines.Goals as goal
 
 pub loop-init : goal.loop-init
@@ -129,13 +129,12 @@ returns-in-Err-clause-told g c =
 
 pub returns-in_err-next_line-clause-grows : goal.returns-in_err-next_line-clause-grows
 returns-in_err-next_line-clause-grows g c =
-    let before = writer_contents g.W.Write.contents c.args.out.now in
-    let far = writer_contents g.W.Write.contents c.loop.out in
-    let after = writer_contents g.W.Write.contents c.next_line.new.out in
-    let script = lines_left c.args.lines.now in
-    let some = writes_some script (lines_left c.loop.lines) c.args.runner.now c.loop.runner c.loop.lines.given before far c.loop.invariant.1 in
-    answered_fault script c.args.runner.now c.loop.runner c.from_residual.result before after c.from_residual.ensures.0
-    (grows_then some (kept_grows far after c.next_line.ensures.answers))
+    let new = c.next_line.new.lines in
+    let given = c.loop.lines.given in
+    let next : IfErr c.from_residual.result (IsOfNext given (lines_begun new)) = search rules in
+    answered_unread (lines_left c.args.lines.now) (lines_left c.loop.lines) c.args.runner.now c.loop.runner given (lines_begun new) c.from_residual.result
+    (writer_contents g.W.Write.contents c.args.out.now) (writer_contents g.W.Write.contents c.loop.out) (writer_contents g.W.Write.contents c.next_line.new.out)
+    c.loop.invariant.1 c.next_line.ensures.answers c.from_residual.ensures.0 next
 
 pub returns-then-not-branch-clause-grows : goal.returns-then-not-branch-clause-grows
 returns-then-not-branch-clause-grows g c =
@@ -149,10 +148,15 @@ returns-then-not-branch-clause-grows g c =
     c.loop.invariant.1 c.next_line.ensures.answers (goes.kept none) (goes.none lacking)
 
 pub returns-in-Err-clause-grows : goal.returns-in-Err-clause-grows
-returns-in-Err-clause-grows g c = λ told.
-    let before = writer_contents g.W.Write.contents c.args.out.now in
-    let far = writer_contents g.W.Write.contents c.loop.out in
-    let flushed = writer_contents g.W.Write.contents c.next_line.new.out in
-    let some = writes_some (lines_left c.args.lines.now) (lines_left c.loop.lines) c.args.runner.now c.loop.runner c.loop.lines.given before far c.loop.invariant.1 in
-    let added = c.answer_line.ensures.grows (not_write c.in-Err.kind _ c.fault_at.result c.answer_line.result (search rules) c.fault_at.ensures.same told) in
-    grows_then some (grows_then (kept_grows far flushed c.next_line.ensures.answers) added)
+returns-in-Err-clause-grows g c =
+    let new = c.next_line.new.lines in
+    let goes = c.next_line.ensures.goes_on in
+    let one : is_given c.next_line.result ≡ true = search rules in
+    let count : new.given ≡ c.loop.lines.given + 1 = search rules in
+    let begun = begun_as c.loop.lines.given new.given new.is_begun count (goes.closed one) in
+    let is = c.fault_at.ensures.same ∙ ap (λ m. Line (max m 1) c.in-Err.kind) (c.number.ensures.number ∙ begun) in
+    answered_fault (lines_left c.args.lines.now) (lines_left c.loop.lines) c.args.runner.now c.loop.runner c.answer_line.new.runner c.loop.lines.given new.line.items c.in-Err.kind c.fault_at.result
+    (writer_contents g.W.Write.contents c.args.out.now) (writer_contents g.W.Write.contents c.loop.out) (writer_contents g.W.Write.contents c.next_line.new.out)
+    (writer_contents g.W.Write.contents c.answer_line.new.out) c.loop.invariant.1 c.next_line.ensures.answers
+    (λ quiet. ap (writer_contents g.W.Write.contents) (silent_fault c.in-Err.kind c.answer_line.result c.next_line.new.out c.answer_line.new.out (search rules) c.answer_line.ensures.kept quiet))
+    c.in-Err.ensures.meets is
