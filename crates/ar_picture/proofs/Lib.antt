@@ -1,2 +1,4 @@
+pub mod Appending
 pub mod FoldLemmas
 pub mod Growing
+pub mod MapLemmas

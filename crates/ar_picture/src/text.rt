@@ -6,21 +6,28 @@
 //      0         9M  !9M   9M   9M          9M: mirrored, full; !: missing
 //      1..1023   ..  !..   ..   ..          ..: in no group
 ghost use Rattle.std.specs.Prelude.{◌≡◌, All, OnOk};
+ghost use Rattle.std.specs.Io.KnownBytes.{Appends};
 ghost use Rattle.std.specs.List.{flat_map, range_with_len};
 ghost use Rattle.ar_picture.specs.Folds.{IsFold, extents_of};
-ghost use Rattle.ar_picture.specs.Writing.{AddsBytes, AddsSome};
+ghost use Rattle.ar_picture.specs.Maps.{below_text, cell_text, disks_text, down_text, extents_text, fold_text, heads_text, map_text, missing_mark, unit_text};
+ghost use Rattle.ar_picture.specs.Writing.{AddsSome};
 
 use crate::{Cell, Content, Fold, Health, Picture, Unit};
 use ar_disks::Place;
 use std::io;
 use std::io::Write;
 
+/// The columns before the disks.
+const MARGIN: &str = "          ";
+
 /// Writes the text map: the number of disks and of extents; the disks' numbers, the failed or replaced one marked
-/// below; a line for each of `folds`; a legend of two lines; the health; and a line for each unit.
+/// below; a line for each of `folds`; a legend of two lines; the health; and a line for each unit. It is exactly the
+/// text that specs/Maps.antt gives.
 pub fn write_map<W: Write>(out: &mut W, picture: &Picture, folds: &[Fold]) -> io::Result<()>
     // The folds are the picture's own (`Picture::folds`).
     requires once { flat_map extents_of folds.now ≡ range_with_len 0 picture.now.extents }
     requires folded { All (IsFold picture.now) folds.now }
+    ensures text { OnOk result (Appends (W.contents out.old) (W.contents out.new) (map_text picture.now folds.now)) }
     ensures adds { OnOk result (AddsSome (W.contents out.old) (W.contents out.new)) }
 {
     write_heads(out, picture)?;
@@ -41,11 +48,11 @@ pub fn write_map<W: Write>(out: &mut W, picture: &Picture, folds: &[Fold]) -> io
 
 // Writes the lines above the extents.
 fn write_heads<W: Write>(out: &mut W, picture: &Picture) -> io::Result<()>
-    ensures adds { OnOk result (AddsSome (W.contents out.old) (W.contents out.new)) }
+    ensures text { OnOk result (Appends (W.contents out.old) (W.contents out.new) (heads_text picture.now)) }
 {
     let (disks, extents) = (picture.disks, picture.extents);
     writeln!(out, "{disks} disks (columns) of {extents} extents (lines)")?;
-    write!(out, "{:10}", "")?;
+    write!(out, "{MARGIN}")?;
     for disk in 0..disks {
         write!(out, "{disk:>5}")?;
     }
@@ -55,30 +62,30 @@ fn write_heads<W: Write>(out: &mut W, picture: &Picture) -> io::Result<()>
 
 // Marks the failed disk as out, or the replaced one as new, below its number.
 fn write_down<W: Write>(out: &mut W, health: Health) -> io::Result<()>
-    ensures grows { OnOk result (AddsBytes (W.contents out.old) (W.contents out.new)) }
+    ensures text { OnOk result (Appends (W.contents out.old) (W.contents out.new) (down_text health)) }
 {
     match health {
         Health::Whole | Health::Broken => Ok(()),
-        Health::Out(disk) => write_below(out, disk, "out"),
-        Health::Rebuilding(disk, _) => write_below(out, disk, "new"),
+        Health::Out(disk) => write_below(out, disk, "  out"),
+        Health::Rebuilding(disk, _) => write_below(out, disk, "  new"),
     }
 }
 
-// Writes a word below the number of a disk.
+// Writes a word of five characters below the number of a disk.
 fn write_below<W: Write>(out: &mut W, disk: u8, word: &str) -> io::Result<()>
-    ensures grows { OnOk result (AddsBytes (W.contents out.old) (W.contents out.new)) }
+    ensures text { OnOk result (Appends (W.contents out.old) (W.contents out.new) (below_text disk word.now)) }
 {
-    write!(out, "{:10}", "")?;
+    write!(out, "{MARGIN}")?;
     for _ in 0..disk {
-        write!(out, "{:5}", "")?;
+        write!(out, "     ")?;
     }
-    writeln!(out, "{word:>5}")
+    writeln!(out, "{word}")
 }
 
 // Writes the line of a fold: its extents' numbers, and a cell for each disk.
 fn write_fold<W: Write>(out: &mut W, picture: &Picture, fold: Fold) -> io::Result<()>
     requires { IsFold picture.now fold }
-    ensures grows { OnOk result (AddsBytes (W.contents out.old) (W.contents out.new)) }
+    ensures text { OnOk result (Appends (W.contents out.old) (W.contents out.new) (fold_text picture.now fold)) }
 {
     write_extents(out, fold.first, fold.end - 1)?;
     for disk in 0..picture.disks {
@@ -93,19 +100,19 @@ fn write_fold<W: Write>(out: &mut W, picture: &Picture, fold: Fold) -> io::Resul
 
 // Writes the first and the last number of a fold's extents, or the only one.
 fn write_extents<W: Write>(out: &mut W, first: u16, last: u16) -> io::Result<()>
-    ensures grows { OnOk result (AddsBytes (W.contents out.old) (W.contents out.new)) }
+    ensures text { OnOk result (Appends (W.contents out.old) (W.contents out.new) (extents_text first last)) }
 {
     if first < last {
         write!(out, "{first:>4}..{last:<4}")
     } else {
-        write!(out, "{first:>4}{:6}", "")
+        write!(out, "{first:>4}      ")
     }
 }
 
 fn write_cell<W: Write>(out: &mut W, cell: Cell) -> io::Result<()>
-    ensures grows { OnOk result (AddsBytes (W.contents out.old) (W.contents out.new)) }
+    ensures text { OnOk result (Appends (W.contents out.old) (W.contents out.new) (cell_text cell)) }
 {
-    let mark = if cell.is_missing { '!' } else { ' ' };
+    let mark = mark_of(cell.is_missing);
     match cell.content {
         Content::Loose => write!(out, "  {mark}.."),
         Content::Free => write!(out, "  {mark}--"),
@@ -114,8 +121,15 @@ fn write_cell<W: Write>(out: &mut W, cell: Cell) -> io::Result<()>
     }
 }
 
+// The mark of an extent that is missing.
+fn mark_of(is_missing: bool) -> &'static str
+    ensures { result.now ≡ missing_mark is_missing }
+{
+    if is_missing { "!" } else { " " }
+}
+
 fn write_health<W: Write>(out: &mut W, picture: &Picture) -> io::Result<()>
-    ensures grows { OnOk result (AddsBytes (W.contents out.old) (W.contents out.new)) }
+    ensures text { OnOk result (Appends (W.contents out.old) (W.contents out.new) (disks_text picture.now.extents picture.now.health)) }
 {
     let extents = picture.extents;
     match picture.health {
@@ -130,7 +144,7 @@ fn write_health<W: Write>(out: &mut W, picture: &Picture) -> io::Result<()>
 }
 
 fn write_unit<W: Write>(out: &mut W, unit: Unit) -> io::Result<()>
-    ensures grows { OnOk result (AddsBytes (W.contents out.old) (W.contents out.new)) }
+    ensures text { OnOk result (Appends (W.contents out.old) (W.contents out.new) (unit_text unit)) }
 {
     let Unit {
         host,
