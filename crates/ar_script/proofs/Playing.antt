@@ -165,15 +165,15 @@ met_all lines old mid new line text (Ok (Some (Act action))) before after plays 
 }
 met_all lines old mid new line text (Err kind) before after plays sound reads answered = absurd answered
 
--- the text that a query would be answered by
-shown_for : (question : Question) (old new : ArrayState) → Looks question old new → (text : List ℕ) × IsAnswerTo question old new text
-shown_for (Levels addr) old new looks = (levels_text old.store.book addr, refl)
-shown_for (Home addr rb) old new looks = (home_text (home_of old.store.book addr rb), refl)
-shown_for Groups old new looks = (groups_text 0 (map use_of old.store.book.groups), refl)
-shown_for Room old new looks = (line_of (codes "room" ∷ decimal (room old.store.book) ∷ []), refl)
-shown_for Health old new looks = (health_text old.store.disks.health, refl)
-shown_for Picture old new looks = (10 ∷ [], λ none. cc)
-shown_for (Block disk extent row) old new looks = (row_text looks.shown looks.bytes, (looks, refl))
+-- a query changes nothing, or reads a row, which has a text
+shown_for : (question : Question) (old new : ArrayState) → Looks question old new → (new ≡ old) ⊎ ((text : List ℕ) × IsAnswerTo question old new text)
+shown_for (Levels addr) old new looks = inl looks
+shown_for (Home addr rb) old new looks = inl looks
+shown_for Groups old new looks = inl looks
+shown_for Room old new looks = inl looks
+shown_for Health old new looks = inl looks
+shown_for Picture old new looks = inl looks
+shown_for (Block disk extent row) old new looks = inr (row_text looks.shown looks.bytes, (looks, refl))
 
 -- the array executed these lines, with any answers
 pub record IsPlayed (lines : List (List ℕ)) (old new : ArrayState) : Type 0 where
@@ -187,10 +187,9 @@ acted_too lines old mid new line action text before sound reads acts =
     record { text = text ++ answer; plays = acted lines old mid new line action text answer before sound reads acts refl }
 
 asked_too : (lines : List (List ℕ)) (old mid new : ArrayState) (line : List ℕ) (question : Question) (text : List ℕ) → Plays lines old mid text → IsLine line
-    → ReadsLine line (Ok (Some (Ask question))) → Looks question mid new → IsPlayed (lines ++ line ∷ []) old new
-asked_too lines old mid new line question text before sound reads looks =
-    let shown = shown_for question mid new looks in
-    record { text = text ++ shown.0; plays = asked lines old mid new line question text shown.0 before sound reads looks shown.1 }
+    → ReadsLine line (Ok (Some (Ask question))) → Looks question mid new → (answer : List ℕ) → IsAnswerTo question mid new answer → IsPlayed (lines ++ line ∷ []) old new
+asked_too lines old mid new line question text before sound reads looks answer shows =
+    record { text = text ++ answer; plays = asked lines old mid new line question text answer before sound reads looks shows }
 
 -- an action for which memory was refused is none, and one whose answer couldn't be written was done
 unacted : (lines : List (List ℕ)) (old mid new : ArrayState) (line : List ℕ) (action : Action) (kind : FaultKind) (text : List ℕ) → Plays lines old mid text
@@ -213,7 +212,10 @@ pub met_or_not : (lines : List (List ℕ)) (old mid new : ArrayState) (line : Li
     → IsLine line → ReadsLine line read → MeetsParsed read mid (Err kind) new → Plays lines old new text ⊎ (IsPlayed (lines ++ line ∷ []) old new × IsLostAt line kind)
 met_or_not lines old mid new line (Ok None) kind text before sound reads meets = let no = meets.0 in absurd (cc)
 met_or_not lines old mid new line (Ok (Some (Ask question))) kind text before sound reads meets =
-    inr (asked_too lines old mid new line question text before sound reads meets.0, unseen line question kind reads meets.1)
+    elim (shown_for question mid new meets.0) [
+      | inl same ↦ inl (unchanged lines old mid new text before same)
+      | inr shown ↦ inr (asked_too lines old mid new line question text before sound reads meets.0 shown.0 shown.1, unseen line question kind reads meets.1)
+    ]
 met_or_not lines old mid new line (Ok (Some (Act action))) kind text before sound reads meets =
     unacted lines old mid new line action kind text before sound reads meets.0 meets.1
 met_or_not lines old mid new line (Err other) kind text before sound reads meets = inl (unchanged lines old mid new text before meets.1)

@@ -1,5 +1,5 @@
 -- The answers to orders and lines, as text.
-use Rattle.std.specs.Prelude.{◌≡◌, ◌≢◌, ℕ, List, [], ◌∷◌, Option, Some, None, Result, Ok, Err, map, codes}
+use Rattle.std.specs.Prelude.{◌≡◌, ℕ, List, [], ◌∷◌, Option, Some, None, Result, Ok, Err, map, codes}
 use Rattle.std.specs.Fmt.{decimal}
 use Rattle.std.specs.Io.KnownBytes.{Appends}
 use Rattle.ar_book.specs.Tables.{room}
@@ -14,17 +14,17 @@ use Rattle.ar_language.specs.declared.order.Order.TheVariants.{Act, Ask}
 use Rattle.ar_language.specs.declared.order.Question.{Question}
 use Rattle.ar_language.specs.declared.order.Question.TheVariants.{Levels, Home, Groups, Room, Health, Picture, Block}
 use Rattle.ar_script.specs.Orders.{Acts, Leaves, ReadsRow}
+use Rattle.ar_script.specs.Pictures.{IsMap}
 use Rattle.ar_script.specs.Texts.{groups_text, health_text, home_text, levels_text, line, outcome_text, row_text}
 
--- The text that answers a query of an array, which leaves the second state. Of a map it is only said that it isn't
--- empty.
+-- the text that answers a query of an array, which leaves the second state
 abbrev pub IsAnswerTo : Question → ArrayState → ArrayState → List ℕ → Type 0
 IsAnswerTo (Levels addr) old new text = text ≡ levels_text old.store.book addr
 IsAnswerTo (Home addr rb) old new text = text ≡ home_text (home_of old.store.book addr rb)
 IsAnswerTo Groups old new text = text ≡ groups_text 0 (map use_of old.store.book.groups)
 IsAnswerTo Room old new text = text ≡ line (codes "room" ∷ decimal (room old.store.book) ∷ [])
 IsAnswerTo Health old new text = text ≡ health_text old.store.disks.health
-IsAnswerTo Picture old new text = text ≢ []
+IsAnswerTo Picture old new text = IsMap old text
 IsAnswerTo (Block disk extent row) old new text =
     (reads : ReadsRow (record { disk = disk; extent = extent }) row old new) × (text ≡ row_text reads.shown reads.bytes)
 

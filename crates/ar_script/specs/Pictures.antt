@@ -1,6 +1,6 @@
 -- An array as its pictures show it.
 use Rattle.std.specs.Prelude.{◌≡◌, ◌≢◌, ℕ, ◌+◌, ◌*◌, ◌/◌, ◌%◌, ◌<◌, Bool, false, ◌==◌, if◌then◌else◌, List, [], length, map, count_by, slice_index, slice_index_or, Option, Some, None}
-use Rattle.std.specs.List.{range_with_len, filter_map}
+use Rattle.std.specs.List.{All, filter_map, flat_map, range_with_len}
 use Rattle.std.proofs.Common.{mod-lt, lit<}
 use Rattle.ar_disks.specs.declared.address.Addr.{Addr}
 use Rattle.ar_extents.specs.declared.health.Health.{Health}
@@ -12,6 +12,9 @@ use Rattle.ar_book.specs.Tables.{Tables, has_unit, unit_in, placed}
 use Rattle.ar_volume.specs.Image.{ArrayState}
 use Rattle.ar_core.specs.declared.map.GroupView.{GroupView}
 use Rattle.ar_core.specs.Map.{view_of}
+use Rattle.ar_picture.specs.Folds.{IsFold, extents_of}
+use Rattle.ar_picture.specs.Maps.{map_text}
+use Rattle.ar_picture.specs.declared.folds.Fold.{Fold}
 use Rattle.ar_picture.specs.declared.picture.Class.{Class as PictureClass}
 use Rattle.ar_picture.specs.declared.picture.Class.TheVariants as classes
 use Rattle.ar_picture.specs.declared.picture.Group.{Group}
@@ -108,3 +111,13 @@ pub record IsPicture (array : ArrayState) (picture : Picture) : Type 0 where
   pub groups : picture.groups.items ≡ groups_in array.store.book
   pub units : picture.units.items ≡ units_in array.store.book
   pub held : HoldsBlocks array.store.book picture.held.items
+
+-- The map of an array: the text of its picture (`map_text`), with a line for each fold of its extents. Each extent is
+-- in one of these folds, and they are as long as possible.
+pub record IsMap (array : ArrayState) (text : List ℕ) : Type 0 where
+  pub picture : Picture
+  pub folds : List Fold
+  pub shows : IsPicture array picture
+  pub once : flat_map extents_of folds ≡ range_with_len 0 picture.extents
+  pub folded : All (IsFold picture) folds
+  pub is : text ≡ map_text picture folds

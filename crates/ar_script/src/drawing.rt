@@ -7,6 +7,7 @@ ghost use Rattle.ar_book.specs.Tables.{unit_in};
 ghost use Rattle.ar_language.specs.declared.order.Order.TheVariants.{Ask};
 ghost use Rattle.ar_language.specs.declared.order.Question.TheVariants.{Picture as PictureAsked};
 ghost use Rattle.ar_picture.specs.Writing.{AddsBytes, AddsSome};
+ghost use Rattle.ar_script.specs.Answers.{AppendsAnswer};
 ghost use Rattle.ar_script.specs.Orders.{IsOrderFault};
 ghost use Rattle.ar_script.specs.Pictures.{IsPicture, health_shown, class_shown, group_shown, groups_in, unit_at, units_in, addr_at, held_at, AddsOne, AddsHomes, HoldsBlocks};
 
@@ -33,6 +34,7 @@ pub fn write_picture<W: Write, D: Disk>(
     ensures memory { result ≡ Err FaultKind.NoMemory → out.new ≡ out.old }
     ensures grows { result ≢ Err FaultKind.WriteFault → AddsBytes (W.contents out.old) (W.contents out.new) }
     ensures adds { OnOk result (AddsSome (W.contents out.old) (W.contents out.new)) }
+    ensures answers { OnOk result (AppendsAnswer (Ask PictureAsked) array.now array.now (W.contents out.old) (W.contents out.new)) }
 {
     let picture = picture_of(alloc, array).map_err(|_| FaultKind::NoMemory)?;
     let folds = picture.folds(alloc).map_err(|_| FaultKind::NoMemory)?;
