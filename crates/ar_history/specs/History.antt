@@ -1,5 +1,5 @@
 -- A history: what was done to units, in the order in which it was done.
-use Rattle.std.specs.Prelude.{◌≡◌, ℕ, ◌<◌, ◌≤◌, Bool, true, false, ◌==◌, if◌then◌else◌, Some, List, [], ◌∷◌, take, slice_get}
+use Rattle.std.specs.Prelude.{◌≡◌, ℕ, ◌<◌, ◌≤◌, ◌-◌, Bool, true, false, ◌==◌, if◌then◌else◌, Some, List, [], ◌∷◌, take, length, slice_get}
 use Rattle.ar_unit.specs.Unit.{UnitState, Absent, UnitEntry, Make as UnitMake, Grow as UnitGrow, Remove as UnitRemove, Cmd as UnitCmd, answer, unit_run}
 use Rattle.ar_unit.specs.Broken.{shape_of}
 use Rattle.ar_volume.specs.Sectors.{Address, address_of, same_address}
@@ -69,3 +69,7 @@ is_command (Make addr sectors) = false
 is_command (Grow addr sectors) = false
 is_command (Remove addr) = false
 is_command (Cmd host exchange) = true
+
+-- a history without its last entry
+abbrev pub before_last : List Entry → List Entry
+before_last history = take (length history - 1) history

@@ -6,6 +6,7 @@
 mod audit;
 mod counts;
 mod entry;
+mod history;
 mod host;
 mod kept;
 mod operate;
