@@ -1,5 +1,5 @@
 -- What an operation that was done, or not done, leaves of a history.
-use Rattle.std.proofs.Common.{◌≡◌, ◌≢◌, ℕ, ◌<◌, ◌-◌, Bool, true, false, cond, not, ◌||◌, eqb, nat_lt, nat_le, Option, Some, None, Result, Ok, Err, List, [], ◌∷◌, ◌++◌, length, refl, sym, ap, subst, ◌∙◌, arith}
+use Rattle.std.proofs.Common.{◌≡◌, ◌≢◌, ℕ, ◌<◌, ◌-◌, Bool, true, false, cond, not, ◌||◌, eqb, nat_lt, nat_le, Option, Some, None, Result, Ok, Err, List, [], ◌∷◌, ◌++◌, length, refl, sym, ap, subst, ◌∙◌, arith, append-nil}
 use Rattle.std.specs.Prelude.{option_map, count_by}
 use Rattle.std.proofs.lemmas.Bool.{or_parts, ltb-false, leb-false, eqb-false, true≢false}
 use Rattle.std.proofs.lemmas.List.Sums.{sum_by-append}
@@ -271,3 +271,25 @@ pub not_done_recorded : (old new : ArrayState) (event : Event) (outcome : Outcom
     → entry_asked event ≡ Some entry → is_done outcome ≡ false → history_entry event outcome ≡ []
 not_done_recorded old new event outcome history entry kept steps asked not_done =
     ((tells_by old new event outcome history entry kept steps.answers asked).1 not_done).recorded
+
+-- the entry of an event is what was asked, if it was done
+pub entry_done : (old new : ArrayState) (event : Event) (outcome : Outcome) (history : List Entry) (entry : Entry) → HistoryAgrees old history → Steps old event outcome new
+    → entry_asked event ≡ Some entry → history_entry event outcome ≡ cond (is_done outcome) (entry ∷ []) []
+entry_done old new event outcome history entry kept steps asked = by (is_done outcome) refl
+  where
+    by : (done : Bool) → is_done outcome ≡ done → history_entry event outcome ≡ cond done (entry ∷ []) []
+    by true done = done_recorded old new event outcome history entry kept steps asked done
+    by false not_done = not_done_recorded old new event outcome history entry kept steps asked not_done
+
+-- so a stored history that is the ghost one stays so
+pub grown_done : (event : Event) (outcome : Outcome) (was items now : List Entry) (entry : Entry) → was ≡ items → now ≡ was ++ history_entry event outcome
+    → history_entry event outcome ≡ cond (is_done outcome) (entry ∷ []) [] → is_done outcome ≡ true → now ≡ items ++ entry ∷ []
+grown_done event outcome was items now entry same grown one done =
+    grown ∙ ap (λ (l : List Entry). l ++ history_entry event outcome) same ∙ ap (λ (l : List Entry). items ++ l) one
+    ∙ ap (λ (b : Bool). items ++ cond b (entry ∷ []) []) done
+
+pub grown_not_done : (event : Event) (outcome : Outcome) (was items now : List Entry) (entry : Entry) → was ≡ items → now ≡ was ++ history_entry event outcome
+    → history_entry event outcome ≡ cond (is_done outcome) (entry ∷ []) [] → is_done outcome ≡ false → now ≡ items
+grown_not_done event outcome was items now entry same grown one not_done =
+    grown ∙ ap (λ (l : List Entry). l ++ history_entry event outcome) same ∙ ap (λ (l : List Entry). items ++ l) one
+    ∙ ap (λ (b : Bool). items ++ cond b (entry ∷ []) []) not_done ∙ append-nil items

@@ -1,6 +1,6 @@
 -- What a host's command leaves of a history.
-use Rattle.std.proofs.Common.{◌≡◌, ◌≢◌, ℕ, Bool, true, false, cond, Option, Some, None, List, [], ◌∷◌, ◌++◌, length, refl, sym, ap, subst, ◌∙◌, inl, inr, arith}
-use Rattle.std.specs.Prelude.{◌==◌, ◌&&◌, count_by, ◌+◌}
+use Rattle.std.proofs.Common.{◌≡◌, ◌≢◌, ◌⊎◌, ℕ, ◌-◌, Bool, true, false, cond, Option, Some, None, List, [], ◌∷◌, ◌++◌, length, take, refl, sym, ap, subst, ◌∙◌, inl, inr, arith, append-nil, length-append}
+use Rattle.std.specs.Prelude.{◌==◌, ◌&&◌, not, count_by, ◌+◌}
 use Rattle.std.proofs.lemmas.Bool.{eqb-true}
 use Rattle.std.proofs.lemmas.List.Sums.{sum_by-append}
 use Rattle.ar_disks.specs.declared.address.Host.{Host}
@@ -24,15 +24,19 @@ use Rattle.ar_core.proofs.Causes.{was_sound}
 use Rattle.ar_history.specs.declared.counts.Counts.{Counts}
 use Rattle.ar_history.specs.declared.entry.Entry.{Entry}
 use Rattle.ar_history.specs.declared.entry.Entry.TheVariants.{Cmd}
-use Rattle.ar_history.specs.History.{replay, is_command}
-use Rattle.ar_history.specs.Kept.{KeptState, SameLength, HistoryAgrees, with_attention, history_unit, exchange_of}
+use Rattle.ar_history.specs.History.{replay, is_command, before_last}
+use Rattle.ar_history.specs.Kept.{KeptState, SameLength, HistoryAgrees, with_attention, replayed_unit, exchange_of}
 use Rattle.ar_history.specs.Seat.{SeatState}
 use Rattle.ar_history.specs.declared.entry.Exchange.{Exchange}
-use Rattle.ar_history.specs.Serving.{IsBusyFor, IsRecorded, IsUnrecorded, ServesHost, Begins}
+use Rattle.ar_history.specs.Serving.{IsRecorded, IsUnrecorded, ServesCommand, ServesHost, Begins, is_recorded}
 use Rattle.ar_history.proofs.Keeping.{kept_more}
 
 abbrev no_entry : List UnitEntry
 no_entry = []
+
+-- a reply that changes no unit: BUSY, or one with bytes
+abbrev pub IsBusyFor : Reply → Type 0
+IsBusyFor reply = (is_busy reply.status ≡ true) ⊎ (reply.payload ≢ [])
 
 pub busy_is : (s : Status) → is_busy s ≡ true → s ≡ Busy
 busy_is Busy e = refl
@@ -145,15 +149,15 @@ shape_marked (Present s m) Absent same = let p = same.present in absurd (cc)
 shape_marked (Present s m) (Present t l) same = ap (λ n. record { present = true; sectors = n; attention = m }) (sym same.sectors)
 
 -- what a broken array answers, by the history
-pub broken_reply : (old : KeptState) (new : ArrayState) (host : Host) (lun : ℕ) (cdb payload : List ℕ) (reply : Reply) → HistoryAgrees old.array old.history
-    → Steps old.array (CmdEvent host lun cdb payload) (CmdOutcome reply) new → is_broken new ≡ true
-    → IsGiven (where_broken cdb (answer (history_unit old (host.number, lun)) cdb payload).reply) reply
-broken_reply old new host lun cdb payload reply kept steps lost =
+broken_reply : (old new : ArrayState) (host : Host) (lun : ℕ) (cdb payload : List ℕ) (reply : Reply) (history : List Entry) → HistoryAgrees old history
+    → Steps old (CmdEvent host lun cdb payload) (CmdOutcome reply) new → is_broken new ≡ true
+    → IsGiven (where_broken cdb (answer (replayed_unit old history (host.number, lun)) cdb payload).reply) reply
+broken_reply old new host lun cdb payload reply history kept steps lost =
     let a : Address = (host.number, lun) in
-    let unit : shape_of (image_at old.array (addr_in host lun)) ≡ shape_of (history_unit old a) =
-    ap shape_of (sym (image_here (image_at old.array) (addr_in host lun))) ∙ sym (shape_marked (image old.array a) (replay old.history a) (kept.lengths a)) in
+    let unit : shape_of (image_at old (addr_in host lun)) ≡ shape_of (replayed_unit old history a) =
+    ap shape_of (sym (image_here (image_at old) (addr_in host lun))) ∙ sym (shape_marked (image old a) (replay history a) (kept.lengths a)) in
     subst (λ (r : Reply). IsGiven r reply)
-    (ap (λ (s : Shape). broken_answer s cdb (length payload)) unit ∙ broken_answer-is (history_unit old a) cdb payload)
+    (ap (λ (s : Shape). broken_answer s cdb (length payload)) unit ∙ broken_answer-is (replayed_unit old history a) cdb payload)
     (steps.answers.broken lost)
 
 -- what is there of a unit after entries, by what was there before
@@ -167,20 +171,124 @@ shape_run (entry ∷ entries) u v same =
 pub stays_lost : (old new : ArrayState) (event : Event) (outcome : Outcome) → Steps old event outcome new → is_broken old ≡ true → is_broken new ≡ true
 stays_lost old new event outcome steps lost = ap is_broken_set (steps.disks.stays_broken (broken_is old.store.disks.health lost))
 
--- a command after which the array is broken
-pub unrecorded_lost : (old : KeptState) (before : SeatState) (lun : ℕ) (cdb payload : List ℕ) (reply : Reply) (new : KeptState) → HistoryAgrees old.array old.history
-    → Steps old.array (CmdEvent before.host lun cdb payload) (CmdOutcome reply) new.array → is_broken new.array ≡ true → new.history ≡ old.history
-    → IsUnrecorded old before lun cdb payload reply new before
-unrecorded_lost old before lun cdb payload reply new kept steps lost same = record {
-  history = same;
-  transcript = refl;
-  busy_is = λ now. absurd (let no : true ≡ false = sym lost ∙ now in cc);
-  images = λ now. absurd (let no : true ≡ false = sym lost ∙ now in cc);
-  broken = λ _. broken_reply old new.array before.host lun cdb payload reply kept steps lost;
+-- when a command is recorded, and when not
+pub recorded_parts : (lost quiet : Bool) → not lost && not quiet ≡ true → (lost ≡ false) × (quiet ≡ false)
+recorded_parts true quiet is = absurd (cc)
+recorded_parts false true is = absurd (cc)
+recorded_parts false false is = (refl, refl)
+
+then_busy : (lost quiet : Bool) → not lost && not quiet ≡ false → lost ≡ false → quiet ≡ true
+then_busy true quiet none sound = absurd (cc)
+then_busy false true none sound = refl
+then_busy false false none sound = absurd (cc)
+
+abbrev pub command_entry : Host → ℕ → List ℕ → List ℕ → Reply → List Entry
+command_entry host lun cdb payload reply = Cmd host (exchange_of lun cdb payload reply) ∷ []
+
+-- the same growth, by what is known of the test and of the data
+pub grown_as : (new : ArrayState) (host : Host) (lun : ℕ) (cdb payload seen : List ℕ) (reply : Reply) (was now : List Entry) (test : Bool)
+    → test ≡ is_recorded new reply → seen ≡ payload → now ≡ was ++ cond test (command_entry host lun cdb seen reply) []
+    → now ≡ was ++ cond (is_recorded new reply) (command_entry host lun cdb payload reply) []
+grown_as new host lun cdb payload seen reply was now test tested same grown =
+    grown ∙ ap (λ (b : Bool). was ++ cond b (command_entry host lun cdb seen reply) []) tested
+    ∙ ap (λ (l : List ℕ). was ++ cond (is_recorded new reply) (command_entry host lun cdb l reply) []) same
+
+-- a command to a live array, whose history is then `now`
+pub served : (old new : ArrayState) (host : Host) (lun : ℕ) (cdb payload : List ℕ) (reply : Reply) (was now : List Entry) → HistoryAgrees old was
+    → Steps old (CmdEvent host lun cdb payload) (CmdOutcome reply) new
+    → now ≡ was ++ cond (is_recorded new reply) (command_entry host lun cdb payload reply) []
+    → ServesCommand old was host lun cdb payload reply new now
+served old new host lun cdb payload reply was now kept steps grown = record {
+  history = grown;
+  reply_is = λ is.
+      (let parts = recorded_parts (is_broken new) (is_busy reply.status) is in
+      reply_kept old new host lun cdb payload reply was kept steps parts.1 parts.0);
+  busy_is = λ sound is. (steps.answers.sound sound).given.refused (busy_is reply.status is);
+  images = λ sound is. same_images old new host lun cdb payload reply steps (inl is) sound;
+  broken = λ lost. broken_reply old new host lun cdb payload reply was kept steps lost;
   shapes = λ _ a.
       steps.shapes a
-      ∙ shape_run (entry_at a (CmdEvent before.host lun cdb payload) (CmdOutcome reply)) (image old.array a) (history_unit old a)
-      (sym (shape_marked (image old.array a) (replay old.history a) (kept.lengths a)));
+      ∙ shape_run (entry_at a (CmdEvent host lun cdb payload) (CmdOutcome reply)) (image old a) (replayed_unit old was a)
+      (sym (shape_marked (image old a) (replay was a) (kept.lengths a)));
+}
+
+-- and the array is what that history makes it
+pub kept_served : (old new : ArrayState) (host : Host) (lun : ℕ) (cdb payload : List ℕ) (reply : Reply) (was now : List Entry) → HistoryAgrees old was
+    → Steps old (CmdEvent host lun cdb payload) (CmdOutcome reply) new
+    → now ≡ was ++ cond (is_recorded new reply) (command_entry host lun cdb payload reply) [] → HistoryAgrees new now
+kept_served old new host lun cdb payload reply was now kept steps grown =
+    subst (λ (l : List Entry). HistoryAgrees new l) (sym grown) (by (is_broken new) (is_busy reply.status) refl refl)
+  where
+    by : (lost quiet : Bool) → is_broken new ≡ lost → is_busy reply.status ≡ quiet
+        → HistoryAgrees new (was ++ cond (not lost && not quiet) (command_entry host lun cdb payload reply) [])
+    by true quiet lost is =
+        subst (λ (l : List Entry). HistoryAgrees new l) (sym (append-nil was)) (broken_unrecorded old new host lun cdb payload reply was kept steps lost)
+    by false true sound is =
+        subst (λ (l : List Entry). HistoryAgrees new l) (sym (append-nil was))
+        (kept_unrecorded old new host lun cdb payload reply was kept steps (same_images old new host lun cdb payload reply steps (inl is)))
+    by false false sound is = kept_recorded old new host lun cdb payload reply was kept steps is sound
+
+-- and if the reply has bytes, it is what the history before makes it, too
+pub kept_bytes : (old new : ArrayState) (host : Host) (lun : ℕ) (cdb payload : List ℕ) (reply : Reply) (was : List Entry) → HistoryAgrees old was
+    → Steps old (CmdEvent host lun cdb payload) (CmdOutcome reply) new → reply.payload ≢ [] → HistoryAgrees new was
+kept_bytes old new host lun cdb payload reply was kept steps bytes =
+    kept_unrecorded old new host lun cdb payload reply was kept steps (same_images old new host lun cdb payload reply steps (inr bytes))
+
+-- the history after a command that isn't recorded
+pub unrecorded_history : (old new : ArrayState) (host : Host) (lun : ℕ) (cdb payload : List ℕ) (reply : Reply) (was now : List Entry)
+    → ServesCommand old was host lun cdb payload reply new now → is_recorded new reply ≡ false → now ≡ was
+unrecorded_history old new host lun cdb payload reply was now serves none =
+    serves.history ∙ ap (λ (b : Bool). was ++ cond b (command_entry host lun cdb payload reply) []) none ∙ append-nil was
+
+-- and after one that is
+pub recorded_history : (old new : ArrayState) (host : Host) (lun : ℕ) (cdb payload : List ℕ) (reply : Reply) (was now : List Entry)
+    → ServesCommand old was host lun cdb payload reply new now → is_recorded new reply ≡ true
+    → now ≡ was ++ Cmd host (exchange_of lun cdb payload reply) ∷ []
+recorded_history old new host lun cdb payload reply was now serves is =
+    serves.history ∙ ap (λ (b : Bool). was ++ cond b (command_entry host lun cdb payload reply) []) is
+
+-- the same of a stored history that is the ghost one
+pub served_stored : (old new : ArrayState) (host : Host) (lun : ℕ) (cdb payload : List ℕ) (reply : Reply) (was items now : List Entry) → was ≡ items
+    → ServesCommand old was host lun cdb payload reply new now → ServesCommand old items host lun cdb payload reply new now
+served_stored old new host lun cdb payload reply was items now same serves =
+    subst (λ (l : List Entry). ServesCommand old l host lun cdb payload reply new now) same serves
+
+pub served_unstored : (old new : ArrayState) (host : Host) (lun : ℕ) (cdb payload : List ℕ) (reply : Reply) (was items now : List Entry) → was ≡ items
+    → is_recorded new reply ≡ false
+    → ServesCommand old was host lun cdb payload reply new now → ServesCommand old items host lun cdb payload reply new items
+served_unstored old new host lun cdb payload reply was items now same none serves =
+    subst (λ (l : List Entry). ServesCommand old items host lun cdb payload reply new l)
+    (unrecorded_history old new host lun cdb payload reply was now serves none ∙ same)
+    (served_stored old new host lun cdb payload reply was items now same serves)
+
+take_first : (history more : List Entry) → take (length history) (history ++ more) ≡ history
+take_first [] more = refl
+take_first (entry ∷ history) more = ap (λ (l : List Entry). entry ∷ l) (take_first history more)
+
+-- what is left of it when the command is taken back
+pub withdrawn : (was now : List Entry) (entry : Entry) → now ≡ was ++ entry ∷ [] → before_last now ≡ was
+withdrawn was now entry grown =
+    let long : length (was ++ entry ∷ []) - 1 ≡ length was = omega (arith, length-append was (entry ∷ [])) in
+    ap before_last grown ∙ ap (λ (n : ℕ). take n (was ++ entry ∷ [])) long ∙ take_first was (entry ∷ [])
+
+-- a stored history that has grown by the command is the ghost one
+pub stored_as : (was items now stored : List Entry) (host whose : Host) (exchange ours : Exchange) → was ≡ items → whose ≡ host → ours ≡ exchange
+    → now ≡ was ++ Cmd host exchange ∷ [] → stored ≡ items ++ Cmd whose ours ∷ [] → now ≡ stored
+stored_as was items now stored host whose exchange ours same own one grown kept =
+    grown ∙ ap (λ (l : List Entry). l ++ Cmd host exchange ∷ []) same ∙ ap (λ (h : Host). items ++ Cmd h exchange ∷ []) (sym own)
+    ∙ ap (λ (x : Exchange). items ++ Cmd whose x ∷ []) (sym one) ∙ sym kept
+
+-- a command that a live array hasn't recorded
+pub unrecorded : (old : KeptState) (before : SeatState) (lun : ℕ) (cdb payload : List ℕ) (reply : Reply) (new : KeptState)
+    → ServesCommand old.array old.history before.host lun cdb payload reply new.array new.history → is_recorded new.array reply ≡ false
+    → IsUnrecorded old before lun cdb payload reply new before
+unrecorded old before lun cdb payload reply new serves none = record {
+  history = unrecorded_history old.array new.array before.host lun cdb payload reply old.history new.history serves none;
+  transcript = refl;
+  busy_is = λ sound. serves.busy_is sound (then_busy (is_broken new.array) (is_busy reply.status) none sound);
+  images = λ sound. serves.images sound (then_busy (is_broken new.array) (is_busy reply.status) none sound);
+  broken = serves.broken;
+  shapes = serves.shapes;
 }
 
 -- a command that is BUSY
@@ -209,19 +317,21 @@ begins_busy old new host lun cdb payload first steps none now =
 
 -- a command that was answered
 pub recorded : (old : KeptState) (before : SeatState) (lun : ℕ) (cdb payload : List ℕ) (reply : Reply) (position : ℕ) (new : KeptState) (after : SeatState)
-    (ours theirs : Exchange) → HistoryAgrees old.array old.history
-    → Steps old.array (CmdEvent before.host lun cdb payload) (CmdOutcome reply) new.array → is_busy reply.status ≡ false → is_broken new.array ≡ false
+    (now : List Entry) (ours theirs : Exchange) → ServesCommand old.array old.history before.host lun cdb payload reply new.array now
+    → is_recorded new.array reply ≡ true
     → position ≡ length old.history → new.history ≡ old.history ++ Cmd before.host ours ∷ [] → after.transcript ≡ before.transcript ++ theirs ∷ []
     → ours ≡ exchange_of lun cdb payload reply → theirs ≡ exchange_of lun cdb payload reply
     → IsRecorded old before lun cdb payload reply position new after
-recorded old before lun cdb payload reply position new after ours theirs kept steps answered now at history transcript one other = record {
-  position_is = at;
-  history = history ∙ ap (λ (x : Exchange). old.history ++ Cmd before.host x ∷ []) one;
-  transcript = transcript ∙ ap (λ (x : Exchange). before.transcript ++ x ∷ []) other;
-  reply_is = reply_kept old.array new.array before.host lun cdb payload reply old.history kept steps answered now;
-  not_busy = answered;
-  sound = now;
-}
+recorded old before lun cdb payload reply position new after now ours theirs serves is at history transcript one other =
+    let parts = recorded_parts (is_broken new.array) (is_busy reply.status) is in
+    record {
+      position_is = at;
+      history = history ∙ ap (λ (x : Exchange). old.history ++ Cmd before.host x ∷ []) one;
+      transcript = transcript ∙ ap (λ (x : Exchange). before.transcript ++ x ∷ []) other;
+      reply_is = serves.reply_is is;
+      not_busy = parts.1;
+      sound = parts.0;
+    }
 
 -- a command is served as well from an array and a seat with more room
 serves_roomy : (old : KeptState) (before : SeatState) (room seat_room : ℕ) (lun : ℕ) (cdb payload : List ℕ) (reply : Reply) (at : Option ℕ) (new : KeptState) (after : SeatState)

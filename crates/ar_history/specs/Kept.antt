@@ -15,7 +15,8 @@ use Rattle.ar_history.specs.declared.entry.Entry.{Entry}
 use Rattle.ar_history.specs.declared.entry.Entry.TheVariants.{Make, Grow, Remove, Cmd}
 use Rattle.ar_history.specs.History.{IsLegal, replay}
 
--- the array, the history, its capacity in entries, what was counted, and the number of events
+-- The array, the history, its capacity in entries, what was counted, and the number of events. Of a live array nothing
+-- is stored, and the capacity is 0.
 pub record KeptState : Type 0 where
   pub array : ArrayState
   pub history : List Entry
@@ -49,9 +50,13 @@ abbrev pub with_attention : Bool → UnitState → UnitState
 with_attention mark Absent = Absent
 with_attention mark (Present sectors attention) = Present sectors mark
 
--- the unit that the history makes, with the array's own pending UNIT ATTENTION: on a failed array they may differ
+-- the unit that a history makes, with the array's own pending UNIT ATTENTION: on a failed array they may differ
+abbrev pub replayed_unit : ArrayState → List Entry → Address → UnitState
+replayed_unit s history a = with_attention (shape_of (image s a)).attention (replay history a)
+
+-- the same of a kept array
 abbrev pub history_unit : KeptState → Address → UnitState
-history_unit k a = with_attention (shape_of (image k.array a)).attention (replay k.history a)
+history_unit k a = replayed_unit k.array k.history a
 
 -- a command and its reply
 abbrev pub exchange_of : ℕ → List ℕ → List ℕ → Reply → Exchange

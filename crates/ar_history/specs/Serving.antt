@@ -1,5 +1,5 @@
 -- How a host's command is executed, and recorded in history and transcript.
-use Rattle.std.specs.Prelude.{◌≡◌, ◌≢◌, ◌⊎◌, ◌<◌, ℕ, true, false, List, [], ◌∷◌, ◌++◌, length, Option, Some, None}
+use Rattle.std.specs.Prelude.{◌≡◌, ◌≢◌, ◌⊎◌, ◌&&◌, ◌<◌, ℕ, Bool, true, false, not, if◌then◌else◌, List, [], ◌∷◌, ◌++◌, length, Option, Some, None}
 use Rattle.ar_disks.specs.declared.address.Host.{Host}
 use Rattle.ar_scsi.specs.declared.reply.Reply.{Reply}
 use Rattle.ar_scsi.specs.Reply.{busy}
@@ -12,19 +12,39 @@ use Rattle.ar_core.specs.Step.{Steps, is_busy, entry_at}
 use Rattle.ar_core.specs.declared.event.EventOf.TheVariants.{Cmd as CmdEvent}
 use Rattle.ar_core.specs.declared.event.OutcomeOf.TheVariants.{Cmd as CmdOutcome}
 use Rattle.ar_history.specs.declared.entry.Exchange.{Exchange}
+use Rattle.ar_history.specs.declared.entry.Entry.{Entry}
 use Rattle.ar_history.specs.declared.entry.Entry.TheVariants.{Cmd}
 use Rattle.ar_history.specs.History.{replay}
-use Rattle.ar_history.specs.Kept.{KeptState, MayDouble, exchange_of, history_unit}
+use Rattle.ar_history.specs.Kept.{KeptState, MayDouble, exchange_of, replayed_unit, history_unit}
 use Rattle.ar_history.specs.Operations.{Does}
 use Rattle.ar_history.specs.Seat.{SeatState}
+
+-- whether a live array records a command, by its state afterwards and the reply
+abbrev pub is_recorded : ArrayState → Reply → Bool
+is_recorded new reply = not (is_broken new) && not (is_busy reply.status)
+
+-- A command to a live array. Unless the reply is BUSY or the array has failed after it, the history `was` has grown by the
+-- command with its reply, which is that of its unit, as the history so far has made the unit.
+pub record ServesCommand (old : ArrayState) (was : List Entry) (host : Host) (lun : ℕ) (cdb payload : List ℕ) (reply : Reply)
+    (new : ArrayState) (now : List Entry) : Type 0 where
+  pub history : now ≡ was ++ (if is_recorded new reply then Cmd host (exchange_of lun cdb payload reply) ∷ [] else [])
+  pub reply_is : is_recorded new reply ≡ true → reply ≡ (answer (replay was (host.number, lun)) cdb payload).reply
+  -- with BUSY no unit has changed
+  pub busy_is : is_broken new ≡ false → is_busy reply.status ≡ true → reply ≡ busy
+  pub images : is_broken new ≡ false → is_busy reply.status ≡ true → (a : Address) → image new a ≡ image old a
+  -- a failed array gives its reply in place of the unit's; presence, length and pending UNIT ATTENTION of each unit are
+  -- then what the command leaves of them
+  pub broken :
+      is_broken new ≡ true
+      → IsGiven (where_broken cdb (answer (replayed_unit old was (host.number, lun)) cdb payload).reply) reply
+  pub shapes :
+      is_broken new ≡ true
+      → (a : Address)
+      → shape_of (image new a) ≡ shape_of (unit_run (replayed_unit old was a) (entry_at a (CmdEvent host lun cdb payload) (CmdOutcome reply)))
 
 -- a command with another reply
 abbrev pub with_reply : Exchange → Reply → Exchange
 with_reply exchange reply = record exchange { reply = reply }
-
--- a reply that may go unrecorded: BUSY, or one with bytes, since memory is needed to share them
-abbrev pub IsBusyFor : Reply → Type 0
-IsBusyFor reply = (is_busy reply.status ≡ true) ⊎ (reply.payload ≢ [])
 
 -- The command is recorded: history and transcript have grown by it and its reply, which is that of its unit, as the
 -- history so far has made the unit.

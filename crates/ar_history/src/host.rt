@@ -6,16 +6,16 @@ ghost use Rattle.ar_scsi.specs.Reply.{busy};
 ghost use Rattle.ar_core.specs.Step.{Steps, is_busy};
 ghost use Rattle.ar_history.specs.Counts.{CountsCommand, CountsNothing};
 ghost use Rattle.ar_history.specs.Kept.{StaysKept, exchange_of};
-ghost use Rattle.ar_history.specs.Serving.{ServesHost, Begins, BeginsByPlace, DoesCommand, HasCapacity, LeavesStorage, Allocates, IsBusyFor, with_reply};
+ghost use Rattle.ar_history.specs.Serving.{ServesHost, Begins, BeginsByPlace, DoesCommand, HasCapacity, LeavesStorage, Allocates, ServesCommand, with_reply};
 
 use crate::entry::shared;
-use crate::operate::{is_lost, reserve_place};
+use crate::operate::reserve_place;
 use crate::{Entry, Exchange, Kept, Seat};
-use ar_core::{Array, EventOf, OutcomeOf};
+use ar_core::{EventOf, OutcomeOf};
 use ar_disks::{Disk, Host};
-use ar_scsi::{Reply, Status};
+use ar_scsi::Reply;
 use bytes::Bytes;
-use std::alloc::{AllocError, Global};
+use std::alloc::AllocError;
 use std::sync::ledger::{Book, Ledger};
 
 /// The reply to a host's command, and where it is recorded.
@@ -52,11 +52,11 @@ impl<D: Disk + Drop, L: Ledger> Kept<D, L> {
         ensures busy { is_busy result.reply.status ≡ true → LeavesStorage self.old.array self.new.array }
         ensures memory { Allocates self.old seat.old self.new seat.new }
     {
-        let events = self.events.saturating_add(1);
+        // The type's invariant holds before the command.
+        let _ = &self.live;
         let sent = payload.len() as u64;
         let served = self.execute(seat, lun, cdb, payload);
-        self.counts.add_command(seat.host, sent, &served.reply);
-        self.events = events;
+        self.live.count_command(seat.host, sent, &served.reply);
         served
     }
 
@@ -71,7 +71,7 @@ impl<D: Disk + Drop, L: Ledger> Kept<D, L> {
         ensures busy { is_busy result.reply.status ≡ true → LeavesStorage self.old.array self.new.array }
         ensures memory { Allocates self.old seat.old self.new seat.new }
     {
-        if is_lost(&self.array) {
+        if self.live.is_lost() {
             return self.unrecorded(seat.host, lun, cdb, payload);
         }
         match self.prepare(seat, lun, cdb, &payload) {
@@ -83,14 +83,14 @@ impl<D: Disk + Drop, L: Ledger> Kept<D, L> {
     // Executes a command on a failed array.
     fn unrecorded(&mut self, host: Host, lun: u8, cdb: [u8; 16], payload: Bytes) -> Served
         requires { is_broken self.old.array ≡ true }
+        ensures serves { ServesCommand self.old.array self.old.history host lun cdb payload result.reply self.new.array self.new.history }
         ensures broken { is_broken self.new.array ≡ true }
         ensures steps { Steps self.old.array (EventOf.Cmd host lun cdb payload) (OutcomeOf.Cmd result.reply) self.new.array }
         ensures at { result.at ≡ None }
-        ensures history { self.new.history ≡ self.old.history }
         ensures room { self.new.room ≡ self.old.room }
         ensures uncounted { CountsNothing self.old self.new }
     {
-        let reply = command(&mut self.array, self.alloc, host, lun, cdb, payload);
+        let reply = self.live.execute(host, lun, cdb, payload);
         Served { reply, at: None }
     }
 
@@ -134,19 +134,15 @@ impl<D: Disk + Drop, L: Ledger> Kept<D, L> {
         ensures kept_seat_room { seat.new.room ≡ seat.old.room }
         ensures uncounted { CountsNothing self.old self.new }
     {
-        let reply = command(
-            &mut self.array,
-            self.alloc,
-            seat.host,
-            copies.ours.lun,
-            copies.ours.cdb,
-            payload,
-        );
-        if is_lost(&self.array) {
+        let reply = self
+            .live
+            .execute(seat.host, copies.ours.lun, copies.ours.cdb, payload);
+        if !self.live.has_recorded(&reply) {
             return Served { reply, at: None };
         }
         let mut copies = copies;
         if !copies.answer(&reply) {
+            self.live.withdraw();
             return Served::busy();
         }
         let at = record(&mut self.history, &mut self.book, seat, copies);
@@ -183,16 +179,12 @@ impl Copies {
         })
     }
 
-    // Sets the reply of both copies. Returns false for BUSY, and when the allocation to share the reply's bytes fails.
+    // Sets the reply of both copies. Returns false when the allocation to share the reply's bytes fails.
     fn answer(&mut self, reply: &Reply) -> bool
         ensures ours { result ≡ true → self.new.ours ≡ with_reply self.old.ours reply.now }
         ensures theirs { result ≡ true → self.new.theirs ≡ with_reply self.old.theirs reply.now }
-        ensures answered { result ≡ true → is_busy reply.now.status ≡ false }
-        ensures busy { result ≡ false → IsBusyFor reply.now }
+        ensures bytes { result ≡ false → reply.now.payload ≢ [] }
     {
-        if matches!(reply.status, Status::Busy) {
-            return false;
-        }
         let Ok(ours) = reply.clone() else {
             return false;
         };
@@ -216,29 +208,6 @@ fn exchange(lun: u8, cdb: [u8; 16], payload: &Bytes) -> Result<Exchange, AllocEr
         payload: shared(payload)?,
         reply: Reply::busy(),
     })
-}
-
-// Executes a command on the array.
-fn command<D: Disk + Drop>(
-    array: &mut Array<D>,
-    alloc: Global,
-    host: Host,
-    lun: u8,
-    cdb: [u8; 16],
-    payload: Bytes,
-) -> Reply
-    ensures { Steps array.old (EventOf.Cmd host lun cdb payload) (OutcomeOf.Cmd result) array.new }
-{
-    let event = EventOf::Cmd {
-        host,
-        lun,
-        cdb,
-        payload,
-    };
-    match array.step(alloc, event) {
-        OutcomeOf::Cmd(reply) => reply,
-        _ => unreachable!(),
-    }
 }
 
 // Appends a command to history and transcript, and returns its position in the history.

@@ -1,11 +1,11 @@
-// The array and its history. Until data loss every unit is what its entries make it; presence and length stay so for
-// good (`HistoryAgrees`). The ledger's total is the number of commands in the history.
+// A live array with its history stored: the stored list is the one that contracts see of the live array, so that what is
+// proved of that one (`HistoryAgrees`) is true of it. The ledger's total is the number of commands in the history.
 ghost use Rattle.std.specs.Prelude.{◌≡◌, ◌<◌, ◌+◌, [], ◌∷◌, map};
 ghost use Rattle.ar_history.specs.Counts.{no_counts};
 ghost use Rattle.ar_history.specs.Kept.{HistoryAgrees};
 ghost use Rattle.ar_history.specs.Seat.{SeatState};
 
-use crate::{Counts, Entry, Seat};
+use crate::{Counts, Entry, LiveArray, Seat};
 use ar_core::Array;
 use ar_disks::{Disk, Host};
 use std::alloc::Global;
@@ -19,13 +19,9 @@ use std::sync::ledger::{Blank, Book, Ledger, Share};
 /// them: a READ or WRITE of n sectors keeps 512 n bytes.
 #[derive(Drop)]
 pub struct Kept<D: Disk, L: Ledger> {
-    pub(crate) alloc: Global,
-    pub(crate) array: Array<D>,
+    pub(crate) live: LiveArray<D>,
     pub(crate) history: Vec<Entry>,
     pub(crate) book: Book<L>,
-    pub(crate) counts: Counts,
-    // What has happened to the array; see `Kept::events`.
-    pub(crate) events: u64,
 }
 
 impl<D: Disk, L: Ledger> Model for Kept<D, L> {
@@ -36,14 +32,16 @@ impl<D: Disk, L: Ledger> Model for Kept<D, L> {
     ghost Value = { KeptState };
 
     ghost view = { λ k. record {
-      array = k.array;
+      array = k.live.array;
       history = k.history.items;
       room = vec_capacity k.history;
-      counts = k.counts;
-      events = k.events;
+      counts = k.live.counts;
+      events = k.live.events;
     } };
 
-    ghost invariant = { λ k. HistoryAgrees k.array k.history.items × (k.book.total ≡ count_by is_command k.history.items) };
+    ghost invariant = { λ k. HistoryAgrees k.live.array k.history.items
+        × (k.book.total ≡ count_by is_command k.history.items)
+        × (k.live.history ≡ k.history.items) };
 }
 
 impl<D: Disk, L: Ledger> Kept<D, L> {
@@ -66,12 +64,9 @@ impl<D: Disk, L: Ledger> Kept<D, L> {
     {
         let (book, mut rest) = blank.open::<L>();
         let kept = Kept {
-            alloc,
-            array,
+            live: LiveArray::start(alloc, array),
             history: Vec::new(alloc),
             book,
-            counts: Counts::new(),
-            events: 0,
         };
         (kept, seats(alloc, &mut rest))
     }
@@ -90,14 +85,14 @@ impl<D: Disk, L: Ledger> Kept<D, L> {
         ensures array { result.now ≡ self.now.array }
         ensures kept { HistoryAgrees self.now.array self.now.history }
     {
-        &self.array
+        self.live.array()
     }
 
     /// Returns what was counted since the start.
     pub fn counts(&self) -> Counts
         ensures { result ≡ self.now.counts }
     {
-        self.counts
+        self.live.counts()
     }
 
     /// Returns a number that is raised by each command, each operation, and each step of background work that did
@@ -105,7 +100,7 @@ impl<D: Disk, L: Ledger> Kept<D, L> {
     pub fn events(&self) -> u64
         ensures { result ≡ self.now.events }
     {
-        self.events
+        self.live.events()
     }
 }
 

@@ -1,15 +1,16 @@
 // Operations and background work. Capacity for an entry is reserved before the array acts, so that each create, resize
 // or delete that is done is recorded.
-ghost use Rattle.std.specs.Prelude.{◌≡◌, ◌≢◌, ◌⊎◌, ◌<◌, ◌++◌, true, false, if◌then◌else◌, Some, None, IsTrue, IsOk, OnOk, length, vec_len, vec_capacity};
+ghost use Rattle.std.specs.Prelude.{◌≡◌, ◌≢◌, ◌⊎◌, ◌<◌, ◌++◌, true, false, Some, None, IsTrue, IsOk, OnOk, length, vec_len, vec_capacity};
 ghost use Rattle.ar_volume.specs.Image.{is_broken, image};
 ghost use Rattle.ar_volume.specs.Sectors.{Address};
 ghost use Rattle.ar_core.specs.Step.{Steps, is_quiet};
-ghost use Rattle.ar_history.specs.Counts.{CountsNothing, CountsOperation, CountsTask, raised, task_counts_after};
+ghost use Rattle.ar_history.specs.Counts.{CountsNothing, CountsOperation, CountsTask};
 ghost use Rattle.ar_history.specs.Kept.{HistoryAgrees, MayDouble, StaysKept, history_entry};
-ghost use Rattle.ar_history.specs.Operations.{Does, IsRefused, AllocatesFor, event_of, event_of_task, entry_asked, is_done};
+ghost use Rattle.ar_history.specs.Operations.{Does, IsRefused, AllocatesFor, event_of, event_of_task, entry_asked};
 
-use crate::{Entry, Kept, Operation, OperationOf, Task, is_idle};
-use ar_core::{Array, Event, EventOf, Health, Outcome, OutcomeOf, Refusal, UnitRefusal};
+use crate::live_operate::is_done;
+use crate::{Entry, Kept, Operation, OperationOf, Task};
+use ar_core::{Event, EventOf, Outcome, OutcomeOf, Refusal, UnitRefusal};
 use ar_disks::{Addr, Disk};
 use std::alloc::AllocError;
 use std::sync::ledger::Ledger;
@@ -37,9 +38,10 @@ impl<D: Disk + Drop, L: Ledger> Kept<D, L> {
             → IsRefused self.old.array (event_of operation) result self.new.array }
         ensures memory { AllocatesFor (event_of operation) self.old self.new }
     {
-        let events = self.events.saturating_add(1);
+        // The type's invariant holds before the operation.
+        let _ = &self.live;
         let outcome = self.perform(operation);
-        self.events = events;
+        self.live.count_event();
         outcome
     }
 
@@ -53,23 +55,7 @@ impl<D: Disk + Drop, L: Ledger> Kept<D, L> {
         ensures kept { StaysKept self.old self.new }
         ensures counts { CountsTask self.old task result self.new }
     {
-        let outcome = self.quiet(event_in(task));
-        self.count_task(task, is_idle(&outcome));
-        outcome
-    }
-
-    // Counts a step of background work, unless it was idle.
-    fn count_task(&mut self, task: Task, idle: bool)
-        ensures same { self.new ≡ record self.old { counts = self.new.counts; events = self.new.events } }
-        ensures counts { self.new.counts ≡ (if idle then self.old.counts
-            else record self.old.counts { tasks = task_counts_after self.old.counts.tasks task }) }
-        ensures events { self.new.events ≡ (if idle then self.old.events else raised self.old.events 1) }
-        ensures kept { HistoryAgrees self.new.array self.new.history }
-    {
-        if !idle {
-            self.counts.add_task(task);
-            self.events = self.events.saturating_add(1);
-        }
+        self.live.background(task)
     }
 
     // Executes an operation, and counts nothing.
@@ -147,7 +133,7 @@ impl<D: Disk + Drop, L: Ledger> Kept<D, L> {
         ensures kept { HistoryAgrees self.old.array self.old.history }
         ensures uncounted { CountsNothing self.old self.new }
     {
-        self.array.step(self.alloc, event)
+        self.live.quiet(event)
     }
 
     // Executes an event, and records `entry` if it was done.
@@ -159,7 +145,7 @@ impl<D: Disk + Drop, L: Ledger> Kept<D, L> {
         ensures room { self.new.room ≡ self.old.room }
         ensures uncounted { CountsNothing self.old self.new }
     {
-        let outcome = self.array.step(self.alloc, event);
+        let outcome = self.live.change(event, &entry);
         if is_done(&outcome) {
             self.history.push_reserved(entry);
         }
@@ -179,7 +165,7 @@ impl<D: Disk + Drop, L: Ledger> Kept<D, L> {
         ensures lost { is_broken self.old.array ≡ true → self.new.room ≡ self.old.room }
         ensures uncounted { CountsNothing self.old self.new }
     {
-        is_lost(&self.array) || reserve_place(&mut self.history).is_ok()
+        self.live.is_lost() || reserve_place(&mut self.history).is_ok()
     }
 }
 
@@ -195,35 +181,4 @@ pub(crate) fn reserve_place<T>(list: &mut Vec<T>) -> Result<(), AllocError>
         return Ok(());
     }
     list.reserve_exact(list.len().max(FIRST_PLACES))
-}
-
-// Whether the array has failed.
-pub(crate) fn is_lost<D: Disk>(array: &Array<D>) -> bool
-    ensures { result ≡ is_broken array.now }
-{
-    matches!(array.health(), Health::Broken)
-}
-
-// The event of a piece of background work.
-fn event_in<D: Disk>(task: Task) -> Event<D>
-    ensures event { result ≡ event_of_task task }
-    ensures quiet { is_quiet result ≡ true }
-{
-    match task {
-        Task::Flush => EventOf::Flush,
-        Task::Rebuild => EventOf::Rebuild,
-        Task::Clean => EventOf::Clean,
-        Task::Balance => EventOf::Balance,
-        Task::Demote => EventOf::Demote,
-    }
-}
-
-// Whether a unit was created, extended or deleted.
-fn is_done<D: Disk>(outcome: &Outcome<D>) -> bool
-    ensures { result ≡ is_done outcome.now }
-{
-    matches!(
-        outcome,
-        OutcomeOf::Make(Ok(())) | OutcomeOf::Grow(Ok(())) | OutcomeOf::Remove(Ok(()))
-    )
 }

@@ -1,24 +1,25 @@
-use Rattle.std.proofs.Common.{ℕ, Option, sym, ap, subst, inl}
-use Rattle.ar_core.specs.declared.event.EventOf.TheVariants.{Cmd as CmdEvent}
-use Rattle.ar_core.specs.declared.event.OutcomeOf.TheVariants.{Cmd as CmdOutcome}
-use Rattle.ar_core.specs.Step.{Steps}
+use Rattle.std.proofs.Common.{ℕ, Bool, not, ◌&&◌, Option, sym, ap, subst, inl}
+use Rattle.ar_core.specs.Step.{is_busy}
 use Rattle.ar_history.specs.declared.entry.Exchange.{Exchange}
-use Rattle.ar_history.specs.Kept.{KeptState, HistoryAgrees}
+use Rattle.ar_history.specs.Kept.{KeptState}
 use Rattle.ar_history.specs.Seat.{SeatState}
-use Rattle.ar_history.specs.Serving.{ServesHost, LeavesStorage}
+use Rattle.ar_history.specs.Serving.{ServesCommand, ServesHost, LeavesStorage}
 use Rattle.ar_volume.specs.Image.{ArrayState}
-use Rattle.ar_history.proofs.Commands.{unrecorded_lost, serves_from}
+use Rattle.ar_history.proofs.Commands.{unrecorded, serves_from}
 use Rattle.ar_history.proofs.Memory.{begun_does, leaves_blocks}
 use Rattle.ar_history.proofs.kept.Kept.execute.Goals as goal
 
 pub returns-then-is_lost-clause-serves : goal.returns-then-is_lost-clause-serves
 returns-then-is_lost-clause-serves g c =
-    let kept : HistoryAgrees c.args.self.now.array c.args.self.now.history = subst (λ (k : KeptState). HistoryAgrees k.array k.history) c.self.view_is c.self.invariant.0 in
-    let steps : Steps c.args.self.now.array (CmdEvent c.args.seat.now.host c.args.lun c.args.cdb c.args.payload) (CmdOutcome c.unrecorded.result.reply) c.unrecorded.new.self.array =
-    subst (λ (s : SeatState). Steps c.args.self.now.array (CmdEvent s.host c.args.lun c.args.cdb c.args.payload) (CmdOutcome c.unrecorded.result.reply) c.unrecorded.new.self.array)
-    c.seat.view_is c.unrecorded.ensures.steps in
-    subst (λ (at : Option ℕ). ServesHost c.args.self.now c.args.seat.now c.args.lun c.args.cdb c.args.payload c.unrecorded.result.reply at c.unrecorded.new.self c.args.seat.now) (sym c.unrecorded.ensures.at)
-    (unrecorded_lost c.args.self.now c.args.seat.now c.args.lun c.args.cdb c.args.payload c.unrecorded.result.reply c.unrecorded.new.self kept steps c.unrecorded.ensures.broken c.unrecorded.ensures.history)
+    let old = c.args.self.now in
+    let new = c.unrecorded.new.self in
+    let reply = c.unrecorded.result.reply in
+    let serves : ServesCommand old.array old.history c.args.seat.now.host c.args.lun c.args.cdb c.args.payload reply new.array new.history =
+    subst (λ (s : SeatState). ServesCommand old.array old.history s.host c.args.lun c.args.cdb c.args.payload reply new.array new.history)
+    c.seat.view_is c.unrecorded.ensures.serves in
+    subst (λ (at : Option ℕ). ServesHost old c.args.seat.now c.args.lun c.args.cdb c.args.payload reply at new c.args.seat.now) (sym c.unrecorded.ensures.at)
+    (unrecorded old c.args.seat.now c.args.lun c.args.cdb c.args.payload reply new serves
+    (ap (λ (b : Bool). not b && not (is_busy reply.status)) c.unrecorded.ensures.broken))
 
 pub returns-then-is_lost-clause-busy : goal.returns-then-is_lost-clause-busy
 returns-then-is_lost-clause-busy g c =

@@ -1,10 +1,12 @@
-use Rattle.ar_history.proofs.Changing.{quiet_none}
-use Rattle.ar_history.proofs.Keeping.{kept_same}
+use Rattle.std.proofs.Common.{◌≡◌, List, subst, ◌∙◌}
+use Rattle.ar_history.specs.declared.entry.Entry.{Entry}
+use Rattle.ar_history.specs.Kept.{HistoryAgrees}
 use Rattle.ar_history.proofs.kept.Kept.quiet.Goals as goal
 
 pub invariant_of-self : goal.invariant_of-self
-invariant_of-self g c = (
-  kept_same c.self.inside.array c.step.new.self c.args.event c.step.result c.self.inside.history.items c.self.invariant.0 c.step.ensures
-      (λ a. quiet_none c.args.event c.step.result a c.requires),
-  c.self.invariant.1,
-)
+invariant_of-self g c =
+    let same : c.quiet.new.self.history ≡ c.self.inside.history.items = c.quiet.ensures.history ∙ c.self.invariant.2 in (
+      subst (λ (l : List Entry). HistoryAgrees c.quiet.new.self.array l) same c.quiet.ensures.kept.after,
+      c.self.invariant.1,
+      same,
+    )
