@@ -26,6 +26,7 @@ impl<D: Disk + Drop> LiveArray<D> {
         ensures steps { Steps self.old.array (EventOf.Cmd host lun cdb payload) (OutcomeOf.Cmd result) self.new.array }
         ensures kept { StaysKept self.old self.new }
         ensures counts { CountsCommand self.old host.number (length payload) result self.new }
+        ensures room { self.new.room ≡ self.old.room }
         ensures busy { is_busy result.status ≡ true → LeavesStorage self.old.array self.new.array }
     {
         let sent = payload.len() as u64;
@@ -41,6 +42,7 @@ impl<D: Disk + Drop> LiveArray<D> {
         ensures kept { StaysKept self.old self.new }
         // A reply with bytes has changed no unit.
         ensures bytes { result.payload ≢ [] → HistoryAgrees self.new.array self.old.history }
+        ensures room { self.new.room ≡ self.old.room }
         ensures uncounted { CountsNothing self.old self.new }
     {
         let asked = Asked {

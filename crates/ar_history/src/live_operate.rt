@@ -18,6 +18,7 @@ impl<D: Disk + Drop> LiveArray<D> {
     pub fn operate(&mut self, operation: Operation<D>) -> Outcome<D>
         ensures steps { Steps self.old.array (event_of operation) result self.new.array }
         ensures recorded { self.new.history ≡ self.old.history ++ history_entry (event_of operation) result }
+        ensures room { self.new.room ≡ self.old.room }
         ensures kept { StaysKept self.old self.new }
         ensures counts { CountsOperation self.old self.new }
     {
@@ -31,6 +32,7 @@ impl<D: Disk + Drop> LiveArray<D> {
     pub fn background(&mut self, task: Task) -> Outcome<D>
         ensures steps { Steps self.old.array (event_of_task task) result self.new.array }
         ensures history { self.new.history ≡ self.old.history }
+        ensures room { self.new.room ≡ self.old.room }
         ensures images { is_broken self.new.array ≡ false → (a : Address) → image self.new.array a ≡ image self.old.array a }
         ensures kept { StaysKept self.old self.new }
         ensures counts { CountsTask self.old task result self.new }
@@ -44,6 +46,7 @@ impl<D: Disk + Drop> LiveArray<D> {
     fn perform(&mut self, operation: Operation<D>) -> Outcome<D>
         ensures steps { Steps self.old.array (event_of operation) result self.new.array }
         ensures recorded { self.new.history ≡ self.old.history ++ history_entry (event_of operation) result }
+        ensures room { self.new.room ≡ self.old.room }
         ensures kept { StaysKept self.old self.new }
         ensures uncounted { CountsNothing self.old self.new }
     {
@@ -60,6 +63,7 @@ impl<D: Disk + Drop> LiveArray<D> {
     fn make(&mut self, addr: Addr, sectors: u32) -> Outcome<D>
         ensures steps { Steps self.old.array (EventOf.Make addr sectors) result self.new.array }
         ensures recorded { self.new.history ≡ self.old.history ++ history_entry (EventOf.Make addr sectors) result }
+        ensures room { self.new.room ≡ self.old.room }
         ensures kept { StaysKept self.old self.new }
         ensures uncounted { CountsNothing self.old self.new }
     {
@@ -70,6 +74,7 @@ impl<D: Disk + Drop> LiveArray<D> {
     fn grow(&mut self, addr: Addr, sectors: u32) -> Outcome<D>
         ensures steps { Steps self.old.array (EventOf.Grow addr sectors) result self.new.array }
         ensures recorded { self.new.history ≡ self.old.history ++ history_entry (EventOf.Grow addr sectors) result }
+        ensures room { self.new.room ≡ self.old.room }
         ensures kept { StaysKept self.old self.new }
         ensures uncounted { CountsNothing self.old self.new }
     {
@@ -80,6 +85,7 @@ impl<D: Disk + Drop> LiveArray<D> {
     fn remove(&mut self, addr: Addr) -> Outcome<D>
         ensures steps { Steps self.old.array (EventOf.Remove addr) result self.new.array }
         ensures recorded { self.new.history ≡ self.old.history ++ history_entry (EventOf.Remove addr) result }
+        ensures room { self.new.room ≡ self.old.room }
         ensures kept { StaysKept self.old self.new }
         ensures uncounted { CountsNothing self.old self.new }
     {
@@ -92,6 +98,7 @@ impl<D: Disk + Drop> LiveArray<D> {
         requires { is_quiet event ≡ true }
         ensures steps { Steps self.old.array event result self.new.array }
         ensures history { self.new.history ≡ self.old.history }
+        ensures room { self.new.room ≡ self.old.room }
         ensures images { is_broken self.new.array ≡ false → (a : Address) → image self.new.array a ≡ image self.old.array a }
         ensures kept { StaysKept self.old self.new }
         ensures uncounted { CountsNothing self.old self.new }
@@ -105,6 +112,7 @@ impl<D: Disk + Drop> LiveArray<D> {
         ensures steps { Steps self.old.array event result self.new.array }
         ensures recorded { self.new.history ≡ self.old.history ++ history_entry event result }
         ensures entry { history_entry event result ≡ (if is_done result then entry.now ∷ [] else []) }
+        ensures room { self.new.room ≡ self.old.room }
         ensures kept { StaysKept self.old self.new }
         ensures uncounted { CountsNothing self.old self.new }
     {
