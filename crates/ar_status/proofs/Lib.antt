@@ -1,0 +1,2 @@
+mod Connecting
+mod Shifting

@@ -1,0 +1,69 @@
+-- What is answered to a method and a path.
+use Rattle.std.specs.Prelude.{◌≡◌, ℕ, Bool, true, false, ◌||◌, if◌then◌else◌, List, [], ◌∷◌, ◌++◌, codes, bytes_eq, decimal}
+use Rattle.std.specs.List.{join_with_byte}
+use Rattle.http1.specs.Fields.{Header}
+use Rattle.ar_status.specs.declared.answer.Answer.{Answer}
+use Rattle.ar_status.specs.declared.answer.Answer.TheVariants as answers
+use Rattle.ar_status.specs.declared.status.ArrayHealth.{ArrayHealth}
+use Rattle.ar_status.specs.declared.status.ArrayHealth.TheVariants.{Whole, Out, Rebuilding, Broken}
+use Rattle.ar_status.specs.declared.status.ArrayStatus.{ArrayStatus}
+
+-- what is at a path
+abbrev pub answer_at : List ℕ → Answer
+answer_at path =
+    if bytes_eq path (codes "/") then answers.Page else (
+    if bytes_eq path (codes "/picture.svg") then answers.Picture else (
+    if bytes_eq path (codes "/metrics") then answers.Metrics else (
+    if bytes_eq path (codes "/status.json") then answers.Json else (
+    if bytes_eq path (codes "/healthz") then answers.Health else answers.NotFound))))
+
+-- the answer to a method and a path: HEAD has that of GET, and any other method none
+abbrev pub answer_for : List ℕ → List ℕ → Answer
+answer_for method path =
+    if bytes_eq method (codes "GET") || bytes_eq method (codes "HEAD") then answer_at path else answers.NotAllowed
+
+-- all disks are present
+abbrev pub all_present : ArrayHealth → Bool
+all_present Whole = true
+all_present health = false
+
+-- the status code
+abbrev pub code_of : Answer → ArrayHealth → ℕ
+code_of answers.Health health = if all_present health then 200 else 503
+code_of answers.NotFound health = 404
+code_of answers.NotAllowed health = 405
+code_of answer health = 200
+
+-- the media type
+abbrev pub media_type_of : Answer → List ℕ
+media_type_of answers.Page = codes "text/html; charset=utf-8"
+media_type_of answers.Picture = codes "image/svg+xml"
+media_type_of answers.Metrics = codes "text/plain; version=0.0.4; charset=utf-8"
+media_type_of answers.Json = codes "application/json"
+media_type_of answer = codes "text/plain; charset=utf-8"
+
+-- where a method isn't allowed, those that are
+abbrev pub allowed_in : Answer → List Header
+allowed_in answers.NotAllowed = (codes "allow", codes "GET, HEAD") ∷ []
+allowed_in answer = []
+
+-- the header fields
+abbrev pub fields_in : Answer → List Header
+fields_in answer =
+    (codes "content-type", media_type_of answer) ∷ (codes "cache-control", codes "no-store") ∷ (codes "connection", codes "close")
+    ∷ allowed_in answer
+
+-- the health as a line, in the words of a script
+abbrev pub health_words : ArrayHealth → List ℕ
+health_words Whole = codes "whole\n"
+health_words (Out disk) = codes "out " ++ decimal disk ++ 10 ∷ []
+health_words (Rebuilding disk done) = join_with_byte 32 (codes "rebuilding" ∷ decimal disk ∷ decimal done ∷ []) ++ 10 ∷ []
+health_words Broken = codes "broken\n"
+
+-- The body. The texts of metrics and of JSON are not specified, nor is the page.
+abbrev pub IsBodyOf : Answer → ArrayStatus → List ℕ → List ℕ → Type 0
+IsBodyOf answers.Picture status picture body = body ≡ picture
+IsBodyOf answers.Health status picture body = body ≡ health_words status.health
+IsBodyOf answers.NotFound status picture body = body ≡ codes "not found\n"
+IsBodyOf answers.NotAllowed status picture body = body ≡ codes "method not allowed\n"
+IsBodyOf answer status picture body = Unit {0}

@@ -1,0 +1,79 @@
+// Which answer a method and a path have, with its status code and its media type.
+ghost use Rattle.std.specs.Prelude.{◌≡◌};
+ghost use Rattle.http_header.specs.FieldValue.{plain_value};
+ghost use Rattle.ar_status.specs.Answers.{answer_at, answer_for, code_of, media_type_of};
+
+use crate::ArrayHealth;
+use http::{HeaderValue, StatusCode};
+
+/// What a request is answered with.
+#[derive(Clone, Copy, Debug, PartialEq, Eq)]
+pub enum Answer {
+    /// `/`: the page.
+    Page,
+    /// `/picture.svg`: the picture of the array.
+    Picture,
+    /// `/metrics`: counters and gauges, for Prometheus.
+    Metrics,
+    /// `/status.json`: the status as data.
+    Json,
+    /// `/healthz`: 200 if all disks are present, and otherwise 503.
+    Health,
+    /// There is nothing at the path: 404.
+    NotFound,
+    /// The method is neither GET nor HEAD: 405, whatever the path.
+    NotAllowed,
+}
+
+/// Returns the answer to a method at a path.
+pub fn answer_to(method: &str, path: &str) -> Answer
+    ensures { result ≡ answer_for method.now path.now }
+{
+    match method {
+        "GET" | "HEAD" => answer_at(path),
+        _ => Answer::NotAllowed,
+    }
+}
+
+// What is at a path.
+fn answer_at(path: &str) -> Answer
+    ensures { result ≡ answer_at path.now }
+{
+    match path {
+        "/" => Answer::Page,
+        "/picture.svg" => Answer::Picture,
+        "/metrics" => Answer::Metrics,
+        "/status.json" => Answer::Json,
+        "/healthz" => Answer::Health,
+        _ => Answer::NotFound,
+    }
+}
+
+impl Answer {
+    /// Returns the status code.
+    pub fn code(self, health: ArrayHealth) -> StatusCode
+        ensures { result ≡ code_of self health }
+    {
+        match self {
+            Answer::Health if !health.is_whole() => StatusCode::SERVICE_UNAVAILABLE,
+            Answer::NotFound => StatusCode::NOT_FOUND,
+            Answer::NotAllowed => StatusCode::METHOD_NOT_ALLOWED,
+            _ => StatusCode::OK,
+        }
+    }
+
+    /// Returns the media type.
+    pub fn media_type(self) -> HeaderValue
+        ensures { result ≡ plain_value (media_type_of self) }
+    {
+        match self {
+            Answer::Page => HeaderValue::from_static("text/html; charset=utf-8"),
+            Answer::Picture => HeaderValue::from_static("image/svg+xml"),
+            Answer::Metrics => {
+                HeaderValue::from_static("text/plain; version=0.0.4; charset=utf-8")
+            }
+            Answer::Json => HeaderValue::from_static("application/json"),
+            _ => HeaderValue::from_static("text/plain; charset=utf-8"),
+        }
+    }
+}

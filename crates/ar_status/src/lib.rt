@@ -1,0 +1,19 @@
+//! A served array over HTTP, for browsers and for Prometheus: from plain numbers to responses. It uses no thread, no
+//! socket and no array: any `Read` and `Write` will do, and anything that is `Watched`.
+#![tactic(auto)]
+
+mod answer;
+mod events;
+mod metrics;
+mod page;
+mod response;
+mod serve;
+mod status;
+
+pub use answer::{Answer, answer_to};
+pub use events::{EVENTS_MAX, EventKind, RecentEvent, RecentEvents};
+pub use metrics::write_metrics;
+pub use page::PAGE;
+pub use response::{Look, respond};
+pub use serve::{HEAD_MAX, Watched, serve_connection};
+pub use status::{ArrayHealth, ArrayStatus, HostCounters, MaintenanceSteps};

@@ -1,0 +1,105 @@
+// From a request's method and path, and a look at the array, to a response.
+ghost use Rattle.std.specs.Prelude.{◌≡◌, [], ◌++◌, IfOk, OnOk};
+ghost use Rattle.http_server.specs.Response.{IsBlank, fields_of};
+ghost use Rattle.ar_status.specs.Answers.{IsBodyOf, answer_for, code_of, fields_in, health_words};
+
+use crate::status::write_health;
+use crate::{Answer, ArrayHealth, ArrayStatus, PAGE, answer_to, write_metrics};
+use bytes::Bytes;
+use http::{HeaderName, HeaderValue};
+use http_server::Response;
+use std::alloc::{AllocError, Global};
+
+/// A served array, as it was at one moment.
+#[derive(Drop)]
+pub struct Look {
+    pub status: ArrayStatus,
+    /// The picture as an SVG; empty if none was asked for.
+    pub picture: Vec<u8>,
+}
+
+/// Fills the response to a method at a path. HEAD has the response of GET: the connection leaves its body out. It fails
+/// only when out of memory.
+pub fn respond(
+    alloc: Global,
+    method: &str,
+    path: &str,
+    look: Look,
+    response: &mut Response,
+) -> Result<(), AllocError>
+    requires blank { IsBlank response.old }
+    ensures code { OnOk result (response.new.status ≡ code_of (answer_for method.now path.now) look.status.health) }
+    ensures fields { OnOk result (fields_of response.new ≡ fields_in (answer_for method.now path.now)) }
+    ensures body { OnOk result (IsBodyOf (answer_for method.now path.now) look.status look.picture.items response.new.body.items) }
+{
+    let answer = answer_to(method, path);
+    response.status = answer.code(look.status.health);
+    add_fields(response, answer)?;
+    let body = body_of(alloc, answer, look)?;
+    response.body.push(body)
+}
+
+// Adds the header fields.
+fn add_fields(response: &mut Response, answer: Answer) -> Result<(), AllocError>
+    requires { fields_of response.old ≡ [] }
+    ensures fields { OnOk result (fields_of response.new ≡ fields_in answer) }
+    ensures code { response.new.status ≡ response.old.status }
+    ensures body { response.new.body ≡ response.old.body }
+{
+    response.add_header(HeaderName::from_static("content-type"), answer.media_type())?;
+    response.add_header(
+        HeaderName::from_static("cache-control"),
+        HeaderValue::from_static("no-store"),
+    )?;
+    response.add_header(
+        HeaderName::from_static("connection"),
+        HeaderValue::from_static("close"),
+    )?;
+    match answer {
+        Answer::NotAllowed => response.add_header(
+            HeaderName::from_static("allow"),
+            HeaderValue::from_static("GET, HEAD"),
+        ),
+        _ => Ok(()),
+    }
+}
+
+// The body.
+fn body_of(alloc: Global, answer: Answer, look: Look) -> Result<Bytes, AllocError>
+    ensures { IfOk result (λ body. IsBodyOf answer look.status look.picture.items body) }
+{
+    match answer {
+        Answer::Page => Ok(Bytes::from_static(PAGE.as_bytes())),
+        Answer::Picture => shared(look.picture),
+        Answer::Metrics => metrics_of(alloc, &look.status),
+        Answer::Json => json_of(alloc, &look.status),
+        Answer::Health => health_of(alloc, look.status.health),
+        Answer::NotFound => Ok(Bytes::from_static(b"not found\n")),
+        Answer::NotAllowed => Ok(Bytes::from_static(b"method not allowed\n")),
+    }
+}
+
+fn metrics_of(alloc: Global, status: &ArrayStatus) -> Result<Bytes, AllocError> {
+    let mut text = Vec::new(alloc);
+    write_metrics(&mut text, status).map_err(|_| AllocError)?;
+    shared(text)
+}
+
+fn json_of(alloc: Global, status: &ArrayStatus) -> Result<Bytes, AllocError> {
+    shared(serde_json::to_vec(alloc, status).map_err(|_| AllocError)?)
+}
+
+fn health_of(alloc: Global, health: ArrayHealth) -> Result<Bytes, AllocError>
+    ensures { IfOk result (λ body. body ≡ health_words health) }
+{
+    let mut text = Vec::new(alloc);
+    write_health(&mut text, health).map_err(|_| AllocError)?;
+    shared(text)
+}
+
+// A text as bytes that are sent from where they are.
+fn shared(text: Vec<u8>) -> Result<Bytes, AllocError>
+    ensures { IfOk result (λ bytes. bytes ≡ text.items) }
+{
+    Bytes::from_vec(text).map_err(|_| AllocError)
+}

@@ -1,0 +1,82 @@
+// A connection: a request is read, answered and done. The kit's `http_server` reads and writes HTTP, within these limits.
+ghost use Rattle.std.specs.Prelude.{◌≡◌, ℕ, List, IfOk, OnOk};
+ghost use Rattle.ar_status.specs.Serving.{RespondsByLook, ServesConnection};
+
+use crate::{Answer, ArrayStatus, Look, answer_to, respond};
+use bytes::Bytes;
+use http::Request;
+use http_server::{Config, Connection, Response, Service, serve};
+use http1::Limits;
+use std::alloc::{AllocError, Global};
+use std::hash::RandomState;
+use std::io;
+use std::io::{Read, Write};
+
+/// Bytes that the head of a request has at most: its request line and its fields. A request line that is longer is
+/// answered with 414, and fields that are with 431.
+pub const HEAD_MAX: usize = 8 * 1024;
+
+/// The limits of a connection. No request has a body.
+const CONFIG: Config = Config {
+    limits: Limits {
+        max_head_len: HEAD_MAX,
+        max_extensions_len: 0,
+        max_trailers_len: 2,
+    },
+    max_body_len: 0,
+    max_pending: 64 * 1024,
+    read_size: 1024,
+};
+
+/// A served array, as it may be watched.
+pub trait Watched {
+    ghost use Rattle.ar_status.specs.declared.status.ArrayStatus.{ArrayStatus};
+
+    /// What a look may show: the array, its status, its picture.
+    ghost shows: { Self → ArrayStatus → List ℕ → Type 0 };
+
+    /// Looks at the array. Its picture is drawn if `draws` is set, and otherwise left empty. It fails only when out of
+    /// memory.
+    fn look(&self, alloc: Global, draws: bool) -> Result<Look, AllocError>
+        ensures { IfOk result (λ look. shows self.now look.status look.picture.items) };
+}
+
+// Answers requests by looks at an array, each once its request has come whole.
+#[derive(Drop)]
+struct Watcher<'a, V: Watched> {
+    alloc: Global,
+    watched: &'a V,
+}
+
+impl<V: Watched> Service for Watcher<'_, V> {
+    ghost answers = { λ old request response new. RespondsByLook V.shows old.watched.now request response × (new ≡ old) };
+
+    fn call(
+        &mut self,
+        request: &Request<Bytes>,
+        response: &mut Response,
+    ) -> Result<(), AllocError> {
+        let (method, path) = (request.method().as_str(), request.uri().path());
+        let draws = matches!(answer_to(method, path), Answer::Picture);
+        let look = self.watched.look(self.alloc, draws)?;
+        respond(self.alloc, method, path, look, response)
+    }
+}
+
+/// Reads the request of a connection, and answers it by a look at the array. A request that isn't HTTP, has a head of more
+/// than `HEAD_MAX` bytes, or a body, is answered with a status that says so. The keys are those of the maps of header
+/// fields, whose names the peer chooses. If it fails, a read or a write has failed.
+pub fn serve_connection<V: Watched, R: Read, W: Write>(
+    alloc: Global,
+    keys: RandomState,
+    watched: &V,
+    reader: &mut R,
+    writer: &mut W,
+) -> io::Result<()>
+    ensures { OnOk result (ServesConnection V.shows watched.now
+        (R.remaining reader.old) (R.remaining reader.new) (W.contents writer.old) (W.contents writer.new)) }
+{
+    let mut service = Watcher { alloc, watched };
+    let mut connection = Connection::new(alloc, keys, CONFIG);
+    serve(&mut connection, &mut service, reader, writer)
+}

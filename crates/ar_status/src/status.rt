@@ -1,0 +1,102 @@
+// What is shown of a served array. It has numbers alone, so that no text from outside gets into a response.
+ghost use Rattle.std.specs.Prelude.{◌≡◌, OnOk};
+ghost use Rattle.std.specs.Io.KnownBytes.{Appends};
+ghost use Rattle.ar_status.specs.Answers.{all_present, health_words};
+
+use crate::RecentEvents;
+use serde::Serialize;
+use std::io;
+use std::io::Write;
+
+/// A served array at one moment. Whoever owns it copies these numbers under its lock.
+#[derive(Clone, Copy, Debug, PartialEq, Eq, Serialize)]
+pub struct ArrayStatus {
+    /// Seconds since the service began.
+    pub uptime_seconds: u64,
+    pub health: ArrayHealth,
+    pub disks: u8,
+    /// Extents of each disk.
+    pub extents: u16,
+    pub groups: u32,
+    pub free_groups: u32,
+    /// Bytes of a block.
+    pub block_bytes: u32,
+    /// Blocks that units may still be given.
+    pub room_blocks: u64,
+    /// Blocks in the cache.
+    pub cached_blocks: u64,
+    /// Entries of the stored history, and the memory that they take.
+    pub history_entries: u64,
+    pub history_bytes: u64,
+    /// By host, 0 to 3.
+    pub hosts: [HostCounters; 4],
+    pub steps: MaintenanceSteps,
+    pub events: RecentEvents,
+}
+
+/// The health of the disks.
+#[derive(Clone, Copy, Debug, PartialEq, Eq, Serialize)]
+#[serde(tag = "state", rename_all = "snake_case")]
+pub enum ArrayHealth {
+    /// Healthy: all disks are present.
+    Whole,
+    /// This disk has failed.
+    Out { disk: u8 },
+    /// This disk was replaced, and `done` of its extents are rebuilt.
+    Rebuilding { disk: u8, done: u16 },
+    /// The array has failed: two disks were missing at once, and the data are lost.
+    Broken,
+}
+
+/// What was done for one host since the start. The numbers saturate.
+#[derive(Clone, Copy, Debug, PartialEq, Eq, Serialize)]
+pub struct HostCounters {
+    /// Commands with a reply other than BUSY.
+    pub commands: u64,
+    /// Bytes returned in replies.
+    pub read_bytes: u64,
+    /// Bytes of data-out of commands that ended with GOOD.
+    pub written_bytes: u64,
+}
+
+/// Maintenance steps that did something since the start, by kind. The numbers saturate.
+#[derive(Clone, Copy, Debug, PartialEq, Eq, Serialize)]
+pub struct MaintenanceSteps {
+    pub flush: u64,
+    pub demote: u64,
+    pub clean: u64,
+    pub balance: u64,
+    pub rebuild: u64,
+}
+
+impl ArrayHealth {
+    /// Whether all disks are present.
+    pub fn is_whole(self) -> bool
+        ensures { result ≡ all_present self }
+    {
+        matches!(self, ArrayHealth::Whole)
+    }
+
+    // Whether a disk is present and rebuilt. On a failed array none is.
+    pub(crate) fn is_healthy(self, disk: u8) -> bool {
+        match self {
+            ArrayHealth::Whole => true,
+            ArrayHealth::Out { disk: failed } | ArrayHealth::Rebuilding { disk: failed, .. } => {
+                failed != disk
+            }
+            ArrayHealth::Broken => false,
+        }
+    }
+}
+
+/// Writes the health as a line, in the words of a script: `whole`, `out D`, `rebuilding D DONE` or `broken`.
+pub(crate) fn write_health<W: Write>(out: &mut W, health: ArrayHealth) -> io::Result<()>
+    ensures { OnOk result (Appends (W.contents out.old) (W.contents out.new) (health_words health)) }
+{
+    match health {
+        ArrayHealth::Whole => writeln!(out, "whole"),
+        ArrayHealth::Out { disk } => writeln!(out, "out {disk}"),
+        ArrayHealth::Rebuilding { disk, done } => writeln!(out, "rebuilding {disk} {done}"),
+        ArrayHealth::Broken => writeln!(out, "broken"),
+    }
+}
