@@ -1,0 +1,256 @@
+// Each path, byte for byte.
+use crate::rig::{PICTURE, Wanted, array_in, responds};
+use ar_status::{ArrayHealth, PAGE};
+use std::hash::RandomState;
+use std::str;
+
+const REBUILDING: ArrayHealth = ArrayHealth::Rebuilding { disk: 3, done: 12 };
+
+const PLAIN: &str = "text/plain; charset=utf-8";
+
+// A response with code 200.
+fn found<'a>(media_type: &'a str, body: &'a str) -> Wanted<'a> {
+    Wanted {
+        code: "200 OK",
+        media_type,
+        more: "",
+        body,
+    }
+}
+
+#[test]
+fn page_and_picture(rt: HostRuntime) {
+    let keys = RandomState::new(&rt).expect(&rt, "keys");
+    let picture = str::from_utf8(PICTURE).expect(&rt, "text");
+    for (request, wanted) in [
+        (
+            &b"GET / HTTP/1.1\r\nHost: h\r\n\r\n"[..],
+            found("text/html; charset=utf-8", PAGE),
+        ),
+        (
+            b"HEAD / HTTP/1.1\r\nHost: h\r\n\r\n",
+            found("text/html; charset=utf-8", PAGE),
+        ),
+        (
+            b"GET /?a=b HTTP/1.1\r\nHost: h\r\n\r\n",
+            found("text/html; charset=utf-8", PAGE),
+        ),
+        (
+            b"GET /picture.svg HTTP/1.1\r\nHost: h\r\n\r\n",
+            found("image/svg+xml", picture),
+        ),
+        (
+            b"HEAD /picture.svg HTTP/1.1\r\nHost: h\r\n\r\n",
+            found("image/svg+xml", picture),
+        ),
+    ] {
+        responds(
+            &rt,
+            rt.alloc(),
+            keys,
+            &array_in(REBUILDING),
+            request,
+            wanted,
+        );
+    }
+}
+
+const JSON: &str = "\
+{\"uptime_seconds\":61,\"health\":{\"state\":\"rebuilding\",\"disk\":3,\"done\":12},\"disks\":5,\"extents\":64,\
+\"groups\":80,\"free_groups\":7,\"block_bytes\":1024,\"room_blocks\":18,\"cached_blocks\":2,\
+\"history_entries\":9,\"history_bytes\":4096,\"hosts\":[\
+{\"commands\":1,\"read_bytes\":2,\"written_bytes\":3},\
+{\"commands\":0,\"read_bytes\":0,\"written_bytes\":0},\
+{\"commands\":18446744073709551615,\"read_bytes\":7,\"written_bytes\":8},\
+{\"commands\":4,\"read_bytes\":5,\"written_bytes\":6}],\
+\"steps\":{\"flush\":1,\"demote\":2,\"clean\":3,\"balance\":4,\"rebuild\":5},\
+\"events\":[{\"seconds\":60,\"kind\":\"disk_replaced\",\"disk\":3},\
+{\"seconds\":7,\"kind\":\"disk_failed\",\"disk\":3}]}";
+
+#[test]
+fn status_as_json(rt: HostRuntime) {
+    let keys = RandomState::new(&rt).expect(&rt, "keys");
+    for request in [
+        &b"GET /status.json HTTP/1.1\r\nHost: h\r\n\r\n"[..],
+        b"HEAD /status.json HTTP/1.1\r\nHost: h\r\n\r\n",
+    ] {
+        let wanted = found("application/json", JSON);
+        responds(
+            &rt,
+            rt.alloc(),
+            keys,
+            &array_in(REBUILDING),
+            request,
+            wanted,
+        );
+    }
+}
+
+const METRICS: &str = "\
+# HELP autoraid_uptime_seconds Seconds since the service began.
+# TYPE autoraid_uptime_seconds gauge
+autoraid_uptime_seconds 61
+# HELP autoraid_disks Disks.
+# TYPE autoraid_disks gauge
+autoraid_disks 5
+# HELP autoraid_disk_extents Extents of each disk.
+# TYPE autoraid_disk_extents gauge
+autoraid_disk_extents 64
+# HELP autoraid_rebuild_extents_left Extents still to be rebuilt.
+# TYPE autoraid_rebuild_extents_left gauge
+autoraid_rebuild_extents_left 52
+# HELP autoraid_groups Groups of extents.
+# TYPE autoraid_groups gauge
+autoraid_groups 80
+# HELP autoraid_free_groups Groups that hold no block.
+# TYPE autoraid_free_groups gauge
+autoraid_free_groups 7
+# HELP autoraid_block_bytes Bytes of a block.
+# TYPE autoraid_block_bytes gauge
+autoraid_block_bytes 1024
+# HELP autoraid_room_blocks Blocks that units may still be given.
+# TYPE autoraid_room_blocks gauge
+autoraid_room_blocks 18
+# HELP autoraid_cached_blocks Blocks in the cache.
+# TYPE autoraid_cached_blocks gauge
+autoraid_cached_blocks 2
+# HELP autoraid_history_entries Entries of the stored history.
+# TYPE autoraid_history_entries gauge
+autoraid_history_entries 9
+# HELP autoraid_history_bytes Memory of the stored history.
+# TYPE autoraid_history_bytes gauge
+autoraid_history_bytes 4096
+# HELP autoraid_state 1 for the state of the array, 0 for the others.
+# TYPE autoraid_state gauge
+autoraid_state{state=\"whole\"} 0
+autoraid_state{state=\"out\"} 0
+autoraid_state{state=\"rebuilding\"} 1
+autoraid_state{state=\"broken\"} 0
+# HELP autoraid_disk_healthy 1 for a disk that is present and rebuilt.
+# TYPE autoraid_disk_healthy gauge
+autoraid_disk_healthy{disk=\"0\"} 1
+autoraid_disk_healthy{disk=\"1\"} 1
+autoraid_disk_healthy{disk=\"2\"} 1
+autoraid_disk_healthy{disk=\"3\"} 0
+autoraid_disk_healthy{disk=\"4\"} 1
+# HELP autoraid_host_commands_total Commands with a reply other than BUSY.
+# TYPE autoraid_host_commands_total counter
+autoraid_host_commands_total{host=\"0\"} 1
+autoraid_host_commands_total{host=\"1\"} 0
+autoraid_host_commands_total{host=\"2\"} 18446744073709551615
+autoraid_host_commands_total{host=\"3\"} 4
+# HELP autoraid_host_read_bytes_total Bytes returned to hosts.
+# TYPE autoraid_host_read_bytes_total counter
+autoraid_host_read_bytes_total{host=\"0\"} 2
+autoraid_host_read_bytes_total{host=\"1\"} 0
+autoraid_host_read_bytes_total{host=\"2\"} 7
+autoraid_host_read_bytes_total{host=\"3\"} 5
+# HELP autoraid_host_written_bytes_total Bytes that hosts wrote.
+# TYPE autoraid_host_written_bytes_total counter
+autoraid_host_written_bytes_total{host=\"0\"} 3
+autoraid_host_written_bytes_total{host=\"1\"} 0
+autoraid_host_written_bytes_total{host=\"2\"} 8
+autoraid_host_written_bytes_total{host=\"3\"} 6
+# HELP autoraid_maintenance_steps_total Steps that did something.
+# TYPE autoraid_maintenance_steps_total counter
+autoraid_maintenance_steps_total{kind=\"flush\"} 1
+autoraid_maintenance_steps_total{kind=\"demote\"} 2
+autoraid_maintenance_steps_total{kind=\"clean\"} 3
+autoraid_maintenance_steps_total{kind=\"balance\"} 4
+autoraid_maintenance_steps_total{kind=\"rebuild\"} 5
+";
+
+#[test]
+fn metrics_for_prometheus(rt: HostRuntime) {
+    let keys = RandomState::new(&rt).expect(&rt, "keys");
+    for request in [
+        &b"GET /metrics HTTP/1.1\r\nHost: h\r\n\r\n"[..],
+        b"HEAD /metrics HTTP/1.1\r\nHost: h\r\n\r\n",
+    ] {
+        let wanted = found("text/plain; version=0.0.4; charset=utf-8", METRICS);
+        responds(
+            &rt,
+            rt.alloc(),
+            keys,
+            &array_in(REBUILDING),
+            request,
+            wanted,
+        );
+    }
+}
+
+#[test]
+fn health(rt: HostRuntime) {
+    let keys = RandomState::new(&rt).expect(&rt, "keys");
+    for (health, code, body) in [
+        (ArrayHealth::Whole, "200 OK", "whole\n"),
+        (
+            ArrayHealth::Out { disk: 3 },
+            "503 Service Unavailable",
+            "out 3\n",
+        ),
+        (REBUILDING, "503 Service Unavailable", "rebuilding 3 12\n"),
+        (ArrayHealth::Broken, "503 Service Unavailable", "broken\n"),
+    ] {
+        let wanted = Wanted {
+            code,
+            media_type: PLAIN,
+            more: "",
+            body,
+        };
+        let get = b"GET /healthz HTTP/1.1\r\nHost: h\r\n\r\n";
+        responds(&rt, rt.alloc(), keys, &array_in(health), get, wanted);
+        let head = b"HEAD /healthz HTTP/1.1\r\nHost: h\r\n\r\n";
+        responds(&rt, rt.alloc(), keys, &array_in(health), head, wanted);
+    }
+}
+
+#[test]
+fn other_paths_and_methods(rt: HostRuntime) {
+    let keys = RandomState::new(&rt).expect(&rt, "keys");
+    let unknown = Wanted {
+        code: "404 Not Found",
+        media_type: PLAIN,
+        more: "",
+        body: "not found\n",
+    };
+    let not_allowed = Wanted {
+        code: "405 Method Not Allowed",
+        media_type: PLAIN,
+        more: "allow: GET, HEAD\r\n",
+        body: "method not allowed\n",
+    };
+    for (request, wanted) in [
+        (
+            &b"GET /favicon.ico HTTP/1.1\r\nHost: h\r\n\r\n"[..],
+            unknown,
+        ),
+        (b"HEAD /metrics/ HTTP/1.1\r\nHost: h\r\n\r\n", unknown),
+        (b"GET /Metrics HTTP/1.1\r\nHost: h\r\n\r\n", unknown),
+        (
+            b"POST / HTTP/1.1\r\nHost: h\r\nContent-Length: 0\r\n\r\n",
+            not_allowed,
+        ),
+        (b"DELETE /metrics HTTP/1.1\r\nHost: h\r\n\r\n", not_allowed),
+        (b"OPTIONS * HTTP/1.1\r\nHost: h\r\n\r\n", not_allowed),
+        (b"get / HTTP/1.1\r\nHost: h\r\n\r\n", not_allowed),
+        (
+            b"FROBNICATE /nowhere HTTP/1.1\r\nHost: h\r\n\r\n",
+            not_allowed,
+        ),
+        // A second request on the connection is not answered.
+        (
+            b"GET /nowhere HTTP/1.1\r\nHost: h\r\n\r\nGET / HTTP/1.1\r\nHost: h\r\n\r\n",
+            unknown,
+        ),
+    ] {
+        responds(
+            &rt,
+            rt.alloc(),
+            keys,
+            &array_in(REBUILDING),
+            request,
+            wanted,
+        );
+    }
+}

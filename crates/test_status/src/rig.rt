@@ -1,0 +1,152 @@
+// An array that stands still, and connections to it.
+use ar_status::{
+    ArrayHealth, ArrayStatus, EventKind, HostCounters, Look, MaintenanceSteps, RecentEvent,
+    RecentEvents, Watched, serve_connection,
+};
+use std::alloc::{AllocError, Global};
+use std::hash::RandomState;
+use std::io::Write;
+use std::process::Abort;
+use std::{io, str};
+
+/// The picture of the array.
+pub const PICTURE: &[u8] = b"<svg xmlns='http://www.w3.org/2000/svg'/>\n";
+
+/// An array that always looks the same, or can't be looked at for want of memory.
+#[derive(Drop)]
+pub struct Still {
+    pub status: ArrayStatus,
+    pub has_memory: bool,
+}
+
+impl Watched for Still {
+    ghost shows = { λ _ _ _. Unit {0} };
+
+    fn look(&self, alloc: Global, draws: bool) -> Result<Look, AllocError> {
+        if !self.has_memory {
+            return Err(AllocError);
+        }
+        let picture = if draws { PICTURE } else { b"" };
+        Ok(Look {
+            status: self.status,
+            picture: picture.to_vec(alloc)?,
+        })
+    }
+}
+
+/// An array of five disks of 64 extents in this health, after two events.
+pub fn array_in(health: ArrayHealth) -> Still {
+    let mut events = RecentEvents::new();
+    events.add(RecentEvent {
+        seconds: 7,
+        kind: EventKind::DiskFailed { disk: 3 },
+    });
+    events.add(RecentEvent {
+        seconds: 60,
+        kind: EventKind::DiskReplaced { disk: 3 },
+    });
+    let status = ArrayStatus {
+        uptime_seconds: 61,
+        health,
+        disks: 5,
+        extents: 64,
+        groups: 80,
+        free_groups: 7,
+        block_bytes: 1024,
+        room_blocks: 18,
+        cached_blocks: 2,
+        history_entries: 9,
+        history_bytes: 4096,
+        hosts: hosts(),
+        steps: MaintenanceSteps {
+            flush: 1,
+            demote: 2,
+            clean: 3,
+            balance: 4,
+            rebuild: 5,
+        },
+        events,
+    };
+    Still {
+        status,
+        has_memory: true,
+    }
+}
+
+fn hosts() -> [HostCounters; 4] {
+    [
+        counters(1, 2, 3),
+        counters(0, 0, 0),
+        counters(u64::MAX, 7, 8),
+        counters(4, 5, 6),
+    ]
+}
+
+fn counters(commands: u64, read_bytes: u64, written_bytes: u64) -> HostCounters {
+    HostCounters {
+        commands,
+        read_bytes,
+        written_bytes,
+    }
+}
+
+/// A response that is wanted.
+#[derive(Clone, Copy)]
+pub struct Wanted<'a> {
+    /// The status code and its phrase.
+    pub code: &'a str,
+    pub media_type: &'a str,
+    /// The fields behind `connection`, each with its CR LF.
+    pub more: &'a str,
+    pub body: &'a str,
+}
+
+impl Wanted<'_> {
+    // The response to GET, or to HEAD.
+    fn text(&self, alloc: Global, is_head: bool) -> io::Result<Vec<u8>> {
+        let mut out = Vec::new(alloc);
+        let (code, media_type, more) = (self.code, self.media_type, self.more);
+        write!(out, "HTTP/1.1 {code}\r\ncontent-type: {media_type}\r\n")?;
+        write!(
+            out,
+            "cache-control: no-store\r\nconnection: close\r\n{more}"
+        )?;
+        let len = self.body.len();
+        write!(out, "content-length: {len}\r\n\r\n")?;
+        if !is_head {
+            out.write_all(self.body.as_bytes())?;
+        }
+        Ok(out)
+    }
+}
+
+/// Asserts that a request has this response.
+pub fn responds(
+    rt: &impl Abort,
+    alloc: Global,
+    keys: RandomState,
+    watched: &Still,
+    request: &[u8],
+    wanted: Wanted<'_>,
+) {
+    let is_head = request.starts_with(b"HEAD");
+    let text = wanted.text(alloc, is_head).expect(rt, "memory");
+    sends(rt, alloc, keys, watched, request, text.as_slice());
+}
+
+/// Asserts that a connection sends these bytes.
+pub fn sends(
+    rt: &impl Abort,
+    alloc: Global,
+    keys: RandomState,
+    watched: &Still,
+    request: &[u8],
+    wanted: &[u8],
+) {
+    let mut reader = request;
+    let mut out = Vec::new(alloc);
+    let done = serve_connection(alloc, keys, watched, &mut reader, &mut out).is_ok();
+    assert!(rt; done, "{request:?} failed");
+    let (sent, wanted) = (str::from_utf8(&out), str::from_utf8(wanted));
+    assert!(rt; sent == wanted, "{request:?}: {sent:?}");
+}
