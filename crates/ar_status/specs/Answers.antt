@@ -4,6 +4,7 @@ use Rattle.std.specs.List.{join_with_byte}
 use Rattle.http1.specs.Fields.{Header}
 use Rattle.ar_status.specs.declared.answer.Answer.{Answer}
 use Rattle.ar_status.specs.declared.answer.Answer.TheVariants as answers
+use Rattle.ar_status.specs.declared.page.TheConstants.{PAGE}
 use Rattle.ar_status.specs.declared.status.ArrayHealth.{ArrayHealth}
 use Rattle.ar_status.specs.declared.status.ArrayHealth.TheVariants.{Whole, Out, Rebuilding, Broken}
 use Rattle.ar_status.specs.declared.status.ArrayStatus.{ArrayStatus}
@@ -60,8 +61,9 @@ health_words (Out disk) = codes "out " ++ decimal disk ++ 10 ∷ []
 health_words (Rebuilding disk done) = join_with_byte 32 (codes "rebuilding" ∷ decimal disk ∷ decimal done ∷ []) ++ 10 ∷ []
 health_words Broken = codes "broken\n"
 
--- The body. The texts of metrics and of JSON are not specified, nor is the page.
+-- The body. The texts of metrics and of JSON are not specified.
 abbrev pub IsBodyOf : Answer → ArrayStatus → List ℕ → List ℕ → Type 0
+IsBodyOf answers.Page status picture body = body ≡ PAGE.now
 IsBodyOf answers.Picture status picture body = body ≡ picture
 IsBodyOf answers.Health status picture body = body ≡ health_words status.health
 IsBodyOf answers.NotFound status picture body = body ≡ codes "not found\n"

@@ -1,4 +1,5 @@
-// The latest events, the newest first. An old one makes place for a new one, so that the list takes a fixed room.
+// The latest events, the newest first. A new one replaces the oldest, so that the list has a fixed size and is copied
+// under a lock without an allocation.
 ghost use Rattle.std.specs.Prelude.{◌≡◌, ◌≤◌, [], ◌∷◌, length, take};
 
 use serde::{Described, Serialize, Serializer};
@@ -22,7 +23,7 @@ pub enum EventKind {
     UnitDropped { host: u8, lun: u8 },
     /// A free group was taken into use.
     GroupOpened { group: u32 },
-    /// For want of a mirrored slot, this mirrored group's blocks were moved to parity groups.
+    /// A squeeze: a whole mirrored group was demoted to this group, which was the only free one.
     Squeezed { group: u32 },
 }
 

@@ -26,7 +26,7 @@ h2 { margin-bottom: 4px; font-size: 14px }
 #health.rebuilding { border-left-style: dotted }
 #health.broken, #health.silent { border-left-style: double }
 #health:not(.whole) { color: var(--bad); font-weight: bold }
-main { display: grid; grid-template-columns: minmax(0, 1fr) 340px; gap: 12px; align-items: start }
+main { display: grid; grid-template-columns: minmax(0, 1fr) 310px; gap: 12px; align-items: start }
 @media (max-width: 800px) { main { grid-template-columns: minmax(0, 1fr) } }
 section { padding: 10px 12px; background: var(--card); border: 1px solid var(--line) }
 aside { display: grid; gap: 12px }
@@ -151,11 +151,11 @@ function cells(svg) {
   return disks;
 }
 
-// Draws a run of extents that look alike once, where there are more than 64, so that the picture fits the window.
+// Draws a run of extents that look alike once, where they have no words, so that the picture fits the window.
 const TOP = 124;
 function fold(svg) {
   const disks = cells(svg), all = disks.length ? disks[0].length : 0;
-  if (all <= 64) return;
+  if (all <= 16) return;
   const look = extent => disks.map(disk => disk[extent].map(shape =>
     (shape.getAttribute('class') || shape.getAttribute('viewBox')) + shape.innerHTML)).join();
   const folds = [];
@@ -165,7 +165,8 @@ function fold(svg) {
     else for (const disk of disks) for (const shape of disk[extent]) shape.remove();
     folds.at(-1).end = extent;
   }
-  const pitch = Math.max(3, Math.min(20, Math.floor(900 / folds.length)));
+  const pitch = Math.max(3, Math.min(36, Math.floor(900 / folds.length)));
+  if (pitch > 5) svg.querySelector('g').setAttribute('stroke-width', 1);
   const labels = svg.querySelectorAll('.number'), label = labels[0];
   for (const old of labels) old.remove();
   folds.forEach((fold, line) => {
@@ -178,7 +179,8 @@ function fold(svg) {
     if (line % Math.ceil(12 / pitch)) return;
     const text = svg.insertBefore(label.cloneNode(), svg.querySelector('g'));
     text.setAttribute('y', y + pitch / 2 + 4);
-    text.textContent = fold.first < fold.end ? `${fold.first}..${fold.end}` : fold.first;
+    text.textContent = fold.first < fold.end ? `${fold.first}..${fold.end}` : `${fold.first}`;
+    if (text.textContent.length > 8) text.setAttribute('textLength', 50);
   });
   const legend = Math.max(...[...svg.querySelectorAll(':scope > rect[y]')].map(shape => +shape.getAttribute('y')));
   const height = Math.max(TOP + folds.length * pitch, legend + 15) + 24, width = svg.getAttribute('width');
@@ -189,7 +191,7 @@ function fold(svg) {
 
 // Parity differs from mirroring by stripes, too, for whoever sees no colours.
 const STRIPES = `<pattern id='stripes' width='6' height='6' patternUnits='userSpaceOnUse'>
-<rect width='6' height='6' fill='#FBF1C0'/><rect width='6' height='1' fill='#BFA11C'/></pattern>`;
+<rect width='6' height='6' fill='#FBF1C0'/><rect width='1' height='6' fill='#BFA11C'/></pattern>`;
 const STYLE = `.parity { fill: url(#stripes) }
 :host > svg { display: block; max-width: 100%; height: auto; max-height: calc(100vh - 100px); margin: auto }`;
 
