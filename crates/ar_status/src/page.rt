@@ -18,24 +18,29 @@ pub const PAGE: &str = "\
   #picture { filter: invert(0.9) hue-rotate(180deg) }
 }
 * { box-sizing: border-box }
-body { margin: 0; padding: 12px 16px; color: var(--ink); background: var(--page); font: 14px/1.4 sans-serif }
-h1, h2 { margin: 0; font-size: 16px }
-h2 { margin-bottom: 4px; font-size: 14px }
+body { display: flex; flex-direction: column; height: 100vh; margin: 0; padding: 12px 16px }
+body { color: var(--ink); background: var(--page); font: 14px/1.4 sans-serif }
+h2 { margin: 0 0 4px; font-size: 14px }
 #health { margin: 0 0 12px; padding: 6px 12px; border-left: 6px solid; background: var(--card); font-size: 18px }
 #health.out { border-left-style: dashed }
 #health.rebuilding { border-left-style: dotted }
 #health.broken, #health.silent { border-left-style: double }
 #health:not(.whole) { color: var(--bad); font-weight: bold }
-main { display: grid; grid-template-columns: minmax(0, 1fr) 310px; gap: 12px; align-items: start }
-@media (max-width: 800px) { main { grid-template-columns: minmax(0, 1fr) } }
+main { display: grid; flex: 1; grid-template: minmax(0, 1fr) / minmax(0, 1fr) 310px; gap: 12px; min-height: 0 }
 section { padding: 10px 12px; background: var(--card); border: 1px solid var(--line) }
-aside { display: grid; gap: 12px }
+main > section { align-self: start }
+aside { display: flex; flex-direction: column; gap: 12px; min-height: 0 }
+aside > section:last-child { min-height: 80px; overflow-y: auto }
 table { width: 100%; border-collapse: collapse; font-variant-numeric: tabular-nums }
 th, td { padding: 1px 0; font-weight: normal; text-align: right }
 th:first-child, td:first-child { text-align: left }
 thead th, time { color: var(--dim) }
-ol { max-height: 40vh; margin: 0; padding: 0; overflow-y: auto; list-style: none }
+ol { margin: 0; padding: 0; list-style: none }
 time { display: inline-block; min-width: 84px }
+@media (max-width: 800px) {
+  body { height: auto }
+  main { grid-template: auto / minmax(0, 1fr) }
+}
 </style>
 </head>
 <body>
