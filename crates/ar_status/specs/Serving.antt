@@ -19,14 +19,16 @@ pub record RespondsTo (method path : List ℕ) (status : ArrayStatus) (picture :
   pub body : IsBodyOf (answer_for method path) status picture r.body.items
 
 -- the response to a request, by some look that the array may show
-pub record RespondsByLook {V : Type 0} (shows : V → ArrayStatus → List ℕ → Type 0) (watched : V) (request : Request (List ℕ)) (r : Response) : Type 0 where
+pub record RespondsByLook {V : Type 0} (shows : V → ArrayStatus → List ℕ → Type 0) (watched : V)
+    (request : Request (List ℕ)) (r : Response) : Type 0 where
   pub status : ArrayStatus
   pub picture : List ℕ
   pub shown : shows watched status picture
   pub responds : RespondsTo (head_of request).method (uri_path (head_of request).uri) status picture r
 
 -- What was read was answered by what was written, as `http_server` says, and each request that was whole by a look.
-pub record ServesConnection {V : Type 0} (shows : V → ArrayStatus → List ℕ → Type 0) (watched : V) (left left' held held' : Option (List ℕ)) : Type 0 where
+pub record ServesConnection {V : Type 0} (shows : V → ArrayStatus → List ℕ → Type 0) (watched : V)
+    (left left' held held' : Option (List ℕ)) : Type 0 where
   pub history : History
   pub served : ∥ IsServed CONFIG history ∥₁
   pub done : IsDone history

@@ -1,85 +1,38 @@
-// The metrics, in Prometheus' text format 0.0.4: of each the lines HELP and TYPE, and then its samples. Its order is that
-// of `ArrayStatus`; a counter's name ends in `_total`, and a unit is a part of the name.
+// The metrics, in Prometheus' text format 0.0.4: of each the lines HELP and TYPE, and then its samples. A counter's name
+// ends in `_total`, and a unit is a part of the name.
 use crate::{ArrayHealth, ArrayStatus, HostCounters, MaintenanceSteps};
 use std::io;
 use std::io::Write;
 
 /// Writes all metrics of a status.
 pub fn write_metrics<W: Write>(out: &mut W, status: &ArrayStatus) -> io::Result<()> {
-    write_array(out, status)?;
     write_disks(out, status)?;
+    write_blocks(out, status)?;
     write_hosts(out, &status.hosts)?;
     write_steps(out, &status.steps)
 }
 
-// Writes what is known of the array as a whole.
-fn write_array<W: Write>(out: &mut W, status: &ArrayStatus) -> io::Result<()> {
-    let gauges = [
-        (
-            "uptime_seconds",
-            "Seconds since the service began.",
-            status.uptime_seconds,
-        ),
-        ("disks", "Disks.", u64::from(status.disks)),
-        (
-            "disk_extents",
-            "Extents of each disk.",
-            u64::from(status.extents),
-        ),
-        (
-            "rebuild_extents_left",
-            "Extents still to be rebuilt.",
-            extents_left(status),
-        ),
-        ("groups", "Groups of extents.", u64::from(status.groups)),
-        (
-            "free_groups",
-            "Groups that hold no block.",
-            u64::from(status.free_groups),
-        ),
-        (
-            "block_bytes",
-            "Bytes of a block.",
-            u64::from(status.block_bytes),
-        ),
-        (
-            "room_blocks",
-            "Blocks that units may still be given.",
-            status.room_blocks,
-        ),
-        (
-            "cached_blocks",
-            "Blocks in the cache.",
-            status.cached_blocks,
-        ),
-        (
-            "history_entries",
-            "Entries of the stored history.",
-            status.history_entries,
-        ),
-        (
-            "history_bytes",
-            "Memory of the stored history.",
-            status.history_bytes,
-        ),
-    ];
-    for (name, help, value) in gauges {
-        write_head(out, name, "gauge", help)?;
-        writeln!(out, "autoraid_{name} {value}")?;
-    }
-    Ok(())
-}
-
-// Extents of a replaced disk that are still to be rebuilt.
-fn extents_left(status: &ArrayStatus) -> u64 {
-    match status.health {
-        ArrayHealth::Rebuilding { done, .. } => u64::from(status.extents.saturating_sub(done)),
-        _ => 0,
-    }
-}
-
 // Writes the state of the array, as a sample for each that is 1 for the present one, and the health of each disk.
 fn write_disks<W: Write>(out: &mut W, status: &ArrayStatus) -> io::Result<()> {
+    write_gauge(
+        out,
+        "uptime_seconds",
+        "Seconds since the start.",
+        status.uptime_seconds,
+    )?;
+    write_gauge(out, "disks", "Disks.", u64::from(status.disks))?;
+    write_gauge(
+        out,
+        "disk_extents",
+        "Extents of each disk.",
+        u64::from(status.extents),
+    )?;
+    write_gauge(
+        out,
+        "rebuild_extents_left",
+        "Extents to be rebuilt.",
+        extents_left(status),
+    )?;
     write_head(
         out,
         "state",
@@ -103,6 +56,14 @@ fn write_disks<W: Write>(out: &mut W, status: &ArrayStatus) -> io::Result<()> {
     Ok(())
 }
 
+// Extents of a replaced disk that are still to be rebuilt.
+fn extents_left(status: &ArrayStatus) -> u64 {
+    match status.health {
+        ArrayHealth::Rebuilding { done, .. } => u64::from(status.extents.saturating_sub(done)),
+        _ => 0,
+    }
+}
+
 // The name of a state.
 fn state_of(health: ArrayHealth) -> &'static str {
     match health {
@@ -113,46 +74,76 @@ fn state_of(health: ArrayHealth) -> &'static str {
     }
 }
 
+// Writes groups, blocks and the history.
+fn write_blocks<W: Write>(out: &mut W, status: &ArrayStatus) -> io::Result<()> {
+    let (groups, free) = (u64::from(status.groups), u64::from(status.free_groups));
+    let (entries, bytes) = (status.history_entries, status.history_bytes);
+    write_gauge(out, "groups", "Groups of extents.", groups)?;
+    write_gauge(out, "free_groups", "Groups that hold no block.", free)?;
+    write_gauge(
+        out,
+        "block_bytes",
+        "Bytes of a block.",
+        u64::from(status.block_bytes),
+    )?;
+    write_gauge(
+        out,
+        "room_blocks",
+        "Blocks that units may be given.",
+        status.room_blocks,
+    )?;
+    write_gauge(
+        out,
+        "cached_blocks",
+        "Blocks in the cache.",
+        status.cached_blocks,
+    )?;
+    write_gauge(
+        out,
+        "history_entries",
+        "Entries of the stored history.",
+        entries,
+    )?;
+    write_gauge(out, "history_bytes", "Memory of the stored history.", bytes)
+}
+
 // Writes the counters of hosts.
 fn write_hosts<W: Write>(out: &mut W, hosts: &[HostCounters; 4]) -> io::Result<()> {
-    write_head(
+    let (commands, read) = (
+        hosts.map(|host| host.commands),
+        hosts.map(|host| host.read_bytes),
+    );
+    let written = hosts.map(|host| host.written_bytes);
+    write_by_host(
         out,
         "host_commands_total",
-        "counter",
-        "Commands with a reply other than BUSY.",
+        "Commands with a reply but BUSY.",
+        commands,
     )?;
-    for (host, counters) in hosts.iter().enumerate() {
-        let value = counters.commands;
-        writeln!(
-            out,
-            "autoraid_host_commands_total{{host=\"{host}\"}} {value}"
-        )?;
-    }
-    write_head(
+    write_by_host(
         out,
         "host_read_bytes_total",
-        "counter",
         "Bytes returned to hosts.",
+        read,
     )?;
-    for (host, counters) in hosts.iter().enumerate() {
-        let value = counters.read_bytes;
-        writeln!(
-            out,
-            "autoraid_host_read_bytes_total{{host=\"{host}\"}} {value}"
-        )?;
-    }
-    write_head(
+    write_by_host(
         out,
         "host_written_bytes_total",
-        "counter",
         "Bytes that hosts wrote.",
-    )?;
-    for (host, counters) in hosts.iter().enumerate() {
-        let value = counters.written_bytes;
-        writeln!(
-            out,
-            "autoraid_host_written_bytes_total{{host=\"{host}\"}} {value}"
-        )?;
+        written,
+    )
+}
+
+// Writes a counter that each host has.
+fn write_by_host<W: Write>(
+    out: &mut W,
+    name: &str,
+    help: &str,
+    values: [u64; 4],
+) -> io::Result<()> {
+    write_head(out, name, "counter", help)?;
+    for (host, value) in values.iter().enumerate() {
+        writeln!(out, "autoraid_{name}{{host=\"{host}\"}} {value}")?;
     }
     Ok(())
 }
@@ -179,6 +170,12 @@ fn write_steps<W: Write>(out: &mut W, steps: &MaintenanceSteps) -> io::Result<()
         )?;
     }
     Ok(())
+}
+
+// Writes a gauge.
+fn write_gauge<W: Write>(out: &mut W, name: &str, help: &str, value: u64) -> io::Result<()> {
+    write_head(out, name, "gauge", help)?;
+    writeln!(out, "autoraid_{name} {value}")
 }
 
 // Writes the lines above the samples of a metric.

@@ -30,7 +30,8 @@ pub fn respond(
     requires blank { IsBlank response.old }
     ensures code { OnOk result (response.new.status ≡ code_of (answer_for method.now path.now) look.status.health) }
     ensures fields { OnOk result (fields_of response.new ≡ fields_in (answer_for method.now path.now)) }
-    ensures body { OnOk result (IsBodyOf (answer_for method.now path.now) look.status look.picture.items response.new.body.items) }
+    ensures body { OnOk result
+        (IsBodyOf (answer_for method.now path.now) look.status look.picture.items response.new.body.items) }
 {
     let answer = answer_to(method, path);
     response.status = answer.code(look.status.health);

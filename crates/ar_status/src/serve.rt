@@ -1,4 +1,4 @@
-// A connection: a request is read, answered and done. The kit's `http_server` reads and writes HTTP, within these limits.
+// A connection: one request is read and answered. The kit's `http_server` reads and writes HTTP, within these limits.
 ghost use Rattle.std.specs.Prelude.{◌≡◌, ℕ, List, IfOk, OnOk};
 ghost use Rattle.ar_status.specs.Serving.{RespondsByLook, ServesConnection};
 
@@ -49,7 +49,8 @@ struct Watcher<'a, V: Watched> {
 }
 
 impl<V: Watched> Service for Watcher<'_, V> {
-    ghost answers = { λ old request response new. RespondsByLook V.shows old.watched.now request response × (new ≡ old) };
+    ghost answers = { λ old request response new.
+        RespondsByLook V.shows old.watched.now request response × (new ≡ old) };
 
     fn call(
         &mut self,
@@ -63,9 +64,9 @@ impl<V: Watched> Service for Watcher<'_, V> {
     }
 }
 
-/// Reads the request of a connection, and answers it by a look at the array. A request that isn't HTTP, has a head of more
-/// than `HEAD_MAX` bytes, or a body, is answered with a status that says so. The keys are those of the maps of header
-/// fields, whose names the peer chooses. If it fails, a read or a write has failed.
+/// Reads the request of a connection, and answers it by a look at the array. One that isn't HTTP, has a head of more than
+/// `HEAD_MAX` bytes, or a body, is answered with a status that says so; out of memory, it isn't answered. The keys are
+/// those of the maps of header fields, whose names the peer chooses. If it fails, a read or a write has failed.
 pub fn serve_connection<V: Watched, R: Read, W: Write>(
     alloc: Global,
     keys: RandomState,

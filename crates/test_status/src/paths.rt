@@ -87,7 +87,7 @@ fn status_as_json(rt: HostRuntime) {
 }
 
 const METRICS: &str = "\
-# HELP autoraid_uptime_seconds Seconds since the service began.
+# HELP autoraid_uptime_seconds Seconds since the start.
 # TYPE autoraid_uptime_seconds gauge
 autoraid_uptime_seconds 61
 # HELP autoraid_disks Disks.
@@ -96,30 +96,9 @@ autoraid_disks 5
 # HELP autoraid_disk_extents Extents of each disk.
 # TYPE autoraid_disk_extents gauge
 autoraid_disk_extents 64
-# HELP autoraid_rebuild_extents_left Extents still to be rebuilt.
+# HELP autoraid_rebuild_extents_left Extents to be rebuilt.
 # TYPE autoraid_rebuild_extents_left gauge
 autoraid_rebuild_extents_left 52
-# HELP autoraid_groups Groups of extents.
-# TYPE autoraid_groups gauge
-autoraid_groups 80
-# HELP autoraid_free_groups Groups that hold no block.
-# TYPE autoraid_free_groups gauge
-autoraid_free_groups 7
-# HELP autoraid_block_bytes Bytes of a block.
-# TYPE autoraid_block_bytes gauge
-autoraid_block_bytes 1024
-# HELP autoraid_room_blocks Blocks that units may still be given.
-# TYPE autoraid_room_blocks gauge
-autoraid_room_blocks 18
-# HELP autoraid_cached_blocks Blocks in the cache.
-# TYPE autoraid_cached_blocks gauge
-autoraid_cached_blocks 2
-# HELP autoraid_history_entries Entries of the stored history.
-# TYPE autoraid_history_entries gauge
-autoraid_history_entries 9
-# HELP autoraid_history_bytes Memory of the stored history.
-# TYPE autoraid_history_bytes gauge
-autoraid_history_bytes 4096
 # HELP autoraid_state 1 for the state of the array, 0 for the others.
 # TYPE autoraid_state gauge
 autoraid_state{state=\"whole\"} 0
@@ -133,7 +112,28 @@ autoraid_disk_healthy{disk=\"1\"} 1
 autoraid_disk_healthy{disk=\"2\"} 1
 autoraid_disk_healthy{disk=\"3\"} 0
 autoraid_disk_healthy{disk=\"4\"} 1
-# HELP autoraid_host_commands_total Commands with a reply other than BUSY.
+# HELP autoraid_groups Groups of extents.
+# TYPE autoraid_groups gauge
+autoraid_groups 80
+# HELP autoraid_free_groups Groups that hold no block.
+# TYPE autoraid_free_groups gauge
+autoraid_free_groups 7
+# HELP autoraid_block_bytes Bytes of a block.
+# TYPE autoraid_block_bytes gauge
+autoraid_block_bytes 1024
+# HELP autoraid_room_blocks Blocks that units may be given.
+# TYPE autoraid_room_blocks gauge
+autoraid_room_blocks 18
+# HELP autoraid_cached_blocks Blocks in the cache.
+# TYPE autoraid_cached_blocks gauge
+autoraid_cached_blocks 2
+# HELP autoraid_history_entries Entries of the stored history.
+# TYPE autoraid_history_entries gauge
+autoraid_history_entries 9
+# HELP autoraid_history_bytes Memory of the stored history.
+# TYPE autoraid_history_bytes gauge
+autoraid_history_bytes 4096
+# HELP autoraid_host_commands_total Commands with a reply but BUSY.
 # TYPE autoraid_host_commands_total counter
 autoraid_host_commands_total{host=\"0\"} 1
 autoraid_host_commands_total{host=\"1\"} 0
