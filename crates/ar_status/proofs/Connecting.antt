@@ -1,5 +1,5 @@
 -- From a connection's clauses to what it has served.
-use Rattle.std.proofs.Common.{◌≡◌, ◌∙◌, ℕ, List, [], ◌∷◌, ◌++◌, Option, Result, Ok, Err, OnOk, refl, sym, ap, subst}
+use Rattle.std.proofs.Common.{◌≡◌, ◌∙◌, ℕ, Bool, List, [], ◌∷◌, ◌++◌, Option, Result, Ok, Err, OnOk, refl, sym, ap, subst}
 use Rattle.std.specs.declared.alloc.AllocError.{AllocError}
 use Rattle.std.specs.List.{AllByRecursion}
 use Rattle.std.specs.Io.KnownBytes.{Appends, Consumes}
@@ -15,26 +15,27 @@ use Rattle.http_server.specs.Response.{fields_of}
 use Rattle.http_server.proofs.Theorems.{always_served}
 use Rattle.ar_status.specs.declared.serve.TheConstants.{CONFIG}
 use Rattle.ar_status.specs.declared.status.ArrayStatus.{ArrayStatus}
-use Rattle.ar_status.specs.Answers.{IsBodyOf, answer_for, code_of, fields_in}
+use Rattle.ar_status.specs.Answers.{IsBodyOf, answer_for, code_of, fields_in, needs_picture}
 use Rattle.ar_status.specs.Serving.{RespondsByLook, RespondsTo, ServesConnection}
 
 -- a request was answered by a look
-pub by_look : {V S : Type 0} (shows : V → ArrayStatus → List ℕ → Type 0) (watched : V) (s : S) (request : Request (List ℕ))
-    (result : Result (Unit {0}) AllocError) (method path : List ℕ) (status : ArrayStatus) (picture : List ℕ) (r : Response)
-    → method ≡ (head_of request).method → path ≡ uri_path (head_of request).uri → shows watched status picture
+pub by_look : {V S : Type 0} (shows : V → Bool → ArrayStatus → List ℕ → Type 0) (watched : V) (s : S) (request : Request (List ℕ))
+    (result : Result (Unit {0}) AllocError) (method path : List ℕ) (status : ArrayStatus) (picture : List ℕ) (r : Response) (draws : Bool)
+    → method ≡ (head_of request).method → path ≡ uri_path (head_of request).uri → draws ≡ needs_picture (answer_for method path) → shows watched draws status picture
     → OnOk result (r.status ≡ code_of (answer_for method path) status.health)
     → OnOk result (fields_of r ≡ fields_in (answer_for method path))
     → OnOk result (IsBodyOf (answer_for method path) status picture r.body.items)
     → OnOk result (RespondsByLook shows watched request r × (s ≡ s))
-by_look shows watched s request (Ok done) method path status picture r asked at shown code fields body =
-    let P : List ℕ → Type 0 = λ m. RespondsTo m (uri_path (head_of request).uri) status picture r in
-    let Q : List ℕ → Type 0 = λ p. RespondsTo method p status picture r in
-    let all : RespondsTo method path status picture r = record { code = code; fields = fields; body = body } in
-    (record { status = status; picture = picture; shown = shown; responds = subst P asked (subst Q at all) }, refl)
-by_look shows watched s request (Err fault) method path status picture r asked at shown code fields body = tt
+by_look shows watched s request (Ok done) method path status picture r draws asked at drawn shown code fields body =
+    let P : List ℕ → List ℕ → Type 0 = λ m p. shows watched (needs_picture (answer_for m p)) status picture × RespondsTo m p status picture r in
+    let looked = subst (λ d. shows watched d status picture) drawn shown in
+    let both : P method path = (looked, record { code = code; fields = fields; body = body }) in
+    let all = subst (λ m. P m (uri_path (head_of request).uri)) asked (subst (P method) at both) in
+    (record { status = status; picture = picture; shown = all.0; responds = all.1 }, refl)
+by_look shows watched s request (Err fault) method path status picture r draws asked at drawn shown code fields body = tt
 
 -- each call of a chain was answered by a look at the array of the first state
-answered_all : {V S : Type 0} (shows : V → ArrayStatus → List ℕ → Type 0) (watched : S → V) (calls : List Call) (old new : S)
+answered_all : {V S : Type 0} (shows : V → Bool → ArrayStatus → List ℕ → Type 0) (watched : S → V) (calls : List Call) (old new : S)
     → Chain (λ s request r next. RespondsByLook shows (watched s) request r × (next ≡ s)) old calls new
     → AllByRecursion (λ call. RespondsByLook shows (watched old) call.0 call.1) calls
 answered_all shows watched [] old new chain = tt
@@ -43,7 +44,7 @@ answered_all {S} shows watched (call ∷ calls) old new chain =
     (chain.1.0, subst P chain.1.1 (answered_all shows watched calls chain.0 new chain.2))
 
 -- a new connection that is done has served
-pub served_by_looks : {V S : Type 0} (shows : V → ArrayStatus → List ℕ → Type 0) (watched : S → V) (s t : S) (before after : Connection)
+pub served_by_looks : {V S : Type 0} (shows : V → Bool → ArrayStatus → List ℕ → Type 0) (watched : S → V) (s t : S) (before after : Connection)
     (left left' held held' : Option (List ℕ))
     → config_of before ≡ CONFIG → history before ≡ new_history → config_of after ≡ config_of before
     → Calls (λ s request r next. RespondsByLook shows (watched s) request r × (next ≡ s)) s t (history before).calls (history after).calls

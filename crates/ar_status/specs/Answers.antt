@@ -23,6 +23,11 @@ abbrev pub answer_for : List ℕ → List ℕ → Answer
 answer_for method path =
     if bytes_eq method (codes "GET") || bytes_eq method (codes "HEAD") then answer_at path else answers.NotAllowed
 
+-- the picture has to be drawn
+abbrev pub needs_picture : Answer → Bool
+needs_picture answers.Picture = true
+needs_picture answer = false
+
 -- all disks are present
 abbrev pub all_present : ArrayHealth → Bool
 all_present Whole = true

@@ -1,5 +1,5 @@
 -- A connection's requests and their responses.
-use Rattle.std.specs.Prelude.{◌≡◌, ℕ, List, Option}
+use Rattle.std.specs.Prelude.{◌≡◌, ℕ, Bool, List, Option}
 use Rattle.std.specs.List.{AllByRecursion}
 use Rattle.std.specs.Io.KnownBytes.{Appends, Consumes}
 use Rattle.http.specs.declared.request.Request.{Request}
@@ -10,7 +10,7 @@ use Rattle.http_server.specs.Response.{fields_of}
 use Rattle.http_server.specs.History.{History, IsDone, IsServed}
 use Rattle.ar_status.specs.declared.serve.TheConstants.{CONFIG}
 use Rattle.ar_status.specs.declared.status.ArrayStatus.{ArrayStatus}
-use Rattle.ar_status.specs.Answers.{IsBodyOf, answer_for, code_of, fields_in}
+use Rattle.ar_status.specs.Answers.{IsBodyOf, answer_for, code_of, fields_in, needs_picture}
 
 -- the response to a method at a path, for a status and a picture
 pub record RespondsTo (method path : List ℕ) (status : ArrayStatus) (picture : List ℕ) (r : Response) : Type 0 where
@@ -19,15 +19,15 @@ pub record RespondsTo (method path : List ℕ) (status : ArrayStatus) (picture :
   pub body : IsBodyOf (answer_for method path) status picture r.body.items
 
 -- the response to a request, by some look that the array may show
-pub record RespondsByLook {V : Type 0} (shows : V → ArrayStatus → List ℕ → Type 0) (watched : V)
+pub record RespondsByLook {V : Type 0} (shows : V → Bool → ArrayStatus → List ℕ → Type 0) (watched : V)
     (request : Request (List ℕ)) (r : Response) : Type 0 where
   pub status : ArrayStatus
   pub picture : List ℕ
-  pub shown : shows watched status picture
+  pub shown : shows watched (needs_picture (answer_for (head_of request).method (uri_path (head_of request).uri))) status picture
   pub responds : RespondsTo (head_of request).method (uri_path (head_of request).uri) status picture r
 
 -- What was read was answered by what was written, as `http_server` says, and each request that was whole by a look.
-pub record ServesConnection {V : Type 0} (shows : V → ArrayStatus → List ℕ → Type 0) (watched : V)
+pub record ServesConnection {V : Type 0} (shows : V → Bool → ArrayStatus → List ℕ → Type 0) (watched : V)
     (left left' held held' : Option (List ℕ)) : Type 0 where
   pub history : History
   pub served : ∥ IsServed CONFIG history ∥₁

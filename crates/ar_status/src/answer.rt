@@ -1,7 +1,7 @@
 // Which answer a method and a path have, with its status code and its media type.
 ghost use Rattle.std.specs.Prelude.{◌≡◌};
 ghost use Rattle.http_header.specs.FieldValue.{plain_value};
-ghost use Rattle.ar_status.specs.Answers.{answer_at, answer_for, code_of, media_type_of};
+ghost use Rattle.ar_status.specs.Answers.{answer_at, answer_for, code_of, media_type_of, needs_picture};
 
 use crate::ArrayHealth;
 use http::{HeaderValue, StatusCode};
@@ -60,6 +60,13 @@ impl Answer {
             Answer::NotAllowed => StatusCode::METHOD_NOT_ALLOWED,
             _ => StatusCode::OK,
         }
+    }
+
+    /// Whether the picture has to be drawn for it.
+    pub fn needs_picture(self) -> bool
+        ensures { result ≡ needs_picture self }
+    {
+        matches!(self, Answer::Picture)
     }
 
     /// Returns the media type.

@@ -36,7 +36,7 @@ pub struct RecentEvent {
 }
 
 /// The last 50 events.
-#[derive(Clone, Copy, Debug, PartialEq, Eq)]
+#[derive(Clone, Copy)]
 pub struct RecentEvents {
     // The first `count` are events, the newest first.
     list: [RecentEvent; EVENTS_MAX],

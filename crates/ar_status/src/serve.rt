@@ -1,8 +1,8 @@
 // A connection: one request is read and answered. The kit's `http_server` reads and writes HTTP, within these limits.
-ghost use Rattle.std.specs.Prelude.{◌≡◌, ℕ, List, IfOk, OnOk};
+ghost use Rattle.std.specs.Prelude.{◌≡◌, ℕ, Bool, List, IfOk, OnOk};
 ghost use Rattle.ar_status.specs.Serving.{RespondsByLook, ServesConnection};
 
-use crate::{Answer, ArrayStatus, Look, answer_to, respond};
+use crate::{Look, answer_to, respond};
 use bytes::Bytes;
 use http::Request;
 use http_server::{Config, Connection, Response, Service, serve};
@@ -32,13 +32,13 @@ const CONFIG: Config = Config {
 pub trait Watched {
     ghost use Rattle.ar_status.specs.declared.status.ArrayStatus.{ArrayStatus};
 
-    /// What a look may show: the array, its status, its picture.
-    ghost shows: { Self → ArrayStatus → List ℕ → Type 0 };
+    /// What a look may show: the array, whether its picture is drawn, its status, its picture.
+    ghost shows: { Self → Bool → ArrayStatus → List ℕ → Type 0 };
 
     /// Looks at the array. Its picture is drawn if `draws` is set, and otherwise left empty. It fails only when out of
     /// memory.
     fn look(&self, alloc: Global, draws: bool) -> Result<Look, AllocError>
-        ensures { IfOk result (λ look. shows self.now look.status look.picture.items) };
+        ensures { IfOk result (λ look. shows self.now draws look.status look.picture.items) };
 }
 
 // Answers requests by looks at an array, each once its request has come whole.
@@ -58,7 +58,7 @@ impl<V: Watched> Service for Watcher<'_, V> {
         response: &mut Response,
     ) -> Result<(), AllocError> {
         let (method, path) = (request.method().as_str(), request.uri().path());
-        let draws = matches!(answer_to(method, path), Answer::Picture);
+        let draws = answer_to(method, path).needs_picture();
         let look = self.watched.look(self.alloc, draws)?;
         respond(self.alloc, method, path, look, response)
     }

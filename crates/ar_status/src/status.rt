@@ -9,7 +9,7 @@ use std::io;
 use std::io::Write;
 
 /// A served array at one moment. Whoever owns it copies these numbers under its lock.
-#[derive(Clone, Copy, Debug, PartialEq, Eq, Serialize)]
+#[derive(Clone, Copy, Serialize)]
 pub struct ArrayStatus {
     /// Seconds since the service began.
     pub uptime_seconds: u64,

@@ -20,7 +20,7 @@ pub struct Still {
 }
 
 impl Watched for Still {
-    ghost shows = { λ _ _ _. Unit {0} };
+    ghost shows = { λ _ _ _ _. Unit {0} };
 
     fn look(&self, alloc: Global, draws: bool) -> Result<Look, AllocError> {
         if !self.has_memory {
