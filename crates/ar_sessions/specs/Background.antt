@@ -59,7 +59,7 @@ stepped rotation false events =
 -- the milliseconds of the pause after a step, if there is one: after a long one that did something, so that hosts go on
 -- meanwhile, and after the last one of a round that did nothing
 abbrev pub pause_after : Rotation → Bool → Option ℕ
-pause_after rotation true = if is_long rotation.task then Some 2 else None
+pause_after rotation true = if is_long rotation.task then Some 4 else None
 pause_after rotation false = if nat_lt (rotation.turns + 1) 5 then None else Some rotation.pause
 
 -- the task's event was one step of the array, counted if it did something, as `told` says
