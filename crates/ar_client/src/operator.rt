@@ -1,33 +1,27 @@
 // The operator's side: lines go to the server as they come, and its answers to the output. Both at once, since neither
-// side waits for the other.
+// side waits for the other. Behind the input a word is sent that no operator has: its answer, which isn't shown, says
+// that all lines before it were answered.
 use crate::fault::Failure;
 use std::alloc::Global;
-use std::io::{Read, Write};
+use std::io::{BufWriter, Read, Write};
 use std::net::{Shutdown, TcpStream};
 use std::sync::Arc;
-use std::sync::atomic::{AtomicBool, Ordering};
 use std::thread;
 use std::thread::Threads;
+
+/// The last line that is sent, and the answer to it.
+const CLOSING: &[u8] = b"end-of-input\n";
+
+const CLOSED: &[u8] = b"fault: unknown word\n";
 
 /// How a line begins that answers a faulty line.
 const FAULT: &[u8] = b"fault: ";
 
-/// The line that ends the service, and the answer to it.
-const STOP: &[u8] = b"stop\n";
-
+/// The line that answers `stop`.
 const STOPPED: &[u8] = b"stopped\n";
 
 /// Bytes that are passed on at a time.
 const PIECE: usize = 4_096;
-
-// What was sent so far.
-#[derive(Drop)]
-struct Sent {
-    // All of the input.
-    all: AtomicBool,
-    // A `stop`.
-    stop: AtomicBool,
-}
 
 // What is looked for at the beginning of each line.
 #[derive(Clone, Copy)]
@@ -38,88 +32,146 @@ struct Search {
     was_found: bool,
 }
 
+// The answers so far.
+#[derive(Clone, Copy)]
+struct Answers {
+    // How many bytes of `CLOSED` the last line begins with, which aren't shown yet. None: it begins otherwise.
+    held: Option<usize>,
+    fault: Search,
+    stopped: Search,
+}
+
 /// Sends the input, and writes the answers, until the server closes the connection. A faulty line ends nothing, but is
-/// reported at the end. A server that closes before the input ends, or doesn't answer a `stop`, is a session fault.
+/// reported at the end. A server that closes before it has answered all lines is a session fault, unless it was stopped.
 pub fn operate<R: Threads, I: Read + Send + Drop + 'static, O: Write + Drop>(
     rt: &R,
     alloc: Global,
     stream: TcpStream,
     input: I,
-    mut output: O,
+    output: O,
 ) -> Result<(), Failure> {
-    let sent = Sent {
-        all: AtomicBool::new(false),
-        stop: AtomicBool::new(false),
-    };
-    let sent = Arc::new(alloc, sent).map_err(|_| Failure::NoMemory)?;
-    let noted = Arc::try_clone(&sent).map_err(|_| Failure::NoMemory)?;
     let stream = Arc::new(alloc, stream).map_err(|_| Failure::NoMemory)?;
     let requests = Arc::try_clone(&stream).map_err(|_| Failure::NoMemory)?;
     // It isn't joined: where the server closes first, the rest of the input is of no use.
-    let Ok(_sender) = thread::spawn(rt, move || send_all(input, &requests, &noted)) else {
+    let Ok(_sender) = thread::spawn(rt, move || send_all(input, &requests)) else {
         return Err(Failure::NoMemory);
     };
-    pass_on(&stream, &mut output, &sent)
+    let Ok(mut output) = BufWriter::new(alloc, output) else {
+        return Err(Failure::NoMemory);
+    };
+    let mut answers = Answers::new();
+    let done = answers.pass_on(&stream, &mut output);
+    let (_output, _unwritten) = output.into_parts();
+    done
 }
 
-// Sends the input to its end, or until the server takes no more.
-fn send_all<I: Read + Drop>(mut input: I, stream: &TcpStream, sent: &Sent) {
-    let mut stop = Search::new(STOP);
+// Sends the input to its end, or until the server takes no more, and the closing line.
+fn send_all<I: Read + Drop>(mut input: I, stream: &TcpStream) {
     let mut piece = [0; PIECE];
     let mut to = stream;
+    let mut last = b'\n';
     for _ in 0..u64::MAX {
         let count = match input.read(&mut piece) {
             Ok(0) | Err(_) => break,
             Ok(count) => count,
         };
-        stop.look_in(&piece[..count]);
-        if stop.was_found {
-            sent.stop.store(true, Ordering::SeqCst);
+        let sent = &piece[..count];
+        if let Some(byte) = sent.last() {
+            last = *byte;
         }
-        if to.write_all(&piece[..count]).is_err() {
+        if to.write_all(sent).is_err() {
             return;
         }
     }
-    // (The last line may lack its LF.)
-    if stop.is_one_short() {
-        sent.stop.store(true, Ordering::SeqCst);
+    if last != b'\n' && to.write_all(b"\n").is_err() {
+        return;
     }
-    sent.all.store(true, Ordering::SeqCst);
-    let _ = stream.shutdown(Shutdown::Write);
+    if to.write_all(CLOSING).is_ok() {
+        let _ = stream.shutdown(Shutdown::Write);
+    }
 }
 
-// Writes the answers to their end.
-fn pass_on<O: Write>(stream: &TcpStream, output: &mut O, sent: &Sent) -> Result<(), Failure> {
-    let mut fault = Search::new(FAULT);
-    let mut stopped = Search::new(STOPPED);
-    let mut piece = [0; PIECE];
-    let mut from = stream;
-    for _ in 0..u64::MAX {
-        let Ok(count) = from.read(&mut piece) else {
-            return Err(Failure::Session);
-        };
-        if count == 0 {
-            break;
+impl Answers {
+    fn new() -> Answers {
+        Answers {
+            held: Some(0),
+            fault: Search::new(FAULT),
+            stopped: Search::new(STOPPED),
         }
-        fault.look_in(&piece[..count]);
-        stopped.look_in(&piece[..count]);
-        output
-            .write_all(&piece[..count])
-            .map_err(|_| Failure::Write)?;
     }
-    ended(fault.was_found, stopped.was_found, sent)
-}
 
-// What a conversation comes to that the server has closed.
-fn ended(has_fault: bool, was_stopped: bool, sent: &Sent) -> Result<(), Failure> {
-    if has_fault {
-        return Err(Failure::Faulty);
+    // Writes the answers to their end.
+    fn pass_on<O: Write>(&mut self, stream: &TcpStream, output: &mut O) -> Result<(), Failure> {
+        let mut piece = [0; PIECE];
+        let mut from = stream;
+        for _ in 0..u64::MAX {
+            let Ok(count) = from.read(&mut piece) else {
+                return Err(Failure::Session);
+            };
+            if count == 0 {
+                break;
+            }
+            for byte in &piece[..count] {
+                self.pass(*byte, output)?;
+            }
+            output.flush().map_err(|_| Failure::Write)?;
+        }
+        self.end(output)
     }
-    let is_owed = sent.stop.load(Ordering::SeqCst) || !sent.all.load(Ordering::SeqCst);
-    if is_owed && !was_stopped {
-        return Err(Failure::Session);
+
+    // Takes the next byte, and shows what isn't the answer to the closing line.
+    fn pass<O: Write>(&mut self, byte: u8, output: &mut O) -> Result<(), Failure> {
+        if self.is_closed() {
+            self.show_held(output)?;
+        }
+        match self.held {
+            Some(count) if CLOSED.get(count) == Some(&byte) => {
+                self.held = Some(count.saturating_add(1));
+                Ok(())
+            }
+            _ => {
+                self.show_held(output)?;
+                self.held = if byte == b'\n' { Some(0) } else { None };
+                self.show(&[byte], output)
+            }
+        }
     }
-    Ok(())
+
+    // Whether the last line is the answer to the closing one.
+    fn is_closed(&self) -> bool {
+        self.held == Some(CLOSED.len())
+    }
+
+    // Shows the bytes of the last line that were held back.
+    fn show_held<O: Write>(&mut self, output: &mut O) -> Result<(), Failure> {
+        let held = self.held.unwrap_or(0).min(CLOSED.len());
+        self.held = Some(0);
+        self.show(&CLOSED[..held], output)
+    }
+
+    fn show<O: Write>(&mut self, bytes: &[u8], output: &mut O) -> Result<(), Failure> {
+        for byte in bytes {
+            self.fault.look_at(*byte);
+            self.stopped.look_at(*byte);
+        }
+        output.write_all(bytes).map_err(|_| Failure::Write)
+    }
+
+    // What a conversation comes to that the server has closed.
+    fn end<O: Write>(&mut self, output: &mut O) -> Result<(), Failure> {
+        let is_closed = self.is_closed();
+        if !is_closed {
+            self.show_held(output)?;
+            output.flush().map_err(|_| Failure::Write)?;
+        }
+        if self.fault.was_found {
+            return Err(Failure::Faulty);
+        }
+        if is_closed || self.stopped.was_found {
+            return Ok(());
+        }
+        Err(Failure::Session)
+    }
 }
 
 impl Search {
@@ -131,13 +183,7 @@ impl Search {
         }
     }
 
-    // Looks at the next bytes.
-    fn look_in(&mut self, bytes: &[u8]) {
-        for byte in bytes {
-            self.look_at(*byte);
-        }
-    }
-
+    // Looks at the next byte.
     fn look_at(&mut self, byte: u8) {
         self.matched = match self.matched {
             Some(count) if self.text.get(count) == Some(&byte) => Some(count.saturating_add(1)),
@@ -148,14 +194,6 @@ impl Search {
         }
         if byte == b'\n' {
             self.matched = Some(0);
-        }
-    }
-
-    // Whether the line so far is the text but for its last byte.
-    fn is_one_short(&self) -> bool {
-        match self.matched {
-            Some(count) => count.saturating_add(1) == self.text.len(),
-            None => false,
         }
     }
 }
