@@ -66,7 +66,7 @@ fn requests_that_are_refused(rt: HostRuntime) {
     }
 }
 
-// A request line with a path of so many bytes, and then fields.
+// A request line with a path of `path` bytes, and then fields.
 fn long_request(alloc: Global, path: usize, fields: &str) -> io::Result<Vec<u8>> {
     let mut out = Vec::new(alloc);
     out.write_all(b"GET /")?;

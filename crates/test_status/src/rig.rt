@@ -12,7 +12,7 @@ use std::{io, str};
 /// The picture of the array.
 pub const PICTURE: &[u8] = b"<svg xmlns='http://www.w3.org/2000/svg'/>\n";
 
-/// An array that always looks the same, or can't be looked at for want of memory.
+/// An array that always looks the same or, without memory, can't be looked at.
 #[derive(Drop)]
 pub struct Still {
     pub status: ArrayStatus,

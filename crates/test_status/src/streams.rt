@@ -11,7 +11,7 @@ const REQUEST: &[u8] = b"GET /healthz HTTP/1.1\r\nHost: h\r\n\r\n";
 const RESPONSE: &[u8] = b"HTTP/1.1 200 OK\r\ncontent-type: text/plain; charset=utf-8\r\n\
 cache-control: no-store\r\nconnection: close\r\ncontent-length: 6\r\n\r\nwhole\n";
 
-// The request byte by byte, of which so many come; then reads fail.
+// Returns the first `most` bytes of the request one by one; then reads fail.
 #[derive(Drop)]
 struct Giver {
     given: usize,
@@ -32,7 +32,7 @@ impl Read for Giver {
     }
 }
 
-// Takes so many bytes, one at a time; then writes fail.
+// Takes `most` bytes, one at a time; then writes fail.
 #[derive(Drop)]
 struct Taker {
     taken: usize,
@@ -56,7 +56,8 @@ impl Write for Taker {
     }
 }
 
-// Asserts how a connection ends of which so many bytes come and are taken, and how many bytes of the response go.
+// Asserts how a connection ends, and how many bytes of the response are sent, where reads fail after `given` bytes and
+// writes after `taken`.
 fn ends(
     rt: &impl Abort,
     alloc: Global,
