@@ -19,6 +19,12 @@ appends_then (Some a) (Some b) (Some c) xs ys first then = grind (arith, first, 
 pub appends_as : (old new : Option (List ℕ)) (xs ys : List ℕ) → xs ≡ ys → Appends old new xs → Appends old new ys
 appends_as old new xs ys same added = let P : List ℕ → Type 0 = λ text. Appends old new text in subst P same added
 
+-- a text that could be written, by another name
+pub said_as : {T E : Type 0} {xs ys : List ℕ} (r : Result T E) (old new : Option (List ℕ)) → xs ≡ ys → OnOk r (Appends old new xs)
+    → OnOk r (Appends old new ys)
+said_as {xs} {ys} r old new same said =
+    on_ok_weaker {P = Appends old new xs} {Q = Appends old new ys} r (appends_as old new xs ys same) said
+
 -- a text, and then the last part of one, where that could be written
 pub ends_with : {T E : Type 0} (r : Result T E) (old mid new : Option (List ℕ)) (xs ys text : List ℕ) → xs ++ ys ≡ text → Appends old mid xs
     → OnOk r (Appends mid new ys) → OnOk r (Appends old new text)

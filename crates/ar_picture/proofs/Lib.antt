@@ -1,4 +1,5 @@
 pub mod Appending
+pub mod DrawingLemmas
 pub mod FoldLemmas
 pub mod Growing
 pub mod MapLemmas

@@ -2,7 +2,6 @@
 use Rattle.std.specs.Prelude.{ℕ, ◌*◌, ◌/◌, Bool, false, ◌==◌, ◌&&◌, nat_le, if◌then◌else◌, List, Option, None, Some, position, find}
 use Rattle.ar_disks.specs.Members.{stands_on}
 use Rattle.ar_disks.specs.declared.address.Place.{Place}
-use Rattle.ar_disks.specs.declared.address.Members.{Members}
 use Rattle.ar_picture.specs.declared.picture.Class.{Class}
 use Rattle.ar_picture.specs.declared.picture.Class.TheVariants as classes
 use Rattle.ar_picture.specs.declared.picture.Health.{Health}
@@ -49,4 +48,5 @@ content_at groups p = content_within (find (λ g. stands_on g.members p) groups)
 
 -- what the picture shows of an extent
 abbrev pub cell_of : Picture → Place → Cell
-cell_of picture p = record { content = content_at picture.groups.items p; is_missing = is_missing_place picture.health p }
+cell_of picture p =
+    record { content = content_at picture.groups.items p; is_missing = is_missing_place picture.health p }

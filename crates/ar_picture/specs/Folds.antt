@@ -8,7 +8,8 @@ use Rattle.ar_picture.specs.Cells.{cell_of}
 -- the extents `one` and `other` look alike on each disk below `disks`
 abbrev pub AreAlikeBelow : Picture → ℕ → ℕ → ℕ → Type 0
 AreAlikeBelow picture disks one other =
-    (disk : ℕ) → disk < disks → cell_of picture (record { disk = disk; extent = one }) ≡ cell_of picture (record { disk = disk; extent = other })
+    (disk : ℕ) → disk < disks
+    → cell_of picture (record { disk = disk; extent = one }) ≡ cell_of picture (record { disk = disk; extent = other })
 
 -- the same on each disk
 abbrev pub AreAlike : Picture → ℕ → ℕ → Type 0

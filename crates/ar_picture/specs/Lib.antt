@@ -1,5 +1,7 @@
 pub mod Cells
+pub mod Drawings
 pub mod Folds
+pub mod Layouts
 pub mod Looks
 pub mod Maps
 pub mod Writing

@@ -1,6 +1,7 @@
--- How a picture looks.
-use Rattle.std.specs.Prelude.{ℕ, Bool, true, false, not, ◌==◌, ◌&&◌, ◌||◌, nat_le, nat_lt, if◌then◌else◌, List, [], ◌∷◌, length, bytes_eq}
+-- Colours.
+use Rattle.std.specs.Prelude.{ℕ, Bool, true, false, not, ◌==◌, ◌&&◌, ◌||◌, nat_le, List, [], ◌∷◌, length, map, bytes_eq, slice_index_or}
 use Rattle.std.specs.List.{list_any, list_all}
+use Rattle.ar_picture.specs.declared.palette.TheConstants.{COLOURS, NO_UNIT}
 
 -- no two of these texts are the same
 abbrev pub are_apart : List (List ℕ) → Bool
@@ -16,11 +17,6 @@ abbrev pub is_colour : List ℕ → Bool
 is_colour [] = false
 is_colour (mark ∷ digits) = (mark == 35) && ((length digits == 6) && list_all is_digit digits)
 
--- the width of the outline of an extent of this height, as text: 1, or 0.5 below ten, or 0.2 below four
-abbrev pub outline_of : ℕ → List ℕ
-outline_of height =
-    if nat_lt height 4 then 48 ∷ 46 ∷ 50 ∷ [] else if nat_lt height 10 then 48 ∷ 46 ∷ 53 ∷ [] else 49 ∷ []
-
--- the height of an extent of a disk with `extents` of them: the more, the lower, but at least 3
-abbrev pub height_of : ℕ → ℕ
-height_of extents = if nat_le extents 16 then 32 else if nat_le extents 64 then 12 else if nat_le extents 256 then 5 else 3
+-- the colour of the unit with this index, 8 times its host plus its LUN
+unfoldable pub colour_at : ℕ → List ℕ
+colour_at index = slice_index_or (map (λ colour. colour.now) COLOURS) index NO_UNIT.now

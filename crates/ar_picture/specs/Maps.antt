@@ -12,11 +12,11 @@ use Rattle.ar_picture.specs.declared.picture.Picture.{Picture}
 use Rattle.ar_picture.specs.declared.picture.Unit.{Unit as PictureUnit}
 use Rattle.ar_picture.specs.Cells.{cell_of}
 
--- so many spaces
+-- `count` spaces
 abbrev pub spaces : ℕ → List ℕ
 spaces count = replicate count 32
 
--- a number on the right of so many characters, or on the left
+-- a number at the right of a field of `width` characters, or at its left
 abbrev pub at_right : ℕ → ℕ → List ℕ
 at_right width number = spaces (width - length (decimal number)) ++ decimal number
 
@@ -45,12 +45,14 @@ column_text picture extent disk = cell_text (cell_of picture (record { disk = di
 
 -- the first and the last number of extents, or the only one
 abbrev pub extents_text : ℕ → ℕ → List ℕ
-extents_text first last = if nat_lt first last then at_right 4 first ++ (codes ".." ++ at_left 4 last) else at_right 4 first ++ spaces 6
+extents_text first last =
+    if nat_lt first last then at_right 4 first ++ (codes ".." ++ at_left 4 last) else at_right 4 first ++ spaces 6
 
 -- the line of a fold: the numbers of its extents, and its first extent's cell on each disk
 abbrev pub fold_text : Picture → Fold → List ℕ
 fold_text picture fold =
-    extents_text fold.first (fold.end - 1) ++ (flat_map (column_text picture fold.first) (range_with_len 0 picture.disks) ++ 10 ∷ [])
+    extents_text fold.first (fold.end - 1)
+    ++ (flat_map (column_text picture fold.first) (range_with_len 0 picture.disks) ++ 10 ∷ [])
 
 -- the line with a word of five characters below the number of a disk
 abbrev pub below_text : ℕ → List ℕ → List ℕ
@@ -65,19 +67,21 @@ down_text Broken = []
 
 -- the numbers of disks and of extents
 abbrev pub sizes_text : Picture → List ℕ
-sizes_text picture = decimal picture.disks ++ (codes " disks (columns) of " ++ (decimal picture.extents ++ codes " extents (lines)\n"))
+sizes_text picture =
+    decimal picture.disks ++ (codes " disks (columns) of " ++ (decimal picture.extents ++ codes " extents (lines)\n"))
 
 -- the lines above the extents
 abbrev pub heads_text : Picture → List ℕ
 heads_text picture =
-    (sizes_text picture ++ spaces 10) ++ (flat_map (at_right 5) (range_with_len 0 picture.disks) ++ 10 ∷ down_text picture.health)
+    (sizes_text picture ++ spaces 10)
+    ++ (flat_map (at_right 5) (range_with_len 0 picture.disks) ++ 10 ∷ down_text picture.health)
 
 -- what the signs of a cell mean
 abbrev pub signs_text : List ℕ
 signs_text = codes "M mirrored, P with parity; 0 to 9: how full, in ninths of its slots\n"
     ++ codes "-- in a free group, .. in no group, ! can't be used\n"
 
--- the health of the disks, each of so many extents
+-- the health of disks of `extents` extents
 abbrev pub disks_text : ℕ → Health → List ℕ
 disks_text extents Whole = codes "all disks are sound\n"
 disks_text extents (Out disk) = codes "disk " ++ (decimal disk ++ codes " is out\n")
@@ -87,11 +91,12 @@ disks_text extents Broken = codes "the data are lost\n"
 
 -- the line of a unit: how many of its blocks are on the disks
 abbrev pub unit_text : PictureUnit → List ℕ
-unit_text unit = codes "unit " ++ (decimal unit.host ++ (codes " " ++ (decimal unit.lun ++ (codes ": " ++ (decimal unit.placed
-    ++ (codes " of " ++ (decimal unit.blocks ++ codes " blocks on the disks\n")))))))
+unit_text unit = codes "unit " ++ (decimal unit.host ++ (codes " " ++ (decimal unit.lun ++ (codes ": "
+    ++ (decimal unit.placed ++ (codes " of " ++ (decimal unit.blocks ++ codes " blocks on the disks\n")))))))
 
 -- the whole map, with a line for each of these folds and for each unit
 abbrev pub map_text : Picture → List Fold → List ℕ
 map_text picture folds =
-    (heads_text picture ++ (flat_map (fold_text picture) folds ++ (signs_text ++ disks_text picture.extents picture.health)))
+    (heads_text picture
+    ++ (flat_map (fold_text picture) folds ++ (signs_text ++ disks_text picture.extents picture.health)))
     ++ flat_map unit_text picture.units.items

@@ -8,8 +8,8 @@
 //    124 |    0 : extent   : extent    |                  |   `pitch` an extent
 //        |    1 : extent   : extent    |                  |
 //        +------+----------+-----------+------------------+
-ghost use Rattle.std.specs.Prelude.{◌≡◌, ◌==◌, ◌+◌, ◌*◌, ◌%◌, ◌/◌, ◌<◌, ◌≤◌, ◌^◌, nat_lt, min, max, length};
-ghost use Rattle.ar_picture.specs.Looks.{outline_of, height_of};
+ghost use Rattle.std.specs.Prelude.{◌≡◌, ◌==◌, ◌+◌, ◌*◌, ◌%◌, ◌/◌, ◌<◌, ◌≤◌, ◌^◌, nat_lt};
+ghost use Rattle.ar_picture.specs.Layouts.{IsLegible, height_of, left_at, legend_at, line_top_at, outline_of, scale_of, top_at, width_of};
 
 use crate::{Picture, UNITS_MAX};
 
@@ -38,49 +38,43 @@ pub struct Scale {
     pub pitch: u8,
     /// How tall an extent is.
     pub height: u8,
-    /// Where its bar begins, and how tall that is.
-    pub bar: (u8, u8),
-    /// How thick its outline is.
-    pub outline: &'static str,
+    /// Where its bar begins, below its top.
+    pub bar_top: u8,
+    /// How tall its bar is.
+    pub bar_height: u8,
     /// Which extents have their number beside them: the multiples of this.
     pub numbered: u16,
-    ghost apart: { 0 < numbered },
 }
 
 impl Scale {
     /// Returns the scale for disks of `extents` extents.
     pub fn of(extents: u16) -> Scale
-        // Extents don't overlap, and each contains its bar, which is visible.
-        ensures apart { result.height ≤ result.pitch }
-        ensures bar { result.bar.0 + result.bar.1 ≤ result.height }
-        ensures seen { 0 < result.bar.1 }
-        // A bar takes at least a third of its extent, and at most 4 units separate two extents.
-        ensures thick { result.height ≤ 3 * result.bar.1 }
-        ensures near { result.pitch ≤ result.height + 4 }
-        // Text fits above the bar; up to 16 extents have it. Up to 1,024 extents are at most 3,072 high in all.
-        ensures words { 24 < result.height → 14 ≤ result.bar.0 }
-        ensures few { extents ≤ 16 → 24 < result.height }
-        ensures many { extents ≤ 1024 → result.pitch * extents ≤ 3072 }
-        // Extents are at least 3 high, and never lower than those of a disk with more of them.
-        ensures tall { result.height ≡ height_of extents }
-        // Numbers, 11 high, don't overlap, and are at most 384 apart. With text, each extent has its number.
-        ensures numbers { 11 ≤ result.pitch * result.numbered }
-        ensures often { result.pitch * result.numbered ≤ 384 }
-        ensures each { 24 < result.height → result.numbered ≡ 1 }
-        ensures thin { result.outline.now ≡ outline_of result.height }
+        ensures same { result ≡ scale_of extents }
+        ensures legible { IsLegible extents result }
     {
-        let (pitch, height, bar, outline, numbered) = match extents {
-            0..=16 => (36, 32, (17, 11), "1", 1),
-            17..=64 => (14, 12, (3, 6), "1", 8),
-            65..=256 => (6, 5, (1, 3), "0.5", 32),
-            _ => (3, 3, (0, 3), "0.2", 128),
+        let (pitch, height, bar_top, bar_height, numbered) = match extents {
+            0..=16 => (36, 32, 17, 11, 1),
+            17..=64 => (14, 12, 3, 6, 8),
+            65..=256 => (6, 5, 1, 3, 32),
+            _ => (3, 3, 0, 3, 128),
         };
         Scale {
             pitch,
             height,
-            bar,
-            outline,
+            bar_top,
+            bar_height,
             numbered,
+        }
+    }
+
+    /// How thick the outline of an extent is, as text.
+    pub fn outline(self) -> &'static str
+        ensures { result.now ≡ outline_of self.height }
+    {
+        match self.height {
+            0..=3 => "0.2",
+            4..=9 => "0.5",
+            _ => "1",
         }
     }
 
@@ -93,7 +87,7 @@ impl Scale {
 
     /// Returns the y coordinate of an extent's top.
     pub fn top_of(self, extent: u16) -> u32
-        ensures top { result ≡ 124 + self.pitch * extent }
+        ensures top { result ≡ top_at self extent }
         ensures small { result < 2 ^ 25 }
     {
         TOP + u32::from(self.pitch) * u32::from(extent)
@@ -101,14 +95,14 @@ impl Scale {
 
     /// Returns the y coordinate of its bar's top.
     pub fn bar_of(self, extent: u16) -> u32
-        ensures { result ≡ 124 + self.pitch * extent + self.bar.0 }
+        ensures { result ≡ top_at self extent + self.bar_top }
     {
-        self.top_of(extent) + u32::from(self.bar.0)
+        self.top_of(extent) + u32::from(self.bar_top)
     }
 
     /// Returns the y coordinate of its number's baseline, a little below its middle.
     pub fn number_of(self, extent: u16) -> u32
-        ensures { result ≡ 124 + self.pitch * extent + self.height / 2 + 4 }
+        ensures { result ≡ top_at self extent + self.height / 2 + 4 }
     {
         self.top_of(extent) + u32::from(self.height / 2) + 4
     }
@@ -117,16 +111,16 @@ impl Scale {
     pub fn is_numbered(self, extent: u16) -> bool
         ensures { result ≡ (extent % self.numbered == 0) }
     {
-        extent % self.numbered == 0
+        extent.is_multiple_of(self.numbered)
     }
 }
 
 /// Returns the x coordinate of a disk's column.
 pub fn left_of(disk: u8) -> u32
-    ensures left { result ≡ 64 + 92 * disk }
+    ensures left { result ≡ left_at disk }
     // Columns don't overlap, and at most 12 units separate two.
-    ensures apart { result + WIDTH < 64 + 92 * (disk + 1) }
-    ensures near { 64 + 92 * (disk + 1) ≤ result + WIDTH + 12 }
+    ensures apart { result + WIDTH < left_at (disk + 1) }
+    ensures near { left_at (disk + 1) ≤ result + WIDTH + 12 }
     ensures small { result < 2 ^ 16 }
 {
     LEFT + COLUMN * u32::from(disk)
@@ -134,7 +128,7 @@ pub fn left_of(disk: u8) -> u32
 
 /// Returns the y coordinate of a line of the legend.
 pub fn line_top(line: u8) -> u32
-    ensures top { result ≡ 74 + 22 * line }
+    ensures top { result ≡ line_top_at line }
     ensures small { result < 2 ^ 16 }
 {
     TOP - 50 + LINE * u32::from(line)
@@ -142,7 +136,7 @@ pub fn line_top(line: u8) -> u32
 
 /// Returns the x coordinate of the legend.
 pub fn legend_left(picture: &Picture) -> u32
-    ensures left { result ≡ 84 + 92 * picture.now.disks }
+    ensures left { result ≡ legend_at picture.now.disks }
     ensures small { result < 2 ^ 17 }
 {
     left_of(picture.disks) + 20
@@ -150,9 +144,8 @@ pub fn legend_left(picture: &Picture) -> u32
 
 /// Returns width and height of the picture, with a margin: as wide as disks and legend, as high as the higher of them.
 pub fn size_of(picture: &Picture, scale: Scale) -> (u32, u32)
-    ensures wide { result.0 ≡ 348 + 92 * picture.now.disks }
-    ensures tall { result.1
-        ≡ max (124 + scale.pitch * picture.now.extents) (300 + 22 * min (length picture.now.units.items) 32) + 24 }
+    ensures wide { result.0 ≡ width_of picture.now }
+    ensures tall { result.1 ≡ height_of scale picture.now }
 {
     let width = legend_left(picture) + LEGEND;
     let map = scale.top_of(picture.extents);

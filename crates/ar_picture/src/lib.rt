@@ -2,6 +2,7 @@
 #![tactic(auto)]
 
 mod cell;
+mod column;
 mod folds;
 mod layout;
 mod legend;

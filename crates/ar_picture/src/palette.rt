@@ -1,7 +1,7 @@
 // Colours. Those of units, of extents and of the background all differ (`colours_differ`).
 ghost use Rattle.std.specs.Prelude.{◌≡◌, ◌+◌, ◌*◌, true, ◌∷◌, map, slice_index_or};
 ghost use Rattle.std.specs.List.{list_all};
-ghost use Rattle.ar_picture.specs.Looks.{are_apart, is_colour};
+ghost use Rattle.ar_picture.specs.Looks.{are_apart, colour_at, is_colour};
 
 use crate::{UNITS_MAX, Unit};
 
@@ -35,18 +35,23 @@ pub fn colours_differ()
     // All are written in the same form, so that different texts are different colours.
     ensures written { list_all is_colour
         (MIRRORED.now ∷ PARITY.now ∷ GROUND.now ∷ NO_UNIT.now ∷ map (λ colour. colour.now) COLOURS) ≡ true }
-    ensures apart { are_apart (MIRRORED.now ∷ PARITY.now ∷ GROUND.now ∷ NO_UNIT.now ∷ map (λ colour. colour.now) COLOURS) ≡ true }
+    ensures apart { are_apart
+        (MIRRORED.now ∷ PARITY.now ∷ GROUND.now ∷ NO_UNIT.now ∷ map (λ colour. colour.now) COLOURS) ≡ true }
 {}
 
-/// Returns the colour at a unit's index, or black past the end.
+/// Returns the colour of a unit.
 pub fn colour_of(unit: Unit) -> &'static str
-    ensures { result.now ≡ slice_index_or (map (λ colour. colour.now) COLOURS) (8 * unit.host + unit.lun) NO_UNIT.now }
+    ensures { result.now ≡ colour_at (8 * unit.host + unit.lun) }
 {
-    text_at(
-        &COLOURS,
-        8 * usize::from(unit.host) + usize::from(unit.lun),
-        NO_UNIT,
-    )
+    colour_at(8 * usize::from(unit.host) + usize::from(unit.lun))
+}
+
+/// Returns the colour of the unit with this index, or black past the last unit.
+#[tactic(auto, unfolding(crate::specs::Looks::colour_at))]
+pub fn colour_at(index: usize) -> &'static str
+    ensures { result.now ≡ colour_at index }
+{
+    text_at(&COLOURS, index, NO_UNIT)
 }
 
 // The text at an index, or `other` past the end.

@@ -109,7 +109,8 @@ impl Held {
         requires place { place < 32 }
         requires few { slice_index self.old.blocks place + 1 < 2 ^ 32 }
         ensures one { slice_index self.new.blocks place ≡ slice_index self.old.blocks place + 1 }
-        ensures others { (other : ℕ) → other ≢ place → slice_index self.new.blocks other ≡ slice_index self.old.blocks other }
+        ensures others { (other : ℕ) → other ≢ place
+            → slice_index self.new.blocks other ≡ slice_index self.old.blocks other }
     {
         self.blocks[place] += 1;
     }

@@ -1,9 +1,16 @@
 // The SVG: for each disk a column of its extents, from top to bottom, and the legend on the right.
+ghost use Rattle.std.specs.Prelude.{◌≡◌, OnOk, codes};
+ghost use Rattle.std.specs.Io.KnownBytes.{Appends};
+ghost use Rattle.std.specs.List.{flat_map, range_with_len};
+ghost use Rattle.ar_picture.specs.Drawings.{disk_svg, disks_svg, frame_svg, ground_svg, health_svg, name_svg, number_svg};
+ghost use Rattle.ar_picture.specs.Drawings.{opening_svg, picture_svg, state_svg, styles_svg, svg_text};
+ghost use Rattle.ar_picture.specs.Layouts.{height_of, width_of};
+
+use crate::column::write_extents;
 use crate::layout::{Scale, TOP, WIDTH, left_of, size_of};
 use crate::legend::write_legend;
-use crate::palette::{COLOURS, GROUND, MIRRORED, PARITY};
-use crate::{Cell, Class, Content, Group, Health, Picture};
-use ar_disks::Place;
+use crate::palette::{GROUND, MIRRORED, PARITY};
+use crate::{Health, Picture};
 use std::io;
 use std::io::Write;
 
@@ -29,61 +36,71 @@ const HATCH: &str = "\
 
 /// Writes the picture as an SVG: for each disk a column of its extents, coloured by the class of their group, each with
 /// a bar as long as the group is full, in the colours of the units whose blocks it holds; and a legend. Missing extents
-/// are hatched.
-pub fn write_svg<W: Write>(out: &mut W, picture: &Picture) -> io::Result<()> {
-    let scale = Scale::of(picture.extents);
+/// are hatched. It is exactly the text that specs/Drawings.antt gives.
+pub fn write_svg<W: Write>(out: &mut W, picture: &Picture) -> io::Result<()>
+    ensures text { OnOk result (Appends (W.contents out.old) (W.contents out.new) (svg_text picture.now)) }
+{
+    draw(out, picture, Scale::of(picture.extents))
+}
+
+// Writes the picture at a scale.
+fn draw<W: Write>(out: &mut W, picture: &Picture, scale: Scale) -> io::Result<()>
+    ensures text { OnOk result (Appends (W.contents out.old) (W.contents out.new) (picture_svg scale picture.now)) }
+{
     write_frame(out, picture, scale)?;
-    write_numbers(out, picture, scale)?;
-    let outline = scale.outline;
-    writeln!(out, "<g stroke-width='{outline}'>")?;
-    for disk in 0..picture.disks {
-        write_disk(out, picture, scale, disk)?;
-    }
-    writeln!(out, "</g>")?;
+    write_numbers(out, picture.extents, scale)?;
+    write_disks(out, picture, scale)?;
     write_legend(out, picture)?;
     writeln!(out, "</svg>")
 }
 
 // Writes what comes before the disks: size, styles, title and health.
-fn write_frame<W: Write>(out: &mut W, picture: &Picture, scale: Scale) -> io::Result<()> {
-    let (width, height) = size_of(picture, scale);
+fn write_frame<W: Write>(out: &mut W, picture: &Picture, scale: Scale) -> io::Result<()>
+    ensures text { OnOk result (Appends (W.contents out.old) (W.contents out.new) (frame_svg scale picture.now)) }
+{
     let (disks, extents) = (picture.disks, picture.extents);
-    write!(
-        out,
-        "<svg xmlns='http://www.w3.org/2000/svg' width='{width}' height='{height}'"
-    )?;
-    writeln!(out, " viewBox='0 0 {width} {height}'>")?;
+    write_opening(out, picture, scale)?;
     writeln!(
         out,
         "<title>A disk array of {disks} disks of {extents} extents</title>"
     )?;
-    write_style(out)?;
-    writeln!(
-        out,
-        "<rect width='{width}' height='{height}' fill='{GROUND}'/>"
-    )?;
+    write_styles(out)?;
+    write_ground(out, picture, scale)?;
     writeln!(
         out,
         "<text class='title' x='24' y='34'>{disks} disks of {extents} extents</text>"
     )?;
-    write!(out, "<text x='24' y='56'>")?;
-    match picture.health {
-        Health::Whole => write!(out, "All disks are sound.")?,
-        Health::Out(disk) => write!(out, "Disk {disk} is out.")?,
-        Health::Rebuilding(disk, done) => write!(
-            out,
-            "Disk {disk} is new: {done} of its {extents} extents are rebuilt."
-        )?,
-        Health::Broken => write!(
-            out,
-            "Two disks were lost at one moment, and the data with them."
-        )?,
-    }
-    writeln!(out, "</text>")
+    write_health(out, picture)
+}
+
+// Writes the first line, with the picture's size.
+fn write_opening<W: Write>(out: &mut W, picture: &Picture, scale: Scale) -> io::Result<()>
+    ensures text { OnOk result (Appends (W.contents out.old) (W.contents out.new)
+        (opening_svg (width_of picture.now) (height_of scale picture.now))) }
+{
+    let (width, height) = size_of(picture, scale);
+    writeln!(
+        out,
+        "<svg xmlns='http://www.w3.org/2000/svg' width='{width}' height='{height}' viewBox='0 0 {width} {height}'>"
+    )
+}
+
+// Writes the background.
+fn write_ground<W: Write>(out: &mut W, picture: &Picture, scale: Scale) -> io::Result<()>
+    ensures text { OnOk result (Appends (W.contents out.old) (W.contents out.new)
+        (ground_svg (width_of picture.now) (height_of scale picture.now))) }
+{
+    let (width, height) = size_of(picture, scale);
+    writeln!(
+        out,
+        "<rect width='{width}' height='{height}' fill='{GROUND}'/>"
+    )
 }
 
 // Writes the styles of text and of extents.
-fn write_style<W: Write>(out: &mut W) -> io::Result<()> {
+fn write_styles<W: Write>(out: &mut W) -> io::Result<()>
+    ensures text { OnOk result (Appends (W.contents out.old) (W.contents out.new) styles_svg) }
+{
     writeln!(out, "<style>\n{TEXTS}")?;
     writeln!(out, ".mirrored {{ fill: {MIRRORED}; stroke: #3D8FC4 }}")?;
     writeln!(out, ".parity {{ fill: {PARITY}; stroke: #BFA11C }}")?;
@@ -91,144 +108,107 @@ fn write_style<W: Write>(out: &mut W) -> io::Result<()> {
     writeln!(out, "{UNUSED}\n</style>\n{HATCH}")
 }
 
+// Writes the health of the disks.
+fn write_health<W: Write>(out: &mut W, picture: &Picture) -> io::Result<()>
+    ensures text { OnOk result
+        (Appends (W.contents out.old) (W.contents out.new) (health_svg picture.now.extents picture.now.health)) }
+{
+    let extents = picture.extents;
+    match picture.health {
+        Health::Whole => writeln!(out, "<text x='24' y='56'>All disks are sound.</text>"),
+        Health::Out(disk) => writeln!(out, "<text x='24' y='56'>Disk {disk} is out.</text>"),
+        Health::Rebuilding(disk, done) => writeln!(
+            out,
+            "<text x='24' y='56'>Disk {disk} is new: {done} of its {extents} extents are rebuilt.</text>"
+        ),
+        Health::Broken => writeln!(
+            out,
+            "<text x='24' y='56'>Two disks were lost at one moment, and the data with them.</text>"
+        ),
+    }
+}
+
 // Writes the numbers of extents to their left.
-fn write_numbers<W: Write>(out: &mut W, picture: &Picture, scale: Scale) -> io::Result<()> {
-    for extent in 0..picture.extents {
-        if scale.is_numbered(extent) {
-            let middle = scale.number_of(extent);
-            writeln!(
-                out,
-                "<text class='number' x='54' y='{middle}'>{extent}</text>"
-            )?;
-        }
+fn write_numbers<W: Write>(out: &mut W, extents: u16, scale: Scale) -> io::Result<()>
+    ensures text { OnOk result
+        (Appends (W.contents out.old) (W.contents out.new) (flat_map (number_svg scale) (range_with_len 0 extents))) }
+{
+    for extent in 0..extents {
+        write_number(out, scale, extent)?;
+    }
+    Ok(())
+}
+
+// Writes the number of an extent, where it has one.
+fn write_number<W: Write>(out: &mut W, scale: Scale, extent: u16) -> io::Result<()>
+    ensures text { OnOk result (Appends (W.contents out.old) (W.contents out.new) (number_svg scale extent)) }
+{
+    if !scale.is_numbered(extent) {
+        return Ok(());
+    }
+    let base = scale.number_of(extent);
+    writeln!(
+        out,
+        "<text class='number' x='54' y='{base}'>{extent}</text>"
+    )
+}
+
+// Writes all disks.
+fn write_disks<W: Write>(out: &mut W, picture: &Picture, scale: Scale) -> io::Result<()>
+    ensures text { OnOk result (Appends (W.contents out.old) (W.contents out.new) (disks_svg scale picture.now)) }
+{
+    let outline = scale.outline();
+    writeln!(out, "<g stroke-width='{outline}'>")?;
+    write_columns(out, picture, scale)?;
+    writeln!(out, "</g>")
+}
+
+// Writes the column of each disk.
+fn write_columns<W: Write>(out: &mut W, picture: &Picture, scale: Scale) -> io::Result<()>
+    ensures text { OnOk result (Appends (W.contents out.old) (W.contents out.new)
+        (flat_map (disk_svg scale picture.now) (range_with_len 0 picture.now.disks))) }
+{
+    for disk in 0..picture.disks {
+        write_disk(out, picture, scale, disk)?;
     }
     Ok(())
 }
 
 // Writes a disk's column.
-fn write_disk<W: Write>(out: &mut W, picture: &Picture, scale: Scale, disk: u8) -> io::Result<()> {
-    let middle = left_of(disk) + WIDTH / 2;
-    let (name, state) = (TOP - 26, TOP - 10);
+fn write_disk<W: Write>(out: &mut W, picture: &Picture, scale: Scale, disk: u8) -> io::Result<()>
+    ensures text { OnOk result (Appends (W.contents out.old) (W.contents out.new) (disk_svg scale picture.now disk)) }
+{
+    write_name(out, disk)?;
+    write_state(out, picture.health, disk)?;
+    write_extents(out, picture, scale, disk)
+}
+
+// Writes a disk's name above its column.
+fn write_name<W: Write>(out: &mut W, disk: u8) -> io::Result<()>
+    ensures text { OnOk result (Appends (W.contents out.old) (W.contents out.new) (name_svg disk)) }
+{
+    let (middle, base) = (left_of(disk) + WIDTH / 2, TOP - 26);
     writeln!(
         out,
-        "<text class='disk' x='{middle}' y='{name}'>disk {disk}</text>"
-    )?;
-    match picture.health {
+        "<text class='disk' x='{middle}' y='{base}'>disk {disk}</text>"
+    )
+}
+
+// Writes below a disk's name that it has failed, or how many of its extents are rebuilt.
+fn write_state<W: Write>(out: &mut W, health: Health, disk: u8) -> io::Result<()>
+    ensures text { OnOk result (Appends (W.contents out.old) (W.contents out.new) (state_svg disk health)) }
+{
+    let (middle, base) = (left_of(disk) + WIDTH / 2, TOP - 10);
+    match health {
         Health::Out(down) if down == disk => {
-            writeln!(
-                out,
-                "<text class='down' x='{middle}' y='{state}'>out</text>"
-            )?;
+            writeln!(out, "<text class='down' x='{middle}' y='{base}'>out</text>")
         }
         Health::Rebuilding(down, done) if down == disk => {
             writeln!(
                 out,
-                "<text class='down' x='{middle}' y='{state}'>{done} rebuilt</text>"
-            )?;
+                "<text class='down' x='{middle}' y='{base}'>{done} rebuilt</text>"
+            )
         }
-        _ => {}
-    }
-    for extent in 0..picture.extents {
-        write_extent(out, picture, scale, Place { disk, extent })?;
-    }
-    Ok(())
-}
-
-// Writes an extent: its cell, the bar of its group, a hatch if it is missing, and text if there is room.
-fn write_extent<W: Write>(
-    out: &mut W,
-    picture: &Picture,
-    scale: Scale,
-    place: Place,
-) -> io::Result<()> {
-    let cell = picture.cell_at(place);
-    let number = picture.group_at(place);
-    write_cell(out, scale, place, class_of(cell))?;
-    if let Some(number) = number {
-        write_bar(out, picture, scale, place, number)?;
-    }
-    if cell.is_missing {
-        write_cell(out, scale, place, "missing")?;
-    }
-    match number {
-        Some(number) if scale.has_words() => write_words(out, picture, scale, place, number),
         _ => Ok(()),
     }
-}
-
-// The name of the style of a cell.
-fn class_of(cell: Cell) -> &'static str {
-    match cell.content {
-        Content::Loose => "loose",
-        Content::Free => "free",
-        Content::Mirrored(_) => "mirrored",
-        Content::Parity(_) => "parity",
-    }
-}
-
-fn write_cell<W: Write>(out: &mut W, scale: Scale, place: Place, class: &str) -> io::Result<()> {
-    let (x, y, height) = (
-        left_of(place.disk),
-        scale.top_of(place.extent),
-        scale.height,
-    );
-    writeln!(
-        out,
-        "<rect class='{class}' x='{x}' y='{y}' width='{WIDTH}' height='{height}'/>"
-    )
-}
-
-// Writes the blocks of an extent's group as a bar, in which all slots are equally long.
-fn write_bar<W: Write>(
-    out: &mut W,
-    picture: &Picture,
-    scale: Scale,
-    place: Place,
-    number: usize,
-) -> io::Result<()> {
-    let (Some(group), Some(held)) = (picture.groups.get(number), picture.held.get(number)) else {
-        return Ok(());
-    };
-    let (x, y) = (left_of(place.disk) + 4, scale.bar_of(place.extent));
-    let (width, height, slots) = (WIDTH - 8, scale.bar.1, group.slots);
-    write!(
-        out,
-        "<svg x='{x}' y='{y}' width='{width}' height='{height}'"
-    )?;
-    write!(out, " viewBox='0 0 {slots} 1' preserveAspectRatio='none'>")?;
-    let mut from = 0u32;
-    for (blocks, colour) in held.blocks.iter().zip(COLOURS.iter()) {
-        if *blocks > 0 {
-            write!(
-                out,
-                "<rect x='{from}' width='{blocks}' height='1' fill='{colour}'/>"
-            )?;
-        }
-        from = from.saturating_add(*blocks);
-    }
-    writeln!(out, "</svg>")
-}
-
-// Writes the number of an extent's group, and its fullness.
-fn write_words<W: Write>(
-    out: &mut W,
-    picture: &Picture,
-    scale: Scale,
-    place: Place,
-    number: usize,
-) -> io::Result<()> {
-    let (x, y) = (left_of(place.disk) + 5, scale.top_of(place.extent) + 12);
-    write!(out, "<text class='small' x='{x}' y='{y}'>{number}: ")?;
-    match picture.groups.get(number) {
-        Some(
-            Group {
-                class: Class::Mirrored | Class::Parity,
-                blocks,
-                slots,
-                ..
-            },
-        ) => write!(out, "{blocks} of {slots}")?,
-        _ => write!(out, "free")?,
-    }
-    writeln!(out, "</text>")
 }

@@ -129,7 +129,8 @@ fn mark_of(is_missing: bool) -> &'static str
 }
 
 fn write_health<W: Write>(out: &mut W, picture: &Picture) -> io::Result<()>
-    ensures text { OnOk result (Appends (W.contents out.old) (W.contents out.new) (disks_text picture.now.extents picture.now.health)) }
+    ensures text { OnOk result
+        (Appends (W.contents out.old) (W.contents out.new) (disks_text picture.now.extents picture.now.health)) }
 {
     let extents = picture.extents;
     match picture.health {

@@ -1,4 +1,4 @@
-use Rattle.std.proofs.Common.{rules, ◌≡◌, ◌+◌, ◌*◌, ◌∷◌, [], ◌++◌, OnOk, append_assoc, codes, refl, subst}
+use Rattle.std.proofs.Common.{rules, ◌≡◌, ◌+◌, ◌*◌, ◌∷◌, [], ◌++◌, OnOk, codes, refl, subst}
 use Rattle.std.specs.Io.KnownBytes.{Appends}
 use Rattle.ar_picture.specs.Maps.{below_text, spaces}
 use Rattle.ar_picture.proofs.Appending.{appends_as, appends_then, ends_with}

@@ -1,4 +1,4 @@
-use Rattle.std.proofs.Common.{arith, ◌∙◌, [], ◌++◌, append_assoc, append-nil, codes, length, subst, sym, take}
+use Rattle.std.proofs.Common.{arith, ◌∙◌, [], ◌++◌, append_assoc, append-nil, codes, subst, sym, take}
 use Rattle.std.proofs.lemmas.List.{take_all}
 use Rattle.std.specs.Io.KnownBytes.{Appends}
 use Rattle.std.specs.List.{flat_map}

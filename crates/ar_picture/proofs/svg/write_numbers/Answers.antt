@@ -1,0 +1,10 @@
+use Rattle.ar_picture.specs.Drawings.{number_svg}
+use Rattle.ar_picture.proofs.DrawingLemmas.{appends_next}
+use Rattle.ar_picture.proofs.svg.write_numbers.Goals as goal
+
+pub loop-extent-preserved : goal.loop-extent-preserved
+loop-extent-preserved g c =
+    let old = g.W.Write.contents c.args.out.now in
+    let before = g.W.Write.contents c.loop-extent.out in
+    let new = g.W.Write.contents c.write_number.new.out in
+    appends_next (number_svg c.args.scale) old before new c.loop-extent.extent c.loop-extent.invariant c.in_ok-write_number.ensures.text
