@@ -16,16 +16,19 @@ pub adds_as : {old new : Option (List ℕ)} {xs ys : List ℕ} → xs ≡ ys →
 adds_as {old} {new} {xs} {ys} same added = record { it = appends_as old new xs ys same added }
 
 -- a text, and then another
-pub adds_then : {old mid new : Option (List ℕ)} {xs ys : List ℕ} → Adds old mid xs → Adds mid new ys → Adds old new (xs ++ ys)
+pub adds_then : {old mid new : Option (List ℕ)} {xs ys : List ℕ} → Adds old mid xs → Adds mid new ys
+    → Adds old new (xs ++ ys)
 adds_then {old} {mid} {new} {xs} {ys} first then = record { it = appends_then old mid new xs ys first.it then.it }
 
 -- a text, and then the last one, where that could be written
-pub adds_last : {T E : Type 0} {old mid : Option (List ℕ)} {xs : List ℕ} (r : Result T E) (new : Option (List ℕ)) (ys : List ℕ)
+pub adds_last : {T E : Type 0} {old mid : Option (List ℕ)} {xs : List ℕ} (r : Result T E) (new : Option (List ℕ))
+    (ys : List ℕ)
     → Adds old mid xs → OnOk r (Appends mid new ys) → OnOk r (Appends old new (xs ++ ys))
 adds_last {old} {mid} {xs} r new ys first last = ends_with r old mid new xs ys (xs ++ ys) refl first.it last
 
 -- the texts of the numbers below n, and then that of n
-pub appends_next : (f : ℕ → List ℕ) (old mid new : Option (List ℕ)) (n : ℕ) → Appends old mid (flat_map f (range_with_len 0 n))
+pub appends_next : (f : ℕ → List ℕ) (old mid new : Option (List ℕ)) (n : ℕ)
+    → Appends old mid (flat_map f (range_with_len 0 n))
     → Appends mid new (f n) → Appends old new (flat_map f (range_with_len 0 (n + 1)))
 appends_next f old mid new n first then =
     let before = flat_map f (range_with_len 0 n) in

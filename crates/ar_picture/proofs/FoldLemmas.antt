@@ -14,16 +14,20 @@ range_more a (suc m) n =
     rw (e, f) (ap (λ xs. a ∷ xs) (range_more (a + 1) m n))
 
 -- the extents before a fold, and its own
-pub folded_more : (folds : List Fold) (fold : Fold) → fold.first < fold.end → flat_map extents_of folds ≡ range_with_len 0 fold.first
+pub folded_more : (folds : List Fold) (fold : Fold) → fold.first < fold.end
+    → flat_map extents_of folds ≡ range_with_len 0 fold.first
     → flat_map extents_of (folds ++ fold ∷ []) ≡ range_with_len 0 fold.end
 folded_more folds fold some once =
     let zero_first : 0 + fold.first ≡ fold.first = omega arith in
     let whole : fold.first + (fold.end - fold.first) ≡ fold.end = omega arith in
     sym (flat_map_more extents_of [] folds fold)
     ∙ ap (λ xs. xs ++ extents_of fold) once
-    ∙ subst (λ a. range_with_len 0 fold.first ++ range_with_len a (fold.end - fold.first) ≡ range_with_len 0 (fold.first + (fold.end - fold.first))) zero_first (range_more 0 fold.first (fold.end - fold.first))
+    ∙ subst (λ a. range_with_len 0 fold.first ++ range_with_len a (fold.end - fold.first)
+    ≡ range_with_len 0 (fold.first + (fold.end - fold.first)))
+    zero_first (range_more 0 fold.first (fold.end - fold.first))
     ∙ ap (range_with_len 0) whole
 
 -- a fold is no more than its extents
-pub few_more : (folds : List Fold) (fold : Fold) → fold.first < fold.end → length folds ≤ fold.first → length (folds ++ fold ∷ []) ≤ fold.end
+pub few_more : (folds : List Fold) (fold : Fold) → fold.first < fold.end → length folds ≤ fold.first
+    → length (folds ++ fold ∷ []) ≤ fold.end
 few_more folds fold some few = simp length-append (omega arith)

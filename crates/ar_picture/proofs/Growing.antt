@@ -19,7 +19,11 @@ grows_then {old = None} first then = record { more = []; appends = tt }
 grows_then {old = Some xs} {mid = None} first then = absurd first.appends
 grows_then {old = Some xs} {mid = Some ys} {new = None} first then = absurd then.appends
 grows_then {old = Some xs} {mid = Some ys} {new = Some zs} first then =
-    record { more = first.more ++ then.more; appends = grind (arith, first.appends, then.appends, append_assoc xs first.more then.more) }
+    record {
+      more = first.more ++ then.more;
+      appends =
+          grind (arith, first.appends, then.appends, append_assoc xs first.more then.more);
+    }
 
 -- where some bytes are written, and then perhaps more, or the other way round
 first_none : (xs ys : List ℕ) → xs ++ ys ≡ [] → xs ≡ []
@@ -30,7 +34,8 @@ second_none : (xs ys : List ℕ) → xs ++ ys ≡ [] → ys ≡ []
 second_none [] ys is = is
 second_none (x ∷ xs) ys is = absurd (cc)
 
-joined : (old mid new : Option (List ℕ)) (xs ys : List ℕ) → Appends old mid xs → Appends mid new ys → xs ++ ys ≢ [] → AddsSome old new
+joined : (old mid new : Option (List ℕ)) (xs ys : List ℕ) → Appends old mid xs → Appends mid new ys → xs ++ ys ≢ []
+    → AddsSome old new
 joined None mid new xs ys first then some = record { more = xs ++ ys; appends = tt; some = some }
 joined (Some a) None new xs ys first then some = absurd first
 joined (Some a) (Some b) None xs ys first then some = absurd then
@@ -39,8 +44,10 @@ joined (Some a) (Some b) (Some c) xs ys first then some =
 
 pub some_then : {old mid new : Option (List ℕ)} → AddsSome old mid → AddsBytes mid new → AddsSome old new
 some_then {old} {mid} {new} first then =
-    joined old mid new first.more then.more first.appends then.appends (λ none. first.some (first_none first.more then.more none))
+    joined old mid new first.more then.more first.appends then.appends
+    (λ none. first.some (first_none first.more then.more none))
 
 pub then_some : {old mid new : Option (List ℕ)} → AddsBytes old mid → AddsSome mid new → AddsSome old new
 then_some {old} {mid} {new} first then =
-    joined old mid new first.more then.more first.appends then.appends (λ none. then.some (second_none first.more then.more none))
+    joined old mid new first.more then.more first.appends then.appends
+    (λ none. then.some (second_none first.more then.more none))

@@ -16,7 +16,18 @@ returns g c =
     let groups = picture.groups.items in
     let scale = c.args.scale in
     let place = c.args.place in
-    let styled_text : Adds old styled (cell_svg scale place (style_of (content_at groups place))) = adds_as (ap (cell_svg scale place) (c.style_of.ensures ∙ ap (λ cell. style_of cell.content) c.cell_at-cell.ensures)) c.in_ok-write_cell.ensures.text in
-    let barred_text : Adds styled barred (bar_at scale picture place (group_at groups place)) = adds_as (ap (bar_at scale picture place) c.group_at-number.ensures) c.in_ok-write_bar_at.ensures.text in
-    let hatched_text : Adds barred hatched (hatch_svg scale place (is_missing_place picture.health place)) = adds_as (ap (λ cell. hatch_svg scale place cell.is_missing) c.cell_at-cell.ensures) c.in_ok-write_hatch.ensures.text in
-    record { text = adds_last c.write_words_at.result new (words_at scale picture place (group_at groups place)) (adds_then (adds_then styled_text barred_text) hatched_text) (said_as c.write_words_at.result hatched new (ap (words_at scale picture place) c.group_at-number.ensures) c.write_words_at.ensures.text) }
+    let styled_text : Adds old styled (cell_svg scale place (style_of (content_at groups place))) =
+    adds_as (ap (cell_svg scale place)
+    (c.style_of.ensures ∙ ap (λ cell. style_of cell.content) c.cell_at-cell.ensures)) c.in_ok-write_cell.ensures.text in
+    let barred_text : Adds styled barred (bar_at scale picture place (group_at groups place)) =
+    adds_as (ap (bar_at scale picture place) c.group_at-number.ensures) c.in_ok-write_bar_at.ensures.text in
+    let hatched_text : Adds barred hatched (hatch_svg scale place (is_missing_place picture.health place)) =
+    adds_as (ap (λ cell. hatch_svg scale place cell.is_missing) c.cell_at-cell.ensures)
+    c.in_ok-write_hatch.ensures.text in
+    record {
+      text =
+          adds_last c.write_words_at.result new (words_at scale picture place (group_at groups place))
+          (adds_then (adds_then styled_text barred_text) hatched_text)
+          (said_as c.write_words_at.result hatched new
+          (ap (words_at scale picture place) c.group_at-number.ensures) c.write_words_at.ensures.text);
+    }

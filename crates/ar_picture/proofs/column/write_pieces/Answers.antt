@@ -25,7 +25,8 @@ loop-index-preserved g c =
           ∙ sym (sum_by_more (λ n. n) blocks index 0 below);
       few = omega (arith, c.fits-blocks index);
       text = appends_next (piece_at blocks) old before new index kept.text
-          (appends_as before new (piece_svg c.loop-index.from count c.colour_at.result.now) (piece_at blocks index) piece c.in_ok-write_piece.ensures.text);
+          (appends_as before new (piece_svg c.loop-index.from count c.colour_at.result.now)
+          (piece_at blocks index) piece c.in_ok-write_piece.ensures.text);
     }
 
 pub returns : goal.returns
@@ -35,5 +36,6 @@ returns g c =
     let blocks = c.args.blocks.now in
     let all : c.loop-index.index ≡ length blocks = omega (arith, c.told-blocks) in
     record {
-      text = subst (λ n. Appends old new (flat_map (piece_at blocks) (range_with_len 0 n))) all c.loop-index.invariant.text;
+      text = subst
+          (λ n. Appends old new (flat_map (piece_at blocks) (range_with_len 0 n))) all c.loop-index.invariant.text;
     }

@@ -16,8 +16,17 @@ returns g c =
     let x = c.args.x in
     let units = c.args.units.now in
     let same = ap (units_svg x 9) (ap (λ n. take n units) c.min-shown.ensures ∙ take_min 32 units) in
-    let headed_text : Adds old headed (line_svg x 0 (codes "head") (codes "Extents")) = record { it = c.in_ok-write_line.ensures.text } in
+    let headed_text : Adds old headed (line_svg x 0 (codes "head") (codes "Extents")) =
+    record { it = c.in_ok-write_line.ensures.text } in
     let sampled_text : Adds headed sampled (samples_svg x) = record { it = c.in_ok-write_samples.ensures.text } in
-    let explained_text : Adds sampled explained (line_svg x 6 (codes "small") (codes "1: 3 of 4 is group 1, 3 of its 4 slots hold a block")) = record { it = c.in_ok-write_line-2.ensures.text } in
-    let titled_text : Adds explained titled (line_svg x 8 (codes "head") (codes "Blocks of units on the disks")) = record { it = c.in_ok-write_line-3.ensures.text } in
-    record { text = adds_last c.write_units.result new (units_svg x 9 (take 32 units)) (adds_then (adds_then (adds_then headed_text sampled_text) explained_text) titled_text) (said_as c.write_units.result titled new same c.write_units.ensures.text) }
+    let explained_text : Adds sampled explained
+    (line_svg x 6 (codes "small") (codes "1: 3 of 4 is group 1, 3 of its 4 slots hold a block")) =
+    record { it = c.in_ok-write_line-2.ensures.text } in
+    let titled_text : Adds explained titled (line_svg x 8 (codes "head") (codes "Blocks of units on the disks")) =
+    record { it = c.in_ok-write_line-3.ensures.text } in
+    record {
+      text =
+          adds_last c.write_units.result new (units_svg x 9 (take 32 units))
+          (adds_then (adds_then (adds_then headed_text sampled_text) explained_text) titled_text)
+          (said_as c.write_units.result titled new same c.write_units.ensures.text);
+    }

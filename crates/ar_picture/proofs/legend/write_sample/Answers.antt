@@ -10,5 +10,10 @@ returns g c =
     let new = g.W.Write.contents c.write_line.new.out in
     let x = c.args.x in
     let line = c.args.line in
-    let shown_text : Adds old shown (swatch_svg x line c.args.style.now) = record { it = c.in_ok-write_swatch.ensures.text } in
-    record { text = adds_last c.write_line.result new (line_svg (x + 36) line [] c.args.meaning.now) shown_text c.write_line.ensures.text }
+    let shown_text : Adds old shown (swatch_svg x line c.args.style.now) =
+    record { it = c.in_ok-write_swatch.ensures.text } in
+    record {
+      text =
+          adds_last c.write_line.result new
+          (line_svg (x + 36) line [] c.args.meaning.now) shown_text c.write_line.ensures.text;
+    }

@@ -12,5 +12,9 @@ returns g c =
     let x = c.args.x in
     let line = c.args.line in
     let unit = c.args.unit in
-    let shown_text : Adds old shown (patch_svg x line (colour_at (8 * unit.host + unit.lun))) = adds_as (ap (patch_svg x line) c.colour_of.ensures) c.in_ok-write_patch.ensures.text in
-    record { text = adds_last c.write_count.result new (placed_svg (x + 36) line unit) shown_text c.write_count.ensures.text }
+    let shown_text : Adds old shown (patch_svg x line (colour_at (8 * unit.host + unit.lun))) =
+    adds_as (ap (patch_svg x line) c.colour_of.ensures) c.in_ok-write_patch.ensures.text in
+    record {
+      text =
+          adds_last c.write_count.result new (placed_svg (x + 36) line unit) shown_text c.write_count.ensures.text;
+    }

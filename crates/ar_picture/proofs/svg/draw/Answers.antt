@@ -16,7 +16,13 @@ returns g c =
     let picture = c.args.picture.now in
     let scale = c.args.scale in
     let framed_text : Adds old framed (frame_svg scale picture) = record { it = c.in_ok-write_frame.ensures.text } in
-    let numbered_text : Adds framed numbered (flat_map (number_svg scale) (range_with_len 0 picture.extents)) = record { it = c.in_ok-write_numbers.ensures.text } in
+    let numbered_text : Adds framed numbered (flat_map (number_svg scale) (range_with_len 0 picture.extents)) =
+    record { it = c.in_ok-write_numbers.ensures.text } in
     let drawn_text : Adds numbered drawn (disks_svg scale picture) = record { it = c.in_ok-write_disks.ensures.text } in
-    let told_text : Adds drawn told (legend_svg (legend_at picture.disks) picture.units.items) = record { it = c.in_ok-write_legend.ensures.text } in
-    record { text = adds_last c.writeln.result new (codes "</svg>\n") (adds_then (adds_then (adds_then framed_text numbered_text) drawn_text) told_text) c.writeln.ensures.bytes }
+    let told_text : Adds drawn told (legend_svg (legend_at picture.disks) picture.units.items) =
+    record { it = c.in_ok-write_legend.ensures.text } in
+    record {
+      text =
+          adds_last c.writeln.result new (codes "</svg>\n")
+          (adds_then (adds_then (adds_then framed_text numbered_text) drawn_text) told_text) c.writeln.ensures.bytes;
+    }

@@ -7,4 +7,6 @@ loop-disk-preserved g c =
     let old = g.W.Write.contents c.args.out.now in
     let before = g.W.Write.contents c.loop-disk.out in
     let new = g.W.Write.contents c.write_disk.new.out in
-    appends_next (disk_svg c.args.scale c.args.picture.now) old before new c.loop-disk.disk c.loop-disk.invariant c.in_ok-write_disk.ensures.text
+    let disk = c.loop-disk.disk in
+    appends_next (disk_svg c.args.scale c.args.picture.now) old before new disk c.loop-disk.invariant
+    c.in_ok-write_disk.ensures.text

@@ -12,5 +12,11 @@ returns g c =
     let picture = c.args.picture.now in
     let disk = c.args.disk in
     let named_text : Adds old named (name_svg disk) = record { it = c.in_ok-write_name.ensures.text } in
-    let marked_text : Adds named marked (state_svg disk picture.health) = record { it = c.in_ok-write_state.ensures.text } in
-    record { text = adds_last c.write_extents.result new (flat_map (row_svg c.args.scale picture disk) (range_with_len 0 picture.extents)) (adds_then named_text marked_text) c.write_extents.ensures.text }
+    let marked_text : Adds named marked (state_svg disk picture.health) =
+    record { it = c.in_ok-write_state.ensures.text } in
+    record {
+      text =
+          adds_last c.write_extents.result new
+          (flat_map (row_svg c.args.scale picture disk) (range_with_len 0 picture.extents))
+          (adds_then named_text marked_text) c.write_extents.ensures.text;
+    }

@@ -13,6 +13,13 @@ returns g c =
     let new = g.W.Write.contents c.writeln-2.new.self in
     let picture = c.args.picture.now in
     let scale = c.args.scale in
-    let begun_text : Adds old begun (codes "<g stroke-width='" ++ (outline_of scale.height ++ codes "'>\n")) = adds_as (ap (λ (t : List ℕ). codes "<g stroke-width='" ++ (t ++ codes "'>\n")) c.outline-outline.ensures) c.in_ok-writeln.ensures.bytes in
-    let drawn_text : Adds begun drawn (flat_map (disk_svg scale picture) (range_with_len 0 picture.disks)) = record { it = c.in_ok-write_columns.ensures.text } in
-    record { text = adds_last c.writeln-2.result new (codes "</g>\n") (adds_then begun_text drawn_text) c.writeln-2.ensures.bytes }
+    let begun_text : Adds old begun (codes "<g stroke-width='" ++ (outline_of scale.height ++ codes "'>\n")) =
+    adds_as (ap
+    (λ (t : List ℕ). codes "<g stroke-width='" ++
+    (t ++ codes "'>\n")) c.outline-outline.ensures) c.in_ok-writeln.ensures.bytes in
+    let drawn_text : Adds begun drawn (flat_map (disk_svg scale picture) (range_with_len 0 picture.disks)) =
+    record { it = c.in_ok-write_columns.ensures.text } in
+    record {
+      text =
+          adds_last c.writeln-2.result new (codes "</g>\n") (adds_then begun_text drawn_text) c.writeln-2.ensures.bytes;
+    }

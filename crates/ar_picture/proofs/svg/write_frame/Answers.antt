@@ -17,7 +17,13 @@ returns g c =
     let height = height_of c.args.scale picture in
     let opened_text : Adds old opened (opening_svg width height) = record { it = c.in_ok-write_opening.ensures.text } in
     let titled_text : Adds opened titled (title_svg picture) = record { it = c.in_ok-writeln.ensures.bytes } in
-    let styled_text : Adds titled styled (styles_svg) = record { it = c.in_ok-write_styles.ensures.text } in
-    let grounded_text : Adds styled grounded (ground_svg width height) = record { it = c.in_ok-write_ground.ensures.text } in
+    let styled_text : Adds titled styled styles_svg = record { it = c.in_ok-write_styles.ensures.text } in
+    let grounded_text : Adds styled grounded (ground_svg width height) =
+    record { it = c.in_ok-write_ground.ensures.text } in
     let headed_text : Adds grounded headed (heading_svg picture) = record { it = c.in_ok-writeln-2.ensures.bytes } in
-    record { text = adds_last c.write_health.result new (health_svg picture.extents picture.health) (adds_then (adds_then (adds_then (adds_then opened_text titled_text) styled_text) grounded_text) headed_text) c.write_health.ensures.text }
+    record {
+      text =
+          adds_last c.write_health.result new (health_svg picture.extents picture.health)
+          (adds_then (adds_then (adds_then (adds_then opened_text titled_text) styled_text) grounded_text) headed_text)
+          c.write_health.ensures.text;
+    }

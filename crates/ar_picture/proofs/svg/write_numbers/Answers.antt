@@ -7,4 +7,6 @@ loop-extent-preserved g c =
     let old = g.W.Write.contents c.args.out.now in
     let before = g.W.Write.contents c.loop-extent.out in
     let new = g.W.Write.contents c.write_number.new.out in
-    appends_next (number_svg c.args.scale) old before new c.loop-extent.extent c.loop-extent.invariant c.in_ok-write_number.ensures.text
+    let extent = c.loop-extent.extent in
+    appends_next (number_svg c.args.scale) old before new extent c.loop-extent.invariant
+    c.in_ok-write_number.ensures.text

@@ -25,4 +25,8 @@ returns g c =
     let all : c.loop.counter ≡ disk = search rules in
     let drawn = subst (λ n. Appends old before (spaces (10 + 5 * n))) all c.loop.invariant in
     let ended : OnOk c.writeln.result (Appends before new (word ++ 10 ∷ [])) = search rules in
-    record { text = ends_with c.writeln.result old before new (spaces (10 + 5 * disk)) (word ++ 10 ∷ []) (below_text disk word) refl drawn ended }
+    record {
+      text =
+          ends_with c.writeln.result old before new (spaces (10 + 5 * disk)) (word ++ 10 ∷ [])
+          (below_text disk word) refl drawn ended;
+    }

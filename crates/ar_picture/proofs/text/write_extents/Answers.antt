@@ -32,6 +32,7 @@ returns-else-first-last g c =
     let text = padded_integral (format_spec 32 3 0 4 (2 ^ 64 - 1)) false [] (decimal first) ++ codes "      " in
     let said : OnOk c.write-else-first-last.result (Appends old new text) = search rules in
     record {
-      text = on_ok_weaker {P = Appends old new text} {Q = Appends old new (extents_text first last)} c.write-else-first-last.result
+      text = on_ok_weaker {P = Appends old new text} {Q =
+          Appends old new (extents_text first last)} c.write-else-first-last.result
           (appends_as old new text (extents_text first last) (one_extent first last equal)) said;
     }

@@ -7,4 +7,5 @@ use Rattle.ar_picture.proofs.text.write_fold.Given as goal
 
 abbrev pub invariant-loop-disk : goal.invariant-loop-disk
 invariant-loop-disk g l = Appends (g.W.Write.contents l.fn.out) (g.W.Write.contents l.out)
-    (extents_text l.fold.first (l.fold.end - 1) ++ flat_map (column_text l.picture l.fold.first) (range_with_len 0 l.disk))
+    (extents_text l.fold.first (l.fold.end - 1) ++ flat_map (column_text l.picture l.fold.first)
+    (range_with_len 0 l.disk))

@@ -15,7 +15,8 @@ loop-disk-init g c =
     let sizes = sizes_text c.args.picture.now in
     let first : Appends old mid sizes = c.in_ok-writeln.ensures.bytes in
     let second : Appends mid new (spaces 10) = c.in_ok-write.ensures.bytes in
-    appends_as old new (sizes ++ spaces 10) ((sizes ++ spaces 10) ++ []) (sym (append-nil (sizes ++ spaces 10))) (appends_then old mid new sizes (spaces 10) first second)
+    appends_as old new (sizes ++ spaces 10) ((sizes ++ spaces 10) ++ []) (sym (append-nil (sizes ++ spaces 10)))
+    (appends_then old mid new sizes (spaces 10) first second)
 
 pub loop-disk-preserved : goal.loop-disk-preserved
 loop-disk-preserved g c =
@@ -25,9 +26,11 @@ loop-disk-preserved g c =
     let disk = c.loop-disk.disk-counter in
     let front = sizes_text c.args.picture.now ++ spaces 10 in
     let text = front ++ flat_map (at_right 5) (range_with_len 0 disk) in
-    let number : Appends before new (at_right 5 disk) = appends_as before new (styled_decimal c.laid_out.result disk) (at_right 5 disk)
+    let number : Appends before new (at_right 5 disk) =
+    appends_as before new (styled_decimal c.laid_out.result disk) (at_right 5 disk)
     (ap (λ s. styled_decimal s disk) c.laid_out.ensures ∙ right_is 5 disk) c.in_ok-write-2.ensures.bytes in
-    appends_as old new (text ++ at_right 5 disk) (front ++ flat_map (at_right 5) (range_with_len 0 (disk + 1))) (columns-more (at_right 5) front disk)
+    appends_as old new (text ++ at_right 5 disk) (front ++ flat_map (at_right 5) (range_with_len 0 (disk + 1)))
+    (columns-more (at_right 5) front disk)
     (appends_then old before new text (at_right 5 disk) c.loop-disk.invariant number)
 
 pub returns : goal.returns
@@ -41,7 +44,8 @@ returns g c =
     let columns = flat_map (at_right 5) (range_with_len 0 picture.disks) in
     let down = down_text picture.health in
     let all : c.loop-disk.disk-counter ≡ picture.disks = search rules in
-    let drawn = subst (λ n. Appends old before (front ++ flat_map (at_right 5) (range_with_len 0 n))) all c.loop-disk.invariant in
+    let drawn =
+    subst (λ n. Appends old before (front ++ flat_map (at_right 5) (range_with_len 0 n))) all c.loop-disk.invariant in
     let ended : Appends before mid (10 ∷ []) = c.in_ok-writeln-2.ensures.bytes in
     record {
       text = ends_with c.write_down.result old mid new ((front ++ columns) ++ 10 ∷ []) down (heads_text picture)

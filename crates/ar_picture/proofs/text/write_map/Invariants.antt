@@ -11,5 +11,6 @@ invariant-loop-fold g l = Appends (g.W.Write.contents l.fn.out) (g.W.Write.conte
 
 abbrev pub invariant-loop-unit : goal.invariant-loop-unit
 invariant-loop-unit g l = Appends (g.W.Write.contents l.fn.out) (g.W.Write.contents l.out)
-    ((heads_text l.picture ++ (flat_map (fold_text l.picture) l.folds ++ (signs_text ++ disks_text l.picture.extents l.picture.health)))
+    ((heads_text l.picture ++
+    (flat_map (fold_text l.picture) l.folds ++ (signs_text ++ disks_text l.picture.extents l.picture.health)))
     ++ flat_map unit_text (take l.unit-index l.picture.units.items))

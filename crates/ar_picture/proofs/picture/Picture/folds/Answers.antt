@@ -15,7 +15,10 @@ loop-first-preserved c =
     let pushed = sym c.in_ok-push.ensures.items in
     record {
       within = is.within;
-      once = subst (λ folds. flat_map extents_of folds ≡ range_with_len 0 fold.end) pushed (folded_more c.loop-first.folds.items fold is.some kept.once);
-      folded = subst (λ folds. All (IsFold picture) folds) pushed (All-push (IsFold picture) c.loop-first.folds.items fold kept.folded is);
-      few = subst (λ (folds : List Fold). length folds ≤ fold.end) pushed (few_more c.loop-first.folds.items fold is.some kept.few);
+      once = subst (λ folds. flat_map extents_of folds ≡ range_with_len 0 fold.end) pushed
+          (folded_more c.loop-first.folds.items fold is.some kept.once);
+      folded = subst (λ folds. All (IsFold picture) folds) pushed
+          (All-push (IsFold picture) c.loop-first.folds.items fold kept.folded is);
+      few = subst (λ (folds : List Fold). length folds ≤ fold.end) pushed
+          (few_more c.loop-first.folds.items fold is.some kept.few);
     }
