@@ -1,7 +1,9 @@
 // Drawn events on a book of 1,024 groups, after each of which every search is compared with a plain scan.
-use crate::calls::{Call, ask, form_groups};
+ghost use Rattle.std.specs.Prelude.{◌<◌, length};
+
+use crate::calls::{Answer, Call, ask, compare, form_groups, number};
 use crate::names::Unit;
-use ar_book::{Book, Class, Level, Slot};
+use ar_book::{Book, Class, Level, Slot, Summary};
 use ar_disks::{Addr, Geometry, Key};
 use ar_index::Steps;
 use std::process::Abort;
@@ -110,6 +112,92 @@ fn plain_oldest(book: &Book) -> Option<Key> {
     oldest
 }
 
+// What opening a group returns: the lowest free one, if two are free.
+fn plain_opening(book: &Book) -> Answer {
+    let mut lowest = None;
+    for group in 0..book.groups() {
+        if book.class(group) == Class::Free {
+            match lowest {
+                Some(lowest) => return number(lowest),
+                None => lowest = Some(group),
+            }
+        }
+    }
+    Answer::Nothing
+}
+
+// Whether the first of two units comes before the other in the book.
+fn is_before(book: &Book, one: Addr, other: Addr) -> bool {
+    for place in 0..book.units() {
+        let addr = book.unit_at(place);
+        if addr == Some(one) {
+            return true;
+        }
+        if addr == Some(other) {
+            return false;
+        }
+    }
+    false
+}
+
+// By stamp, then by the order of units, then by number.
+fn is_older(book: &Book, one: Key, other: Key) -> bool {
+    let (first, second) = (book.stamp_of(one), book.stamp_of(other));
+    if first != second {
+        return first < second;
+    }
+    if one.addr == other.addr {
+        return one.rb < other.rb;
+    }
+    is_before(book, one.addr, other.addr)
+}
+
+fn oldest_of(book: &Book, oldest: Option<Key>, key: Key) -> Option<Key> {
+    match oldest {
+        Some(first) if is_older(book, first, key) => oldest,
+        _ => Some(key),
+    }
+}
+
+fn slots_of(class: Class) -> u16 {
+    match class {
+        Class::Free => 0,
+        Class::Mirrored => 4,
+        Class::Parity => 6,
+    }
+}
+
+fn plain_summary(book: &Book, group: u32) -> Summary
+    requires { group < length book.now.groups }
+{
+    let class = book.class(group);
+    let slots = slots_of(class);
+    let mut used: u16 = 0;
+    let mut oldest = None;
+    for slot in 0..slots {
+        if let Some(key) = book.key_at(Slot { group, slot }) {
+            used = used.wrapping_add(1);
+            oldest = oldest_of(book, oldest, key);
+        }
+    }
+    Summary {
+        used,
+        lowest_hole: hole_in(book, group, slots).map(|hole| hole.slot),
+        oldest: oldest.filter(|_| class == Class::Mirrored),
+    }
+}
+
+fn check_summaries(rt: &impl Abort, book: &Book, event: u32) {
+    for group in 0..book.groups() {
+        let summary = book.summary(group);
+        let wanted = plain_summary(book, group);
+        assert!(rt;
+            summary == wanted,
+            "group {group} after event {event}: {summary:?}, not {wanted:?}"
+        );
+    }
+}
+
 fn check_hole(rt: &impl Abort, book: &Book, class: Class, slots: u16, event: u32) {
     let hole = book.hole(class, &mut Steps::new());
     let wanted = plain_hole(book, class, slots);
@@ -139,12 +227,21 @@ fn check_oldest(rt: &impl Abort, book: &Book, event: u32) {
 
 fn run(rt: &impl Abort, book: &mut Book) {
     let mut seed = 2_026;
-    for number in 0..EVENTS {
-        let _ = ask(rt, book, event(&mut seed));
-        check_hole(rt, book, Class::Mirrored, 4, number);
-        check_hole(rt, book, Class::Parity, 6, number);
-        check_free(rt, book, number);
-        check_oldest(rt, book, number);
+    for index in 0..EVENTS {
+        let call = event(&mut seed);
+        let opening = plain_opening(book);
+        let met = ask(rt, book, call);
+        if matches!(call, Call::Open(_)) {
+            compare(rt, index as usize, met, opening);
+        }
+        check_hole(rt, book, Class::Mirrored, 4, index);
+        check_hole(rt, book, Class::Parity, 6, index);
+        check_free(rt, book, index);
+        check_oldest(rt, book, index);
+        // (Each compares every group.)
+        if index % 16 == 0 {
+            check_summaries(rt, book, index);
+        }
     }
 }
 
