@@ -1,2 +1,3 @@
+mod Changing
 mod Connecting
 mod Shifting

@@ -21,10 +21,6 @@ pub enum EventKind {
     UnitMade { host: u8, lun: u8 },
     UnitGrown { host: u8, lun: u8 },
     UnitDropped { host: u8, lun: u8 },
-    /// A free group was taken into use.
-    GroupOpened { group: u32 },
-    /// A squeeze: a whole mirrored group was demoted to this group, which was the only free one.
-    Squeezed { group: u32 },
 }
 
 /// An event, and how many seconds after the start of the service it happened.

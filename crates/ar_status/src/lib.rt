@@ -3,6 +3,7 @@
 #![tactic(auto)]
 
 mod answer;
+mod changes;
 mod events;
 mod metrics;
 mod page;
@@ -11,9 +12,12 @@ mod serve;
 mod status;
 
 pub use answer::{Answer, answer_to};
+pub use changes::EventLog;
 pub use events::{EVENTS_MAX, EventKind, RecentEvent, RecentEvents};
 pub use metrics::write_metrics;
 pub use page::PAGE;
 pub use response::{Look, respond};
 pub use serve::{HEAD_MAX, Watched, serve_connection};
-pub use status::{ArrayHealth, ArrayStatus, HostCounters, MaintenanceSteps};
+pub use status::{
+    ArrayHealth, ArrayStatus, HostCounters, MaintenanceSteps, OperationCounters, ReplyCounters,
+};

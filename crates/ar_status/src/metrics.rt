@@ -1,6 +1,8 @@
 // The metrics, in Prometheus' text format 0.0.4: of each the lines HELP and TYPE, and then its samples. A counter's name
 // ends in `_total`, and a unit is a part of the name.
-use crate::{ArrayHealth, ArrayStatus, HostCounters, MaintenanceSteps};
+use crate::{
+    ArrayHealth, ArrayStatus, HostCounters, MaintenanceSteps, OperationCounters, ReplyCounters,
+};
 use std::io;
 use std::io::Write;
 
@@ -76,16 +78,10 @@ fn state_of(health: ArrayHealth) -> &'static str {
 
 // Writes groups, blocks and the history.
 fn write_blocks<W: Write>(out: &mut W, status: &ArrayStatus) -> io::Result<()> {
-    let (groups, free) = (u64::from(status.groups), u64::from(status.free_groups));
+    let free = u64::from(status.free_groups);
     let (entries, bytes) = (status.history_entries, status.history_bytes);
-    write_gauge(out, "groups", "Groups of extents.", groups)?;
     write_gauge(out, "free_groups", "Groups that hold no block.", free)?;
-    write_gauge(
-        out,
-        "block_bytes",
-        "Bytes of a block.",
-        u64::from(status.block_bytes),
-    )?;
+    write_gauge(out, "block_bytes", "Bytes of a block.", status.block_bytes)?;
     write_gauge(
         out,
         "room_blocks",
@@ -94,32 +90,23 @@ fn write_blocks<W: Write>(out: &mut W, status: &ArrayStatus) -> io::Result<()> {
     )?;
     write_gauge(
         out,
-        "cached_blocks",
-        "Blocks in the cache.",
-        status.cached_blocks,
-    )?;
-    write_gauge(
-        out,
         "history_entries",
         "Entries of the stored history.",
         entries,
     )?;
-    write_gauge(out, "history_bytes", "Memory of the stored history.", bytes)
+    write_gauge(
+        out,
+        "history_bytes",
+        "Memory of the stored history, at least.",
+        bytes,
+    )
 }
 
 // Writes the counters of hosts.
 fn write_hosts<W: Write>(out: &mut W, hosts: &[HostCounters; 4]) -> io::Result<()> {
-    let (commands, read) = (
-        hosts.map(|host| host.commands),
-        hosts.map(|host| host.read_bytes),
-    );
+    let read = hosts.map(|host| host.read_bytes);
     let written = hosts.map(|host| host.written_bytes);
-    write_by_host(
-        out,
-        "host_commands_total",
-        "Commands with a reply but BUSY.",
-        commands,
-    )?;
+    write_commands(out, hosts)?;
     write_by_host(
         out,
         "host_read_bytes_total",
@@ -132,6 +119,61 @@ fn write_hosts<W: Write>(out: &mut W, hosts: &[HostCounters; 4]) -> io::Result<(
         "Bytes that hosts wrote.",
         written,
     )
+}
+
+// Writes the commands of hosts, by operation and status.
+fn write_commands<W: Write>(out: &mut W, hosts: &[HostCounters; 4]) -> io::Result<()> {
+    write_head(
+        out,
+        "host_commands_total",
+        "counter",
+        "Commands of hosts, by their operation and the status of the reply.",
+    )?;
+    for (host, counters) in hosts.iter().enumerate() {
+        write_operations(out, host, &counters.replies)?;
+    }
+    Ok(())
+}
+
+// Writes the commands of a host.
+fn write_operations<W: Write>(
+    out: &mut W,
+    host: usize,
+    replies: &OperationCounters,
+) -> io::Result<()> {
+    let operations = [
+        ("test_unit_ready", replies.test_unit_ready),
+        ("inquiry", replies.inquiry),
+        ("read_capacity", replies.read_capacity),
+        ("read", replies.read),
+        ("write", replies.write),
+        ("other", replies.other),
+    ];
+    for (operation, counters) in operations {
+        write_statuses(out, host, operation, counters)?;
+    }
+    Ok(())
+}
+
+// Writes the commands of a host with one operation.
+fn write_statuses<W: Write>(
+    out: &mut W,
+    host: usize,
+    operation: &str,
+    counters: ReplyCounters,
+) -> io::Result<()> {
+    let statuses = [
+        ("good", counters.good),
+        ("check_condition", counters.check_condition),
+        ("busy", counters.busy),
+    ];
+    for (status, value) in statuses {
+        writeln!(
+            out,
+            "autoraid_host_commands_total{{host=\"{host}\",operation=\"{operation}\",status=\"{status}\"}} {value}"
+        )?;
+    }
+    Ok(())
 }
 
 // Writes a counter that each host has.

@@ -107,7 +107,7 @@ function rates(status, now) {
 }
 
 function happened(event) {
-  const { kind, disk, host, lun, group } = event;
+  const { kind, disk, host, lun } = event;
   switch (kind) {
     case 'disk_failed': return `disk ${disk} failed`;
     case 'disk_replaced': return `disk ${disk} replaced`;
@@ -117,8 +117,6 @@ function happened(event) {
     case 'unit_made': return `unit ${host} ${lun} made`;
     case 'unit_grown': return `unit ${host} ${lun} grown`;
     case 'unit_dropped': return `unit ${host} ${lun} dropped`;
-    case 'group_opened': return `group ${group} opened`;
-    case 'squeezed': return `group ${group} squeezed`;
     default: return kind;
   }
 }
@@ -128,11 +126,10 @@ function show(status, now) {
   at('health').textContent = words(status, now);
   rows(at('hosts'), rates(status, now));
   before = { hosts: status.hosts, now };
-  const { steps, block_bytes } = status, blocks = n => `${count(n)} blocks, ${size(n * block_bytes)}`;
+  const { steps, room_blocks } = status;
   rows(at('array'), [
-    ['room', blocks(status.room_blocks)],
-    ['cached', blocks(status.cached_blocks)],
-    ['free groups', `${count(status.free_groups)} of ${count(status.groups)}`],
+    ['room', `${count(room_blocks)} blocks, ${size(room_blocks * status.block_bytes)}`],
+    ['free groups', count(status.free_groups)],
     ['history', `${count(status.history_entries)} entries, ${size(status.history_bytes)}`],
     ...Object.keys(steps).map(kind => [`${kind} steps`, count(steps[kind])]),
     ['running for', span(status.uptime_seconds)],

@@ -17,16 +17,14 @@ pub struct ArrayStatus {
     pub disks: u8,
     /// Extents of each disk.
     pub extents: u16,
-    pub groups: u32,
     pub free_groups: u32,
     /// Bytes of a block.
-    pub block_bytes: u32,
+    pub block_bytes: u64,
     /// Blocks that units may still be given.
     pub room_blocks: u64,
-    /// Blocks in the cache.
-    pub cached_blocks: u64,
-    /// Entries of the stored history, and the memory that they take.
+    /// Entries of the stored history.
     pub history_entries: u64,
+    /// The memory that they take, at least, in bytes.
     pub history_bytes: u64,
     /// By host, 0 to 3.
     pub hosts: [HostCounters; 4],
@@ -57,6 +55,27 @@ pub struct HostCounters {
     pub read_bytes: u64,
     /// Bytes of data-out of commands that ended with GOOD.
     pub written_bytes: u64,
+    pub replies: OperationCounters,
+}
+
+/// Replies to one host since the start, by the operation of their commands.
+#[derive(Clone, Copy, Debug, PartialEq, Eq, Serialize)]
+pub struct OperationCounters {
+    pub test_unit_ready: ReplyCounters,
+    pub inquiry: ReplyCounters,
+    pub read_capacity: ReplyCounters,
+    pub read: ReplyCounters,
+    pub write: ReplyCounters,
+    /// Of all operations that units don't know.
+    pub other: ReplyCounters,
+}
+
+/// Replies by status.
+#[derive(Clone, Copy, Debug, PartialEq, Eq, Serialize)]
+pub struct ReplyCounters {
+    pub good: u64,
+    pub check_condition: u64,
+    pub busy: u64,
 }
 
 /// Maintenance steps that did something since the start, by kind. The numbers saturate.

@@ -57,12 +57,35 @@ fn page_and_picture(rt: HostRuntime) {
 
 const JSON: &str = "\
 {\"uptime_seconds\":61,\"health\":{\"state\":\"rebuilding\",\"disk\":3,\"done\":12},\"disks\":5,\"extents\":64,\
-\"groups\":80,\"free_groups\":7,\"block_bytes\":1024,\"room_blocks\":18,\"cached_blocks\":2,\
-\"history_entries\":9,\"history_bytes\":4096,\"hosts\":[\
-{\"commands\":1,\"read_bytes\":2,\"written_bytes\":3},\
-{\"commands\":0,\"read_bytes\":0,\"written_bytes\":0},\
-{\"commands\":18446744073709551615,\"read_bytes\":7,\"written_bytes\":8},\
-{\"commands\":4,\"read_bytes\":5,\"written_bytes\":6}],\
+\"free_groups\":7,\"block_bytes\":1024,\"room_blocks\":18,\"history_entries\":9,\"history_bytes\":4096,\"hosts\":[\
+{\"commands\":1,\"read_bytes\":2,\"written_bytes\":3,\"replies\":{\
+\"test_unit_ready\":{\"good\":100,\"check_condition\":101,\"busy\":102},\
+\"inquiry\":{\"good\":110,\"check_condition\":111,\"busy\":112},\
+\"read_capacity\":{\"good\":120,\"check_condition\":121,\"busy\":122},\
+\"read\":{\"good\":130,\"check_condition\":131,\"busy\":132},\
+\"write\":{\"good\":140,\"check_condition\":141,\"busy\":142},\
+\"other\":{\"good\":150,\"check_condition\":151,\"busy\":152}}},\
+{\"commands\":0,\"read_bytes\":0,\"written_bytes\":0,\"replies\":{\
+\"test_unit_ready\":{\"good\":0,\"check_condition\":1,\"busy\":2},\
+\"inquiry\":{\"good\":10,\"check_condition\":11,\"busy\":12},\
+\"read_capacity\":{\"good\":20,\"check_condition\":21,\"busy\":22},\
+\"read\":{\"good\":30,\"check_condition\":31,\"busy\":32},\
+\"write\":{\"good\":40,\"check_condition\":41,\"busy\":42},\
+\"other\":{\"good\":50,\"check_condition\":51,\"busy\":52}}},\
+{\"commands\":18446744073709551615,\"read_bytes\":7,\"written_bytes\":8,\"replies\":{\
+\"test_unit_ready\":{\"good\":200,\"check_condition\":201,\"busy\":202},\
+\"inquiry\":{\"good\":210,\"check_condition\":211,\"busy\":212},\
+\"read_capacity\":{\"good\":220,\"check_condition\":221,\"busy\":222},\
+\"read\":{\"good\":230,\"check_condition\":231,\"busy\":232},\
+\"write\":{\"good\":240,\"check_condition\":241,\"busy\":242},\
+\"other\":{\"good\":250,\"check_condition\":251,\"busy\":252}}},\
+{\"commands\":4,\"read_bytes\":5,\"written_bytes\":6,\"replies\":{\
+\"test_unit_ready\":{\"good\":300,\"check_condition\":301,\"busy\":302},\
+\"inquiry\":{\"good\":310,\"check_condition\":311,\"busy\":312},\
+\"read_capacity\":{\"good\":320,\"check_condition\":321,\"busy\":322},\
+\"read\":{\"good\":330,\"check_condition\":331,\"busy\":332},\
+\"write\":{\"good\":340,\"check_condition\":341,\"busy\":342},\
+\"other\":{\"good\":350,\"check_condition\":351,\"busy\":352}}}],\
 \"steps\":{\"flush\":1,\"demote\":2,\"clean\":3,\"balance\":4,\"rebuild\":5},\
 \"events\":[{\"seconds\":60,\"kind\":\"disk_replaced\",\"disk\":3},\
 {\"seconds\":7,\"kind\":\"disk_failed\",\"disk\":3}]}";
@@ -112,9 +135,6 @@ autoraid_disk_healthy{disk=\"1\"} 1
 autoraid_disk_healthy{disk=\"2\"} 1
 autoraid_disk_healthy{disk=\"3\"} 0
 autoraid_disk_healthy{disk=\"4\"} 1
-# HELP autoraid_groups Groups of extents.
-# TYPE autoraid_groups gauge
-autoraid_groups 80
 # HELP autoraid_free_groups Groups that hold no block.
 # TYPE autoraid_free_groups gauge
 autoraid_free_groups 7
@@ -124,21 +144,86 @@ autoraid_block_bytes 1024
 # HELP autoraid_room_blocks Blocks that units may be given.
 # TYPE autoraid_room_blocks gauge
 autoraid_room_blocks 18
-# HELP autoraid_cached_blocks Blocks in the cache.
-# TYPE autoraid_cached_blocks gauge
-autoraid_cached_blocks 2
 # HELP autoraid_history_entries Entries of the stored history.
 # TYPE autoraid_history_entries gauge
 autoraid_history_entries 9
-# HELP autoraid_history_bytes Memory of the stored history.
+# HELP autoraid_history_bytes Memory of the stored history, at least.
 # TYPE autoraid_history_bytes gauge
 autoraid_history_bytes 4096
-# HELP autoraid_host_commands_total Commands with a reply but BUSY.
+# HELP autoraid_host_commands_total Commands of hosts, by their operation and the status of the reply.
 # TYPE autoraid_host_commands_total counter
-autoraid_host_commands_total{host=\"0\"} 1
-autoraid_host_commands_total{host=\"1\"} 0
-autoraid_host_commands_total{host=\"2\"} 18446744073709551615
-autoraid_host_commands_total{host=\"3\"} 4
+autoraid_host_commands_total{host=\"0\",operation=\"test_unit_ready\",status=\"good\"} 100
+autoraid_host_commands_total{host=\"0\",operation=\"test_unit_ready\",status=\"check_condition\"} 101
+autoraid_host_commands_total{host=\"0\",operation=\"test_unit_ready\",status=\"busy\"} 102
+autoraid_host_commands_total{host=\"0\",operation=\"inquiry\",status=\"good\"} 110
+autoraid_host_commands_total{host=\"0\",operation=\"inquiry\",status=\"check_condition\"} 111
+autoraid_host_commands_total{host=\"0\",operation=\"inquiry\",status=\"busy\"} 112
+autoraid_host_commands_total{host=\"0\",operation=\"read_capacity\",status=\"good\"} 120
+autoraid_host_commands_total{host=\"0\",operation=\"read_capacity\",status=\"check_condition\"} 121
+autoraid_host_commands_total{host=\"0\",operation=\"read_capacity\",status=\"busy\"} 122
+autoraid_host_commands_total{host=\"0\",operation=\"read\",status=\"good\"} 130
+autoraid_host_commands_total{host=\"0\",operation=\"read\",status=\"check_condition\"} 131
+autoraid_host_commands_total{host=\"0\",operation=\"read\",status=\"busy\"} 132
+autoraid_host_commands_total{host=\"0\",operation=\"write\",status=\"good\"} 140
+autoraid_host_commands_total{host=\"0\",operation=\"write\",status=\"check_condition\"} 141
+autoraid_host_commands_total{host=\"0\",operation=\"write\",status=\"busy\"} 142
+autoraid_host_commands_total{host=\"0\",operation=\"other\",status=\"good\"} 150
+autoraid_host_commands_total{host=\"0\",operation=\"other\",status=\"check_condition\"} 151
+autoraid_host_commands_total{host=\"0\",operation=\"other\",status=\"busy\"} 152
+autoraid_host_commands_total{host=\"1\",operation=\"test_unit_ready\",status=\"good\"} 0
+autoraid_host_commands_total{host=\"1\",operation=\"test_unit_ready\",status=\"check_condition\"} 1
+autoraid_host_commands_total{host=\"1\",operation=\"test_unit_ready\",status=\"busy\"} 2
+autoraid_host_commands_total{host=\"1\",operation=\"inquiry\",status=\"good\"} 10
+autoraid_host_commands_total{host=\"1\",operation=\"inquiry\",status=\"check_condition\"} 11
+autoraid_host_commands_total{host=\"1\",operation=\"inquiry\",status=\"busy\"} 12
+autoraid_host_commands_total{host=\"1\",operation=\"read_capacity\",status=\"good\"} 20
+autoraid_host_commands_total{host=\"1\",operation=\"read_capacity\",status=\"check_condition\"} 21
+autoraid_host_commands_total{host=\"1\",operation=\"read_capacity\",status=\"busy\"} 22
+autoraid_host_commands_total{host=\"1\",operation=\"read\",status=\"good\"} 30
+autoraid_host_commands_total{host=\"1\",operation=\"read\",status=\"check_condition\"} 31
+autoraid_host_commands_total{host=\"1\",operation=\"read\",status=\"busy\"} 32
+autoraid_host_commands_total{host=\"1\",operation=\"write\",status=\"good\"} 40
+autoraid_host_commands_total{host=\"1\",operation=\"write\",status=\"check_condition\"} 41
+autoraid_host_commands_total{host=\"1\",operation=\"write\",status=\"busy\"} 42
+autoraid_host_commands_total{host=\"1\",operation=\"other\",status=\"good\"} 50
+autoraid_host_commands_total{host=\"1\",operation=\"other\",status=\"check_condition\"} 51
+autoraid_host_commands_total{host=\"1\",operation=\"other\",status=\"busy\"} 52
+autoraid_host_commands_total{host=\"2\",operation=\"test_unit_ready\",status=\"good\"} 200
+autoraid_host_commands_total{host=\"2\",operation=\"test_unit_ready\",status=\"check_condition\"} 201
+autoraid_host_commands_total{host=\"2\",operation=\"test_unit_ready\",status=\"busy\"} 202
+autoraid_host_commands_total{host=\"2\",operation=\"inquiry\",status=\"good\"} 210
+autoraid_host_commands_total{host=\"2\",operation=\"inquiry\",status=\"check_condition\"} 211
+autoraid_host_commands_total{host=\"2\",operation=\"inquiry\",status=\"busy\"} 212
+autoraid_host_commands_total{host=\"2\",operation=\"read_capacity\",status=\"good\"} 220
+autoraid_host_commands_total{host=\"2\",operation=\"read_capacity\",status=\"check_condition\"} 221
+autoraid_host_commands_total{host=\"2\",operation=\"read_capacity\",status=\"busy\"} 222
+autoraid_host_commands_total{host=\"2\",operation=\"read\",status=\"good\"} 230
+autoraid_host_commands_total{host=\"2\",operation=\"read\",status=\"check_condition\"} 231
+autoraid_host_commands_total{host=\"2\",operation=\"read\",status=\"busy\"} 232
+autoraid_host_commands_total{host=\"2\",operation=\"write\",status=\"good\"} 240
+autoraid_host_commands_total{host=\"2\",operation=\"write\",status=\"check_condition\"} 241
+autoraid_host_commands_total{host=\"2\",operation=\"write\",status=\"busy\"} 242
+autoraid_host_commands_total{host=\"2\",operation=\"other\",status=\"good\"} 250
+autoraid_host_commands_total{host=\"2\",operation=\"other\",status=\"check_condition\"} 251
+autoraid_host_commands_total{host=\"2\",operation=\"other\",status=\"busy\"} 252
+autoraid_host_commands_total{host=\"3\",operation=\"test_unit_ready\",status=\"good\"} 300
+autoraid_host_commands_total{host=\"3\",operation=\"test_unit_ready\",status=\"check_condition\"} 301
+autoraid_host_commands_total{host=\"3\",operation=\"test_unit_ready\",status=\"busy\"} 302
+autoraid_host_commands_total{host=\"3\",operation=\"inquiry\",status=\"good\"} 310
+autoraid_host_commands_total{host=\"3\",operation=\"inquiry\",status=\"check_condition\"} 311
+autoraid_host_commands_total{host=\"3\",operation=\"inquiry\",status=\"busy\"} 312
+autoraid_host_commands_total{host=\"3\",operation=\"read_capacity\",status=\"good\"} 320
+autoraid_host_commands_total{host=\"3\",operation=\"read_capacity\",status=\"check_condition\"} 321
+autoraid_host_commands_total{host=\"3\",operation=\"read_capacity\",status=\"busy\"} 322
+autoraid_host_commands_total{host=\"3\",operation=\"read\",status=\"good\"} 330
+autoraid_host_commands_total{host=\"3\",operation=\"read\",status=\"check_condition\"} 331
+autoraid_host_commands_total{host=\"3\",operation=\"read\",status=\"busy\"} 332
+autoraid_host_commands_total{host=\"3\",operation=\"write\",status=\"good\"} 340
+autoraid_host_commands_total{host=\"3\",operation=\"write\",status=\"check_condition\"} 341
+autoraid_host_commands_total{host=\"3\",operation=\"write\",status=\"busy\"} 342
+autoraid_host_commands_total{host=\"3\",operation=\"other\",status=\"good\"} 350
+autoraid_host_commands_total{host=\"3\",operation=\"other\",status=\"check_condition\"} 351
+autoraid_host_commands_total{host=\"3\",operation=\"other\",status=\"busy\"} 352
 # HELP autoraid_host_read_bytes_total Bytes returned to hosts.
 # TYPE autoraid_host_read_bytes_total counter
 autoraid_host_read_bytes_total{host=\"0\"} 2

@@ -1,7 +1,7 @@
 // An array that stands still, and connections to it.
 use ar_status::{
-    ArrayHealth, ArrayStatus, EventKind, HostCounters, Look, MaintenanceSteps, RecentEvent,
-    RecentEvents, Watched, serve_connection,
+    ArrayHealth, ArrayStatus, EventKind, HostCounters, Look, MaintenanceSteps, OperationCounters,
+    RecentEvent, RecentEvents, ReplyCounters, Watched, serve_connection,
 };
 use std::alloc::{AllocError, Global};
 use std::hash::RandomState;
@@ -50,11 +50,9 @@ pub fn array_in(health: ArrayHealth) -> Still {
         health,
         disks: 5,
         extents: 64,
-        groups: 80,
         free_groups: 7,
         block_bytes: 1024,
         room_blocks: 18,
-        cached_blocks: 2,
         history_entries: 9,
         history_bytes: 4096,
         hosts: hosts(),
@@ -75,18 +73,35 @@ pub fn array_in(health: ArrayHealth) -> Still {
 
 fn hosts() -> [HostCounters; 4] {
     [
-        counters(1, 2, 3),
-        counters(0, 0, 0),
-        counters(u64::MAX, 7, 8),
-        counters(4, 5, 6),
+        counters(1, 2, 3, 100),
+        counters(0, 0, 0, 0),
+        counters(u64::MAX, 7, 8, 200),
+        counters(4, 5, 6, 300),
     ]
 }
 
-fn counters(commands: u64, read_bytes: u64, written_bytes: u64) -> HostCounters {
+fn counters(commands: u64, read_bytes: u64, written_bytes: u64, replies: u64) -> HostCounters {
     HostCounters {
         commands,
         read_bytes,
         written_bytes,
+        replies: OperationCounters {
+            test_unit_ready: replies_from(replies),
+            inquiry: replies_from(replies.saturating_add(10)),
+            read_capacity: replies_from(replies.saturating_add(20)),
+            read: replies_from(replies.saturating_add(30)),
+            write: replies_from(replies.saturating_add(40)),
+            other: replies_from(replies.saturating_add(50)),
+        },
+    }
+}
+
+// Three numbers in a row.
+fn replies_from(first: u64) -> ReplyCounters {
+    ReplyCounters {
+        good: first,
+        check_condition: first.saturating_add(1),
+        busy: first.saturating_add(2),
     }
 }
 
