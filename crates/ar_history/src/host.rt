@@ -44,7 +44,7 @@ impl<D: Disk + Drop, L: Ledger> Kept<D, L> {
         ensures does { DoesCommand self.old.array seat.old.host lun cdb payload result.reply self.new.array }
         ensures host { seat.new.host ≡ seat.old.host }
         ensures kept { StaysKept self.old self.new }
-        ensures counts { CountsCommand self.old seat.old.host.number (length payload) result.reply self.new }
+        ensures counts { CountsCommand self.old seat.old.host.number cdb (length payload) result.reply self.new }
 
         // Out of memory, and what BUSY leaves unchanged. A list with capacity left keeps it; a full one may double it.
         // Nothing grows for a failed array.
@@ -56,7 +56,7 @@ impl<D: Disk + Drop, L: Ledger> Kept<D, L> {
         let _ = &self.live;
         let sent = payload.len() as u64;
         let served = self.execute(seat, lun, cdb, payload);
-        self.live.count_command(seat.host, sent, &served.reply);
+        self.live.count_command(seat.host, cdb, sent, &served.reply);
         served
     }
 

@@ -80,6 +80,13 @@ impl<D: Disk, L: Ledger> Kept<D, L> {
         self.history.as_slice()
     }
 
+    /// Returns how many entries the history's list has memory for.
+    pub fn capacity(&self) -> usize
+        ensures { result ≡ self.now.room }
+    {
+        self.history.capacity()
+    }
+
     /// Returns the array, for its views.
     pub fn array(&self) -> &Array<D>
         ensures array { result.now ≡ self.now.array }

@@ -17,7 +17,7 @@ mod operation;
 mod seat;
 
 pub use audit::{Mismatch, Report, first_difference};
-pub use counts::{Counts, HostCounts, TaskCounts, is_idle};
+pub use counts::{Counts, HostCounts, OperationCounts, ReplyCounts, TaskCounts, is_idle};
 pub use entry::{Entry, Exchange};
 pub use host::Served;
 pub use kept::Kept;

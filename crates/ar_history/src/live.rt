@@ -90,14 +90,14 @@ impl<D: Disk> LiveArray<D> {
     }
 
     // Counts a command of `host` with `sent` bytes of data-out, and as an event.
-    pub(crate) fn count_command(&mut self, host: Host, sent: u64, reply: &Reply)
+    pub(crate) fn count_command(&mut self, host: Host, cdb: [u8; 16], sent: u64, reply: &Reply)
         ensures counted { self.new ≡ record self.old {
-          counts = counts_after self.old.counts host.number sent reply.now;
+          counts = counts_after self.old.counts host.number cdb sent reply.now;
           events = raised self.old.events 1;
         } }
         ensures kept { HistoryAgrees self.new.array self.new.history }
     {
-        self.counts.add_command(host, sent, reply);
+        self.counts.add_command(host, cdb, sent, reply);
         self.events = self.events.saturating_add(1);
     }
 

@@ -25,13 +25,13 @@ impl<D: Disk + Drop> LiveArray<D> {
         ensures serves { ServesCommand self.old.array self.old.history host lun cdb payload result self.new.array self.new.history }
         ensures steps { Steps self.old.array (EventOf.Cmd host lun cdb payload) (OutcomeOf.Cmd result) self.new.array }
         ensures kept { StaysKept self.old self.new }
-        ensures counts { CountsCommand self.old host.number (length payload) result self.new }
+        ensures counts { CountsCommand self.old host.number cdb (length payload) result self.new }
         ensures room { self.new.room ≡ self.old.room }
         ensures busy { is_busy result.status ≡ true → LeavesStorage self.old.array self.new.array }
     {
         let sent = payload.len() as u64;
         let reply = self.execute(host, lun, cdb, payload);
-        self.count_command(host, sent, &reply);
+        self.count_command(host, cdb, sent, &reply);
         reply
     }
 
