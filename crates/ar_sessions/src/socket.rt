@@ -55,6 +55,8 @@ pub struct SocketWriter<'a, R: Clock> {
     rt: &'a R,
     socket: Arc<TcpStream>,
     limits: Limits<'a>,
+    // When the connection was opened.
+    opened: Instant,
     // When a write first saw the stop flag set.
     stopped: Option<Instant>,
 }
@@ -100,6 +102,7 @@ impl<'a, R: Clock> SocketReader<'a, R> {
             rt,
             socket: Arc::try_clone(&socket)?,
             limits,
+            opened,
             stopped: None,
         };
         let reader = SocketReader {
@@ -116,19 +119,15 @@ impl<'a, R: Clock> SocketReader<'a, R> {
 
     // Whether no byte is waited for any longer.
     fn is_over(&self) -> bool {
-        self.limits.is_stopped() || self.limits.is_idle(self.silent) || self.is_login_late()
+        self.limits.is_stopped()
+            || self.limits.is_idle(self.silent)
+            || self.is_login_late()
+            || is_past(self.rt, self.opened, self.limits.timeouts.whole)
     }
 
-    // Whether the login should have come whole by now. A clock that can't be read ends the wait, too.
+    // Whether the login should have come whole by now.
     fn is_login_late(&self) -> bool {
-        if self.login_left == 0 {
-            return false;
-        }
-        match (self.limits.timeouts.login, self.opened.elapsed(self.rt)) {
-            (Some(seconds), Ok(elapsed)) => elapsed >= Duration::from_secs(u64::from(seconds)),
-            (Some(_), Err(_)) => true,
-            (None, _) => false,
-        }
+        self.login_left > 0 && is_past(self.rt, self.opened, self.limits.timeouts.login)
     }
 
     // Notes what a read has brought.
@@ -166,7 +165,9 @@ impl<R: Clock> Read for SocketReader<'_, R> {
 impl<R: Clock> SocketWriter<'_, R> {
     // Whether a peer that has taken nothing for this many milliseconds is waited for no longer.
     fn is_over(&mut self, silent: u64) -> bool {
-        self.limits.is_idle(silent) || (self.limits.is_stopped() && self.is_grace_over())
+        self.limits.is_idle(silent)
+            || is_past(self.rt, self.opened, self.limits.timeouts.whole)
+            || (self.limits.is_stopped() && self.is_grace_over())
     }
 
     // Whether the peer has had its time since the stop. A clock that can't be read ends the wait, too.
@@ -241,6 +242,14 @@ fn linger<R: Clock>(rt: &R, socket: &TcpStream) {
         if is_over {
             return;
         }
+    }
+}
+
+// Whether a connection has lasted for this many seconds, if there is a limit. A clock that can't be read ends it, too.
+fn is_past<R: Clock>(rt: &R, opened: Instant, limit: Option<u32>) -> bool {
+    match limit {
+        Some(seconds) => has_passed(rt, opened, u64::from(seconds) * 1_000),
+        None => false,
     }
 }
 

@@ -18,13 +18,15 @@ use std::time::{Clock, Duration};
 #[derive(Clone, Copy, Debug, PartialEq, Eq)]
 pub struct ListenFault;
 
-/// How long a connection may be silent, in seconds. None: for good.
+/// How long a connection may be silent, and how long it may last, in seconds. None: for good.
 #[derive(Clone, Copy, Debug, PartialEq, Eq)]
 pub struct Timeouts {
     /// From its opening until the nine bytes of its login have come.
     pub login: Option<u32>,
     /// Until the next byte comes, or the peer takes more of a reply.
     pub idle: Option<u32>,
+    /// From its opening until its last byte has come, or was taken.
+    pub whole: Option<u32>,
 }
 
 /// The reader of a connection over TCP.
@@ -66,6 +68,7 @@ impl Timeouts {
     pub const NONE: Timeouts = Timeouts {
         login: None,
         idle: None,
+        whole: None,
     };
 }
 
