@@ -1,0 +1,6 @@
+pub mod DataIn
+pub mod Items
+pub mod Oks
+pub mod Pdus
+pub mod Receiving
+pub mod Words

@@ -1,0 +1,14 @@
+use Rattle.std.proofs.Common.{arith}
+use Rattle.ar_iscsi.proofs.Items.{targets_more, targets_last}
+use Rattle.ar_iscsi.proofs.Oks.{on_ok}
+use Rattle.ar_iscsi.proofs.targets.answer_targets.Goals as goal
+
+pub loop-end-preserved : goal.loop-end-preserved
+loop-end-preserved c = record {
+  at = c.place_of-end-in-loop-end.ensures.first;
+  shorter = omega (arith, c.loop-end.invariant.shorter, c.behind-rest.ensures.shorter);
+  answers = targets_more _ _ _ _ _ _ c.loop-end.end c.behind-rest.ensures.is c.loop-end.invariant.at c.loop-end-test.true c.in_ok-answer_asked.ensures c.loop-end.invariant.answers;
+}
+
+pub returns : goal.returns
+returns c = on_ok c.answer_asked-2.result _ _ (λ e. targets_last _ _ _ _ _ c.loop-end.end c.loop-end.invariant.at c.loop-end-test.false e c.loop-end.invariant.answers) c.answer_asked-2.ensures

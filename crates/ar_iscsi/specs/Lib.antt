@@ -1,0 +1,13 @@
+pub mod Flow
+pub mod Negotiation
+pub mod Pdu
+pub mod Reaction
+pub mod Receive
+pub mod Reply
+pub mod Request
+pub mod Response
+pub mod Targets
+pub mod Task
+pub mod Text
+pub mod Turn
+pub mod Verdict

@@ -1,0 +1,91 @@
+-- A PDU is received: what was read, and where reading stopped.
+use Rattle.std.specs.Prelude.{◌≡◌, ◌<◌, ◌≤◌, ℕ, Bool, true, false, List, [], ◌++◌, length, take, Option, ⊤}
+use Rattle.std.specs.Io.KnownBytes.{IsAtEnd}
+use Rattle.ar_frames.specs.Stream.{SourceState, Reading}
+use Rattle.ar_iscsi.specs.declared.transfer.Came.{Came}
+use Rattle.ar_iscsi.specs.declared.transfer.Came.TheVariants as came
+use Rattle.ar_iscsi.specs.declared.receive.ReceiveEnd.{ReceiveEnd}
+use Rattle.ar_iscsi.specs.declared.receive.ReceiveEnd.TheVariants as end
+use Rattle.ar_iscsi.specs.declared.receive.Received.{Received}
+use Rattle.ar_iscsi.specs.declared.receive.Received.TheVariants.{Pdu, Nothing}
+use Rattle.ar_iscsi.specs.Pdu.{IsPdu, segment_len, rest_len}
+
+-- the part of a buffer that came
+abbrev pub came_bytes : Came → List ℕ → List ℕ
+came_bytes came.All piece = piece
+came_bytes (came.Ended n) piece = take n piece
+came_bytes (came.Failed n) piece = take n piece
+
+-- a read faulted
+abbrev pub came_faulted : Came → Bool
+came_faulted came.All = false
+came_faulted (came.Ended n) = false
+came_faulted (came.Failed n) = true
+
+-- unless all came, less came than was wanted; at the end of input, none is left
+abbrev pub CameShort : Came → ℕ → Option (List ℕ) → Type 0
+CameShort came.All wanted left = ⊤
+CameShort (came.Ended n) wanted left = (n < wanted) × IsAtEnd left
+CameShort (came.Failed n) wanted left = n < wanted
+
+-- a buffer was filled, whole or up to a read fault or the end of input
+pub record Comes (old new : SourceState) (piece : List ℕ) (result : Came) : Type 0 where
+  pub read : Reading old new (came_bytes result piece) (came_faulted result)
+  pub short : CameShort result (length piece) new.left
+
+-- the same for `wanted` bytes that are dropped
+pub record ComesUnkept (old new : SourceState) (wanted : ℕ) (result : Came) : Type 0 where
+  pub piece : List ℕ
+  pub piece_is : length piece ≡ wanted
+  pub comes : Comes old new piece result
+
+-- an incomplete PDU: fewer bytes than a header has, or fewer than a header says, with a data segment within `limit`
+pub data IsCutPdu (limit : ℕ) : List ℕ → Type 0 where
+  in_header : (bytes : List ℕ) → length bytes < 48 → IsCutPdu limit bytes
+  behind_header :
+      (header rest : List ℕ) → length header ≡ 48 → segment_len header ≤ limit → length rest < rest_len header
+      → IsCutPdu limit (header ++ rest)
+
+-- when each end comes, by the bytes that were read since the last PDU
+abbrev pub StopsPdu : ReceiveEnd → ℕ → List ℕ → Type 0
+-- input ended between two PDUs
+StopsPdu end.End limit bytes = bytes ≡ []
+-- input ended inside a PDU
+StopsPdu end.Cut limit bytes = IsCutPdu limit bytes × (0 < length bytes)
+-- a read faulted, before or inside a PDU
+StopsPdu end.Read limit bytes = IsCutPdu limit bytes
+-- a header was read whose data segment is longer than `limit`, and nothing behind it
+StopsPdu (end.TooLong n) limit bytes = (length bytes ≡ 48) × (segment_len bytes ≡ n) × (limit < n)
+
+-- a read faulted
+abbrev pub is_end_by_fault : ReceiveEnd → Bool
+is_end_by_fault end.End = false
+is_end_by_fault end.Cut = false
+is_end_by_fault end.Read = true
+is_end_by_fault (end.TooLong n) = false
+
+-- an end of input is reported only if no input is left
+abbrev pub IsInputLeft : ReceiveEnd → Option (List ℕ) → Type 0
+IsInputLeft end.End left = IsAtEnd left
+IsInputLeft end.Cut left = IsAtEnd left
+IsInputLeft end.Read left = ⊤
+IsInputLeft (end.TooLong n) left = ⊤
+
+-- a PDU with this header was read behind its first bytes `base`; its data segment is in front in the buffer
+pub record ReadsPdu (base : List ℕ) (limit : ℕ) (old new : SourceState) (header buffer : List ℕ) : Type 0 where
+  pub rest : List ℕ
+  pub is_pdu : IsPdu header (take (segment_len header) buffer) (base ++ rest)
+  pub within : segment_len header ≤ limit
+  pub read : Reading old new rest false
+
+-- no whole PDU was read behind `base`, for this reason
+pub record ReadsNoPdu (base : List ℕ) (limit : ℕ) (old new : SourceState) (reason : ReceiveEnd) : Type 0 where
+  pub rest : List ℕ
+  pub stops : StopsPdu reason limit (base ++ rest)
+  pub read : Reading old new rest (is_end_by_fault reason)
+  pub ended : IsInputLeft reason new.left
+
+-- what was received behind the first bytes `base` of a PDU, into a buffer of `limit` bytes
+abbrev pub ReceivesPdu : List ℕ → ℕ → SourceState → SourceState → List ℕ → Received → Type 0
+ReceivesPdu base limit old new buffer (Pdu header) = ReadsPdu base limit old new header buffer
+ReceivesPdu base limit old new buffer (Nothing reason) = ReadsNoPdu base limit old new reason

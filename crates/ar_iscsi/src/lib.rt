@@ -1,0 +1,44 @@
+//! The transport of an iSCSI target (RFC 7143) over byte streams and any `Port`: no thread, no socket, no array.
+#![tactic(auto)]
+
+ghost use Rattle.ar_iscsi.specs.Pdu.{NoPduBeginsAnother};
+
+mod flow;
+mod keys;
+mod negotiation;
+mod reaction;
+mod receive;
+mod reply;
+mod request;
+mod response;
+mod targets;
+mod task;
+mod text;
+mod transfer;
+mod turn;
+mod verdict;
+
+pub use flow::{Collecting, Flow, lun_number};
+pub use keys::{Key, KeyAnswer, key_answer, key_named, numeral};
+pub use negotiation::{Limits, Negotiation, SessionKind, TargetChoice, negotiated, target_of};
+pub use reaction::{
+    COMMAND_NOT_SUPPORTED, INVALID_PDU_FIELD, PROTOCOL_ERROR, Reaction, to_logout, to_nop_out,
+    to_task_management, to_text,
+};
+pub use receive::{ReceiveEnd, Received, receive_pdu};
+pub use reply::{data_out_len, put_data_in, put_reply};
+pub use request::{
+    DataOut, InitiatorPdu, LoginRequest, LogoutRequest, Lun, NopOut, ScsiCommand, TaskManagement,
+    TextRequest, initiator_pdu,
+};
+pub use response::{LoginResponse, LoginStage, Residual, SequenceNumbers, TargetPdu, put_pdu};
+pub use targets::answer_targets;
+pub use task::{CommandStep, DataStep, ask, command_step, complete, data_step, refuse, wanted_len};
+pub use text::answer_text;
+pub use turn::{TurnEnd, Work, take_turn};
+pub use verdict::{LoginStatus, LoginStep, judged, stage_of, status_code, step_of};
+
+/// Lemma: no PDU is a proper prefix of another, and its bytes determine its header and its data.
+pub fn no_pdu_begins_another()
+    ensures { NoPduBeginsAnother }
+{}

@@ -1,0 +1,162 @@
+// What a session does with a request that needs no port: NOP-Out, text, task management, logout, and what it refuses.
+ghost use Rattle.std.specs.Prelude.{◌≡◌, ◌==◌};
+ghost use Rattle.ar_iscsi.specs.Reaction as rule;
+
+use crate::flow::{Collecting, Flow};
+use crate::request::{LogoutRequest, Lun, NopOut, TaskManagement, TextRequest};
+use crate::response::TargetPdu;
+
+/// What a session does with a request.
+#[derive(Clone, Copy, Debug, PartialEq, Eq)]
+pub enum Reaction {
+    /// Nothing: the request is outside the window, or there is no such task.
+    Ignores,
+    /// It is counted, and wants no answer.
+    Counts,
+    /// It is answered by this PDU, without data.
+    Answers(TargetPdu),
+    /// It is answered by this PDU, with the data that it carries.
+    Echoes(TargetPdu),
+    /// It is answered by this PDU, with the answer to its text.
+    AnswersText(TargetPdu),
+    /// The WRITE whose data are collected is dropped, and it is answered by this PDU.
+    Drops(TargetPdu),
+    /// It is answered by this PDU, and the session ends.
+    Closes(TargetPdu),
+    /// It is rejected for this reason, and isn't counted.
+    Rejects(u8),
+}
+
+/// Reject: protocol error (RFC 7143, 11.17.1).
+pub const PROTOCOL_ERROR: u8 = 0x04;
+
+/// Reject: the command isn't supported.
+pub const COMMAND_NOT_SUPPORTED: u8 = 0x05;
+
+/// Reject: a field of the PDU is invalid.
+pub const INVALID_PDU_FIELD: u8 = 0x09;
+
+/// What is done with a NOP-Out: it gets its data back, unless it wants no answer.
+pub fn to_nop_out(flow: &Flow, nop: &NopOut) -> Reaction
+    ensures { result ≡ rule.to_nop_out flow.now nop.now }
+{
+    if !flow.accepts(nop.immediate, nop.cmd_sn) {
+        Reaction::Ignores
+    } else if nop.task_tag == 0xFFFF_FFFF {
+        Reaction::Counts
+    } else {
+        Reaction::Echoes(TargetPdu::NopIn {
+            lun: nop.lun,
+            task_tag: nop.task_tag,
+        })
+    }
+}
+
+/// What is done with a text request: it is answered if its text is whole.
+pub fn to_text(flow: &Flow, request: &TextRequest) -> Reaction
+    ensures { result ≡ rule.to_text flow.now request.now }
+{
+    if !flow.accepts(request.immediate, request.cmd_sn) {
+        Reaction::Ignores
+    } else if request.continues || !request.is_final {
+        Reaction::Rejects(COMMAND_NOT_SUPPORTED)
+    } else {
+        Reaction::AnswersText(TargetPdu::TextResponse {
+            task_tag: request.task_tag,
+        })
+    }
+}
+
+/// What is done with a logout: a session has one connection, so that closing either ends it.
+pub fn to_logout(flow: &Flow, request: &LogoutRequest) -> Reaction
+    ensures { result ≡ rule.to_logout flow.now request.now }
+{
+    let task_tag = request.task_tag;
+    if !flow.accepts(request.immediate, request.cmd_sn) {
+        return Reaction::Ignores;
+    }
+    match request.reason {
+        0 | 1 => Reaction::Closes(TargetPdu::LogoutResponse {
+            task_tag,
+            response: 0,
+        }),
+        2 => Reaction::Answers(TargetPdu::LogoutResponse {
+            task_tag,
+            response: 2,
+        }),
+        _ => Reaction::Rejects(INVALID_PDU_FIELD),
+    }
+}
+
+/// What is done with a task management request. The only task that there can be is the WRITE whose data are collected.
+pub fn to_task_management(flow: &Flow, request: &TaskManagement) -> Reaction
+    ensures { result ≡ rule.to_task_management flow.now request.now }
+{
+    if flow.accepts(request.immediate, request.cmd_sn) {
+        managed(flow, request)
+    } else {
+        Reaction::Ignores
+    }
+}
+
+// The same for one that is accepted.
+fn managed(flow: &Flow, request: &TaskManagement) -> Reaction
+    ensures { result ≡ rule.managed flow.now request.now }
+{
+    let task_tag = request.task_tag;
+    let complete = TargetPdu::TaskManagementResponse {
+        task_tag,
+        response: 0,
+    };
+    match request.function {
+        1 => {
+            if is_task(flow.collecting, request.referenced_tag) {
+                Reaction::Drops(complete)
+            } else {
+                Reaction::Answers(TargetPdu::TaskManagementResponse {
+                    task_tag,
+                    response: 1,
+                })
+            }
+        }
+        2 | 4 | 5 => {
+            if is_of_unit(flow.collecting, request.lun) {
+                Reaction::Drops(complete)
+            } else {
+                Reaction::Answers(complete)
+            }
+        }
+        8 => Reaction::Answers(TargetPdu::TaskManagementResponse {
+            task_tag,
+            response: 4,
+        }),
+        3 | 6 | 7 => Reaction::Answers(TargetPdu::TaskManagementResponse {
+            task_tag,
+            response: 5,
+        }),
+        _ => Reaction::Answers(TargetPdu::TaskManagementResponse {
+            task_tag,
+            response: 255,
+        }),
+    }
+}
+
+// Whether the data of the task of this tag are collected.
+fn is_task(collecting: Option<Collecting>, tag: u32) -> bool
+    ensures { result ≡ rule.is_task collecting tag }
+{
+    match collecting {
+        Some(c) => c.command.task_tag == tag,
+        None => false,
+    }
+}
+
+// Whether data for this unit are collected.
+fn is_of_unit(collecting: Option<Collecting>, lun: Lun) -> bool
+    ensures { result ≡ rule.is_of_unit collecting lun }
+{
+    match collecting {
+        Some(c) => c.command.lun.high == lun.high && c.command.lun.low == lun.low,
+        None => false,
+    }
+}

@@ -1,0 +1,164 @@
+// The answer to a SCSI command: its data in Data-In PDUs, cut to the expected length, and its status in a SCSI
+// Response. Each Data-In PDU is a sequence of its own, so that MaxBurstLength bounds a PDU and no more is counted.
+ghost use Rattle.std.specs.Prelude.{◌≡◌, ◌<◌, ◌≤◌, ◌+◌, ◌^◌, ◌++◌, ◌∷◌, IfOk, OnOk, length};
+ghost use Rattle.ar_scsi.specs.declared.reply.Reply.{Reply};
+ghost use Rattle.ar_frames.specs.Frame.{IsReply, status_byte};
+ghost use Rattle.ar_iscsi.specs.Reply as answer;
+ghost use Rattle.ar_iscsi.specs.Response.{target_pdu};
+
+use crate::request::ScsiCommand;
+use crate::response::{Residual, SequenceNumbers, TargetPdu, put_pdu};
+use ar_scsi::{Command, Reply, Status, decode};
+use std::alloc::AllocError;
+
+/// Appends `data` to `out` as Data-In PDUs of at most `most` bytes each, and returns how many there are. `Err` if the
+/// allocation fails; `out` then ends in an unspecified part of them.
+pub fn put_data_in(
+    out: &mut Vec<u8>,
+    task_tag: u32,
+    numbers: SequenceNumbers,
+    most: u32,
+    data_in: &[u8],
+) -> Result<u32, AllocError>
+    requires some { 0 < most }
+    requires short { most < 2 ^ 24 }
+    requires fits { length data_in.now < 2 ^ 32 }
+    ensures { IfOk result (λ count. answer.PutsDataIn task_tag numbers most data_in.now count out.old.items out.new.items) }
+{
+    let mut count = 0;
+    let mut at = 0;
+    while at < data_in.len() {
+        let end = data_in.len().min(at + most as usize);
+        let pdu = TargetPdu::DataIn {
+            task_tag,
+            data_sn: count,
+            offset: at as u32,
+        };
+        put_pdu(out, pdu, numbers, &data_in[at..end])?;
+        at = end;
+        count += 1;
+    }
+    Ok(count)
+}
+
+/// Appends the answer to a command: its data, cut to the expected length, in Data-In PDUs of at most `most` bytes, and
+/// its status. `asked` R2Ts were sent for it. `Err` if the allocation fails; `out` then ends in an unspecified part.
+pub fn put_reply(
+    out: &mut Vec<u8>,
+    command: &ScsiCommand,
+    numbers: SequenceNumbers,
+    most: u32,
+    asked: u32,
+    reply: &Reply,
+) -> Result<(), AllocError>
+    requires some { 0 < most }
+    requires short { most < 2 ^ 24 }
+    requires reply { IsReply reply.now }
+    ensures { OnOk result (answer.PutsReply command.now numbers most asked reply.now out.old.items out.new.items) }
+{
+    let payload = reply.payload.as_slice();
+    let count = put_data_in(
+        out,
+        command.task_tag,
+        numbers,
+        most,
+        returned(command, payload),
+    )?;
+    put_status(out, command, numbers, asked.wrapping_add(count), reply)
+}
+
+// Appends the SCSI Response to a command that had `exp_data_sn` Data-In and R2T PDUs.
+fn put_status(
+    out: &mut Vec<u8>,
+    command: &ScsiCommand,
+    numbers: SequenceNumbers,
+    exp_data_sn: u32,
+    reply: &Reply,
+) -> Result<(), AllocError>
+    requires { IsReply reply.now }
+    ensures { OnOk result (out.new.items ≡ out.old.items ++ target_pdu
+        (TargetPdu.ScsiResponse command.now.task_tag (status_byte reply.now.status)
+        (answer.residual_of (answer.expected_len command.now) (answer.moved_by command.now reply.now.payload)) exp_data_sn)
+        numbers (answer.sense_segment reply.now.sense)) }
+{
+    let pdu = TargetPdu::ScsiResponse {
+        task_tag: command.task_tag,
+        status: status_of(reply.status),
+        residual: residual_of(
+            expected_len(command),
+            data_out_len(&command.cdb) + reply.payload.len() as u32,
+        ),
+        exp_data_sn,
+    };
+    match &reply.sense {
+        Some(sense) => put_pdu(out, pdu, numbers, &sense_segment(sense)),
+        None => put_pdu(out, pdu, numbers, &[]),
+    }
+}
+
+// The data segment that carries sense data.
+fn sense_segment(sense: &[u8; 18]) -> [u8; 20]
+    ensures { result ≡ 0x00 ∷ 0x12 ∷ sense.now }
+{
+    let mut segment = [0; 20];
+    segment[1] = 18;
+    segment[2..].copy_from_slice(sense);
+    segment
+}
+
+// The status code (SAM-3, Status).
+fn status_of(status: Status) -> u8
+    ensures { result ≡ status_byte status }
+{
+    match status {
+        Status::Good => 0x00,
+        Status::CheckCondition => 0x02,
+        Status::Busy => 0x08,
+    }
+}
+
+/// The number of bytes that a command block takes from its host: those of a WRITE's blocks.
+pub fn data_out_len(cdb: &[u8; 16]) -> u32
+    ensures len { result ≡ answer.data_out_len cdb.now }
+    ensures short { result < 2 ^ 25 }
+{
+    match decode(cdb) {
+        Ok(Command::Write { count, .. }) => 512 * u32::from(count),
+        _ => 0,
+    }
+}
+
+// The number of bytes that a command is expected to move.
+fn expected_len(command: &ScsiCommand) -> u32
+    ensures { result ≡ answer.expected_len command.now }
+{
+    if command.reads || command.writes {
+        command.expected
+    } else {
+        0
+    }
+}
+
+// How the bytes that a command would move compare with those that are expected.
+fn residual_of(expected: u32, moved: u32) -> Residual
+    ensures { result ≡ answer.residual_of expected moved }
+{
+    if moved < expected {
+        Residual::Underflow(expected - moved)
+    } else if expected < moved {
+        Residual::Overflow(moved - expected)
+    } else {
+        Residual::Exact
+    }
+}
+
+// The part of a payload that is returned.
+fn returned<'a>(command: &ScsiCommand, payload: &'a [u8]) -> &'a [u8]
+    ensures { result.now ≡ answer.returned command.now payload.now }
+{
+    if command.reads {
+        &payload[..payload.len().min(command.expected as usize)]
+    } else {
+        &payload[..0]
+    }
+}
