@@ -3,4 +3,5 @@ pub mod Items
 pub mod Oks
 pub mod Pdus
 pub mod Receiving
+pub mod Serving
 pub mod Words

@@ -1,4 +1,5 @@
 pub mod Flow
+pub mod LoginTurn
 pub mod Negotiation
 pub mod Pdu
 pub mod Reaction
@@ -6,6 +7,7 @@ pub mod Receive
 pub mod Reply
 pub mod Request
 pub mod Response
+pub mod Session
 pub mod Targets
 pub mod Task
 pub mod Text

@@ -1,5 +1,5 @@
 -- What a target answers to a login request (RFC 7143, 6.3 and 11.13).
-use Rattle.std.specs.Prelude.{ℕ, ◌==◌, not, if◌then◌else◌, Option, Some, None, Result, Ok, Err}
+use Rattle.std.specs.Prelude.{ℕ, ◌==◌, Bool, true, false, not, if◌then◌else◌, Option, Some, None, Result, Ok, Err}
 use Rattle.ar_iscsi.specs.declared.negotiation.SessionKind.TheVariants.{Normal, Discovery, Unsupported}
 use Rattle.ar_iscsi.specs.declared.negotiation.SessionKind.{SessionKind}
 use Rattle.ar_iscsi.specs.declared.negotiation.TargetChoice.{TargetChoice}
@@ -25,6 +25,11 @@ status_code status.SessionTypeNotSupported = (0x02, 0x09)
 status_code status.SessionDoesNotExist = (0x02, 0x0A)
 status_code status.InvalidDuringLogin = (0x02, 0x0B)
 status_code status.OutOfResources = (0x03, 0x02)
+
+-- nothing is wrong
+abbrev pub is_success : LoginStatus → Bool
+is_success status.Success = true
+is_success other = false
 
 -- the stage that a login request may be of (RFC 7143, 11.12.3)
 abbrev pub stage_named : ℕ → Option LoginStage

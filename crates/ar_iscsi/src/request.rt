@@ -234,7 +234,7 @@ fn task_management(header: &[u8; 48]) -> TaskManagement
     }
 }
 
-fn login_request(header: &[u8; 48]) -> LoginRequest
+pub(crate) fn login_request(header: &[u8; 48]) -> LoginRequest
     ensures { result ≡ fields.login_request header.now }
 {
     LoginRequest {

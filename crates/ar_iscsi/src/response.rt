@@ -276,7 +276,7 @@ fn login_flags(login: LoginResponse) -> u8
 }
 
 // The number of a stage.
-fn stage_code(stage: LoginStage) -> u8
+pub(crate) fn stage_code(stage: LoginStage) -> u8
     ensures code { result ≡ wire.stage_code stage }
     ensures small { result < 4 }
 {

@@ -54,6 +54,13 @@ pub fn status_code(status: LoginStatus) -> (u8, u8)
     }
 }
 
+/// Whether nothing is wrong.
+pub fn is_success(status: LoginStatus) -> bool
+    ensures { result ≡ login.is_success status }
+{
+    matches!(status, LoginStatus::Success)
+}
+
 /// The stage of a number, if a login request may be of it.
 pub fn stage_of(code: u8) -> Option<LoginStage>
     ensures { result ≡ login.stage_named code }

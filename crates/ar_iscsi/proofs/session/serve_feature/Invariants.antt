@@ -1,0 +1,25 @@
+-- this many PDUs were served
+use Rattle.std.proofs.Common.{◌≡◌, true, [], length}
+use Rattle.ar_iscsi.specs.Session.{ServesPdus, most_segment}
+use Rattle.ar_iscsi.proofs.session.serve_feature.Given as goal
+
+abbrev pub invariant-loop : goal.invariant-loop
+invariant-loop g l = record {
+  served : ServesPdus g.P.Port.commands l.address l.initial.work.limits l.counter
+      (record {
+        source = g.R.Source.state l.initial.reader;
+        sink = g.W.Sink.state l.initial.writer;
+        spot = record { flow = l.initial.work.flow; bytes = l.initial.work.collected.items };
+        port = l.initial.port;
+      })
+      (record {
+        source = g.R.Source.state l.reader;
+        sink = g.W.Sink.state l.writer;
+        spot = record { flow = l.work.flow; bytes = l.work.collected.items };
+        port = l.port;
+      });
+  same : l.work.limits ≡ l.initial.work.limits;
+  room : length l.buffer ≡ most_segment;
+  empty : l.work.out.items ≡ [];
+  logged : g.P.Port.has_login l.port ≡ true;
+}
