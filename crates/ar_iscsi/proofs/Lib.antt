@@ -1,5 +1,7 @@
+pub mod Beginning
 pub mod DataIn
 pub mod Items
+pub mod LoggingIn
 pub mod Oks
 pub mod Pdus
 pub mod Receiving

@@ -1,13 +1,16 @@
 pub mod Flow
+pub mod LoginPhase
 pub mod LoginTurn
 pub mod Negotiation
 pub mod Pdu
+pub mod Phase
 pub mod Reaction
 pub mod Receive
 pub mod Reply
 pub mod Request
 pub mod Response
 pub mod Session
+pub mod Target
 pub mod Targets
 pub mod Task
 pub mod Text

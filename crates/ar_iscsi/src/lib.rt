@@ -6,6 +6,7 @@ ghost use Rattle.ar_iscsi.specs.Pdu.{NoPduBeginsAnother};
 mod flow;
 mod keys;
 mod login;
+mod login_phase;
 mod negotiation;
 mod reaction;
 mod receive;
@@ -13,6 +14,7 @@ mod reply;
 mod request;
 mod response;
 mod session;
+mod target;
 mod targets;
 mod task;
 mod text;
@@ -23,6 +25,7 @@ mod verdict;
 pub use flow::{Collecting, Flow, lun_number};
 pub use keys::{Key, KeyAnswer, key_answer, key_named, numeral};
 pub use login::{LoginResult, LoginState, LoginWork, login_turn};
+pub use login_phase::{LoginEnd, log_in};
 pub use negotiation::{Limits, Negotiation, SessionKind, TargetChoice, negotiated, target_of};
 pub use reaction::{
     COMMAND_NOT_SUPPORTED, INVALID_PDU_FIELD, PROTOCOL_ERROR, Reaction, to_logout, to_nop_out,
@@ -36,6 +39,7 @@ pub use request::{
 };
 pub use response::{LoginResponse, LoginStage, Residual, SequenceNumbers, TargetPdu, put_pdu};
 pub use session::{FeatureEnd, MOST_SEGMENT, serve_feature};
+pub use target::{IscsiEnd, NoUnits, serve_target};
 pub use targets::answer_targets;
 pub use task::{CommandStep, DataStep, ask, command_step, complete, data_step, refuse, wanted_len};
 pub use text::answer_text;

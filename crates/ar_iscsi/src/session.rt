@@ -1,7 +1,9 @@
 // The full feature phase of a session: PDUs are read, each does what its turn says, and its answer is written.
-ghost use Rattle.std.specs.Prelude.{◌≡◌, ◌≤◌, true, [], length};
+ghost use Rattle.std.specs.Prelude.{◌≡◌, ◌≤◌, true, [], OnSome, length};
 ghost use Rattle.ar_iscsi.specs.Pdu.{IsPdu, segment_len};
+ghost use Rattle.ar_iscsi.specs.Phase as phase;
 ghost use Rattle.ar_iscsi.specs.Session as session;
+ghost use Rattle.ar_iscsi.specs.Turn.{FeatureTurn};
 
 use crate::receive::{ReceiveEnd, Received, receive_pdu};
 use crate::request::segment_len;
@@ -49,7 +51,7 @@ pub fn serve_feature<R: Source, W: Sink, P: Port>(
     buffer: &mut [u8],
 ) -> FeatureEnd
     requires logged { P.has_login port.old ≡ true }
-    requires room { length buffer.old ≡ session.most_segment }
+    requires room { length buffer.old ≡ phase.most_segment }
     requires empty { work.old.out.items ≡ [] }
     ensures { session.RunsFeature P.commands address.now work.old.limits
         (record {
@@ -86,7 +88,7 @@ fn serve_pdu<R: Source, W: Sink, P: Port>(
     buffer: &mut [u8],
 ) -> PduResult
     requires logged { P.has_login port.old ≡ true }
-    requires room { length buffer.old ≡ session.most_segment }
+    requires room { length buffer.old ≡ phase.most_segment }
     requires empty { work.old.out.items ≡ [] }
     ensures next { session.NextIsServed P.commands address.now work.old.limits
         (record {
@@ -109,13 +111,15 @@ fn serve_pdu<R: Source, W: Sink, P: Port>(
     match receive_pdu(reader, buffer) {
         Received::Pdu(header) => {
             let len = segment_len(&header) as usize;
-            answer_pdu(alloc, writer, port, address, work, &header, &buffer[..len])
+            let carried = &buffer[..len];
+            let answered = answer_pdu(alloc, writer, port, address, work, &header, carried);
+            result_of_answer(answered)
         }
         Received::Nothing(reason) => PduResult::Ended(FeatureEnd::Unread(reason)),
     }
 }
 
-// Does what a PDU asks for, and writes the answer.
+// Does what a PDU asks for, and writes the answer. None: memory for it ran out.
 fn answer_pdu<W: Sink, P: Port>(
     alloc: Global,
     writer: &mut W,
@@ -124,24 +128,34 @@ fn answer_pdu<W: Sink, P: Port>(
     work: &mut Work,
     header: &[u8; 48],
     carried: &[u8],
-) -> PduResult
+) -> Option<(TurnEnd, Sent)>
     requires logged { P.has_login port.old ≡ true }
-    requires short { length carried.now ≤ session.most_segment }
+    requires short { length carried.now ≤ phase.most_segment }
     requires empty { work.old.out.items ≡ [] }
-    ensures answers { session.AnswersPdu P.commands address.now work.old.limits header.now carried.now
+    ensures answers { phase.AnswersPdu (FeatureTurn P.commands address.now work.old.limits) header.now carried.now
         (W.state writer.old) (record { flow = work.old.flow; bytes = work.old.collected.items }) port.old result
         (W.state writer.new) (record { flow = work.new.flow; bytes = work.new.collected.items }) port.new }
     ensures stays { P.has_login port.new ≡ true }
     ensures limits { work.new.limits ≡ work.old.limits }
-    ensures emptied { result ≡ PduResult.Served → work.new.out.items ≡ [] }
+    ensures emptied { OnSome result (work.new.out.items ≡ []) }
 {
     match take_turn(work, alloc, port, address, header, carried) {
         Ok(turned) => {
             let sent = send(writer, &work.out);
             work.out.clear();
-            result_of_turn(turned, sent)
+            Some((turned, sent))
         }
-        Err(_) => PduResult::Ended(FeatureEnd::NoMemory),
+        Err(_) => None,
+    }
+}
+
+// What becomes of the session after an answer.
+fn result_of_answer(answered: Option<(TurnEnd, Sent)>) -> PduResult
+    ensures { result ≡ session.result_of_answer answered }
+{
+    match answered {
+        Some((turned, sent)) => result_of_turn(turned, sent),
+        None => PduResult::Ended(FeatureEnd::NoMemory),
     }
 }
 

@@ -2,7 +2,9 @@ use Rattle.std.proofs.Common.{subst, refl, ◌∙◌, arith}
 use Rattle.ar_iscsi.specs.declared.negotiation.Limits.{Limits}
 use Rattle.ar_frames.specs.declared.fill.Sent.TheVariants.{Whole}
 use Rattle.ar_iscsi.specs.declared.turn.TurnEnd.TheVariants.{Next}
-use Rattle.ar_iscsi.specs.Session.{EndsFeature, ServesPdu}
+use Rattle.ar_iscsi.specs.Phase.{ServesPdu}
+use Rattle.ar_iscsi.specs.Session.{EndsFeature}
+use Rattle.ar_iscsi.specs.Turn.{FeatureTurn}
 use Rattle.ar_iscsi.proofs.Serving.{served_more, feature_ended}
 use Rattle.ar_iscsi.proofs.session.serve_feature.Goals as goal
 
@@ -26,8 +28,8 @@ returns-in-Ended g c =
 
 pub loop-preserved : goal.loop-preserved
 loop-preserved g c = record {
-  served = served_more g.P.Port.commands c.args.address.now c.args.work.now.limits c.loop.counter _ _ _ c.loop.invariant.served
-      (subst (λ (limits : Limits). ServesPdu g.P.Port.commands c.args.address.now limits
+  served = served_more (FeatureTurn g.P.Port.commands c.args.address.now c.args.work.now.limits) Next c.loop.counter _ _ _ c.loop.invariant.served
+      (subst (λ (limits : Limits). ServesPdu (FeatureTurn g.P.Port.commands c.args.address.now limits)
       (record {
         source = g.R.Source.state c.loop.reader;
         sink = g.W.Sink.state c.loop.writer;

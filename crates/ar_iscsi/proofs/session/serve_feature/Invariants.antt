@@ -1,11 +1,13 @@
 -- this many PDUs were served
 use Rattle.std.proofs.Common.{◌≡◌, true, [], length}
-use Rattle.ar_iscsi.specs.Session.{ServesPdus, most_segment}
+use Rattle.ar_iscsi.specs.declared.turn.TurnEnd.TheVariants.{Next}
+use Rattle.ar_iscsi.specs.Phase.{ServesPdus, most_segment}
+use Rattle.ar_iscsi.specs.Turn.{FeatureTurn}
 use Rattle.ar_iscsi.proofs.session.serve_feature.Given as goal
 
 abbrev pub invariant-loop : goal.invariant-loop
 invariant-loop g l = record {
-  served : ServesPdus g.P.Port.commands l.address l.initial.work.limits l.counter
+  served : ServesPdus (FeatureTurn g.P.Port.commands l.address l.initial.work.limits) Next l.counter
       (record {
         source = g.R.Source.state l.initial.reader;
         sink = g.W.Sink.state l.initial.writer;

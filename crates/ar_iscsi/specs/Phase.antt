@@ -1,0 +1,79 @@
+-- A phase of a session, PDU by PDU: each is read whole, does what a turn of the phase says, and is answered.
+use Rattle.std.specs.Prelude.{◌≡◌, ◌≤◌, ℕ, zero, suc, false, List, [], Option, Some, None}
+use Rattle.ar_frames.specs.Stream.{SourceState, SinkState, Reading, Sending}
+use Rattle.ar_frames.specs.declared.fill.Sent.{Sent}
+use Rattle.ar_frames.specs.declared.fill.Sent.TheVariants.{Whole, Part}
+use Rattle.ar_iscsi.specs.declared.receive.ReceiveEnd.{ReceiveEnd}
+use Rattle.ar_iscsi.specs.Pdu.{IsPdu, segment_len}
+use Rattle.ar_iscsi.specs.Receive.{ReadsNoPdu}
+
+-- the longest data segment that is received: the MaxRecvDataSegmentLength that the target declares
+abbrev pub most_segment : ℕ
+most_segment = 262144
+
+-- the most PDUs of a phase
+abbrev pub most_pdus : ℕ
+most_pdus = 18446744073709551615
+
+-- What a turn of a phase may be: the header and the data segment of a PDU, the state and the port before, the answer, the
+-- state and the port after, and how it leaves the phase.
+abbrev pub Turns : Type 0 → Type 0 → Type 0 → Type 1
+Turns S P E = List ℕ → List ℕ → S → P → List ℕ → S → P → E → Type 0
+
+-- a moment between two PDUs: the streams, the state, and the port
+pub record Place (S P : Type 0) : Type 0 where
+  pub source : SourceState
+  pub sink : SinkState
+  pub spot : S
+  pub port : P
+
+-- A whole PDU was read, and nothing behind it; it did what a turn says, and the answer was written, whole or up to a write
+-- fault.
+pub record ServesPdu {S P E : Type 0} (turns : Turns S P E) (old new : Place S P) (left : E) (sent : Sent) : Type 0 where
+  pub header : List ℕ
+  pub carried : List ℕ
+  pub bytes : List ℕ
+  pub out : List ℕ
+  pub is_pdu : IsPdu header carried bytes
+  pub within : segment_len header ≤ most_segment
+  pub read : Reading old.source new.source bytes false
+  pub turn : turns header carried old.spot old.port out new.spot new.port left
+  pub sending : Sending old.sink new.sink out sent
+
+-- these many PDUs were read and answered whole, each from the moment that the one before left; `next` says that a phase
+-- goes on
+abbrev pub ServesPdus : {S P E : Type 0} → Turns S P E → E → ℕ → Place S P → Place S P → Type 0
+ServesPdus turns next zero old new = new ≡ old
+ServesPdus {S = S} {P = P} turns next (suc n) old new =
+    (between : Place S P) × ServesPdus turns next n old between × ServesPdu turns between new next Whole
+
+-- no whole PDU was read, for this reason; all else is as it was
+pub record IsLeftAlone {S P : Type 0} (old new : Place S P) (reason : ReceiveEnd) : Type 0 where
+  pub reads : ReadsNoPdu [] most_segment old.source new.source reason
+  pub sink : new.sink ≡ old.sink
+  pub spot : new.spot ≡ old.spot
+  pub port : new.port ≡ old.port
+
+-- A whole PDU was read, and memory for its answer ran out: nothing was written. The port may have done its command.
+pub record HasNoAnswer {S P : Type 0} (old new : Place S P) : Type 0 where
+  pub header : List ℕ
+  pub carried : List ℕ
+  pub bytes : List ℕ
+  pub is_pdu : IsPdu header carried bytes
+  pub read : Reading old.source new.source bytes false
+  pub sink : new.sink ≡ old.sink
+
+-- the answer to the last PDU wasn't written whole
+pub record IsAnswerLost {S P E : Type 0} (turns : Turns S P E) (old new : Place S P) : Type 0 where
+  pub left : E
+  pub count : ℕ
+  pub serves : ServesPdu turns old new left (Part count)
+
+-- What a PDU did, once it was read: it did what a turn says, and was answered this far; or memory for the answer ran out,
+-- and nothing was written.
+pub data AnswersPdu {S P E : Type 0} (turns : Turns S P E) (header carried : List ℕ) (sink : SinkState) (spot : S) (port : P)
+    : Option (E × Sent) → SinkState → S → P → Type 0 where
+  turned :
+      (left : E) (sent : Sent) (out : List ℕ) (sink' : SinkState) (spot' : S) (port' : P) → turns header carried spot port out spot' port' left
+      → Sending sink sink' out sent → AnswersPdu turns header carried sink spot port (Some (left, sent)) sink' spot' port'
+  unanswered : (spot' : S) (port' : P) → AnswersPdu turns header carried sink spot port None sink spot' port'

@@ -1,0 +1,153 @@
+// A whole session with the target of a host, or for discovery: its login, and its full feature phase.
+ghost use Rattle.std.specs.Prelude.{◌≡◌, false, true, IfOk, vec_len, length};
+ghost use Rattle.ar_iscsi.specs.Phase.{most_segment};
+ghost use Rattle.ar_iscsi.specs.Target as session;
+
+use crate::flow::Flow;
+use crate::login::{LoginState, LoginWork};
+use crate::login_phase::{LoginEnd, log_in};
+use crate::negotiation::{Negotiation, SessionKind};
+use crate::session::{FeatureEnd, MOST_SEGMENT, serve_feature};
+use crate::turn::Work;
+use ar_frames::{Login, Port, Sink, Source};
+use ar_scsi::{Reply, Sense};
+use bytes::Bytes;
+use std::alloc::{AllocError, Global};
+
+/// How a session ended.
+#[derive(Clone, Copy, Debug, PartialEq, Eq)]
+pub enum IscsiEnd {
+    /// The session's buffer couldn't be allocated. Nothing was read.
+    NoBuffer,
+    /// In its login.
+    Login(LoginEnd),
+    /// In its full feature phase.
+    Feature(FeatureEnd),
+}
+
+/// A port without units, behind a session for discovery.
+#[derive(Clone, Copy, Debug, Drop)]
+pub struct NoUnits;
+
+impl Port for NoUnits {
+    ghost use Rattle.ar_iscsi.specs.Target.{no_units};
+
+    ghost has_login = { λ port. true };
+
+    ghost logins = { λ old host login new. new ≡ old };
+
+    ghost commands = { no_units };
+
+    fn login(&mut self, host: u8) -> Login {
+        if host > 3 {
+            Login::BadHost
+        } else {
+            Login::InUse
+        }
+    }
+
+    fn command(&mut self, _lun: u8, _cdb: &[u8; 16], _payload: Bytes) -> Reply {
+        Reply::check(Sense::LOGICAL_UNIT_NOT_SUPPORTED)
+    }
+}
+
+/// Serves one connection to the target: a login, and a normal session or one for discovery behind it. It holds a buffer
+/// of 256 KiB, the data of one WRITE and one answer at a time. `address` is the target's own, as `127.0.0.1:3260`.
+pub fn serve_target<R: Source, W: Sink, P: Port>(
+    alloc: Global,
+    reader: &mut R,
+    writer: &mut W,
+    port: &mut P,
+    address: &[u8],
+) -> IscsiEnd
+    requires { P.has_login port.old ≡ false }
+    ensures { session.TargetSession P.logins P.commands address.now (R.state reader.old) (R.state reader.new)
+        (W.state writer.old) (W.state writer.new) port.old port.new result }
+{
+    match segment_buffer(alloc) {
+        Ok(mut buffer) => serve_buffered(alloc, reader, writer, port, address, &mut buffer),
+        Err(AllocError) => IscsiEnd::NoBuffer,
+    }
+}
+
+// A buffer for data segments.
+fn segment_buffer(alloc: Global) -> Result<Vec<u8>, AllocError>
+    ensures { IfOk result (λ buffer. vec_len buffer ≡ most_segment) }
+{
+    let mut buffer = Vec::with_capacity(alloc, MOST_SEGMENT)?;
+    for _ in 0..MOST_SEGMENT {
+        buffer.push_reserved(0);
+    }
+    Ok(buffer)
+}
+
+// Serves a connection with a buffer for data segments.
+fn serve_buffered<R: Source, W: Sink, P: Port>(
+    alloc: Global,
+    reader: &mut R,
+    writer: &mut W,
+    port: &mut P,
+    address: &[u8],
+    buffer: &mut [u8],
+) -> IscsiEnd
+    requires unlogged { P.has_login port.old ≡ false }
+    requires room { length buffer.old ≡ most_segment }
+    ensures { session.TargetSession P.logins P.commands address.now (R.state reader.old) (R.state reader.new)
+        (W.state writer.old) (W.state writer.new) port.old port.new result }
+{
+    let mut work = LoginWork {
+        state: LoginState {
+            stage: None,
+            so_far: Negotiation::new(),
+            stat_sn: 0,
+            cmd_sn: 0,
+        },
+        text: Vec::new(alloc),
+        out: Vec::new(alloc),
+    };
+    match log_in(alloc, reader, writer, port, &mut work, buffer) {
+        LoginEnd::Entered => {
+            let state = work.state;
+            let reason = serve_entered(alloc, reader, writer, port, address, state, buffer);
+            IscsiEnd::Feature(reason)
+        }
+        reason => IscsiEnd::Login(reason),
+    }
+}
+
+// Serves the full feature phase behind a login.
+fn serve_entered<R: Source, W: Sink, P: Port>(
+    alloc: Global,
+    reader: &mut R,
+    writer: &mut W,
+    port: &mut P,
+    address: &[u8],
+    state: LoginState,
+    buffer: &mut [u8],
+) -> FeatureEnd
+    requires logged { state.so_far.kind ≡ SessionKind.Normal → P.has_login port.old ≡ true }
+    requires room { length buffer.old ≡ most_segment }
+    ensures { session.IsFeature P.commands address.now state (R.state reader.old) (R.state reader.new)
+        (W.state writer.old) (W.state writer.new) port.old port.new result }
+{
+    let mut work = Work {
+        flow: Flow {
+            stat_sn: state.stat_sn,
+            exp_cmd_sn: state.cmd_sn,
+            next_tag: 0,
+            collecting: None,
+        },
+        limits: state.so_far.limits,
+        collected: Vec::new(alloc),
+        out: Vec::new(alloc),
+    };
+    match state.so_far.kind {
+        SessionKind::Normal => {
+            serve_feature(alloc, reader, writer, port, address, &mut work, buffer)
+        }
+        _ => {
+            let mut idle = NoUnits;
+            serve_feature(alloc, reader, writer, &mut idle, address, &mut work, buffer)
+        }
+    }
+}
