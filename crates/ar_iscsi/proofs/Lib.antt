@@ -1,5 +1,6 @@
 pub mod Beginning
 pub mod DataIn
+pub mod Headers
 pub mod Items
 pub mod LoggingIn
 pub mod Oks

@@ -2,6 +2,7 @@
 #![tactic(auto)]
 
 ghost use Rattle.ar_iscsi.specs.Pdu.{NoPduBeginsAnother};
+ghost use Rattle.ar_iscsi.specs.Response.{ResponsesArePdus};
 
 mod flow;
 mod keys;
@@ -49,4 +50,9 @@ pub use verdict::{LoginStatus, LoginStep, judged, stage_of, status_code, step_of
 /// Lemma: no PDU is a proper prefix of another, and its bytes determine its header and its data.
 pub fn no_pdu_begins_another()
     ensures { NoPduBeginsAnother }
+{}
+
+/// Lemma: what is written of a response is a PDU, with its header and its data.
+pub fn responses_are_pdus()
+    ensures { ResponsesArePdus }
 {}

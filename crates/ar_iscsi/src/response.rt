@@ -1,7 +1,7 @@
 // The headers of a target's PDUs (RFC 7143, 11), and whole PDUs. Reserved fields are 0.
 //
 //     | first four bytes | 11 words | data segment | zeros up to a whole word |
-ghost use Rattle.std.specs.Prelude.{◌≡◌, ◌<◌, ◌^◌, ◌++◌, OnOk, length};
+ghost use Rattle.std.specs.Prelude.{◌≡◌, ◌<◌, ◌^◌, ◌++◌, OnOk, length, slice_index};
 ghost use Rattle.ar_iscsi.specs.Pdu.{padding_len};
 ghost use Rattle.ar_iscsi.specs.Response as wire;
 
@@ -147,72 +147,120 @@ fn header_of(first: [u8; 4], words: &[u32; 11]) -> [u8; 48]
     header
 }
 
+// No unit is named.
+const NO_LUN: Lun = Lun { high: 0, low: 0 };
+
+// Encodes a header by its columns: the LUN, the initiator's task tag, word 5, the sequence numbers, and the last words.
+fn header_by(
+    first: [u8; 4],
+    len: u32,
+    lun: Lun,
+    task_tag: u32,
+    fifth: u32,
+    numbers: SequenceNumbers,
+    last: [u32; 3],
+) -> [u8; 48]
+    ensures { result ≡ wire.header_by first len lun task_tag fifth numbers (slice_index last 0) (slice_index last 1)
+        (slice_index last 2) }
+{
+    header_of(
+        first,
+        &[
+            len,
+            lun.high,
+            lun.low,
+            task_tag,
+            fifth,
+            numbers.stat_sn,
+            numbers.exp_cmd_sn,
+            numbers.max_cmd_sn,
+            last[0],
+            last[1],
+            last[2],
+        ],
+    )
+}
+
 // Encodes the header of a PDU whose data segment has `len` bytes.
 fn target_header(pdu: TargetPdu, numbers: SequenceNumbers, len: u32) -> [u8; 48]
     ensures { result ≡ wire.target_header pdu numbers len }
 {
-    let SequenceNumbers {
-        stat_sn,
-        exp_cmd_sn,
-        max_cmd_sn,
-    } = numbers;
     match pdu {
-        TargetPdu::NopIn { lun, task_tag } => header_of(
-            [0x20, 0x80, 0, 0],
-            &[
-                len, lun.high, lun.low, task_tag, NO_TAG, stat_sn, exp_cmd_sn, max_cmd_sn, 0, 0, 0,
-            ],
-        ),
+        TargetPdu::NopIn { lun, task_tag } => {
+            header_by(
+                [0x20, 0x80, 0, 0],
+                len,
+                lun,
+                task_tag,
+                NO_TAG,
+                numbers,
+                [0, 0, 0],
+            )
+        }
         TargetPdu::ScsiResponse {
             task_tag,
             status,
             residual,
             exp_data_sn,
-        } => header_of(
-            [0x21, 0x80 + residual_flag(residual), 0, status],
-            &[
+        } => {
+            let first = [0x21, 0x80 + residual_flag(residual), 0, status];
+            let last = [exp_data_sn, 0, residual_count(residual)];
+            header_by(first, len, NO_LUN, task_tag, 0, numbers, last)
+        }
+        TargetPdu::TaskManagementResponse { task_tag, response } => {
+            header_by(
+                [0x22, 0x80, response, 0],
                 len,
-                0,
-                0,
+                NO_LUN,
                 task_tag,
                 0,
-                stat_sn,
-                exp_cmd_sn,
-                max_cmd_sn,
-                exp_data_sn,
-                0,
-                residual_count(residual),
-            ],
-        ),
-        TargetPdu::TaskManagementResponse { task_tag, response } => header_of(
-            [0x22, 0x80, response, 0],
-            &[
-                len, 0, 0, task_tag, 0, stat_sn, exp_cmd_sn, max_cmd_sn, 0, 0, 0,
-            ],
-        ),
+                numbers,
+                [0, 0, 0],
+            )
+        }
         TargetPdu::Login(login) => login_header(login, numbers, len),
-        TargetPdu::TextResponse { task_tag } => header_of(
-            [0x24, 0x80, 0, 0],
-            &[
-                len, 0, 0, task_tag, NO_TAG, stat_sn, exp_cmd_sn, max_cmd_sn, 0, 0, 0,
-            ],
-        ),
+        TargetPdu::TextResponse { task_tag } => {
+            header_by(
+                [0x24, 0x80, 0, 0],
+                len,
+                NO_LUN,
+                task_tag,
+                NO_TAG,
+                numbers,
+                [0, 0, 0],
+            )
+        }
         TargetPdu::DataIn {
             task_tag,
             data_sn,
             offset,
-        } => header_of(
-            [0x25, 0x80, 0, 0],
-            &[
-                len, 0, 0, task_tag, NO_TAG, 0, exp_cmd_sn, max_cmd_sn, data_sn, offset, 0,
-            ],
-        ),
-        TargetPdu::LogoutResponse { task_tag, response } => header_of(
-            [0x26, 0x80, response, 0],
-            &[
-                len, 0, 0, task_tag, 0, stat_sn, exp_cmd_sn, max_cmd_sn, 0, 0, 0,
-            ],
-        ),
+        } => {
+            let unset = SequenceNumbers {
+                stat_sn: 0,
+                ..numbers
+            };
+            let last = [data_sn, offset, 0];
+            header_by(
+                [0x25, 0x80, 0, 0],
+                len,
+                NO_LUN,
+                task_tag,
+                NO_TAG,
+                unset,
+                last,
+            )
+        }
+        TargetPdu::LogoutResponse { task_tag, response } => {
+            header_by(
+                [0x26, 0x80, response, 0],
+                len,
+                NO_LUN,
+                task_tag,
+                0,
+                numbers,
+                [0, 0, 0],
+            )
+        }
         TargetPdu::ReadyToTransfer {
             lun,
             task_tag,
@@ -220,28 +268,29 @@ fn target_header(pdu: TargetPdu, numbers: SequenceNumbers, len: u32) -> [u8; 48]
             r2t_sn,
             offset,
             len: wanted,
-        } => header_of(
-            [0x31, 0x80, 0, 0],
-            &[
+        } => {
+            let last = [r2t_sn, offset, wanted];
+            header_by(
+                [0x31, 0x80, 0, 0],
                 len,
-                lun.high,
-                lun.low,
+                lun,
                 task_tag,
                 transfer_tag,
-                stat_sn,
-                exp_cmd_sn,
-                max_cmd_sn,
-                r2t_sn,
-                offset,
-                wanted,
-            ],
-        ),
-        TargetPdu::Reject { reason } => header_of(
-            [0x3F, 0x80, reason, 0],
-            &[
-                len, 0, 0, NO_TAG, 0, stat_sn, exp_cmd_sn, max_cmd_sn, 0, 0, 0,
-            ],
-        ),
+                numbers,
+                last,
+            )
+        }
+        TargetPdu::Reject { reason } => {
+            header_by(
+                [0x3F, 0x80, reason, 0],
+                len,
+                NO_LUN,
+                NO_TAG,
+                0,
+                numbers,
+                [0, 0, 0],
+            )
+        }
     }
 }
 
@@ -249,22 +298,14 @@ fn target_header(pdu: TargetPdu, numbers: SequenceNumbers, len: u32) -> [u8; 48]
 fn login_header(login: LoginResponse, numbers: SequenceNumbers, len: u32) -> [u8; 48]
     ensures { result ≡ wire.login_header login numbers len }
 {
-    header_of(
-        [0x23, login_flags(login), 0, 0],
-        &[
-            len,
-            login.isid_high,
-            u32::from(login.isid_low) * 0x1_0000 + u32::from(login.tsih),
-            login.task_tag,
-            0,
-            numbers.stat_sn,
-            numbers.exp_cmd_sn,
-            numbers.max_cmd_sn,
-            u32::from(login.status_class) * 0x100_0000 + u32::from(login.status_detail) * 0x1_0000,
-            0,
-            0,
-        ],
-    )
+    let isid = Lun {
+        high: login.isid_high,
+        low: u32::from(login.isid_low) * 0x1_0000 + u32::from(login.tsih),
+    };
+    let class = u32::from(login.status_class) * 0x100_0000;
+    let status = class + u32::from(login.status_detail) * 0x1_0000;
+    let first = [0x23, login_flags(login), 0, 0];
+    header_by(first, len, isid, login.task_tag, 0, numbers, [status, 0, 0])
 }
 
 // T, CSG and NSG.
