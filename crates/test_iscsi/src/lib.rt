@@ -1,0 +1,10 @@
+//! Tests of sessions with an iSCSI target, byte for byte, over a port that is no array. What is expected is in the
+//! tables of RFC 7143.
+#![tactic(auto)]
+
+#[cfg(test)]
+mod fake;
+#[cfg(test)]
+mod pdus;
+#[cfg(test)]
+mod sessions;

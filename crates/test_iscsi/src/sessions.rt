@@ -1,0 +1,206 @@
+// Sessions, byte for byte.
+use crate::fake::Fake;
+use crate::pdus;
+use ar_frames::{MemSink, MemSource};
+use ar_iscsi::{FeatureEnd, IscsiEnd, LoginEnd, LoginStatus, ReceiveEnd, serve_target};
+use std::alloc::Global;
+use std::process::Abort;
+
+// Plays a session over these bytes, and compares its end and what it wrote.
+fn plays(rt: &impl Abort, alloc: Global, input: &[&[u8]], end: IscsiEnd, output: &[&[u8]]) {
+    let input = joined(rt, alloc, input);
+    let output = joined(rt, alloc, output);
+    let mut reader = MemSource::new(input);
+    let mut writer = MemSink::new(vec![in alloc; 0; 8192].expect(rt, "memory"));
+    let mut port = Fake::new(alloc);
+    let ended = serve_target(
+        alloc,
+        &mut reader,
+        &mut writer,
+        &mut port,
+        b"127.0.0.1:3260",
+    );
+    ends(rt, ended, end);
+    wrote(rt, writer.written(), &output);
+}
+
+fn ends(rt: &impl Abort, end: IscsiEnd, wanted: IscsiEnd) {
+    assert!(rt; end == wanted, "{end:?} in place of {wanted:?}");
+}
+
+fn wrote(rt: &impl Abort, written: &[u8], wanted: &[u8]) {
+    assert!(rt; written == wanted, "{written:?} in place of {wanted:?}");
+}
+
+// These pieces one after the other.
+fn joined(rt: &impl Abort, alloc: Global, pieces: &[&[u8]]) -> Vec<u8> {
+    let mut all = Vec::new(alloc);
+    for piece in pieces {
+        all.extend_from_slice(piece).expect(rt, "memory");
+    }
+    all
+}
+
+const HALF: &[u8] = &[0xA5; 512];
+
+const READ_BYTES: &[u8] = &[0x5A; 512];
+
+const LEFT: IscsiEnd = IscsiEnd::Feature(FeatureEnd::LoggedOut);
+
+const ENDED: IscsiEnd = IscsiEnd::Feature(FeatureEnd::Unread(ReceiveEnd::End));
+
+#[test]
+fn a_read_returns_what_is_expected_in_segments(rt: HostRuntime) {
+    let alloc = rt.alloc();
+    let output = [
+        pdus::LOGGED_IN,
+        pdus::READ_HEAD_0,
+        READ_BYTES,
+        pdus::READ_HEAD_1,
+        READ_BYTES,
+        pdus::READ_DONE,
+    ];
+    plays(&rt, alloc, &[pdus::LOGIN, pdus::READ], ENDED, &output);
+}
+
+#[test]
+fn a_whole_session(rt: HostRuntime) {
+    let alloc = rt.alloc();
+    let input = [
+        pdus::LOGIN,
+        pdus::READ,
+        pdus::WRITE_HEAD,
+        HALF,
+        pdus::DATA_OUT_HEAD,
+        HALF,
+        pdus::INQUIRY_LUN_9,
+        pdus::PING,
+        pdus::SNACK,
+        pdus::LOGOUT,
+    ];
+    let output = [
+        pdus::LOGGED_IN,
+        pdus::READ_HEAD_0,
+        READ_BYTES,
+        pdus::READ_HEAD_1,
+        READ_BYTES,
+        pdus::READ_DONE,
+        pdus::R2T,
+        pdus::WRITTEN,
+        pdus::CHECKED,
+        pdus::PONG,
+        pdus::REJECTED,
+        pdus::LOGGED_OUT,
+    ];
+    plays(&rt, alloc, &input, LEFT, &output);
+}
+
+#[test]
+fn data_with_a_gap_end_the_session(rt: HostRuntime) {
+    let alloc = rt.alloc();
+    let input = [
+        pdus::LOGIN,
+        pdus::READ,
+        pdus::WRITE_HEAD,
+        HALF,
+        pdus::DATA_OUT_GAP_HEAD,
+        HALF,
+        pdus::PING,
+    ];
+    let output = [
+        pdus::LOGGED_IN,
+        pdus::READ_HEAD_0,
+        READ_BYTES,
+        pdus::READ_HEAD_1,
+        READ_BYTES,
+        pdus::READ_DONE,
+        pdus::R2T,
+    ];
+    let end = IscsiEnd::Feature(FeatureEnd::BrokenData);
+    plays(&rt, alloc, &input, end, &output);
+}
+
+#[test]
+fn discovery(rt: HostRuntime) {
+    let alloc = rt.alloc();
+    let input = [pdus::LOGIN_DISCOVERY, pdus::SEND_TARGETS];
+    let output = [pdus::LOGGED_IN_DISCOVERY, pdus::TARGETS];
+    plays(&rt, alloc, &input, ENDED, &output);
+}
+
+#[test]
+fn a_text_in_two_requests(rt: HostRuntime) {
+    let alloc = rt.alloc();
+    let input = [pdus::LOGIN_PART, pdus::LOGIN_REST];
+    let output = [pdus::LOGIN_PART_TAKEN, pdus::LOGGED_IN_REST];
+    plays(&rt, alloc, &input, ENDED, &output);
+}
+
+#[test]
+fn refused_logins(rt: HostRuntime) {
+    let alloc = rt.alloc();
+    for (input, status, output) in [
+        (
+            pdus::LOGIN_ANOTHER_TARGET,
+            LoginStatus::NotFound,
+            pdus::REFUSED_ANOTHER_TARGET,
+        ),
+        (
+            pdus::LOGIN_HOST_9,
+            LoginStatus::NotFound,
+            pdus::REFUSED_HOST_9,
+        ),
+        (
+            pdus::LOGIN_HOST_IN_USE,
+            LoginStatus::OutOfResources,
+            pdus::REFUSED_HOST_IN_USE,
+        ),
+        (
+            pdus::LOGIN_NO_NAME,
+            LoginStatus::MissingParameter,
+            pdus::REFUSED_NO_NAME,
+        ),
+        (
+            pdus::LOGIN_NO_TARGET,
+            LoginStatus::MissingParameter,
+            pdus::REFUSED_NO_TARGET,
+        ),
+        (
+            pdus::LOGIN_CHAP_ALONE,
+            LoginStatus::AuthenticationFailure,
+            pdus::REFUSED_CHAP_ALONE,
+        ),
+        (
+            pdus::LOGIN_NEXT_VERSION,
+            LoginStatus::UnsupportedVersion,
+            pdus::REFUSED_NEXT_VERSION,
+        ),
+        (
+            pdus::LOGIN_OTHER_KIND,
+            LoginStatus::SessionTypeNotSupported,
+            pdus::REFUSED_OTHER_KIND,
+        ),
+    ] {
+        let end = IscsiEnd::Login(LoginEnd::Refused(status));
+        plays(&rt, alloc, &[input, pdus::PING], end, &[output]);
+    }
+}
+
+#[test]
+fn a_connection_that_breaks_off(rt: HostRuntime) {
+    let alloc = rt.alloc();
+    for end in [1, 47, 48, 49, pdus::LOGIN.len() - 1] {
+        let reason = IscsiEnd::Login(LoginEnd::Unread(ReceiveEnd::Cut));
+        plays(&rt, alloc, &[&pdus::LOGIN[..end]], reason, &[]);
+    }
+    for end in [1, 47] {
+        let reason = IscsiEnd::Feature(FeatureEnd::Unread(ReceiveEnd::Cut));
+        plays(
+            &rt,
+            alloc,
+            &[pdus::LOGIN, &pdus::READ[..end]],
+            reason,
+            &[pdus::LOGGED_IN],
+        );
+    }
+}
