@@ -6,7 +6,7 @@ use Rattle.ar_frames.specs.declared.fill.Sent.TheVariants.{Whole, Part}
 use Rattle.ar_iscsi.specs.declared.login.LoginResult.{LoginResult}
 use Rattle.ar_iscsi.specs.declared.login.LoginResult.TheVariants.{Next, Entered, Refused}
 use Rattle.ar_iscsi.specs.declared.login_phase.LoginEnd.{LoginEnd}
-use Rattle.ar_iscsi.specs.LoginTurn.{LoginSpot, LoginTurn}
+use Rattle.ar_iscsi.specs.LoginTurn.{LoginSpot, LoginTurn, MayLogIn}
 use Rattle.ar_iscsi.specs.LoginPhase.{EndsLogin, NextRequest, RunsLogin, result_of_login_turn, result_of_request}
 use Rattle.ar_iscsi.specs.Phase.{Place, ServesPdu, ServesPdus}
 use Rattle.ar_iscsi.proofs.Serving.{IsHandled}
@@ -21,7 +21,7 @@ module _ {P : Type 0} (logins : Logins P) where
   by_login_turn old new Entered (Part n) serves = λ count. record { left = Entered; count = n; serves = serves }
   by_login_turn old new (Refused code) (Part n) serves = λ count. record { left = Refused code; count = n; serves = serves }
 
-  pub next_request : (old new : Place LoginSpot P) (answered : Option (LoginResult × Sent)) → IsHandled (LoginTurn logins) old new answered
+  pub next_request : (old new : Place LoginSpot P) (answered : Option (LoginResult × Sent)) → IsHandled (LoginTurn logins) (MayLogIn logins) old new answered
       → NextRequest logins old (result_of_request answered) new
   next_request old new (Some (left, sent)) serves = by_login_turn old new left sent serves
   next_request old new None none = λ count. none

@@ -11,21 +11,22 @@ use Rattle.ar_iscsi.specs.declared.turn.TurnEnd.{TurnEnd}
 use Rattle.ar_iscsi.specs.declared.turn.TurnEnd.TheVariants.{Next, LoggedOut, BrokenData}
 use Rattle.ar_iscsi.specs.Pdu.{segment_len}
 use Rattle.ar_iscsi.specs.Receive.{ReadsPdu}
+use Rattle.ar_iscsi.specs.Task.{MayGive}
 use Rattle.ar_iscsi.specs.Turn.{Spot, FeatureTurn}
 use Rattle.ar_iscsi.specs.Phase.{Turns, Place, ServesPdu, ServesPdus, HasNoAnswer, AnswersPdu, turned, unanswered, most_segment}
 use Rattle.ar_iscsi.specs.Session.{NextIsServed, EndsFeature, RunsFeature, result_of_turn, result_of_answer}
 
 -- a PDU that was read, and what it did: it was served, or has no answer
-abbrev pub IsHandled : {S P E : Type 0} → Turns S P E → Place S P → Place S P → Option (E × Sent) → Type 0
-IsHandled turns old new (Some answered) = ServesPdu turns old new answered.0 answered.1
-IsHandled turns old new None = HasNoAnswer old new
+abbrev pub IsHandled : {S P E : Type 0} → Turns S P E → (P → P → Type 0) → Place S P → Place S P → Option (E × Sent) → Type 0
+IsHandled turns may old new (Some answered) = ServesPdu turns old new answered.0 answered.1
+IsHandled turns may old new None = HasNoAnswer may old new
 
-pub handled : {S P E : Type 0} (turns : Turns S P E) (source source' : SourceState) (sink sink' : SinkState) (spot spot' : S) (port port' : P)
+pub handled : {S P E : Type 0} (turns : Turns S P E) (may : P → P → Type 0) (source source' : SourceState) (sink sink' : SinkState) (spot spot' : S) (port port' : P)
     (header buffer : List ℕ) (answered : Option (E × Sent)) → ReadsPdu [] most_segment source source' header buffer
-    → AnswersPdu turns header (take (segment_len header) buffer) sink spot port answered sink' spot' port'
-    → IsHandled turns (record { source = source; sink = sink; spot = spot; port = port })
+    → AnswersPdu turns may header (take (segment_len header) buffer) sink spot port answered sink' spot' port'
+    → IsHandled turns may (record { source = source; sink = sink; spot = spot; port = port })
     (record { source = source'; sink = sink'; spot = spot'; port = port' }) answered
-handled turns source source' sink sink' spot spot' port port' header buffer _ reads (turned left sent out _ _ _ turn sending) = record {
+handled turns may source source' sink sink' spot spot' port port' header buffer _ reads (turned left sent out _ _ _ turn sending) = record {
   header = header;
   carried = take (segment_len header) buffer;
   bytes = reads.rest;
@@ -36,13 +37,14 @@ handled turns source source' sink sink' spot spot' port port' header buffer _ re
   turn = turn;
   sending = sending;
 }
-handled turns source source' sink sink' spot spot' port port' header buffer _ reads (unanswered _ _) = record {
+handled turns may source source' sink sink' spot spot' port port' header buffer _ reads (unanswered _ _ done) = record {
   header = header;
   carried = take (segment_len header) buffer;
   bytes = reads.rest;
   is_pdu = reads.is_pdu;
   read = reads.read;
   sink = refl;
+  port = done;
 }
 
 -- one more PDU
@@ -62,7 +64,7 @@ module _ {P : Type 0} (commands : Commands P) (address : List ℕ) (limits : Lim
   by_turn old new LoggedOut (Part n) serves = λ count. record { left = LoggedOut; count = n; serves = serves }
   by_turn old new BrokenData (Part n) serves = λ count. record { left = BrokenData; count = n; serves = serves }
 
-  pub next_served : (old new : Place Spot P) (answered : Option (TurnEnd × Sent)) → IsHandled (FeatureTurn commands address limits) old new answered
+  pub next_served : (old new : Place Spot P) (answered : Option (TurnEnd × Sent)) → IsHandled (FeatureTurn commands address limits) (MayGive commands) old new answered
       → NextIsServed commands address limits old (result_of_answer answered) new
   next_served old new (Some (left, sent)) serves = by_turn old new left sent serves
   next_served old new None none = λ count. none

@@ -9,7 +9,7 @@ use Rattle.ar_iscsi.specs.declared.login_phase.LoginEnd.{LoginEnd}
 use Rattle.ar_iscsi.specs.declared.login_phase.LoginEnd.TheVariants as end
 use Rattle.ar_iscsi.specs.declared.login_phase.RequestResult.{RequestResult}
 use Rattle.ar_iscsi.specs.declared.login_phase.RequestResult.TheVariants.{Answered, Ended}
-use Rattle.ar_iscsi.specs.LoginTurn.{LoginSpot, LoginTurn}
+use Rattle.ar_iscsi.specs.LoginTurn.{LoginSpot, LoginTurn, MayLogIn}
 use Rattle.ar_iscsi.specs.Phase.{Place, ServesPdu, ServesPdus, IsLeftAlone, HasNoAnswer, IsAnswerLost, most_pdus}
 
 -- when each end comes, after `count` requests, from the last moment between two of them
@@ -20,7 +20,7 @@ EndsLogin logins count old end.Entered new = ServesPdu (LoginTurn logins) old ne
 EndsLogin logins count old (end.Refused code) new = ServesPdu (LoginTurn logins) old new (Refused code) Whole
 EndsLogin logins count old (end.Unread reason) new = IsLeftAlone old new reason
 EndsLogin logins count old end.Write new = IsAnswerLost (LoginTurn logins) old new
-EndsLogin logins count old end.NoMemory new = HasNoAnswer old new
+EndsLogin logins count old end.NoMemory new = HasNoAnswer (MayLogIn logins) old new
 EndsLogin logins count old end.Bound new = (count ≡ most_pdus) × (new ≡ old)
 
 -- one more request was answered, or the phase has ended, after however many requests

@@ -1,6 +1,7 @@
 -- A turn of the login phase: a login request, what it makes of the login, and the response (RFC 7143, 6 and 11.12).
-use Rattle.std.specs.Prelude.{◌≡◌, ◌==◌, ℕ, nat_le, if◌then◌else◌, MatchBool, List, [], ◌++◌, length, Option, Some, None, is_some, unwrap_or, Result, Ok, Err}
+use Rattle.std.specs.Prelude.{◌≡◌, ◌⊎◌, ◌==◌, ℕ, nat_le, if◌then◌else◌, MatchBool, List, [], ◌++◌, length, Option, Some, None, is_some, unwrap_or, Result, Ok, Err}
 use Rattle.ar_frames.specs.Port.{Logins}
+use Rattle.ar_frames.specs.declared.port.Login.{Login}
 use Rattle.ar_frames.specs.declared.port.Login.TheVariants.{Taken, BadHost, InUse}
 use Rattle.ar_iscsi.specs.declared.login.LoginState.{LoginState}
 use Rattle.ar_iscsi.specs.declared.login.LoginResult.{LoginResult}
@@ -94,6 +95,10 @@ abbrev pub Admits : {P : Type 0} → Logins P → SessionKind → TargetChoice �
 Admits logins Normal target port code port' = AdmitsHost logins target port code port'
 Admits logins Discovery target port code port' = (code ≡ status.Success) × (port' ≡ port)
 Admits logins Unsupported target port code port' = (code ≡ status.SessionTypeNotSupported) × (port' ≡ port)
+
+-- at most one host was given to the port
+abbrev pub MayLogIn : {P : Type 0} → Logins P → P → P → Type 0
+MayLogIn logins port port' = (port' ≡ port) ⊎ ((host : ℕ) × (said : Login) × logins port host said port')
 
 -- the login has its host admitted, and enters the full feature phase with TSIH 1, or is refused
 pub data EntersLogin {P : Type 0} (logins : Logins P) (request : LoginRequest) (at : LoginStage) (segment : List ℕ) (so_far : Negotiation)

@@ -54,14 +54,15 @@ pub record IsLeftAlone {S P : Type 0} (old new : Place S P) (reason : ReceiveEnd
   pub spot : new.spot ≡ old.spot
   pub port : new.port ≡ old.port
 
--- A whole PDU was read, and memory for its answer ran out: nothing was written. The port may have done its command.
-pub record HasNoAnswer {S P : Type 0} (old new : Place S P) : Type 0 where
+-- A whole PDU was read, and memory for its answer ran out: nothing was written. What the port may have done is `may`.
+pub record HasNoAnswer {S P : Type 0} (may : P → P → Type 0) (old new : Place S P) : Type 0 where
   pub header : List ℕ
   pub carried : List ℕ
   pub bytes : List ℕ
   pub is_pdu : IsPdu header carried bytes
   pub read : Reading old.source new.source bytes false
   pub sink : new.sink ≡ old.sink
+  pub port : may old.port new.port
 
 -- the answer to the last PDU wasn't written whole
 pub record IsAnswerLost {S P E : Type 0} (turns : Turns S P E) (old new : Place S P) : Type 0 where
@@ -71,9 +72,9 @@ pub record IsAnswerLost {S P E : Type 0} (turns : Turns S P E) (old new : Place 
 
 -- What a PDU did, once it was read: it did what a turn says, and was answered this far; or memory for the answer ran out,
 -- and nothing was written.
-pub data AnswersPdu {S P E : Type 0} (turns : Turns S P E) (header carried : List ℕ) (sink : SinkState) (spot : S) (port : P)
+pub data AnswersPdu {S P E : Type 0} (turns : Turns S P E) (may : P → P → Type 0) (header carried : List ℕ) (sink : SinkState) (spot : S) (port : P)
     : Option (E × Sent) → SinkState → S → P → Type 0 where
   turned :
       (left : E) (sent : Sent) (out : List ℕ) (sink' : SinkState) (spot' : S) (port' : P) → turns header carried spot port out spot' port' left
-      → Sending sink sink' out sent → AnswersPdu turns header carried sink spot port (Some (left, sent)) sink' spot' port'
-  unanswered : (spot' : S) (port' : P) → AnswersPdu turns header carried sink spot port None sink spot' port'
+      → Sending sink sink' out sent → AnswersPdu turns may header carried sink spot port (Some (left, sent)) sink' spot' port'
+  unanswered : (spot' : S) (port' : P) → may port port' → AnswersPdu turns may header carried sink spot port None sink spot' port'

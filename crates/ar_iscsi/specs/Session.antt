@@ -11,6 +11,7 @@ use Rattle.ar_iscsi.specs.declared.session.PduResult.TheVariants.{Served, Ended}
 use Rattle.ar_iscsi.specs.declared.turn.TurnEnd.{TurnEnd}
 use Rattle.ar_iscsi.specs.declared.turn.TurnEnd.TheVariants.{Next, LoggedOut, BrokenData}
 use Rattle.ar_iscsi.specs.Phase.{Place, ServesPdu, ServesPdus, IsLeftAlone, HasNoAnswer, IsAnswerLost, most_pdus}
+use Rattle.ar_iscsi.specs.Task.{MayGive}
 use Rattle.ar_iscsi.specs.Turn.{Spot, FeatureTurn}
 
 -- when each end comes, after `count` PDUs, from the last moment between two of them
@@ -19,7 +20,7 @@ EndsFeature commands address limits count old (end.Unread reason) new = IsLeftAl
 EndsFeature commands address limits count old end.Write new = IsAnswerLost (FeatureTurn commands address limits) old new
 EndsFeature commands address limits count old end.LoggedOut new = ServesPdu (FeatureTurn commands address limits) old new LoggedOut Whole
 EndsFeature commands address limits count old end.BrokenData new = ServesPdu (FeatureTurn commands address limits) old new BrokenData Whole
-EndsFeature commands address limits count old end.NoMemory new = HasNoAnswer old new
+EndsFeature commands address limits count old end.NoMemory new = HasNoAnswer (MayGive commands) old new
 EndsFeature commands address limits count old end.Bound new = (count ≡ most_pdus) × (new ≡ old)
 
 -- one more PDU was served, or the phase has ended, after however many PDUs

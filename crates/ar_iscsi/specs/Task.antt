@@ -1,6 +1,6 @@
 -- SCSI commands in the full feature phase (RFC 7143, 4.2.5 and 11.3 to 11.8): when a command is given to the port, when
 -- its data are asked for, and what answers it.
-use Rattle.std.specs.Prelude.{◌≡◌, ◌<◌, ◌≤◌, ◌+◌, ◌-◌, ◌==◌, ⊤, ℕ, nat_le, min, max, Bool, not, ◌&&◌, ◌||◌, if◌then◌else◌, List, [], ◌++◌, MatchOption, Option, Some, None}
+use Rattle.std.specs.Prelude.{◌≡◌, ◌⊎◌, ◌<◌, ◌≤◌, ◌+◌, ◌-◌, ◌==◌, ⊤, ℕ, nat_le, min, max, Bool, not, ◌&&◌, ◌||◌, if◌then◌else◌, List, [], ◌++◌, MatchOption, Option, Some, None}
 use Rattle.ar_scsi.specs.declared.reply.Reply.{Reply}
 use Rattle.ar_scsi.specs.Reply.{check, busy}
 use Rattle.ar_scsi.specs.Sense.{logical_unit_not_supported}
@@ -79,6 +79,17 @@ abbrev pub IsGivenTo : {P : Type 0} → Commands P → ScsiCommand → List ℕ 
 IsGivenTo commands command payload old reply new =
     MatchOption (lun_number command.lun) ((reply ≡ check logical_unit_not_supported) × (new ≡ old))
     (λ lun. commands old lun command.cdb payload reply new)
+
+-- one command was given to the port
+pub record GivesOne {P : Type 0} (commands : Commands P) (port port' : P) : Type 0 where
+  pub command : ScsiCommand
+  pub payload : List ℕ
+  pub reply : Reply
+  pub given : IsGivenTo commands command payload port reply port'
+
+-- at most one command was
+abbrev pub MayGive : {P : Type 0} → Commands P → P → P → Type 0
+MayGive commands port port' = (port' ≡ port) ⊎ GivesOne commands port port'
 
 -- the most bytes of a Data-In PDU: within what the initiator receives, and within a burst
 abbrev pub most_in : Limits → ℕ

@@ -132,6 +132,7 @@ fn answer_login(
 fn admit<P: Port>(port: &mut P, so_far: &Negotiation) -> LoginStatus
     requires { P.has_login port.old ≡ false }
     ensures admits { login.Admits P.logins so_far.now.kind so_far.now.target port.old result port.new }
+    ensures once { login.MayLogIn P.logins port.old port.new }
     ensures logged { result ≡ LoginStatus.Success → so_far.now.kind ≡ SessionKind.Normal → P.has_login port.new ≡ true }
 {
     match so_far.kind {
@@ -145,6 +146,7 @@ fn admit<P: Port>(port: &mut P, so_far: &Negotiation) -> LoginStatus
 fn admit_host<P: Port>(port: &mut P, target: TargetChoice) -> LoginStatus
     requires { P.has_login port.old ≡ false }
     ensures admits { login.AdmitsHost P.logins target port.old result port.new }
+    ensures once { login.MayLogIn P.logins port.old port.new }
     ensures logged { result ≡ LoginStatus.Success → P.has_login port.new ≡ true }
 {
     match target {
@@ -172,6 +174,7 @@ fn enter_login<P: Port>(
     requires short { length segment.now ≤ login.most_text }
     ensures enters { IfOk result (λ ended. login.EntersLogin P.logins request.now at segment.now so_far work.old.state port.old
         work.new.out.items (record { state = work.new.state; text = work.new.text.items }) port.new ended) }
+    ensures once { login.MayLogIn P.logins port.old port.new }
     ensures unlogged { IfOk result (λ ended. ended ≡ LoginResult.Next → P.has_login port.new ≡ false) }
     ensures logged { IfOk result (λ ended. ended ≡ LoginResult.Entered → work.new.state.so_far.kind ≡ SessionKind.Normal
         → P.has_login port.new ≡ true) }
@@ -208,6 +211,7 @@ pub fn login_turn<P: Port>(
     ensures turn { IfOk result (λ ended. login.LoginTurn P.logins header.now carried.now
         (record { state = work.old.state; text = work.old.text.items }) port.old work.new.out.items
         (record { state = work.new.state; text = work.new.text.items }) port.new ended) }
+    ensures once { login.MayLogIn P.logins port.old port.new }
     ensures unlogged { IfOk result (λ ended. ended ≡ LoginResult.Next → P.has_login port.new ≡ false) }
     ensures logged { IfOk result (λ ended. ended ≡ LoginResult.Entered → work.new.state.so_far.kind ≡ SessionKind.Normal
         → P.has_login port.new ≡ true) }
@@ -262,6 +266,7 @@ fn request_turn<P: Port>(
     ensures turn { IfOk result (λ ended. login.RequestTurn P.logins request.now carried.now step
         (record { state = work.old.state; text = work.old.text.items }) port.old work.new.out.items
         (record { state = work.new.state; text = work.new.text.items }) port.new ended) }
+    ensures once { login.MayLogIn P.logins port.old port.new }
     ensures unlogged { IfOk result (λ ended. ended ≡ LoginResult.Next → P.has_login port.new ≡ false) }
     ensures logged { IfOk result (λ ended. ended ≡ LoginResult.Entered → work.new.state.so_far.kind ≡ SessionKind.Normal
         → P.has_login port.new ≡ true) }
@@ -291,6 +296,7 @@ fn take_text<P: Port>(
     requires empty { work.old.out.items ≡ [] }
     ensures takes { IfOk result (λ ended. login.TakesText P.logins request.now at step work.old.text.items work.old.state port.old
         work.new.out.items (record { state = work.new.state; text = work.new.text.items }) port.new ended) }
+    ensures once { login.MayLogIn P.logins port.old port.new }
     ensures unlogged { IfOk result (λ ended. ended ≡ LoginResult.Next → P.has_login port.new ≡ false) }
     ensures logged { IfOk result (λ ended. ended ≡ LoginResult.Entered → work.new.state.so_far.kind ≡ SessionKind.Normal
         → P.has_login port.new ≡ true) }
@@ -328,6 +334,7 @@ fn judge_text<P: Port>(
     requires empty { work.old.out.items ≡ [] }
     ensures judges { IfOk result (λ ended. login.JudgesText P.logins request.now at step work.old.text.items so_far work.old.state
         port.old work.new.out.items (record { state = work.new.state; text = work.new.text.items }) port.new ended status) }
+    ensures once { login.MayLogIn P.logins port.old port.new }
     ensures unlogged { IfOk result (λ ended. ended ≡ LoginResult.Next → P.has_login port.new ≡ false) }
     ensures logged { IfOk result (λ ended. ended ≡ LoginResult.Entered → work.new.state.so_far.kind ≡ SessionKind.Normal
         → P.has_login port.new ≡ true) }
@@ -360,6 +367,7 @@ fn take_step<P: Port>(
     requires short { length segment.now ≤ login.most_text }
     ensures steps { IfOk result (λ ended. login.StepsLogin P.logins request.now at step segment.now so_far work.old.state port.old
         work.new.out.items (record { state = work.new.state; text = work.new.text.items }) port.new ended) }
+    ensures once { login.MayLogIn P.logins port.old port.new }
     ensures unlogged { IfOk result (λ ended. ended ≡ LoginResult.Next → P.has_login port.new ≡ false) }
     ensures logged { IfOk result (λ ended. ended ≡ LoginResult.Entered → work.new.state.so_far.kind ≡ SessionKind.Normal
         → P.has_login port.new ≡ true) }

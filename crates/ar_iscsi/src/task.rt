@@ -119,6 +119,7 @@ fn is_next_data(c: &Collecting, pdu: &DataOut, have: usize, len: usize) -> bool
 fn give<P: Port>(port: &mut P, command: &ScsiCommand, payload: Bytes) -> Reply
     requires { P.has_login port.old ≡ true }
     ensures given { task.IsGivenTo P.commands command.now payload port.old result port.new }
+    ensures once { task.MayGive P.commands port.old port.new }
     ensures reply { IsReply result }
     ensures stays { P.has_login port.new ≡ true }
 {
@@ -155,6 +156,7 @@ pub fn complete<P: Port>(
     requires { P.has_login port.old ≡ true }
     ensures completes { IfOk result (λ after. task.Completes P.commands flow limits.now command.now payload asked port.old port.new
         out.old.items out.new.items after) }
+    ensures once { task.MayGive P.commands port.old port.new }
     ensures stays { P.has_login port.new ≡ true }
 {
     let reply = give(port, command, payload);

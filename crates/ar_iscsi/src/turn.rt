@@ -3,7 +3,7 @@
 ghost use Rattle.std.specs.Prelude.{◌≡◌, ◌<◌, ◌≤◌, ◌+◌, ◌++◌, ◌^◌, true, [], IfOk, IfSome, IfNone, IsTrue, OnOk, length, take};
 ghost use Rattle.ar_iscsi.specs.Turn as turn;
 ghost use Rattle.ar_iscsi.specs.Flow.{received, reopened};
-ghost use Rattle.ar_iscsi.specs.Task.{AsksFrom, Completes, GetsBusy, SuitsBurst, SuitsData, most_in};
+ghost use Rattle.ar_iscsi.specs.Task.{AsksFrom, Completes, GetsBusy, MayGive, SuitsBurst, SuitsData, most_in};
 ghost use Rattle.ar_iscsi.specs.Targets.{targets_answer};
 
 use crate::flow::{Collecting, Flow};
@@ -60,6 +60,7 @@ pub fn take_turn<P: Port>(
     ensures turn { IfOk result (λ ended. turn.FeatureTurn P.commands address.now work.old.limits header.now carried.now
         (record { flow = work.old.flow; bytes = work.old.collected.items }) port.old work.new.out.items
         (record { flow = work.new.flow; bytes = work.new.collected.items }) port.new ended) }
+    ensures once { MayGive P.commands port.old port.new }
     ensures stays { P.has_login port.new ≡ true }
     ensures limits { work.new.limits ≡ work.old.limits }
 {
@@ -224,6 +225,7 @@ fn command_turn<P: Port>(
     ensures turn { IfOk result (λ ended. turn.CommandTurn P.commands work.old.limits command.now header.now carried.now step
         (record { flow = work.old.flow; bytes = work.old.collected.items }) port.old work.new.out.items
         (record { flow = work.new.flow; bytes = work.new.collected.items }) port.new ended) }
+    ensures once { MayGive P.commands port.old port.new }
     ensures stays { P.has_login port.new ≡ true }
     ensures limits { work.new.limits ≡ work.old.limits }
 {
@@ -254,6 +256,7 @@ fn run_command<P: Port>(
     ensures done { OnOk result (turn.IsDone P.commands work.old.limits (received work.old.flow command.now.immediate) command.now
         payload.now 0 port.old port.new work.new.out.items work.new.flow) }
     ensures next { IfOk result (λ ended. ended ≡ TurnEnd.Next) }
+    ensures once { MayGive P.commands port.old port.new }
     ensures stays { P.has_login port.new ≡ true }
     ensures limits { work.new.limits ≡ work.old.limits }
 {
@@ -278,6 +281,7 @@ fn finish<P: Port>(
     ensures done { OnOk result (Completes P.commands flow work.old.limits command.now payload asked port.old port.new []
         work.new.out.items work.new.flow) }
     ensures next { IfOk result (λ ended. ended ≡ TurnEnd.Next) }
+    ensures once { MayGive P.commands port.old port.new }
     ensures stays { P.has_login port.new ≡ true }
     ensures limits { work.new.limits ≡ work.old.limits }
 {
@@ -399,6 +403,7 @@ fn data_turn<P: Port>(
     ensures turn { IfOk result (λ ended. turn.DataTurn P.commands work.old.limits carried.now step
         (record { flow = work.old.flow; bytes = work.old.collected.items }) port.old work.new.out.items
         (record { flow = work.new.flow; bytes = work.new.collected.items }) port.new ended) }
+    ensures once { MayGive P.commands port.old port.new }
     ensures stays { P.has_login port.new ≡ true }
     ensures limits { work.new.limits ≡ work.old.limits }
 {
@@ -424,6 +429,7 @@ fn take_data<P: Port>(
         work.old.flow port.old work.new.out.items
         (record { flow = work.new.flow; bytes = work.new.collected.items }) port.new) }
     ensures next { IfOk result (λ ended. ended ≡ TurnEnd.Next) }
+    ensures once { MayGive P.commands port.old port.new }
     ensures stays { P.has_login port.new ≡ true }
     ensures limits { work.new.limits ≡ work.old.limits }
 {
@@ -444,6 +450,7 @@ fn take_all<P: Port>(
     ensures takes { OnOk result (turn.TakesData P.commands work.old.limits c.now work.old.collected.items work.old.flow port.old
         work.new.out.items (record { flow = work.new.flow; bytes = work.new.collected.items }) port.new) }
     ensures next { IfOk result (λ ended. ended ≡ TurnEnd.Next) }
+    ensures once { MayGive P.commands port.old port.new }
     ensures stays { P.has_login port.new ≡ true }
     ensures limits { work.new.limits ≡ work.old.limits }
 {
@@ -471,6 +478,7 @@ fn finish_collected<P: Port>(
     ensures done { OnOk result (turn.IsDone P.commands work.old.limits (reopened work.old.flow) c.now.command
         work.old.collected.items c.now.asked port.old port.new work.new.out.items work.new.flow) }
     ensures next { IfOk result (λ ended. ended ≡ TurnEnd.Next) }
+    ensures once { MayGive P.commands port.old port.new }
     ensures stays { P.has_login port.new ≡ true }
     ensures limits { work.new.limits ≡ work.old.limits }
 {

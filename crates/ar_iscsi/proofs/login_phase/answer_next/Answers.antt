@@ -2,7 +2,7 @@ use Rattle.std.proofs.Common.{◌≡◌, ◌∙◌, ℕ, [], length, subst, sym,
 use Rattle.ar_iscsi.specs.declared.login_phase.RequestResult.{RequestResult}
 use Rattle.ar_iscsi.specs.Receive.{ReadsPdu}
 use Rattle.ar_iscsi.specs.Phase.{AnswersPdu}
-use Rattle.ar_iscsi.specs.LoginTurn.{LoginTurn}
+use Rattle.ar_iscsi.specs.LoginTurn.{LoginTurn, MayLogIn}
 use Rattle.ar_iscsi.specs.LoginPhase.{NextRequest}
 use Rattle.ar_iscsi.proofs.Serving.{handled}
 use Rattle.ar_iscsi.proofs.LoggingIn.{next_request}
@@ -14,7 +14,7 @@ returns-in-Pdu-clause-next g c =
     let reads =
     subst (λ (n : ℕ). ReadsPdu [] n (g.R.Source.state c.args.reader.now) (g.R.Source.state c.receive_pdu.new.reader) c.in-Pdu.header c.receive_pdu.new.buffer) room c.in-Pdu.ensures in
     let answers =
-    subst (λ (n : ℕ). AnswersPdu (LoginTurn g.P.Port.logins) c.in-Pdu.header (take n c.receive_pdu.new.buffer)
+    subst (λ (n : ℕ). AnswersPdu (LoginTurn g.P.Port.logins) (MayLogIn g.P.Port.logins) c.in-Pdu.header (take n c.receive_pdu.new.buffer)
     (g.W.Sink.state c.args.writer.now) (record { state = c.args.work.now.state; text = c.args.work.now.text.items }) c.args.port.now c.answer_request-answered.result
     (g.W.Sink.state c.answer_request-answered.new.writer) (record { state = c.answer_request-answered.new.work.state; text = c.answer_request-answered.new.work.text.items })
     c.answer_request-answered.new.port) c.segment_len-len.ensures c.answer_request-answered.ensures.answers in
@@ -33,4 +33,4 @@ returns-in-Pdu-clause-next g c =
       port = c.answer_request-answered.new.port;
     })) (sym c.result_of_request.ensures.is)
     (next_request g.P.Port.logins _ _ c.answer_request-answered.result
-    (handled (LoginTurn g.P.Port.logins) _ _ _ _ _ _ _ _ c.in-Pdu.header c.receive_pdu.new.buffer c.answer_request-answered.result reads answers))
+    (handled (LoginTurn g.P.Port.logins) (MayLogIn g.P.Port.logins) _ _ _ _ _ _ _ _ c.in-Pdu.header c.receive_pdu.new.buffer c.answer_request-answered.result reads answers))

@@ -9,4 +9,4 @@ returns-in-Ok-clause-answers g c =
     (subst (λ (l : List ℕ). Sending (g.W.Sink.state c.args.writer.now) (g.W.Sink.state c.send-sent.new.writer) l c.send-sent.result) c.deref.ensures.value c.send-sent.ensures)
 
 pub returns-in-Err-clause-answers : goal.returns-in-Err-clause-answers
-returns-in-Err-clause-answers g c = unanswered _ _
+returns-in-Err-clause-answers g c = unanswered _ _ c.in-Err.ensures.once

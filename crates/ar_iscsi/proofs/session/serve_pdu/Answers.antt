@@ -2,6 +2,7 @@ use Rattle.std.proofs.Common.{◌≡◌, ◌∙◌, ℕ, [], length, subst, sym,
 use Rattle.ar_iscsi.specs.declared.session.PduResult.{PduResult}
 use Rattle.ar_iscsi.specs.Receive.{ReadsPdu}
 use Rattle.ar_iscsi.specs.Phase.{AnswersPdu}
+use Rattle.ar_iscsi.specs.Task.{MayGive}
 use Rattle.ar_iscsi.specs.Turn.{FeatureTurn}
 use Rattle.ar_iscsi.specs.Session.{NextIsServed}
 use Rattle.ar_iscsi.proofs.Serving.{handled, next_served}
@@ -13,7 +14,7 @@ returns-in-Pdu-clause-next g c =
     let reads =
     subst (λ (n : ℕ). ReadsPdu [] n (g.R.Source.state c.args.reader.now) (g.R.Source.state c.receive_pdu.new.reader) c.in-Pdu.header c.receive_pdu.new.buffer) room c.in-Pdu.ensures in
     let answers =
-    subst (λ (n : ℕ). AnswersPdu (FeatureTurn g.P.Port.commands c.args.address.now c.args.work.now.limits) c.in-Pdu.header (take n c.receive_pdu.new.buffer)
+    subst (λ (n : ℕ). AnswersPdu (FeatureTurn g.P.Port.commands c.args.address.now c.args.work.now.limits) (MayGive g.P.Port.commands) c.in-Pdu.header (take n c.receive_pdu.new.buffer)
     (g.W.Sink.state c.args.writer.now) (record { flow = c.args.work.now.flow; bytes = c.args.work.now.collected.items }) c.args.port.now c.answer_pdu-answered.result
     (g.W.Sink.state c.answer_pdu-answered.new.writer) (record { flow = c.answer_pdu-answered.new.work.flow; bytes = c.answer_pdu-answered.new.work.collected.items })
     c.answer_pdu-answered.new.port) c.segment_len-len.ensures c.answer_pdu-answered.ensures.answers in
@@ -32,5 +33,5 @@ returns-in-Pdu-clause-next g c =
       port = c.answer_pdu-answered.new.port;
     })) (sym c.result_of_answer.ensures)
     (next_served g.P.Port.commands c.args.address.now c.args.work.now.limits _ _ c.answer_pdu-answered.result
-    (handled (FeatureTurn g.P.Port.commands c.args.address.now c.args.work.now.limits) _ _ _ _ _ _ _ _ c.in-Pdu.header c.receive_pdu.new.buffer
+    (handled (FeatureTurn g.P.Port.commands c.args.address.now c.args.work.now.limits) (MayGive g.P.Port.commands) _ _ _ _ _ _ _ _ c.in-Pdu.header c.receive_pdu.new.buffer
     c.answer_pdu-answered.result reads answers))
