@@ -229,7 +229,8 @@ fn declared_own(own: u32, least: u32, most: u32, offer: Option<u32>) -> KeyAnswe
     }
 }
 
-/// Reads a number in decimal digits. None: there is none, another byte, or the number passes 2^24 before its last digit.
+/// Reads a number in decimal digits. None: there is none, another byte, or the number passes 2^24 before its last
+/// digit.
 pub fn numeral(digits: &[u8]) -> Option<u32>
     ensures { result ≡ text.numeral digits.now }
 {

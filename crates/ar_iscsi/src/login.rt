@@ -1,5 +1,5 @@
-// A turn of the login phase: a login request, what it makes of the login, and the response. `Err`: the response can't be
-// allocated.
+// A turn of the login phase: a login request, what it makes of the login, and the response. `Err`: the response can't
+// be allocated.
 ghost use Rattle.std.specs.Prelude.{◌≡◌, ◌≤◌, false, true, [], IfOk, OnOk, length};
 ghost use Rattle.ar_iscsi.specs.LoginTurn as login;
 
@@ -113,7 +113,8 @@ fn answer_login(
 ) -> Result<(), AllocError>
     requires empty { work.old.out.items ≡ [] }
     requires short { length segment.now ≤ login.most_text }
-    ensures { OnOk result (login.AnswersLogin request.now at next tsih segment.now so_far work.old.text.items work.old.state
+    ensures { OnOk result (login.AnswersLogin request.now at next tsih segment.now so_far work.old.text.items
+        work.old.state
         work.new.out.items (record { state = work.new.state; text = work.new.text.items })) }
 {
     let numbers = login_numbers(&work.state, request);
@@ -172,7 +173,8 @@ fn enter_login<P: Port>(
     requires empty { work.old.out.items ≡ [] }
     requires no_text { work.old.text.items ≡ [] }
     requires short { length segment.now ≤ login.most_text }
-    ensures enters { IfOk result (λ ended. login.EntersLogin P.logins request.now at segment.now so_far work.old.state port.old
+    ensures enters { IfOk result (λ ended. login.EntersLogin P.logins request.now at segment.now so_far
+        work.old.state port.old
         work.new.out.items (record { state = work.new.state; text = work.new.text.items }) port.new ended) }
     ensures once { login.MayLogIn P.logins port.old port.new }
     ensures unlogged { IfOk result (λ ended. ended ≡ LoginResult.Next → P.has_login port.new ≡ false) }
@@ -294,7 +296,8 @@ fn take_text<P: Port>(
 ) -> Result<LoginResult, AllocError>
     requires unlogged { P.has_login port.old ≡ false }
     requires empty { work.old.out.items ≡ [] }
-    ensures takes { IfOk result (λ ended. login.TakesText P.logins request.now at step work.old.text.items work.old.state port.old
+    ensures takes { IfOk result (λ ended. login.TakesText P.logins request.now at step work.old.text.items
+        work.old.state port.old
         work.new.out.items (record { state = work.new.state; text = work.new.text.items }) port.new ended) }
     ensures once { login.MayLogIn P.logins port.old port.new }
     ensures unlogged { IfOk result (λ ended. ended ≡ LoginResult.Next → P.has_login port.new ≡ false) }
@@ -332,8 +335,10 @@ fn judge_text<P: Port>(
 ) -> Result<LoginResult, AllocError>
     requires unlogged { P.has_login port.old ≡ false }
     requires empty { work.old.out.items ≡ [] }
-    ensures judges { IfOk result (λ ended. login.JudgesText P.logins request.now at step work.old.text.items so_far work.old.state
-        port.old work.new.out.items (record { state = work.new.state; text = work.new.text.items }) port.new ended status) }
+    ensures judges { IfOk result (λ ended. login.JudgesText P.logins request.now at step work.old.text.items
+        so_far work.old.state
+        port.old work.new.out.items (record { state = work.new.state; text = work.new.text.items }) port.new
+        ended status) }
     ensures once { login.MayLogIn P.logins port.old port.new }
     ensures unlogged { IfOk result (λ ended. ended ≡ LoginResult.Next → P.has_login port.new ≡ false) }
     ensures logged { IfOk result (λ ended. ended ≡ LoginResult.Entered → work.new.state.so_far.kind ≡ SessionKind.Normal
@@ -365,7 +370,8 @@ fn take_step<P: Port>(
     requires empty { work.old.out.items ≡ [] }
     requires no_text { work.old.text.items ≡ [] }
     requires short { length segment.now ≤ login.most_text }
-    ensures steps { IfOk result (λ ended. login.StepsLogin P.logins request.now at step segment.now so_far work.old.state port.old
+    ensures steps { IfOk result (λ ended. login.StepsLogin P.logins request.now at step segment.now so_far
+        work.old.state port.old
         work.new.out.items (record { state = work.new.state; text = work.new.text.items }) port.new ended) }
     ensures once { login.MayLogIn P.logins port.old port.new }
     ensures unlogged { IfOk result (λ ended. ended ≡ LoginResult.Next → P.has_login port.new ≡ false) }

@@ -64,7 +64,8 @@ pub fn log_in<R: Source, W: Sink, P: Port>(
           spot = record { state = work.new.state; text = work.new.text.items };
           port = port.new;
         }) }
-    ensures logged { result ≡ LoginEnd.Entered → work.new.state.so_far.kind ≡ SessionKind.Normal → P.has_login port.new ≡ true }
+    ensures logged { result ≡ LoginEnd.Entered → work.new.state.so_far.kind ≡ SessionKind.Normal
+        → P.has_login port.new ≡ true }
 {
     for _ in 0..u64::MAX {
         match answer_next(alloc, reader, writer, port, work, buffer) {
@@ -132,7 +133,8 @@ fn answer_request<W: Sink, P: Port>(
         (W.state writer.old) (record { state = work.old.state; text = work.old.text.items }) port.old result
         (W.state writer.new) (record { state = work.new.state; text = work.new.text.items }) port.new }
     ensures unlogged { IfSome result (λ answered. answered.0 ≡ LoginResult.Next → P.has_login port.new ≡ false) }
-    ensures logged { IfSome result (λ answered. answered.0 ≡ LoginResult.Entered → work.new.state.so_far.kind ≡ SessionKind.Normal
+    ensures logged { IfSome result (λ answered. answered.0 ≡ LoginResult.Entered
+        → work.new.state.so_far.kind ≡ SessionKind.Normal
         → P.has_login port.new ≡ true) }
     ensures emptied { OnSome result (work.new.out.items ≡ []) }
 {
@@ -150,7 +152,8 @@ fn answer_request<W: Sink, P: Port>(
 fn result_of_request(answered: Option<(LoginResult, Sent)>) -> RequestResult
     ensures is { result ≡ session.result_of_request answered }
     ensures next { result ≡ RequestResult.Answered → IfSome answered (λ answered. answered.0 ≡ LoginResult.Next) }
-    ensures entered { result ≡ RequestResult.Ended LoginEnd.Entered → IfSome answered (λ answered. answered.0 ≡ LoginResult.Entered) }
+    ensures entered { result ≡ RequestResult.Ended LoginEnd.Entered
+        → IfSome answered (λ answered. answered.0 ≡ LoginResult.Entered) }
     ensures some { result ≡ RequestResult.Answered → IsSome answered }
     ensures some_entered { result ≡ RequestResult.Ended LoginEnd.Entered → IsSome answered }
 {

@@ -69,7 +69,8 @@ fn receive_segment<R: Source>(
     requires len_is { len ≡ segment_len header.now }
     requires within { len ≤ length buffer.old }
     ensures { (ahs : List ℕ) → length ahs ≡ ahs_len header.now →
-        ReceivesPdu (header.now ++ ahs) (length buffer.new) (R.state reader.old) (R.state reader.new) buffer.new result }
+        ReceivesPdu (header.now ++ ahs) (length buffer.new) (R.state reader.old) (R.state reader.new) buffer.new
+        result }
 {
     match fill(reader, &mut buffer[..len]) {
         Came::All => receive_padding(reader, buffer, header, len),
@@ -88,7 +89,8 @@ fn receive_padding<R: Source>(
     requires len_is { len ≡ segment_len header.now }
     requires within { len ≤ length buffer.now }
     ensures { (ahs : List ℕ) → length ahs ≡ ahs_len header.now →
-        ReceivesPdu ((header.now ++ ahs) ++ take len buffer.now) (length buffer.now) (R.state reader.old) (R.state reader.new)
+        ReceivesPdu ((header.now ++ ahs) ++ take len buffer.now) (length buffer.now) (R.state reader.old)
+        (R.state reader.new)
         buffer.now result }
 {
     match skip(reader, (4 - len % 4) % 4) {

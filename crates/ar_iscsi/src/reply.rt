@@ -23,7 +23,8 @@ pub fn put_data_in(
     requires some { 0 < most }
     requires short { most < 2 ^ 24 }
     requires fits { length data_in.now < 2 ^ 32 }
-    ensures { IfOk result (λ count. answer.PutsDataIn task_tag numbers most data_in.now count out.old.items out.new.items) }
+    ensures { IfOk result (λ count. answer.PutsDataIn task_tag numbers most data_in.now count out.old.items
+        out.new.items) }
 {
     let mut count = 0;
     let mut at = 0;
@@ -78,7 +79,8 @@ fn put_status(
     requires { IsReply reply.now }
     ensures { OnOk result (out.new.items ≡ out.old.items ++ target_pdu
         (TargetPdu.ScsiResponse command.now.task_tag (status_byte reply.now.status)
-        (answer.residual_of (answer.expected_len command.now) (answer.moved_by command.now reply.now.payload)) exp_data_sn)
+        (answer.residual_of (answer.expected_len command.now) (answer.moved_by command.now reply.now.payload))
+        exp_data_sn)
         numbers (answer.sense_segment reply.now.sense)) }
 {
     let pdu = TargetPdu::ScsiResponse {

@@ -132,7 +132,8 @@ pub enum InitiatorPdu {
     Unknown(u8),
 }
 
-/// Reads the header of an initiator's PDU. Every header is read; whether its fields suit the session is not judged here.
+/// Reads the header of an initiator's PDU. Every header is read; whether its fields suit the session is not judged
+/// here.
 pub fn initiator_pdu(header: &[u8; 48]) -> InitiatorPdu
     ensures { result ≡ fields.initiator_pdu header.now }
 {

@@ -133,7 +133,8 @@ fn answer_pdu<W: Sink, P: Port>(
     requires logged { P.has_login port.old ≡ true }
     requires short { length carried.now ≤ phase.most_segment }
     requires empty { work.old.out.items ≡ [] }
-    ensures answers { phase.AnswersPdu (FeatureTurn P.commands address.now work.old.limits) (MayGive P.commands) header.now carried.now
+    ensures answers { phase.AnswersPdu (FeatureTurn P.commands address.now work.old.limits) (MayGive P.commands)
+        header.now carried.now
         (W.state writer.old) (record { flow = work.old.flow; bytes = work.old.collected.items }) port.old result
         (W.state writer.new) (record { flow = work.new.flow; bytes = work.new.collected.items }) port.new }
     ensures stays { P.has_login port.new ≡ true }

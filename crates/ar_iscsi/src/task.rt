@@ -154,7 +154,8 @@ pub fn complete<P: Port>(
     asked: u32,
 ) -> Result<Flow, AllocError>
     requires { P.has_login port.old ≡ true }
-    ensures completes { IfOk result (λ after. task.Completes P.commands flow limits.now command.now payload asked port.old port.new
+    ensures completes { IfOk result (λ after. task.Completes P.commands flow limits.now command.now payload asked
+        port.old port.new
         out.old.items out.new.items after) }
     ensures once { task.MayGive P.commands port.old port.new }
     ensures stays { P.has_login port.new ≡ true }
@@ -196,7 +197,8 @@ pub fn ask(
     asked: u32,
 ) -> Result<Flow, AllocError>
     requires { have ≤ wanted }
-    ensures { IfOk result (λ after. task.AsksFrom flow limits.now command wanted have asked out.old.items out.new.items after) }
+    ensures { IfOk result (λ after. task.AsksFrom flow limits.now command wanted have asked out.old.items
+        out.new.items after) }
 {
     let len = (wanted - have).min(limits.max_burst.max(512));
     let after = flow.asking(command, wanted, asked.wrapping_add(1), have + len);

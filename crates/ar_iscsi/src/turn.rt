@@ -44,8 +44,8 @@ pub struct Work {
 }
 
 /// Does what a PDU with this header and this data segment asks for, and puts the answer into `out`, which is empty
-/// before. `address` is the target's address, as `127.0.0.1:3260`. `Err`: an answer can't be allocated; the port may have
-/// done the command.
+/// before. `address` is the target's address, as `127.0.0.1:3260`. `Err`: an answer can't be allocated, and the port may
+/// have done one command.
 pub fn take_turn<P: Port>(
     work: &mut Work,
     alloc: Global,
@@ -108,7 +108,8 @@ fn respond(
 ) -> Result<TurnEnd, AllocError>
     requires empty { work.old.out.items ≡ [] }
     requires short { length segment.now < 2 ^ 24 }
-    ensures responds { IfOk result (λ ended. turn.Responds flow pdu segment.now work.old.collected.items work.new.out.items
+    ensures responds { IfOk result (λ ended. turn.Responds flow pdu segment.now work.old.collected.items
+        work.new.out.items
         (record { flow = work.new.flow; bytes = work.new.collected.items }) ended end) }
     ensures limits { work.new.limits ≡ work.old.limits }
 {
@@ -172,7 +173,8 @@ fn react(
     reaction: Reaction,
 ) -> Result<TurnEnd, AllocError>
     requires empty { work.old.out.items ≡ [] }
-    ensures turn { IfOk result (λ ended. turn.ReactionTurn address.now work.old.limits header.now carried.now flow reaction
+    ensures turn { IfOk result (λ ended. turn.ReactionTurn address.now work.old.limits header.now carried.now
+        flow reaction
         (record { flow = work.old.flow; bytes = work.old.collected.items }) work.new.out.items
         (record { flow = work.new.flow; bytes = work.new.collected.items }) ended) }
     ensures limits { work.new.limits ≡ work.old.limits }
@@ -222,7 +224,8 @@ fn command_turn<P: Port>(
     requires logged { P.has_login port.old ≡ true }
     requires empty { work.old.out.items ≡ [] }
     requires suits { SuitsData (length carried.now) step }
-    ensures turn { IfOk result (λ ended. turn.CommandTurn P.commands work.old.limits command.now header.now carried.now step
+    ensures turn { IfOk result (λ ended. turn.CommandTurn P.commands work.old.limits command.now header.now
+        carried.now step
         (record { flow = work.old.flow; bytes = work.old.collected.items }) port.old work.new.out.items
         (record { flow = work.new.flow; bytes = work.new.collected.items }) port.new ended) }
     ensures once { MayGive P.commands port.old port.new }
@@ -253,7 +256,8 @@ fn run_command<P: Port>(
 ) -> Result<TurnEnd, AllocError>
     requires logged { P.has_login port.old ≡ true }
     requires empty { work.old.out.items ≡ [] }
-    ensures done { OnOk result (turn.IsDone P.commands work.old.limits (received work.old.flow command.now.immediate) command.now
+    ensures done { OnOk result (turn.IsDone P.commands work.old.limits (received work.old.flow
+        command.now.immediate) command.now
         payload.now 0 port.old port.new work.new.out.items work.new.flow) }
     ensures next { IfOk result (λ ended. ended ≡ TurnEnd.Next) }
     ensures once { MayGive P.commands port.old port.new }
@@ -306,7 +310,8 @@ fn refuse_done(
     asked: u32,
 ) -> Result<TurnEnd, AllocError>
     requires empty { work.old.out.items ≡ [] }
-    ensures refused { OnOk result (GetsBusy flow work.old.limits command.now asked [] work.new.out.items work.new.flow) }
+    ensures refused { OnOk result (GetsBusy flow work.old.limits command.now asked [] work.new.out.items
+        work.new.flow) }
     ensures next { IfOk result (λ ended. ended ≡ TurnEnd.Next) }
     ensures collected { work.new.collected.items ≡ work.old.collected.items }
     ensures limits { work.new.limits ≡ work.old.limits }
@@ -336,7 +341,8 @@ fn collect(
 ) -> Result<TurnEnd, AllocError>
     requires empty { work.old.out.items ≡ [] }
     requires more { length carried.now < wanted }
-    ensures starts { OnOk result (turn.StartsData work.old.limits (received work.old.flow command.now.immediate) command.now wanted
+    ensures starts { OnOk result (turn.StartsData work.old.limits (received work.old.flow command.now.immediate)
+        command.now wanted
         carried.now work.new.out.items (record { flow = work.new.flow; bytes = work.new.collected.items })) }
     ensures next { IfOk result (λ ended. ended ≡ TurnEnd.Next) }
     ensures limits { work.new.limits ≡ work.old.limits }
@@ -371,7 +377,8 @@ fn ask_for(
 ) -> Result<TurnEnd, AllocError>
     requires empty { work.old.out.items ≡ [] }
     requires within { have ≤ wanted }
-    ensures asks { OnOk result (AsksFrom flow work.old.limits command.now wanted have asked [] work.new.out.items work.new.flow) }
+    ensures asks { OnOk result (AsksFrom flow work.old.limits command.now wanted have asked [] work.new.out.items
+        work.new.flow) }
     ensures next { IfOk result (λ ended. ended ≡ TurnEnd.Next) }
     ensures collected { work.new.collected.items ≡ work.old.collected.items }
     ensures limits { work.new.limits ≡ work.old.limits }
@@ -425,7 +432,8 @@ fn take_data<P: Port>(
     requires logged { P.has_login port.old ≡ true }
     requires empty { work.old.out.items ≡ [] }
     requires within { length work.old.collected.items + length carried.now ≤ c.now.burst_end }
-    ensures takes { OnOk result (turn.TakesData P.commands work.old.limits c.now (work.old.collected.items ++ carried.now)
+    ensures takes { OnOk result (turn.TakesData P.commands work.old.limits c.now (work.old.collected.items ++
+        carried.now)
         work.old.flow port.old work.new.out.items
         (record { flow = work.new.flow; bytes = work.new.collected.items }) port.new) }
     ensures next { IfOk result (λ ended. ended ≡ TurnEnd.Next) }
@@ -447,7 +455,8 @@ fn take_all<P: Port>(
     requires logged { P.has_login port.old ≡ true }
     requires empty { work.old.out.items ≡ [] }
     requires within { length work.old.collected.items ≤ c.now.burst_end }
-    ensures takes { OnOk result (turn.TakesData P.commands work.old.limits c.now work.old.collected.items work.old.flow port.old
+    ensures takes { OnOk result (turn.TakesData P.commands work.old.limits c.now work.old.collected.items
+        work.old.flow port.old
         work.new.out.items (record { flow = work.new.flow; bytes = work.new.collected.items }) port.new) }
     ensures next { IfOk result (λ ended. ended ≡ TurnEnd.Next) }
     ensures once { MayGive P.commands port.old port.new }
