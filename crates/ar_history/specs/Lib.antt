@@ -3,6 +3,7 @@ pub mod Counts
 pub mod History
 pub mod Kept
 pub mod Operations
+pub mod Recorded
 pub mod Seat
 pub mod Serving
 -- definitions of lower crates that contracts of this crate cite

@@ -112,7 +112,7 @@ impl<D: Disk, L: Ledger> Kept<D, L> {
 }
 
 // The seats of the four hosts, each with a part of the ledger.
-fn seats<L: Ledger>(alloc: Global, share: &mut Share<L>) -> [Seat<L>; 4]
+pub(crate) fn seats<L: Ledger>(alloc: Global, share: &mut Share<L>) -> [Seat<L>; 4]
     requires parts { share.old.parts ≡ 4 }
     requires amount { share.old.amount ≡ 0 }
     ensures hosts { map (λ (s : SeatState). s.host.number) result ≡ 0 ∷ 1 ∷ 2 ∷ 3 ∷ [] }

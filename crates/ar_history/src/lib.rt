@@ -14,6 +14,7 @@ mod live_host;
 mod live_operate;
 mod operate;
 mod operation;
+mod recorded;
 mod seat;
 
 pub use audit::{Mismatch, Report, first_difference};
@@ -23,4 +24,5 @@ pub use host::Served;
 pub use kept::Kept;
 pub use live::LiveArray;
 pub use operation::{Operation, OperationOf, Task};
+pub use recorded::RecordedArray;
 pub use seat::Seat;

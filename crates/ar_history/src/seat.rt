@@ -1,11 +1,14 @@
 // A host's seat. Its share of the ledger is the length of its transcript, so that no transcript grows without the
 // history.
-ghost use Rattle.std.specs.Prelude.{◌≡◌, ◌<◌, ◌+◌, ◌++◌, ◌∷◌, [], length};
+ghost use Rattle.std.specs.Prelude.{◌≡◌, ◌<◌, ◌+◌, ◌++◌, ◌∷◌, [], map, length};
+ghost use Rattle.ar_history.specs.Seat.{SeatState};
 
 use crate::Exchange;
+use crate::kept::seats;
 use ar_disks::Host;
+use std::alloc::Global;
 use std::marker::Model;
-use std::sync::ledger::{Book, Ledger, Share};
+use std::sync::ledger::{Blank, Book, Ledger, Share};
 
 /// A host's seat: the handle by which it sends commands to the array of the same ledger, with their transcript, which
 /// grows only with the array's history.
@@ -28,6 +31,19 @@ impl<L: Ledger> Model for Seat<L> {
 }
 
 impl<L: Ledger> Seat<L> {
+    /// Returns the seats of hosts 0 to 3, in order, for an array that stores no history: without a kept array of the
+    /// ledger no transcript grows.
+    pub fn unrecorded(alloc: Global, blank: Blank) -> [Seat<L>; 4]
+        requires name { blank.name ≡ L.name }
+        requires parts { blank.parts ≡ L.parts }
+        requires four { blank.parts ≡ 4 }
+        ensures hosts { map (λ (s : SeatState). s.host.number) result ≡ 0 ∷ 1 ∷ 2 ∷ 3 ∷ [] }
+        ensures transcripts { map (λ (s : SeatState). s.transcript) result ≡ [] ∷ [] ∷ [] ∷ [] ∷ [] }
+    {
+        let (_book, mut rest) = blank.open::<L>();
+        seats(alloc, &mut rest)
+    }
+
     /// Returns the host of the seat.
     pub fn host(&self) -> Host
         ensures { result ≡ self.now.host }

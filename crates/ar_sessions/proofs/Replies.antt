@@ -1,5 +1,5 @@
 -- A reply to a host's command is one that a frame can carry.
-use Rattle.std.proofs.Common.{◌≡◌, ◌≢◌, ◌<◌, ◌≤◌, ◌+◌, ◌*◌, ◌^◌, ℕ, Bool, true, false, eqb, ◌&&◌, not, List, [], ◌∷◌, length, take, drop, slice_index, Option, Some, None, Result, Ok, Err, refl, sym, subst, inl, inr, arith, length-take}
+use Rattle.std.proofs.Common.{◌≡◌, ◌≢◌, ◌<◌, ◌≤◌, ◌+◌, ◌*◌, ◌^◌, ℕ, Bool, true, false, eqb, ◌&&◌, not, List, [], ◌∷◌, length, take, drop, slice_index, Option, Some, None, Result, Ok, Err, refl, sym, ap, subst, ◌∙◌, inl, inr, arith, length-take}
 use Rattle.std.specs.Prelude.{All, ◌⊎◌}
 use Rattle.std.proofs.lemmas.Bool.{cond_both, leb-true}
 use Rattle.std.proofs.lemmas.List.{get_or-drop}
@@ -23,11 +23,14 @@ use Rattle.ar_unit.specs.Broken.{needs_blocks, is_good, where_broken}
 use Rattle.ar_unit.proofs.Laws.{after-whole}
 use Rattle.ar_unit.proofs.Pieces.{length-concat}
 use Rattle.ar_volume.specs.Sectors.{Address}
-use Rattle.ar_volume.specs.Image.{is_broken}
+use Rattle.ar_disks.specs.declared.address.Host.{Host}
+use Rattle.ar_core.specs.Step.{is_busy}
+use Rattle.ar_volume.specs.Image.{ArrayState, is_broken}
+use Rattle.ar_history.specs.declared.entry.Entry.{Entry}
 use Rattle.ar_history.specs.History.{replay, entries_at}
-use Rattle.ar_history.specs.Kept.{KeptState, history_unit, with_attention}
+use Rattle.ar_history.specs.Kept.{KeptState, history_unit, replayed_unit, with_attention}
 use Rattle.ar_history.specs.Seat.{SeatState}
-use Rattle.ar_history.specs.Serving.{ServesHost, IsUnrecorded}
+use Rattle.ar_history.specs.Serving.{ServesHost, ServesCommand, IsUnrecorded, is_recorded}
 use Rattle.ar_frames.specs.Frame.{IsReply}
 use Rattle.ar_sessions.proofs.Asking.{both}
 
@@ -154,3 +157,25 @@ served_reply (Some p) old new before after lun cdb payload reply are serves =
     (answer_reply (replay old.history a) cdb payload (run_whole Absent (entries_at a old.history) tt) are)
 served_reply None old new before after lun cdb payload reply are serves =
     unrecorded_reply (is_broken new.array) old new before after lun cdb payload reply are refl serves
+
+-- the reply to a command to a live array
+pub live_reply : (old new : ArrayState) (host : Host) (lun : ℕ) (cdb payload : List ℕ) (reply : Reply) (was now : List Entry) → AreBytes cdb
+    → ServesCommand old was host lun cdb payload reply new now → IsReply reply
+live_reply old new host lun cdb payload reply was now are serves = by (is_broken new) (is_busy reply.status) refl refl
+  where
+    a : Address
+    a = (host.number, lun)
+
+    whole : IsWhole (replay was a)
+    whole = run_whole Absent (entries_at a was) tt
+
+    by : (lost quiet : Bool) → is_broken new ≡ lost → is_busy reply.status ≡ quiet → IsReply reply
+    by true quiet lost is =
+        given_reply (where_broken cdb (answer (replayed_unit old was a) cdb payload).reply) reply (serves.broken lost)
+        (lost_reply cdb (answer (replayed_unit old was a) cdb payload).reply
+        (answer_reply (replayed_unit old was a) cdb payload (marked_whole _ (replay was a) whole) are))
+    by false true sound is = subst IsReply (sym (serves.busy_is sound is)) (refl, refl)
+    by false false sound is =
+        let recorded : is_recorded new reply ≡ true =
+        ap (λ (b : Bool). not b && not (is_busy reply.status)) sound ∙ ap (λ (b : Bool). not false && not b) is in
+        subst IsReply (sym (serves.reply_is recorded)) (answer_reply (replay was a) cdb payload whole are)

@@ -69,6 +69,12 @@ pub record DoesTask (old : KeptState) (task : Task) (told : Bool) (new : KeptSta
   pub worked : told ≡ not (is_idle outcome)
   pub counts : CountsTask old task outcome new
 
+-- the history and its capacity stay, and so do the contents of all units, unless the array has failed
+pub record LeavesUnits (old new : KeptState) : Type 0 where
+  pub history : new.history ≡ old.history
+  pub room : new.room ≡ old.room
+  pub images : is_broken new.array ≡ false → (a : Address) → image new.array a ≡ image old.array a
+
 -- A step, and whether it returns that it did something: a task that is due is one step of the array, one that isn't
 -- changes nothing. The history and its capacity stay, and so do the contents of all units, unless the array has failed.
 pub record TakesTurn (old : KeptState) (task : Task) (told : Bool) (new : KeptState) : Type 0 where

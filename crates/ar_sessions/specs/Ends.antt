@@ -4,6 +4,7 @@ use Rattle.ar_history.specs.Seat.{SeatState}
 use Rattle.ar_frames.specs.declared.end.SessionEnd.{SessionEnd}
 use Rattle.ar_frames.specs.declared.end.EndReason.TheVariants.{Read}
 use Rattle.ar_frames.specs.Stream.{SourceState, SinkState}
+use Rattle.ar_frames.specs.Conversation.{Commands}
 use Rattle.ar_frames.specs.Session.{Session}
 use Rattle.ar_sessions.specs.declared.sessions.AsServed.{AsServed}
 use Rattle.ar_sessions.specs.declared.sessions.ConnectionEnd.{ConnectionEnd}
@@ -13,34 +14,34 @@ use Rattle.ar_sessions.specs.declared.sessions.Pending.TheVariants as pending
 use Rattle.ar_sessions.specs.declared.pool.Next.{Next}
 use Rattle.ar_sessions.specs.declared.pool.Next.TheVariants as next
 use Rattle.ar_sessions.specs.Desk.{ReceiptState, receipt_for}
-use Rattle.ar_sessions.specs.Port.{TakesSeat, AsksKept}
+use Rattle.ar_sessions.specs.Port.{TakesSeat, AsksSeat}
 
 -- A session over streams in these states ended with `end`. It began at a port without a seat, and its logins and
--- commands were those of a port to the shared array.
-pub record IsSessionEnd (source : SourceState) (sink : SinkState) (end : SessionEnd) : Type 0 where
+-- commands were those of a port to the shared array, for whose commands `asks` holds.
+pub record IsSessionEnd (asks : Commands SeatState) (source : SourceState) (sink : SinkState) (end : SessionEnd) : Type 0 where
   pub source' : SourceState
   pub sink' : SinkState
   pub port : Option SeatState
-  pub session : Session TakesSeat AsksKept source source' sink sink' None port end
+  pub session : Session TakesSeat (AsksSeat asks) source source' sink sink' None port end
 
 -- The same, and this is the receipt for the seat that the port had in the end, or none if it had none.
-pub record GivesBack (source : SourceState) (sink : SinkState) (end : SessionEnd) (receipt : Option ReceiptState) : Type 0 where
-  pub served : IsSessionEnd source sink end
+pub record GivesBack (asks : Commands SeatState) (source : SourceState) (sink : SinkState) (end : SessionEnd) (receipt : Option ReceiptState) : Type 0 where
+  pub served : IsSessionEnd asks source sink end
   pub receipt_is : receipt ≡ receipt_for served.port
 
 -- The same, and these are the states in which the session left the streams: nothing has used them since.
-pub record LeavesOff (source source' : SourceState) (sink sink' : SinkState) (end : SessionEnd) (receipt : Option ReceiptState) : Type 0 where
+pub record LeavesOff (asks : Commands SeatState) (source source' : SourceState) (sink sink' : SinkState) (end : SessionEnd) (receipt : Option ReceiptState) : Type 0 where
   pub port : Option SeatState
-  pub session : Session TakesSeat AsksKept source source' sink sink' None port end
+  pub session : Session TakesSeat (AsksSeat asks) source source' sink sink' None port end
   pub receipt_is : receipt ≡ receipt_for port
 
 -- A session over a connection's two streams, as they were when it was opened, ended with `end`.
-abbrev pub IsServedOver : {S W : Type 0} → (S → SourceState) → (W → SinkState) → S × W → SessionEnd → Type 0
-IsServedOver source sink pair end = IsSessionEnd (source pair.0) (sink pair.1) end
+abbrev pub IsServedOver : {S W : Type 0} → Commands SeatState → (S → SourceState) → (W → SinkState) → S × W → SessionEnd → Type 0
+IsServedOver asks source sink pair end = IsSessionEnd asks (source pair.0) (sink pair.1) end
 
 -- a session over the two streams in its thread's promise ended with `end`
-abbrev pub IsPromised : {S W : Type 0} → (S → SourceState) → (W → SinkState) → AsServed S W → SessionEnd → Type 0
-IsPromised source sink promise end = IsSessionEnd (source promise.reader.value) (sink promise.writer.value) end
+abbrev pub IsPromised : {A L S W : Type 0} → Commands SeatState → (S → SourceState) → (W → SinkState) → AsServed A L S W → SessionEnd → Type 0
+IsPromised asks source sink promise end = IsSessionEnd asks (source promise.reader.value) (sink promise.writer.value) end
 
 -- the end of a connection that could not be opened
 abbrev pub unopened : SessionEnd

@@ -5,7 +5,11 @@ use Rattle.ar_scsi.specs.Reading.{reading}
 use Rattle.ar_unit.specs.Broken.{needs_blocks, is_good}
 use Rattle.ar_history.specs.Kept.{KeptState, StaysKept, exchange_of}
 use Rattle.ar_history.specs.Seat.{SeatState}
-use Rattle.ar_history.specs.Serving.{ServesHost, BeginsByPlace, DoesCommand, Allocates}
+use Rattle.ar_core.specs.Step.{Steps}
+use Rattle.ar_core.specs.declared.event.EventOf.TheVariants.{Cmd as CmdEvent}
+use Rattle.ar_core.specs.declared.event.OutcomeOf.TheVariants.{Cmd as CmdOutcome}
+use Rattle.ar_history.specs.Serving.{ServesHost, ServesCommand, BeginsByPlace, DoesCommand, Allocates}
+use Rattle.ar_frames.specs.Conversation.{Commands}
 use Rattle.ar_frames.specs.declared.port.Login.{Login}
 use Rattle.ar_frames.specs.declared.port.Login.TheVariants.{Taken, BadHost, InUse}
 
@@ -35,6 +39,22 @@ pub record RecordsExchange (before : SeatState) (lun : ℕ) (cdb payload : List 
       (after.transcript ≡ before.transcript ++ exchange_of lun cdb payload reply ∷ []) ⊎ (after.transcript ≡ before.transcript)
   pub done : is_good_access cdb reply ≡ true → after.transcript ≡ before.transcript ++ exchange_of lun cdb payload reply ∷ []
 
+-- a command to a kept array
+pub record AsksKept (before : SeatState) (lun : ℕ) (cdb payload : List ℕ) (reply : Reply) (after : SeatState) : Type 0 where
+  pub moment : AtOneMoment before lun cdb payload reply after
+  pub entry : RecordsExchange before lun cdb payload reply after
+
+-- A command to a live array was executed atomically, too: there are a state of an array before it and one after it, in
+-- both of which each unit is what its history makes it, and between them the command is one step, served as
+-- `LiveArray::host` serves it. That these are states of the array behind the lock is not specified. The seat is the same.
+pub record AsksLive (before : SeatState) (lun : ℕ) (cdb payload : List ℕ) (reply : Reply) (after : SeatState) : Type 0 where
+  pub old : KeptState
+  pub new : KeptState
+  pub kept : StaysKept old new
+  pub serves : ServesCommand old.array old.history before.host lun cdb payload reply new.array new.history
+  pub steps : Steps old.array (CmdEvent before.host lun cdb payload) (CmdOutcome reply) new.array
+  pub seat : after ≡ before
+
 -- the port has the seat of this host
 pub record HasSeat (port : Option SeatState) (host : ℕ) : Type 0 where
   pub seat : SeatState
@@ -47,11 +67,10 @@ TakesSeat old host Taken new = HasSeat new host
 TakesSeat old host BadHost new = new ≡ old
 TakesSeat old host InUse new = new ≡ old
 
--- a command is executed with the port's seat
-pub record AsksKept (old : Option SeatState) (lun : ℕ) (cdb payload : List ℕ) (reply : Reply) (new : Option SeatState) : Type 0 where
+-- a command is executed with the port's seat, as this is specified of the array
+pub record AsksSeat (asks : Commands SeatState) (old : Option SeatState) (lun : ℕ) (cdb payload : List ℕ) (reply : Reply) (new : Option SeatState) : Type 0 where
   pub before : SeatState
   pub after : SeatState
   pub held : old ≡ Some before
   pub kept : new ≡ Some after
-  pub moment : AtOneMoment before lun cdb payload reply after
-  pub entry : RecordsExchange before lun cdb payload reply after
+  pub asked : asks before lun cdb payload reply after

@@ -3,10 +3,9 @@
 ghost use Rattle.std.specs.Prelude.{◌≡◌, ◌<◌, nat_lt};
 ghost use Rattle.ar_sessions.specs.Background.{is_due, is_long, is_resting, begun, paused, stepped, pause_after, task_after, TakesTurn, MakesPass};
 
-use ar_disks::Disk;
-use ar_history::{Kept, Task, is_idle};
+use crate::MaintainedArray;
+use ar_history::Task;
 use std::sync::atomic::{AtomicBool, Ordering};
-use std::sync::ledger::Ledger;
 use std::sync::{Mutex, Wait};
 use std::thread;
 use std::time::{Clock, Duration};
@@ -47,9 +46,9 @@ struct Rotation {
 /// Demote. Each step takes the lock once. After a round in which there was nothing to do it sleeps for 1 ms, so that it
 /// costs the sessions little, and twice as long after each further one, up to 16 ms; until something happens to the
 /// array, these rounds are skipped. After a step that may have copied an extent it sleeps for 4 ms.
-pub fn run_background<R: Wait + Clock, D: Disk + Drop, L: Ledger>(
+pub fn run_background<R: Wait + Clock, A: MaintainedArray + Drop>(
     rt: &R,
-    kept: &Mutex<Kept<D, L>>,
+    array: &Mutex<A>,
     stop: &AtomicBool,
 ) {
     let mut rotation = Rotation::new();
@@ -58,7 +57,7 @@ pub fn run_background<R: Wait + Clock, D: Disk + Drop, L: Ledger>(
             break;
         }
         // A statement of its own, so that the lock is free before the pause.
-        let pause = rotation.advance(&mut kept.lock(rt));
+        let pause = rotation.advance::<A>(&mut array.lock(rt));
         match pause {
             Some(pause) => thread::sleep(rt, Duration::from_millis(pause)),
             None => thread::yield_now(),
@@ -77,16 +76,16 @@ impl Rotation {
     }
 
     // Performs the next task, unless the maintenance rests. Returns for how many milliseconds to pause then, if at all.
-    fn advance<D: Disk + Drop, L: Ledger>(&mut self, kept: &mut Kept<D, L>) -> Option<u64>
-        ensures { MakesPass kept.old self.old result kept.new self.new }
+    fn advance<A: MaintainedArray>(&mut self, array: &mut A) -> Option<u64>
+        ensures { MakesPass (A.state array.old) self.old result (A.state array.new) self.new }
     {
-        let events = kept.events();
+        let events = array.event_count();
         if self.is_resting(events) {
             return Some(self.rest());
         }
         self.begin(events);
-        let has_worked = take_turn(kept, self.task);
-        self.after_turn(has_worked, kept.events())
+        let has_worked = take_turn(array, self.task);
+        self.after_turn(has_worked, array.event_count())
     }
 
     // Whether there was nothing to do, and nothing has happened since.
@@ -165,14 +164,10 @@ fn next(task: Task) -> Task
 }
 
 // Performs a task if it is due, and returns whether it did anything.
-fn take_turn<D: Disk + Drop, L: Ledger>(kept: &mut Kept<D, L>, task: Task) -> bool
-    ensures { TakesTurn kept.old task result kept.new }
+fn take_turn<A: MaintainedArray>(array: &mut A, task: Task) -> bool
+    ensures { TakesTurn (A.state array.old) task result (A.state array.new) }
 {
-    if !is_due(task, kept.array().free_groups()) {
-        return false;
-    }
-    let outcome = kept.background(task);
-    !is_idle(&outcome)
+    is_due(task, array.free_groups()) && array.work(task)
 }
 
 // Whether a task is due, by the number of free groups.

@@ -11,6 +11,7 @@ mod notes;
 mod pool;
 mod port;
 mod sessions;
+mod shared;
 mod socket;
 mod tcp;
 
@@ -20,5 +21,6 @@ pub use door::{Door, MemDoor};
 pub use pool::{Handler, MOST_AT_ONCE, SharedDoor, run_pool, start_pool};
 pub use port::LockPort;
 pub use sessions::{ConnectionEnd, NoMemory, run_beside_background, run_sessions};
+pub use shared::{MaintainedArray, ServedArray};
 pub use socket::{SocketReader, SocketWriter};
 pub use tcp::{ANY_NUMBER, ListenFault, TcpDoor, TcpReader, TcpWriter, Timeouts, wake};

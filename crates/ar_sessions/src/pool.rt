@@ -4,10 +4,8 @@ ghost use Rattle.std.specs.Prelude.{◌≡◌};
 ghost use Rattle.ar_sessions.specs.Ends.{TakesNext};
 
 use crate::sessions::{Connection, Shared};
-use crate::{Desk, Door, NoMemory, run_background};
-use ar_disks::Disk;
+use crate::{Desk, Door, MaintainedArray, NoMemory, ServedArray, run_background};
 use ar_frames::{Gate, Sink, Source};
-use ar_history::Kept;
 use log::Log;
 use std::alloc::Global;
 use std::sync::atomic::{AtomicBool, Ordering};
@@ -55,7 +53,7 @@ pub trait Handler<S, W> {
 /// thread couldn't be started, no connection was opened.
 pub fn run_pool<
     R: Threads + Wait + Clock + Log + Sync,
-    D: Disk + Drop + Send,
+    A: ServedArray<L> + MaintainedArray + Drop + Send,
     L: Ledger + Send + Sync,
     O: Door + Drop + Send,
     G: Gate + Sync,
@@ -63,18 +61,18 @@ pub fn run_pool<
     rt: &R,
     alloc: Global,
     door: O,
-    kept: &Mutex<Kept<D, L>>,
+    array: &Mutex<A>,
     desk: &Mutex<Desk<L>>,
     gate: &G,
 ) -> Result<(), NoMemory> {
     let door = SharedDoor::new(door);
-    serve_door(rt, alloc, &door, kept, desk, gate)
+    serve_door(rt, alloc, &door, array, desk, gate)
 }
 
 // The same at a shared door.
 fn serve_door<
     R: Threads + Wait + Clock + Log + Sync,
-    D: Disk + Drop + Send,
+    A: ServedArray<L> + MaintainedArray + Drop + Send,
     L: Ledger + Send + Sync,
     O: Door + Drop + Send,
     G: Gate + Sync,
@@ -82,7 +80,7 @@ fn serve_door<
     rt: &R,
     alloc: Global,
     door: &SharedDoor<O>,
-    kept: &Mutex<Kept<D, L>>,
+    array: &Mutex<A>,
     desk: &Mutex<Desk<L>>,
     gate: &G,
 ) -> Result<(), NoMemory> {
@@ -92,7 +90,7 @@ fn serve_door<
         thread::scope_env(),
         rt,
         move |scope| -> Result<(), NoMemory> {
-            serve_beside(scope, rt, alloc, door, kept, desk, gate, flag)
+            serve_beside(scope, rt, alloc, door, array, desk, gate, flag)
         },
     )
 }
@@ -102,7 +100,7 @@ fn serve_beside<
     's,
     E,
     R: Threads + Wait + Clock + Log + Sync,
-    D: Disk + Drop + Send,
+    A: ServedArray<L> + MaintainedArray + Drop + Send,
     L: Ledger + Send + Sync,
     O: Door + Drop + Send,
     G: Gate + Sync,
@@ -111,15 +109,15 @@ fn serve_beside<
     rt: &'s R,
     alloc: Global,
     door: &SharedDoor<O>,
-    kept: &'s Mutex<Kept<D, L>>,
+    array: &'s Mutex<A>,
     desk: &Mutex<Desk<L>>,
     gate: &G,
     ended: &'s AtomicBool,
 ) -> Result<(), NoMemory> {
-    let Ok(_worker) = scope.spawn(move || run_background(rt, kept, ended)) else {
+    let Ok(_worker) = scope.spawn(move || run_background(rt, array, ended)) else {
         return Err(NoMemory);
     };
-    let served = serve_in_turn(rt, alloc, door, kept, desk, gate);
+    let served = serve_in_turn(rt, alloc, door, array, desk, gate);
     ended.store(true, Ordering::SeqCst);
     served
 }
@@ -127,7 +125,7 @@ fn serve_beside<
 // Serves the connections, and returns once all have ended.
 fn serve_in_turn<
     R: Threads + Wait + Clock + Log + Sync,
-    D: Disk + Drop + Send,
+    A: ServedArray<L> + Drop + Send,
     L: Ledger + Send + Sync,
     O: Door + Drop + Send,
     G: Gate + Sync,
@@ -135,14 +133,14 @@ fn serve_in_turn<
     rt: &R,
     alloc: Global,
     door: &SharedDoor<O>,
-    kept: &Mutex<Kept<D, L>>,
+    array: &Mutex<A>,
     desk: &Mutex<Desk<L>>,
     gate: &G,
 ) -> Result<(), NoMemory> {
     let state = Shared {
         rt,
         alloc,
-        kept,
+        array,
         desk,
         gate,
     };
@@ -197,12 +195,12 @@ fn handle_each<R: Wait, O: Door + Drop, T: Handler<O::Reader, O::Writer>>(
 impl<
     'a,
     R: Wait + Clock + Log,
-    D: Disk + Drop,
+    A: ServedArray<L> + Drop,
     L: Ledger,
     G: Gate,
     S: Source + Drop,
     W: Sink + Drop,
-> Handler<S, W> for Shared<'a, R, D, L, G> {
+> Handler<S, W> for Shared<'a, R, A, L, G> {
     // Serves a host's session.
     fn handle(&self, number: u64, reader: S, writer: W) {
         let _ended = Connection::new(self, number, reader, writer).serve_logged();

@@ -3,12 +3,11 @@
 ghost use Rattle.std.specs.Prelude.{◌≡◌, None};
 ghost use Rattle.ar_frames.specs.Frame.{IsReply};
 ghost use Rattle.ar_sessions.specs.Desk.{receipt_for};
-ghost use Rattle.ar_sessions.specs.Port.{AtOneMoment};
 
-use crate::{Desk, Receipt};
-use ar_disks::{Disk, Host};
+use crate::{Desk, Receipt, ServedArray};
+use ar_disks::Host;
 use ar_frames::{Login, Port};
-use ar_history::{Kept, Seat};
+use ar_history::Seat;
 use ar_scsi::Reply;
 use bytes::Bytes;
 use std::marker::Model;
@@ -18,14 +17,14 @@ use std::sync::{Mutex, Wait};
 /// A session's port to an array behind a lock. A login takes the host's seat from the desk, which has a lock of its
 /// own; a command holds the array's lock while it is executed.
 #[derive(Drop)]
-pub struct LockPort<'a, R: Wait, D: Disk + Drop, L: Ledger> {
+pub struct LockPort<'a, R: Wait, A: Drop, L: Ledger> {
     rt: &'a R,
-    kept: &'a Mutex<Kept<D, L>>,
+    array: &'a Mutex<A>,
     desk: &'a Mutex<Desk<L>>,
     seat: Option<Seat<L>>,
 }
 
-impl<'a, R: Wait, D: Disk + Drop, L: Ledger> Model for LockPort<'a, R, D, L> {
+impl<'a, R: Wait, A: Drop, L: Ledger> Model for LockPort<'a, R, A, L> {
     ghost use Rattle.std.specs.Prelude.{Option};
     ghost use Rattle.ar_history.specs.Seat.{SeatState};
 
@@ -34,18 +33,14 @@ impl<'a, R: Wait, D: Disk + Drop, L: Ledger> Model for LockPort<'a, R, D, L> {
     ghost view = { λ port. port.seat };
 }
 
-impl<'a, R: Wait, D: Disk + Drop, L: Ledger> LockPort<'a, R, D, L> {
+impl<'a, R: Wait, A: Drop, L: Ledger> LockPort<'a, R, A, L> {
     /// A port without a seat: no host is logged in.
-    pub fn new(
-        rt: &'a R,
-        kept: &'a Mutex<Kept<D, L>>,
-        desk: &'a Mutex<Desk<L>>,
-    ) -> LockPort<'a, R, D, L>
+    pub fn new(rt: &'a R, array: &'a Mutex<A>, desk: &'a Mutex<Desk<L>>) -> LockPort<'a, R, A, L>
         ensures { result ≡ None }
     {
         LockPort {
             rt,
-            kept,
+            array,
             desk,
             seat: None,
         }
@@ -60,15 +55,15 @@ impl<'a, R: Wait, D: Disk + Drop, L: Ledger> LockPort<'a, R, D, L> {
     }
 }
 
-impl<'a, R: Wait, D: Disk + Drop, L: Ledger> Port for LockPort<'a, R, D, L> {
+impl<'a, R: Wait, A: ServedArray<L> + Drop, L: Ledger> Port for LockPort<'a, R, A, L> {
     ghost use Rattle.std.specs.Prelude.{is_some};
-    ghost use Rattle.ar_sessions.specs.Port.{TakesSeat, AsksKept};
+    ghost use Rattle.ar_sessions.specs.Port.{TakesSeat, AsksSeat};
 
     ghost has_login = { λ port. is_some port };
 
     ghost logins = { λ old host answer new. TakesSeat old host answer new };
 
-    ghost commands = { λ old lun cdb payload reply new. AsksKept old lun cdb payload reply new };
+    ghost commands = { λ old lun cdb payload reply new. AsksSeat A.asks old lun cdb payload reply new };
 
     fn login(&mut self, host: u8) -> Login {
         let Some(host) = Host::new(host) else {
@@ -85,44 +80,43 @@ impl<'a, R: Wait, D: Disk + Drop, L: Ledger> Port for LockPort<'a, R, D, L> {
 
     fn command(&mut self, lun: u8, cdb: &[u8; 16], payload: Bytes) -> Reply {
         match &mut self.seat {
-            Some(seat) => ask_counted(self.rt, self.kept, self.desk, seat, lun, cdb, payload),
+            Some(seat) => ask_counted(self.rt, self.array, self.desk, seat, lun, cdb, payload),
             None => unreachable!(),
         }
     }
 }
 
 // Executes a command, and then counts it at the desk.
-fn ask_counted<R: Wait, D: Disk + Drop, L: Ledger>(
+fn ask_counted<R: Wait, A: ServedArray<L> + Drop, L: Ledger>(
     rt: &R,
-    kept: &Mutex<Kept<D, L>>,
+    array: &Mutex<A>,
     desk: &Mutex<Desk<L>>,
     seat: &mut Seat<L>,
     lun: u8,
     cdb: &[u8; 16],
     payload: Bytes,
 ) -> Reply
-    ensures moment { AtOneMoment seat.old lun cdb.now payload result seat.new }
+    ensures asks { A.asks seat.old lun cdb.now payload result seat.new }
     ensures reply { IsReply result }
 {
     let host = seat.host();
     let sent = payload.len();
-    let reply = ask_kept(rt, kept, seat, lun, cdb, payload);
+    let reply = ask_locked(rt, array, seat, lun, cdb, payload);
     desk.lock(rt).count(host, sent, &reply);
     reply
 }
 
 // Executes a command under the lock.
-fn ask_kept<R: Wait, D: Disk + Drop, L: Ledger>(
+fn ask_locked<R: Wait, A: ServedArray<L> + Drop, L: Ledger>(
     rt: &R,
-    kept: &Mutex<Kept<D, L>>,
+    array: &Mutex<A>,
     seat: &mut Seat<L>,
     lun: u8,
     cdb: &[u8; 16],
     payload: Bytes,
 ) -> Reply
-    ensures moment { AtOneMoment seat.old lun cdb.now payload result seat.new }
+    ensures asks { A.asks seat.old lun cdb.now payload result seat.new }
     ensures reply { IsReply result }
 {
-    let served = kept.lock(rt).host(seat, lun, *cdb, payload);
-    served.reply
+    array.lock(rt).ask(seat, lun, cdb, payload)
 }

@@ -7,13 +7,12 @@ ghost use Rattle.ar_cache.specs.Backing.{InTurn};
 ghost use Rattle.ar_sessions.specs.Ends.{IsServedOver, IsPromised, GivesBack, LeavesOff, IsBegun, Becomes, ConnectionEnds, EndOf};
 
 use crate::notes::{note_end, note_start};
-use crate::{Desk, Door, LockPort, Receipt, run_background};
-use ar_disks::Disk;
+use crate::{Desk, Door, LockPort, MaintainedArray, Receipt, ServedArray, run_background};
 use ar_frames::{EndReason, Gate, SessionEnd, Sink, Source, serve_gated};
-use ar_history::Kept;
 use log::Log;
 use std::alloc::Global;
 use std::collections::VecDeque;
+use std::marker::PhantomData;
 use std::snapshot::Snapshot;
 use std::sync::atomic::{AtomicBool, Ordering};
 use std::sync::ledger::Ledger;
@@ -37,48 +36,42 @@ pub struct NoMemory;
 
 /// The state that all sessions share.
 #[derive(Drop)]
-pub struct Shared<'a, R: Wait, D: Disk + Drop, L: Ledger, G: Gate> {
+pub struct Shared<'a, R: Wait, A: Drop, L: Ledger, G: Gate> {
     pub rt: &'a R,
     pub alloc: Global,
-    pub kept: &'a Mutex<Kept<D, L>>,
+    pub array: &'a Mutex<A>,
     pub desk: &'a Mutex<Desk<L>>,
     pub gate: &'a G,
 }
 
 /// A connection, with the state that its session shares with the others.
 #[derive(Drop)]
-pub struct Connection<
-    'a,
-    R: Wait,
-    D: Disk + Drop,
-    L: Ledger,
-    G: Gate,
-    S: Source + Drop,
-    W: Sink + Drop,
-> {
-    shared: &'a Shared<'a, R, D, L, G>,
+pub struct Connection<'a, R: Wait, A: Drop, L: Ledger, G: Gate, S: Source + Drop, W: Sink + Drop> {
+    shared: &'a Shared<'a, R, A, L, G>,
     // Its number among all connections, from 1.
     number: u64,
     reader: S,
     writer: W,
 }
 
-// The promise of a session's thread: it returns the end of a session over these streams, in the states in which it was
-// given them, and the receipt for the session's seat.
+// The promise of a session's thread: it returns the end of a session at an array `A` over these streams, in the states in
+// which it was given them, and the receipt for the session's seat.
 #[derive(Drop)]
-struct AsServed<S: Source, W: Sink> {
+struct AsServed<A, L, S: Source, W: Sink> {
+    of: PhantomData<(A, L)>,
     reader: Snapshot<S>,
     writer: Snapshot<W>,
 }
 
-impl<S: Source, W: Sink> Promise<(SessionEnd, Option<Receipt>)> for AsServed<S, W> {
+impl<A: ServedArray<L>, L: Ledger, S: Source, W: Sink> Promise<(SessionEnd, Option<Receipt>)>
+    for AsServed<A, L, S, W> {
     ghost use Rattle.ar_sessions.specs.Ends.{GivesBack};
 
-    ghost kept_by = { λ promise ended. GivesBack (S.state promise.reader.value) (W.state promise.writer.value) ended.0 ended.1 };
+    ghost kept_by = { λ promise ended. GivesBack A.asks (S.state promise.reader.value) (W.state promise.writer.value) ended.0 ended.1 };
 }
 
 // The handle of a session's thread.
-type Handle<S, W> = PromisedHandle<(SessionEnd, Option<Receipt>), AsServed<S, W>>;
+type Handle<A, L, S, W> = PromisedHandle<(SessionEnd, Option<Receipt>), AsServed<A, L, S, W>>;
 
 // A connection that has a thread, couldn't be opened, or got no thread.
 #[derive(Drop)]
@@ -105,7 +98,7 @@ struct JoinList<H> {
 /// unchanged.
 pub fn run_sessions<
     R: Threads + Wait + Clock + Log + Sync,
-    D: Disk + Drop + Send,
+    A: ServedArray<L> + Drop + Send,
     L: Ledger + Send + Sync,
     O: Door + Drop,
     G: Gate + Sync,
@@ -113,14 +106,14 @@ pub fn run_sessions<
     rt: &R,
     alloc: Global,
     door: O,
-    kept: &Mutex<Kept<D, L>>,
+    array: &Mutex<A>,
     desk: &Mutex<Desk<L>>,
     gate: &G,
 ) -> (O, Result<Vec<ConnectionEnd>, NoMemory>)
     ensures count { IfOk result.1 (λ ends. vec_len ends ≡ O.to_come door) }
     // One end for each connection, in the order in which the door opened them, or couldn't.
     ensures ends { IfOk result.1 (λ ends.
-        InTurn (ConnectionEnds O.opens (IsServedOver O.Reader.state O.Writer.state)) ends.items door result.0) }
+        InTurn (ConnectionEnds O.opens (IsServedOver A.asks O.Reader.state O.Writer.state)) ends.items door result.0) }
     ensures opened { OnOk result.1 (O.to_come result.0 ≡ 0) }
     ensures refused { OnErr result.1 (result.0 ≡ door) }
 {
@@ -130,7 +123,7 @@ pub fn run_sessions<
     let state = Shared {
         rt,
         alloc,
-        kept,
+        array,
         desk,
         gate,
     };
@@ -142,7 +135,7 @@ pub fn run_sessions<
             requires { O.to_come door ≡ join_list.left }
             ensures { (O.to_come result.0 ≡ 0)
                 × (vec_len result.1 ≡ join_list.left)
-                × InTurn (ConnectionEnds O.opens (IsServedOver O.Reader.state O.Writer.state)) result.1.items door result.0 }
+                × InTurn (ConnectionEnds O.opens (IsServedOver A.asks O.Reader.state O.Writer.state)) result.1.items door result.0 }
         {
             let mut door = door;
             let ends = serve_all(scope, shared, &mut door, join_list);
@@ -156,7 +149,7 @@ pub fn run_sessions<
 /// `NoMemory`, which also means that this thread couldn't be started, no connection was opened.
 pub fn run_beside_background<
     R: Threads + Wait + Clock + Log + Sync,
-    D: Disk + Drop + Send,
+    A: ServedArray<L> + MaintainedArray + Drop + Send,
     L: Ledger + Send + Sync,
     O: Door + Drop,
     G: Gate + Sync,
@@ -164,14 +157,14 @@ pub fn run_beside_background<
     rt: &R,
     alloc: Global,
     door: O,
-    kept: &Mutex<Kept<D, L>>,
+    array: &Mutex<A>,
     desk: &Mutex<Desk<L>>,
     gate: &G,
 ) -> (O, Result<Vec<ConnectionEnd>, NoMemory>)
     ensures count { IfOk result.1 (λ ends. vec_len ends ≡ O.to_come door) }
     // One end for each connection, in the order in which the door opened them, or couldn't.
     ensures ends { IfOk result.1 (λ ends.
-        InTurn (ConnectionEnds O.opens (IsServedOver O.Reader.state O.Writer.state)) ends.items door result.0) }
+        InTurn (ConnectionEnds O.opens (IsServedOver A.asks O.Reader.state O.Writer.state)) ends.items door result.0) }
     ensures opened { OnOk result.1 (O.to_come result.0 ≡ 0) }
     ensures refused { OnErr result.1 (result.0 ≡ door) }
 {
@@ -182,14 +175,14 @@ pub fn run_beside_background<
         rt,
         move |scope| -> (O, Result<Vec<ConnectionEnd>, NoMemory>)
             ensures { IfOk result.1 (λ ends. (vec_len ends ≡ O.to_come door)
-                × InTurn (ConnectionEnds O.opens (IsServedOver O.Reader.state O.Writer.state)) ends.items door result.0)
+                × InTurn (ConnectionEnds O.opens (IsServedOver A.asks O.Reader.state O.Writer.state)) ends.items door result.0)
                 × OnOk result.1 (O.to_come result.0 ≡ 0)
                 × OnErr result.1 (result.0 ≡ door) }
         {
-            let Ok(_worker) = scope.spawn(move || run_background(rt, kept, flag)) else {
+            let Ok(_worker) = scope.spawn(move || run_background(rt, array, flag)) else {
                 return (door, Err(NoMemory));
             };
-            let served = run_sessions(rt, alloc, door, kept, desk, gate);
+            let served = run_sessions(rt, alloc, door, array, desk, gate);
             flag.store(true, Ordering::SeqCst);
             served
         },
@@ -201,22 +194,22 @@ fn serve_all<
     's,
     E,
     R: Threads + Wait + Clock + Log + Sync,
-    D: Disk + Drop + Send,
+    A: ServedArray<L> + Drop + Send,
     L: Ledger + Send + Sync,
     O: Door,
     G: Gate + Sync,
 >(
     scope: &'s Scope<'s, E>,
-    shared: &'s Shared<'s, R, D, L, G>,
+    shared: &'s Shared<'s, R, A, L, G>,
     door: &mut O,
-    join_list: JoinList<Handle<O::Reader, O::Writer>>,
+    join_list: JoinList<Handle<A, L, O::Reader, O::Writer>>,
 ) -> Vec<ConnectionEnd>
 where
     O::Reader: 's,
     O::Writer: 's,
     requires { O.to_come door.old ≡ join_list.left }
     ensures count { vec_len result ≡ join_list.left }
-    ensures ends { InTurn (ConnectionEnds O.opens (IsServedOver O.Reader.state O.Writer.state)) result.items door.old door.new }
+    ensures ends { InTurn (ConnectionEnds O.opens (IsServedOver A.asks O.Reader.state O.Writer.state)) result.items door.old door.new }
     ensures opened { O.to_come door.new ≡ 0 }
 {
     let JoinList {
@@ -236,23 +229,23 @@ fn open_next<
     's,
     E,
     R: Threads + Wait + Clock + Log + Sync,
-    D: Disk + Drop + Send,
+    A: ServedArray<L> + Drop + Send,
     L: Ledger + Send + Sync,
     O: Door,
     G: Gate + Sync,
 >(
     scope: &'s Scope<'s, E>,
-    shared: &'s Shared<'s, R, D, L, G>,
+    shared: &'s Shared<'s, R, A, L, G>,
     number: u64,
     door: &mut O,
-) -> Pending<Handle<O::Reader, O::Writer>>
+) -> Pending<Handle<A, L, O::Reader, O::Writer>>
 where
     O::Reader: 's,
     O::Writer: 's,
     requires { 0 < O.to_come door.old }
     ensures count { O.to_come door.new + 1 ≡ O.to_come door.old }
-    ensures becomes { Becomes O.opens (λ handle. IsPromised O.Reader.state O.Writer.state handle.promise)
-        (IsServedOver O.Reader.state O.Writer.state) door.old result door.new }
+    ensures becomes { Becomes O.opens (λ handle. IsPromised A.asks O.Reader.state O.Writer.state handle.promise)
+        (IsServedOver A.asks O.Reader.state O.Writer.state) door.old result door.new }
 {
     let Some((reader, writer)) = door.accept() else {
         return Pending::Unopened;
@@ -263,7 +256,7 @@ where
         reader,
         writer,
     };
-    begin::<E, R, D, L, O, G, O::Reader, O::Writer>(scope, connection)
+    begin::<E, R, A, L, O, G, O::Reader, O::Writer>(scope, connection)
 }
 
 // Starts the thread of a door's connection.
@@ -271,23 +264,27 @@ fn begin<
     's,
     E,
     R: Wait + Clock + Log + Sync,
-    D: Disk + Drop + Send,
+    A: ServedArray<L> + Drop + Send,
     L: Ledger + Send + Sync,
     O: Door<Reader = S, Writer = W>,
     G: Gate + Sync,
     S: Source + Send + Drop + 's,
     W: Sink + Send + Drop + 's,
->(scope: &'s Scope<'s, E>, connection: Connection<'s, R, D, L, G, S, W>) -> Pending<Handle<S, W>>
+>(
+    scope: &'s Scope<'s, E>,
+    connection: Connection<'s, R, A, L, G, S, W>,
+) -> Pending<Handle<A, L, S, W>>
     requires one { O.are_one connection.reader connection.writer ≡ true }
     ensures begun { IsBegun (λ handle. (handle.promise.reader.value ≡ connection.entry.reader)
         × (handle.promise.writer.value ≡ connection.entry.writer)) result }
 {
-    let promise = AsServed {
+    let promise = AsServed::<A, L, S, W> {
+        of: PhantomData,
         reader: Snapshot::of(&connection.reader),
         writer: Snapshot::of(&connection.writer),
     };
     let session = move || -> (SessionEnd, Option<Receipt>)
-        ensures { GivesBack (S.state connection.entry.reader) (W.state connection.entry.writer) result.0 result.1 }
+        ensures { GivesBack A.asks (S.state connection.entry.reader) (W.state connection.entry.writer) result.0 result.1 }
     {
         let (end, receipt, _reader, _writer) = connection.serve_logged();
         (end, receipt)
@@ -299,15 +296,15 @@ fn begin<
 }
 
 // Joins the threads, in order.
-fn join_all<R: Threads, S: Source, W: Sink>(
+fn join_all<R: Threads, A: ServedArray<L>, L: Ledger, S: Source, W: Sink>(
     rt: &R,
-    mut pending: VecDeque<Pending<Handle<S, W>>>,
+    mut pending: VecDeque<Pending<Handle<A, L, S, W>>>,
     mut ends: Vec<ConnectionEnd>,
 ) -> Vec<ConnectionEnd>
     requires none { vec_len ends ≡ 0 }
     requires room { deque_len pending ≤ vec_capacity ends }
     ensures count { vec_len result ≡ deque_len pending }
-    ensures order { AllZip (EndOf (λ handle. IsPromised S.state W.state handle.promise)) pending.items result.items }
+    ensures order { AllZip (EndOf (λ handle. IsPromised A.asks S.state W.state handle.promise)) pending.items result.items }
 {
     while let Some(next) = pending.pop_front() {
         ends.push_reserved(end_of(rt, next));
@@ -316,8 +313,11 @@ fn join_all<R: Threads, S: Source, W: Sink>(
 }
 
 // Waits for the end of a connection.
-fn end_of<R: Threads, S: Source, W: Sink>(rt: &R, pending: Pending<Handle<S, W>>) -> ConnectionEnd
-    ensures { EndOf (λ handle. IsPromised S.state W.state handle.promise) pending result }
+fn end_of<R: Threads, A: ServedArray<L>, L: Ledger, S: Source, W: Sink>(
+    rt: &R,
+    pending: Pending<Handle<A, L, S, W>>,
+) -> ConnectionEnd
+    ensures { EndOf (λ handle. IsPromised A.asks S.state W.state handle.promise) pending result }
 {
     match pending {
         Pending::Served(handle) => {
@@ -354,19 +354,19 @@ impl<H: Drop> JoinList<H> {
 impl<
     'a,
     R: Wait + Clock + Log,
-    D: Disk + Drop,
+    A: ServedArray<L> + Drop,
     L: Ledger,
     G: Gate,
     S: Source + Drop,
     W: Sink + Drop,
-> Connection<'a, R, D, L, G, S, W> {
+> Connection<'a, R, A, L, G, S, W> {
     /// A connection of a number, from 1.
     pub fn new(
-        shared: &'a Shared<'a, R, D, L, G>,
+        shared: &'a Shared<'a, R, A, L, G>,
         number: u64,
         reader: S,
         writer: W,
-    ) -> Connection<'a, R, D, L, G, S, W>
+    ) -> Connection<'a, R, A, L, G, S, W>
         ensures { (result.reader ≡ reader) × (result.writer ≡ writer) }
     {
         Connection {
@@ -379,7 +379,7 @@ impl<
 
     /// Serves the connection's session as `serve` does, and logs its start and its end.
     pub fn serve_logged(self) -> (SessionEnd, Option<Receipt>, S, W)
-        ensures { LeavesOff (S.state self.entry.reader) (S.state result.2) (W.state self.entry.writer) (W.state result.3) result.0 result.1 }
+        ensures { LeavesOff A.asks (S.state self.entry.reader) (S.state result.2) (W.state self.entry.writer) (W.state result.3) result.0 result.1 }
     {
         let (rt, number) = (self.shared.rt, self.number);
         let began = note_start(rt, number);
@@ -391,7 +391,7 @@ impl<
     // Serves the connection's session, and returns its seat to the desk for a receipt. The streams are returned as the
     // session left them, so that they are dropped, and so closed, only once the seat is back.
     fn run_session(self) -> (SessionEnd, Option<Receipt>, S, W)
-        ensures { LeavesOff (S.state self.entry.reader) (S.state result.2) (W.state self.entry.writer) (W.state result.3) result.0 result.1 }
+        ensures { LeavesOff A.asks (S.state self.entry.reader) (S.state result.2) (W.state self.entry.writer) (W.state result.3) result.0 result.1 }
     {
         let Connection {
             shared,
@@ -399,7 +399,7 @@ impl<
             mut reader,
             mut writer,
         } = self;
-        let mut port = LockPort::new(shared.rt, shared.kept, shared.desk);
+        let mut port = LockPort::new(shared.rt, shared.array, shared.desk);
         let end = serve_gated(
             shared.alloc,
             &mut reader,

@@ -1,5 +1,4 @@
 use Rattle.std.proofs.Common.{rules, refl}
-use Rattle.ar_sessions.proofs.Asking.{enters}
 use Rattle.ar_sessions.proofs.port.LockPortPort.command.Goals as goal
 
 pub returns-clause-command : goal.returns-clause-command
@@ -8,6 +7,5 @@ returns-clause-command g c = record {
   after = c.ask_counted.new.seat;
   held = search rules;
   kept = refl;
-  moment = c.ask_counted.ensures.moment;
-  entry = enters _ _ _ _ _ _ c.ask_counted.ensures.moment;
+  asked = c.ask_counted.ensures.asks;
 }
