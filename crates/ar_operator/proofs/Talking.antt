@@ -15,7 +15,7 @@ use Rattle.ar_operator.specs.declared.conversation.LineResult.TheVariants.{Answe
 use Rattle.ar_operator.specs.Controller.{OperatorAnswers}
 use Rattle.ar_operator.specs.Lines.{KeepsLine, LineIsRead, seen_behind}
 use Rattle.ar_operator.proofs.Coming.{piece_empty}
-use Rattle.ar_operator.specs.Talk.{ClosesTalk, OperatorTalk, Converses, HasTalked, ReadsBytes, Replies, LineIsAnswered, line_result_by, ConversationState, RespondsToLine, Talks, NextIsAnswered}
+use Rattle.ar_operator.specs.Talk.{ClosesTalk, OperatorTalk, Converses, HasTalked, ReadsBytes, Replies, LineIsAnswered, line_result_by, ConversationState, LeavesOpen, RespondsToLine, Talks, NextIsAnswered, is_unreadable, line_result_behind}
 
 -- what is kept of a line's bytes says what they are read as
 kept : (line text : List ℕ) (fault : Option FaultKind) (read : Result (Option OperatorOrder) LineFault) → KeepsLine line text fault
@@ -37,12 +37,14 @@ module _ {C : Type 0} (answers : OperatorAnswers C) where
     sending = replies.sending;
   }
 
-  -- a line that was read and answered
-  pub next_is_answered : (source source' : SourceState) (sink sink' : SinkState) (old new : C) (text : List ℕ) (fault : Option FaultKind) (result : LineResult)
+  -- a line that was read and answered, and whether the conversation goes on
+  next_is_answered : (source source' : SourceState) (sink sink' : SinkState) (old new : C) (text : List ℕ) (fault : Option FaultKind) (result : LineResult)
       → LineIsRead source text fault source' → LineIsAnswered answers fault text old sink result new sink'
-      → NextIsAnswered answers (record { source = source; sink = sink; controller = old }) result (record { source = source'; sink = sink'; controller = new })
+      → NextIsAnswered answers (record { source = source; sink = sink; controller = old }) (line_result_behind (is_unreadable fault) result)
+      (record { source = source'; sink = sink'; controller = new })
   next_is_answered source source' sink sink' old new text fault result comes answered =
-      subst (λ t. NextIsAnswered answers before t after) (sym answered.result_is) (at answered.stop answered.sent (line_is answered.stop answered.sent answered.replies))
+      subst (λ t. NextIsAnswered answers before (line_result_behind (is_unreadable fault) t) after) (sym answered.result_is)
+      (at (is_unreadable fault) (ap is_unreadable comes.tells.fault_is) answered.stop answered.sent (line_is answered.stop answered.sent answered.replies))
     where
       before : ConversationState C
       before = record { source = source; sink = sink; controller = old }
@@ -56,16 +58,34 @@ module _ {C : Type 0} (answers : OperatorAnswers C) where
         replies = replies_kept comes.line text fault old new sink sink' stop sent comes.tells replies;
       }
 
-      at : (stop : Bool) (sent : Sent) → RespondsToLine answers before comes.line stop sent after → NextIsAnswered answers before (line_result_by stop sent) after
-      at true Whole responds = record { line = comes.line; responds = responds }
-      at false Whole responds = (comes.line, responds)
-      at true (Part n) responds = record { line = comes.line; stop = true; count = n; responds = responds }
-      at false (Part n) responds = record { line = comes.line; stop = false; count = n; responds = responds }
+      at : (unreadable : Bool) → is_unreadable (line_fault comes.line) ≡ unreadable → (stop : Bool) (sent : Sent)
+          → RespondsToLine answers before comes.line stop sent after
+          → NextIsAnswered answers before (line_result_behind unreadable (line_result_by stop sent)) after
+      at true is true Whole responds = record { line = comes.line; responds = responds }
+      at false is true Whole responds = record { line = comes.line; responds = responds }
+      at true is false Whole responds = record { line = comes.line; unreadable = is; responds = responds }
+      at false is false Whole responds = (comes.line, record { responds = responds; is_text = is })
+      at true is true (Part n) responds = record { line = comes.line; stop = true; count = n; responds = responds }
+      at false is true (Part n) responds = record { line = comes.line; stop = true; count = n; responds = responds }
+      at true is false (Part n) responds = record { line = comes.line; stop = false; count = n; responds = responds }
+      at false is false (Part n) responds = record { line = comes.line; stop = false; count = n; responds = responds }
+
+  -- the same, with the result by its equation
+  pub next_behind : (source source' : SourceState) (sink sink' : SinkState) (old new : C) (text : List ℕ) (fault : Option FaultKind) (result ended : LineResult)
+      → LineIsRead source text fault source' → LineIsAnswered answers fault text old sink result new sink'
+      → ended ≡ line_result_behind (is_unreadable fault) result
+      → NextIsAnswered answers (record { source = source; sink = sink; controller = old }) ended
+      (record { source = source'; sink = sink'; controller = new })
+  next_behind source source' sink sink' old new text fault result ended comes answered is =
+      let before : ConversationState C = record { source = source; sink = sink; controller = old } in
+      let after : ConversationState C = record { source = source'; sink = sink'; controller = new } in
+      subst (λ r. NextIsAnswered answers before r after) (sym is)
+      (next_is_answered source source' sink sink' old new text fault result comes answered)
 
   -- one more line
   talks_more : (lines : List (List ℕ)) (line : List ℕ) (old middle new : ConversationState C) → Talks answers old lines middle
-      → RespondsToLine answers middle line false Whole new → Talks answers old (lines ++ line ∷ []) new
-  talks_more [] line old middle new talks responds = (new, subst (λ p. RespondsToLine answers p line false Whole new) talks responds, refl)
+      → LeavesOpen answers middle line new → Talks answers old (lines ++ line ∷ []) new
+  talks_more [] line old middle new talks responds = (new, subst (λ p. LeavesOpen answers p line new) talks responds, refl)
   talks_more (first ∷ lines) line old middle new talks responds = (talks.0, talks.1, talks_more lines line talks.0 middle new talks.2 responds)
 
   pub talked_none : (place : ConversationState C) → HasTalked answers place 0 place

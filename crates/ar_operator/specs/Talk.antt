@@ -72,6 +72,16 @@ pub record Replies {C : Type 0} (answers : OperatorAnswers C) (fault : Option Fa
   pub responds : RespondsToBytes answers fault text old answer stop new
   pub sending : Sending sink sink' answer sent
 
+-- whether a line isn't text: its bytes have a fault
+abbrev pub is_unreadable : Option FaultKind → Bool
+is_unreadable None = false
+is_unreadable (Some kind) = true
+
+-- after a line that isn't text, the conversation doesn't go on
+abbrev pub line_result_behind : Bool → LineResult → LineResult
+line_result_behind true Answered = Ended ends.BadLine
+line_result_behind unreadable result = result
+
 -- what becomes of the conversation after a line
 abbrev pub line_result_by : Bool → Sent → LineResult
 line_result_by stop (Part n) = Ended ends.Write
@@ -110,10 +120,15 @@ pub record RespondsToLine {C : Type 0} (answers : OperatorAnswers C) (old : Conv
   pub takes : TakesLine old.source new.source line
   pub replies : Replies answers (line_fault line) line old.controller old.sink stop sent new.controller new.sink
 
--- These lines were read and answered whole, one after another, none of them with `stop`.
+-- a line of text was read and answered whole, and it wasn't `stop`
+pub record LeavesOpen {C : Type 0} (answers : OperatorAnswers C) (old : ConversationState C) (line : List ℕ) (new : ConversationState C) : Type 0 where
+  pub responds : RespondsToLine answers old line false Whole new
+  pub is_text : is_unreadable (line_fault line) ≡ false
+
+-- These lines of text were read and answered whole, one after another, none of them with `stop`.
 abbrev pub Talks : {C : Type 0} → OperatorAnswers C → ConversationState C → List (List ℕ) → ConversationState C → Type 0
 Talks answers old [] new = new ≡ old
-Talks {C = C} answers old (line ∷ lines) new = (middle : ConversationState C) × RespondsToLine answers old line false Whole middle × Talks answers middle lines new
+Talks {C = C} answers old (line ∷ lines) new = (middle : ConversationState C) × LeavesOpen answers old line middle × Talks answers middle lines new
 
 -- this many lines were
 pub record HasTalked {C : Type 0} (answers : OperatorAnswers C) (old : ConversationState C) (count : ℕ) (new : ConversationState C) : Type 0 where
@@ -138,10 +153,17 @@ pub record IsAnswerCut {C : Type 0} (answers : OperatorAnswers C) (old new : Con
   pub count : ℕ
   pub responds : RespondsToLine answers old line stop (Part count) new
 
+-- the last line was not text, and was answered by its fault
+pub record IsEndedByLine {C : Type 0} (answers : OperatorAnswers C) (old new : ConversationState C) : Type 0 where
+  pub line : List ℕ
+  pub unreadable : is_unreadable (line_fault line) ≡ true
+  pub responds : RespondsToLine answers old line false Whole new
+
 -- how a conversation ends
 abbrev pub ClosesTalk : {C : Type 0} → OperatorAnswers C → ConversationState C → OperatorEnd → ConversationState C → Type 0
 ClosesTalk answers old ends.End new = Reading old.source new.source [] false × IsAtEnd new.source.left × IsSilent old new
 ClosesTalk answers old ends.Stop new = IsStoppedByOrder answers old new
+ClosesTalk answers old ends.BadLine new = IsEndedByLine answers old new
 ClosesTalk answers old ends.Read new = TakesPart old.source new.source true × IsSilent old new
 ClosesTalk answers old ends.Write new = IsAnswerCut answers old new
 ClosesTalk answers old ends.Bound new = TakesPart old.source new.source false × IsSilent old new
@@ -149,11 +171,11 @@ ClosesTalk answers old ends.NoMemory new = new ≡ old
 
 -- one more line was answered, or the conversation ended
 abbrev pub NextIsAnswered : {C : Type 0} → OperatorAnswers C → ConversationState C → LineResult → ConversationState C → Type 0
-NextIsAnswered answers old Answered new = (line : List ℕ) × RespondsToLine answers old line false Whole new
+NextIsAnswered answers old Answered new = (line : List ℕ) × LeavesOpen answers old line new
 NextIsAnswered answers old (Ended end) new = ClosesTalk answers old end new
 
 -- A conversation: lines of the input were given to the controller, each once and in order, and their answers written,
--- in order; and then its end line_read.
+-- in order; and then it ended so.
 pub record Converses {C : Type 0} (answers : OperatorAnswers C) (old : ConversationState C) (end : OperatorEnd) (new : ConversationState C) : Type 0 where
   pub lines : List (List ℕ)
   pub few : length lines ≤ 1000000

@@ -2,7 +2,7 @@
 ghost use Rattle.std.specs.Prelude.{◌≡◌, ◌⊎◌, [], false, Ok, IfOk, IfSome};
 ghost use Rattle.ar_operator.specs.Lines.{seen_behind};
 ghost use Rattle.ar_operator.specs.Orders.{IsOperatorOrder};
-ghost use Rattle.ar_operator.specs.Talk.{OperatorTalk, Converses, ExecutesOrder, ReadsBytes, RespondsToBytes, RespondsToRead, LineIsAnswered, NextIsAnswered, fault_answer, is_stop, ends_service, response_bytes, line_result_by, no_memory};
+ghost use Rattle.ar_operator.specs.Talk.{OperatorTalk, Converses, ExecutesOrder, ReadsBytes, RespondsToBytes, RespondsToRead, LineIsAnswered, NextIsAnswered, fault_answer, is_stop, is_unreadable, ends_service, line_result_behind, response_bytes, line_result_by, no_memory};
 
 use crate::input::{Line, LineRead, Piece, read_line};
 use crate::{Controller, LineFault, OperatorOrder, operator_order_in};
@@ -24,6 +24,8 @@ pub enum OperatorEnd {
     End,
     /// `stop` was accepted. It has no answer yet.
     Stop,
+    /// A line had more than 4,096 bytes, or one that isn't printable ASCII, as each line of HTTP has. It was answered.
+    BadLine,
     /// A read faulted.
     Read,
     /// A write faulted.
@@ -37,7 +39,9 @@ pub enum OperatorEnd {
 /// Reads lines, answers each through the controller, and writes the answers. A line with a fault is answered by its
 /// text, as `fault: unknown word`; an empty line and one that begins with `#` have no answer. A line has at most 4,096
 /// bytes without its LF, all of them printable ASCII; the last one may lack its LF. It allocates a buffer for the line
-/// at the start, and one for answers; if an answer can't be allocated, `fault: no memory` is written in its place.
+/// at the start, and one for answers; if an answer can't be allocated, `fault: no memory` is written in its place. A
+/// line that is too long or has another byte ends the conversation. Each line of HTTP's ends with CR, so that no web page
+/// can have a browser send orders.
 pub fn converse<R: Source, W: Sink, C: Controller>(
     alloc: Global,
     reader: &mut R,
@@ -106,10 +110,23 @@ fn answer_next<R: Source, W: Sink, C: Controller>(
         (record { source = seen_behind piece.new (R.state reader.new); sink = W.state writer.new; controller = controller.new }) }
 {
     match read_line(reader, piece, line) {
-        LineRead::Line => answer_line(writer, controller, line, answer),
+        LineRead::Line => {
+            let result = answer_line(writer, controller, line, answer);
+            result_behind(line, result)
+        }
         LineRead::End => LineResult::Ended(OperatorEnd::End),
         LineRead::Fault => LineResult::Ended(OperatorEnd::Read),
         LineRead::Endless => LineResult::Ended(OperatorEnd::Bound),
+    }
+}
+
+// What becomes of the conversation after a line with this result: it ends after one that isn't text.
+fn result_behind(line: &Line, answered: LineResult) -> LineResult
+    ensures { result ≡ line_result_behind (is_unreadable line.now.fault) answered }
+{
+    match answered {
+        LineResult::Answered if line.is_unreadable() => LineResult::Ended(OperatorEnd::BadLine),
+        _ => answered,
     }
 }
 

@@ -1,20 +1,16 @@
-// An operator's order on a kept array: an action is exactly one event, a query changes nothing. The answer is written by
-// the functions that scripts use.
-ghost use Rattle.std.specs.Prelude.{◌≡◌, ◌++◌, IfOk, OnErr, length};
-ghost use Rattle.ar_history.specs.Kept.{StaysKept, history_entry};
-ghost use Rattle.ar_history.specs.Operations.{Does, event_of};
-ghost use Rattle.ar_script.specs.Orders.{event_in};
+// An operator's order on an array with its history: an action is exactly one event, a query changes nothing. The answer
+// is written by the functions that scripts use.
+ghost use Rattle.std.specs.Prelude.{◌≡◌, IfOk, OnErr, length};
 ghost use Rattle.ar_script.specs.Setups.{new_disk, new_disk_for};
 ghost use Rattle.ar_operator.specs.Orders.{IsOperatorAction};
 ghost use Rattle.ar_operator.specs.Executing.{Executes, IsArrayOrder, Operated};
 
-use ar_core::{Array, NewDisk, Outcome, OutcomeOf};
+use ar_core::{Array, Outcome, OutcomeOf};
 use ar_disks::{Disk, Geometry};
-use ar_history::{Kept, Operation, OperationOf, Task};
+use ar_history::{RecordedArray, Task};
 use ar_language::{Action, Order};
 use ar_script::{write_answer, write_outcome};
 use std::alloc::{AllocError, Global};
-use std::sync::ledger::Ledger;
 
 // Bytes that the line of an outcome has at most. They are reserved before an action is begun, so that it isn't done
 // without its answer.
@@ -38,90 +34,98 @@ pub trait DiskMaker<D: Disk> {
 
 /// Executes an order on the array and appends its answer to `out`, as a script has it. If it fails, nothing is done, and
 /// the bytes appended are unspecified.
-pub fn execute<D: Disk + Drop, L: Ledger, M: DiskMaker<D>>(
+pub fn execute<D: Disk + Drop, A: RecordedArray<D>, M: DiskMaker<D>>(
     alloc: Global,
-    kept: &mut Kept<D, L>,
+    array: &mut A,
     disks: &mut M,
     order: Order,
     out: &mut Vec<u8>,
 ) -> Result<(), AllocError>
     requires allowed { IsArrayOrder order }
-    ensures { Executes order kept.old out.old.items result out.new.items kept.new }
+    ensures { Executes order (A.state array.old) out.old.items result out.new.items (A.state array.new) }
 {
     match order {
-        Order::Act(action) => execute_action(alloc, kept, disks, action, out),
+        Order::Act(action) => execute_action(alloc, array, disks, action, out),
         Order::Ask(question) => {
-            write_answer(alloc, kept.array(), question, out).map_err(|_| AllocError)
+            write_answer(alloc, array.array(), question, out).map_err(|_| AllocError)
         }
     }
 }
 
-fn execute_action<D: Disk + Drop, L: Ledger, M: DiskMaker<D>>(
+fn execute_action<D: Disk + Drop, A: RecordedArray<D>, M: DiskMaker<D>>(
     alloc: Global,
-    kept: &mut Kept<D, L>,
+    array: &mut A,
     disks: &mut M,
     action: Action,
     out: &mut Vec<u8>,
 ) -> Result<(), AllocError>
     requires allowed { IsOperatorAction action }
-    ensures { Executes (Order.Act action) kept.old out.old.items result out.new.items kept.new }
+    ensures { Executes (Order.Act action) (A.state array.old) out.old.items result out.new.items (A.state array.new) }
 {
     out.reserve(OUTCOME_MAX)?;
-    let outcome = act(alloc, kept, disks, action)?;
+    let outcome = act(alloc, array, disks, action)?;
     write_outcome(out, &outcome, action.notation()).map_err(|_| AllocError)
 }
 
 // Executes an action. If its new disk can't be allocated, it isn't done.
-fn act<D: Disk + Drop, L: Ledger, M: DiskMaker<D>>(
+fn act<D: Disk + Drop, A: RecordedArray<D>, M: DiskMaker<D>>(
     alloc: Global,
-    kept: &mut Kept<D, L>,
+    array: &mut A,
     disks: &mut M,
     action: Action,
 ) -> Result<Outcome<D>, AllocError>
     requires allowed { IsOperatorAction action }
-    ensures done { IfOk result (λ outcome. Operated action outcome kept.old kept.new) }
-    ensures refused { OnErr result (kept.new ≡ kept.old) }
+    ensures done { IfOk result (λ outcome. Operated action outcome (A.state array.old) (A.state array.new)) }
+    ensures refused { OnErr result (A.state array.new ≡ A.state array.old) }
 {
     match action {
-        Action::Make(addr, sectors) => Ok(kept.operate(OperationOf::Make(addr, sectors))),
-        Action::Grow(addr, sectors) => Ok(kept.operate(OperationOf::Grow(addr, sectors))),
-        Action::Remove(addr) => Ok(kept.operate(OperationOf::Remove(addr))),
+        Action::Make(addr, sectors) => Ok(array.make(addr, sectors)),
+        Action::Grow(addr, sectors) => Ok(array.grow(addr, sectors)),
+        Action::Remove(addr) => Ok(array.remove(addr)),
         Action::Command { .. } => unreachable!(),
-        Action::Flush => Ok(kept.background(Task::Flush)),
-        Action::Demote => Ok(kept.background(Task::Demote)),
-        Action::Clean => Ok(kept.background(Task::Clean)),
-        Action::Balance => Ok(kept.background(Task::Balance)),
-        Action::Rebuild => Ok(kept.background(Task::Rebuild)),
-        Action::AddDisk => add(alloc, kept, disks),
-        Action::DiskOut(disk) => Ok(kept.operate(OperationOf::DiskOut(disk))),
-        Action::Replace(number) => replace(alloc, kept, disks, number),
+        Action::Flush => Ok(array.background(Task::Flush)),
+        Action::Demote => Ok(array.background(Task::Demote)),
+        Action::Clean => Ok(array.background(Task::Clean)),
+        Action::Balance => Ok(array.background(Task::Balance)),
+        Action::Rebuild => Ok(array.background(Task::Rebuild)),
+        Action::AddDisk => add(alloc, array, disks),
+        Action::DiskOut(disk) => Ok(array.take_out(disk)),
+        Action::Replace(number) => replace(alloc, array, disks, number),
     }
 }
 
-fn add<D: Disk + Drop, L: Ledger, M: DiskMaker<D>>(
+fn add<D: Disk + Drop, A: RecordedArray<D>, M: DiskMaker<D>>(
     alloc: Global,
-    kept: &mut Kept<D, L>,
+    array: &mut A,
     disks: &mut M,
 ) -> Result<Outcome<D>, AllocError>
-    ensures done { IfOk result (λ outcome. Operated Action.AddDisk outcome kept.old kept.new) }
-    ensures refused { OnErr result (kept.new ≡ kept.old) }
+    ensures done { IfOk result (λ outcome. Operated Action.AddDisk outcome (A.state array.old) (A.state array.new)) }
+    ensures refused { OnErr result (A.state array.new ≡ A.state array.old) }
 {
-    let number = kept.array().disks();
-    let disk = new_disk(alloc, kept.array(), disks, number)?;
-    Ok(operate(kept, disks, OperationOf::AddDisk(disk), number))
+    let number = array.array().disks();
+    let disk = new_disk(alloc, array.array(), disks, number)?;
+    let outcome = array.add_disk(disk);
+    if let OutcomeOf::AddDisk(Ok(())) = &outcome {
+        disks.placed(number);
+    }
+    Ok(outcome)
 }
 
-fn replace<D: Disk + Drop, L: Ledger, M: DiskMaker<D>>(
+fn replace<D: Disk + Drop, A: RecordedArray<D>, M: DiskMaker<D>>(
     alloc: Global,
-    kept: &mut Kept<D, L>,
+    array: &mut A,
     disks: &mut M,
     number: u8,
 ) -> Result<Outcome<D>, AllocError>
-    ensures done { IfOk result (λ outcome. Operated (Action.Replace number) outcome kept.old kept.new) }
-    ensures refused { OnErr result (kept.new ≡ kept.old) }
+    ensures done { IfOk result (λ outcome. Operated (Action.Replace number) outcome (A.state array.old) (A.state array.new)) }
+    ensures refused { OnErr result (A.state array.new ≡ A.state array.old) }
 {
-    let disk = new_disk(alloc, kept.array(), disks, number)?;
-    Ok(operate(kept, disks, OperationOf::Replace(number, disk), number))
+    let disk = new_disk(alloc, array.array(), disks, number)?;
+    let outcome = array.replace(number, disk);
+    if let OutcomeOf::Replace(Ok(())) = &outcome {
+        disks.placed(number);
+    }
+    Ok(outcome)
 }
 
 // A new disk of the array's shape.
@@ -130,27 +134,8 @@ fn new_disk<D: Disk, M: DiskMaker<D>>(
     array: &Array<D>,
     disks: &mut M,
     number: u8,
-) -> Result<NewDisk<D>, AllocError>
-    ensures { IfOk result (λ disk. disk ≡ new_disk_for array.now) }
+) -> Result<D, AllocError>
+    ensures { IfOk result (λ disk. D.state disk ≡ new_disk_for array.now) }
 {
-    let disk = disks.make(alloc, number, array.geometry(), array.extents())?;
-    Ok(NewDisk::new(disk))
-}
-
-// Executes an operation with a new disk. The maker is told if the array takes it.
-fn operate<D: Disk + Drop, L: Ledger, M: DiskMaker<D>>(
-    kept: &mut Kept<D, L>,
-    disks: &mut M,
-    operation: Operation<D>,
-    number: u8,
-) -> Outcome<D>
-    ensures does { Does kept.old.array (event_of operation) result kept.new.array }
-    ensures recorded { kept.new.history ≡ kept.old.history ++ history_entry (event_of operation) result }
-    ensures kept { StaysKept kept.old kept.new }
-{
-    let outcome = kept.operate(operation);
-    if let OutcomeOf::AddDisk(Ok(())) | OutcomeOf::Replace(Ok(())) = &outcome {
-        disks.placed(number);
-    }
-    outcome
+    disks.make(alloc, number, array.geometry(), array.extents())
 }

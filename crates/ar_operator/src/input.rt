@@ -2,6 +2,7 @@
 // longest line takes no more memory than 4,096 bytes.
 ghost use Rattle.std.specs.Prelude.{◌≡◌, ◌≢◌, ◌≤◌, ◌++◌, ◌∷◌, [], ℕ, List, Some, None, MatchResult, length, vec_capacity};
 ghost use Rattle.ar_language.specs.Lines.{IsLine, is_printable};
+ghost use Rattle.ar_operator.specs.Talk.{is_unreadable};
 ghost use Rattle.ar_operator.specs.Lines.{LineReadIs, ByteIsRead, HasNextByte, KeepsLine, seen_behind};
 
 use ar_frames::Source;
@@ -139,6 +140,13 @@ impl Line {
             // ASCII is valid UTF-8.
             Err(_) => unreachable!(),
         }
+    }
+
+    // Whether the line isn't text: it has a fault.
+    pub fn is_unreadable(&self) -> bool
+        ensures { result ≡ is_unreadable self.now.fault }
+    {
+        self.fault.is_some()
     }
 
     // Begins a line.

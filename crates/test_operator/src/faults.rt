@@ -1,5 +1,6 @@
-// The faults of a line. None ends the conversation.
+// The faults of a line. Those of its bytes end the conversation, the others don't.
 use crate::rig::{Play, Row, plays};
+use ar_operator::OperatorEnd;
 use std::alloc::Global;
 use std::process::Abort;
 
@@ -43,42 +44,66 @@ fn faulty_lines(rt: HostRuntime) {
                 b"fault: not an operator's word\nfault: not an operator's word\nfault: not an operator's word\nfault: not an operator's word\nfault: not an operator's word\n",
             ),
             (b"block 0 0 0\n", b"fault: not an operator's word\n"),
-            // Characters.
-            (b"health\r\nhealth\n", b"fault: bad character\nwhole\n"),
-            (
-                b"\t\n#\x7F\nh\xC3\xA4\n\0\n",
-                b"fault: bad character\nfault: bad character\nfault: bad character\nfault: bad character\n",
-            ),
             // A line cut at the end of input.
             (b"health", b"whole\n"),
             (b"room\nhealth", b"room 18\nwhole\n"),
-            (b"\r", b"fault: bad character\n"),
             (b"", b""),
         ]),
     );
 }
 
+#[test]
+fn bad_characters(rt: HostRuntime) {
+    let alloc = rt.alloc();
+    for input in [
+        &b"health\r\nhealth\n"[..],
+        b"\t\nhealth\n",
+        b"#\x7F\nhealth\n",
+        b"h\xC3\xA4\nhealth\n",
+        b"\0\nhealth\n",
+        b"\r",
+        b"POST / HTTP/1.1\r\nHost: 127.0.0.1\r\n\r\nout 0\nout 1\n",
+    ] {
+        let row: Row<'_> = (input, b"fault: bad character\n");
+        plays(&rt, alloc, Play::To(row, OperatorEnd::BadLine, usize::MAX));
+    }
+}
+
 // A line of `count` times `byte` and then `last`, and another line.
-fn long_line(rt: &impl Abort, alloc: Global, byte: u8, count: usize, last: &[u8], wanted: &[u8]) {
+fn long_line(
+    rt: &impl Abort,
+    alloc: Global,
+    byte: u8,
+    count: usize,
+    last: &[u8],
+    (wanted, end): (&[u8], OperatorEnd),
+) {
     let mut input = vec![in alloc; byte; count].expect(rt, "memory");
     input.extend_from_slice(last).expect(rt, "memory");
     input.extend_from_slice(b"\nhealth\n").expect(rt, "memory");
     let row: Row<'_> = (input.as_slice(), wanted);
-    plays(rt, alloc, Play::Rows(&[row]));
+    plays(rt, alloc, Play::To(row, end, usize::MAX));
 }
 
 #[test]
 fn long_lines(rt: HostRuntime) {
     let alloc = rt.alloc();
+    let too_long = (&b"fault: line too long\n"[..], OperatorEnd::BadLine);
+    let bad_character = (&b"fault: bad character\n"[..], OperatorEnd::BadLine);
     for (byte, count, last, wanted) in [
-        (b'#', 4_096, &b""[..], &b"whole\n"[..]),
-        (b'#', 4_097, b"", b"fault: line too long\nwhole\n"),
-        (b'x', 4_096, b"", b"fault: unknown word\nwhole\n"),
-        (b'x', 100_000, b"", b"fault: line too long\nwhole\n"),
+        (b'#', 4_096, &b""[..], (&b"whole\n"[..], OperatorEnd::End)),
+        (b'#', 4_097, b"", too_long),
+        (
+            b'x',
+            4_096,
+            b"",
+            (b"fault: unknown word\nwhole\n", OperatorEnd::End),
+        ),
+        (b'x', 100_000, b"", too_long),
         // A bad character is reported among the first 4,096 bytes alone.
-        (b'#', 4_095, b"\r", b"fault: bad character\nwhole\n"),
-        (b'#', 4_096, b"\r", b"fault: line too long\nwhole\n"),
-        (b'\r', 100_000, b"", b"fault: bad character\nwhole\n"),
+        (b'#', 4_095, b"\r", bad_character),
+        (b'#', 4_096, b"\r", too_long),
+        (b'\r', 100_000, b"", bad_character),
     ] {
         long_line(&rt, alloc, byte, count, last, wanted);
     }
