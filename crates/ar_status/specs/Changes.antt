@@ -12,9 +12,9 @@ abbrev pub events_in : RecentEvents → List RecentEvent
 events_in recent = take recent.count recent.list
 
 -- the events after these have happened, one after another: the newest comes first, and 50 are kept
-abbrev pub added : ℕ → List EventKind → List RecentEvent → List RecentEvent
-added seconds [] events = events
-added seconds (kind ∷ kinds) events = added seconds kinds (take 50 ((record { seconds = seconds; kind = kind }) ∷ events))
+abbrev pub listed_with : ℕ → List EventKind → List RecentEvent → List RecentEvent
+listed_with seconds [] events = events
+listed_with seconds (kind ∷ kinds) events = listed_with seconds kinds (take 50 ((record { seconds = seconds; kind = kind }) ∷ events))
 
 -- what leads to a health from that of an array with all disks
 abbrev pub falls_to : ArrayHealth → List EventKind

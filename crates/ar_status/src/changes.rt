@@ -3,7 +3,7 @@
 ghost use Rattle.std.specs.Prelude.{◌≡◌, ◌-◌, ◌++◌, [], ◌∷◌, map};
 ghost use Rattle.std.specs.List.{range_with_len};
 ghost use Rattle.ar_status.specs.declared.events.EventKind.TheVariants.{DiskAdded};
-ghost use Rattle.ar_status.specs.Changes.{added, between, events_in, falls_to, recovers_from};
+ghost use Rattle.ar_status.specs.Changes.{listed_with, between, events_in, falls_to, recovers_from};
 
 use crate::{ArrayHealth, EventKind, RecentEvent, RecentEvents};
 
@@ -34,7 +34,7 @@ impl EventLog {
     pub fn see(&mut self, seconds: u64, health: ArrayHealth, disks: u8)
         ensures health { self.new.health ≡ health }
         ensures disks { self.new.disks ≡ disks }
-        ensures events { events_in self.new.events ≡ added seconds
+        ensures events { events_in self.new.events ≡ listed_with seconds
             (between self.old.health health ++ map DiskAdded (range_with_len self.old.disks (disks - self.old.disks)))
             (events_in self.old.events) }
     {
@@ -48,7 +48,7 @@ impl EventLog {
     pub fn add(&mut self, seconds: u64, kind: EventKind)
         ensures health { self.new.health ≡ self.old.health }
         ensures disks { self.new.disks ≡ self.old.disks }
-        ensures events { events_in self.new.events ≡ added seconds (kind ∷ []) (events_in self.old.events) }
+        ensures events { events_in self.new.events ≡ listed_with seconds (kind ∷ []) (events_in self.old.events) }
     {
         add(&mut self.events, seconds, kind);
     }
@@ -63,14 +63,14 @@ impl EventLog {
 
 // Adds an event.
 fn add(events: &mut RecentEvents, seconds: u64, kind: EventKind)
-    ensures { events_in events.new ≡ added seconds (kind ∷ []) (events_in events.old) }
+    ensures { events_in events.new ≡ listed_with seconds (kind ∷ []) (events_in events.old) }
 {
     events.add(RecentEvent { seconds, kind });
 }
 
 // Adds the events that lead from a health to another.
 fn add_change(events: &mut RecentEvents, seconds: u64, old: ArrayHealth, new: ArrayHealth)
-    ensures { events_in events.new ≡ added seconds (between old new) (events_in events.old) }
+    ensures { events_in events.new ≡ listed_with seconds (between old new) (events_in events.old) }
 {
     match (old, new) {
         // A failed array stays failed.
@@ -100,7 +100,7 @@ fn add_change(events: &mut RecentEvents, seconds: u64, old: ArrayHealth, new: Ar
 
 // Adds the events that lead from a health to that of an array with all disks.
 fn add_recovery(events: &mut RecentEvents, seconds: u64, old: ArrayHealth)
-    ensures { events_in events.new ≡ added seconds (recovers_from old) (events_in events.old) }
+    ensures { events_in events.new ≡ listed_with seconds (recovers_from old) (events_in events.old) }
 {
     match old {
         ArrayHealth::Whole | ArrayHealth::Broken => {}
@@ -116,7 +116,7 @@ fn add_recovery(events: &mut RecentEvents, seconds: u64, old: ArrayHealth)
 
 // Adds the events that lead to a health from that of an array with all disks.
 fn add_fall(events: &mut RecentEvents, seconds: u64, new: ArrayHealth)
-    ensures { events_in events.new ≡ added seconds (falls_to new) (events_in events.old) }
+    ensures { events_in events.new ≡ listed_with seconds (falls_to new) (events_in events.old) }
 {
     match new {
         ArrayHealth::Whole => {}
@@ -132,7 +132,7 @@ fn add_fall(events: &mut RecentEvents, seconds: u64, new: ArrayHealth)
 // Adds the disks from a number to before another.
 fn add_disks(events: &mut RecentEvents, seconds: u64, from: u8, to: u8)
     ensures { events_in events.new
-        ≡ added seconds (map DiskAdded (range_with_len from (to - from))) (events_in events.old) }
+        ≡ listed_with seconds (map DiskAdded (range_with_len from (to - from))) (events_in events.old) }
 {
     for disk in from..to {
         add(events, seconds, EventKind::DiskAdded { disk });
