@@ -1,16 +1,21 @@
 -- A whole service: the units at its start, and the audit at its end.
-use Rattle.std.specs.Prelude.{◌≡◌, ℕ, List, [], ◌∷◌, Option, Some, None, Result, Ok, Err, All, length, map, slice_get, take}
+use Rattle.std.specs.Prelude.{◌≡◌, ℕ, false, List, [], ◌∷◌, Option, Some, None, is_some, Result, Ok, Err, All, length, map, sum, count_by, slice_get, take}
+use Rattle.std.specs.List.{list_all}
 use Rattle.ar_core.specs.Events.{Outcome}
 use Rattle.ar_core.specs.declared.event.OutcomeOf.{OutcomeOf}
 use Rattle.ar_core.specs.declared.event.OutcomeOf.TheVariants as outcomes
-use Rattle.ar_history.specs.Audit.{IsHostsPart}
+use Rattle.ar_history.specs.Audit.{IsFirstMismatch, IsHostsPart}
+use Rattle.ar_history.specs.History.{is_command}
 use Rattle.ar_history.specs.Kept.{KeptState}
 use Rattle.ar_history.specs.Seat.{SeatState}
+use Rattle.ar_history.specs.declared.audit.Mismatch.{Mismatch}
 use Rattle.ar_history.specs.declared.audit.Report.{Report}
 use Rattle.ar_history.specs.declared.entry.Entry.{Entry}
 use Rattle.ar_language.specs.declared.order.Action.TheVariants as actions
 use Rattle.ar_operator.specs.Executing.{Operated}
 use Rattle.ar_service.specs.declared.service.NewUnit.{NewUnit}
+use Rattle.ar_service.specs.declared.service.ServiceFault.{ServiceFault}
+use Rattle.ar_service.specs.declared.service.ServiceFault.TheVariants as faults
 use Rattle.ar_sessions.specs.Desk.{Places}
 use Rattle.ar_volume.specs.declared.refusal.Refusal.{Refusal}
 
@@ -45,9 +50,23 @@ abbrev pub CreatesUnits : List NewUnit → KeptState → Result (Unit {0}) (ℕ 
 CreatesUnits units old (Ok done) new = AreCreated units old new
 CreatesUnits units old (Err refused) new = StopsCreating units refused.0 refused.1 old new
 
--- The seats of the four hosts came back, and each transcript is its host's part of the history.
+-- The seats of the four hosts came back, and each transcript is its host's part of the history, which has no other
+-- command.
 pub record IsAudited (history : List Entry) (places : Places) (report : Report) : Type 0 where
   pub seats : List SeatState
   pub back : places ≡ map Some seats
   pub parts : All (IsHostsPart history) seats
   pub commands : report.commands ≡ map (λ (seat : SeatState). length seat.transcript) seats
+  pub none_else : sum report.commands ≡ count_by is_command history
+
+-- the seats came back, and this is the first transcript that differs from its host's part of the history, and where
+pub record Differs (history : List Entry) (places : Places) (mismatch : Mismatch) : Type 0 where
+  pub seats : List SeatState
+  pub back : places ≡ map Some seats
+  pub first : IsFirstMismatch history seats mismatch.host.number mismatch.position
+
+-- why the audit fails: a seat is missing, or a transcript differs
+abbrev pub FailsAudit : List Entry → Places → ServiceFault → Type 0
+FailsAudit history places faults.SeatOut = list_all is_some places ≡ false
+FailsAudit history places (faults.Mismatch mismatch) = Differs history places mismatch
+FailsAudit history places fault = ⊥

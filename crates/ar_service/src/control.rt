@@ -4,12 +4,10 @@ ghost use Rattle.std.specs.Prelude.{◌≡◌, []};
 ghost use Rattle.ar_operator.specs.Executing.{IsArrayOrder};
 ghost use Rattle.ar_service.specs.Control.{DoneAtOneMoment};
 
-use ar_disks::{Disk, Host};
-use ar_history::Kept;
+use ar_disks::Host;
 use ar_language::Order;
 use ar_operator::{
-    Controller, DiskMaker, Fuse, OperatorOrder, execute, set_fuse, write_counts, write_help,
-    write_session,
+    Controller, Fuse, OperableArray, OperatorOrder, write_counts, write_help, write_session,
 };
 use ar_sessions::Desk;
 use std::alloc::{AllocError, Global};
@@ -18,30 +16,30 @@ use std::sync::{Mutex, Wait};
 
 /// A controller of an array behind a lock, whose hosts' seats are on a desk with a lock of its own.
 #[derive(Drop)]
-pub struct LockController<'a, R: Wait, D: Disk + Drop, L: Ledger, M: DiskMaker<D>> {
+pub struct LockController<'a, R: Wait, A: OperableArray<M> + Drop, L: Ledger, M> {
     rt: &'a R,
     alloc: Global,
-    kept: &'a Mutex<Kept<D, L>>,
+    array: &'a Mutex<A>,
     desk: &'a Mutex<Desk<L>>,
     // The fuses of the array's disks, by number.
     fuses: &'a [Fuse; 12],
     disks: M,
 }
 
-impl<'a, R: Wait, D: Disk + Drop, L: Ledger, M: DiskMaker<D>> LockController<'a, R, D, L, M> {
+impl<'a, R: Wait, A: OperableArray<M> + Drop, L: Ledger, M> LockController<'a, R, A, L, M> {
     /// A controller whose new disks `disks` makes.
     pub fn new(
         rt: &'a R,
         alloc: Global,
-        kept: &'a Mutex<Kept<D, L>>,
+        array: &'a Mutex<A>,
         desk: &'a Mutex<Desk<L>>,
         fuses: &'a [Fuse; 12],
         disks: M,
-    ) -> LockController<'a, R, D, L, M> {
+    ) -> LockController<'a, R, A, L, M> {
         LockController {
             rt,
             alloc,
-            kept,
+            array,
             desk,
             fuses,
             disks,
@@ -54,18 +52,13 @@ impl<'a, R: Wait, D: Disk + Drop, L: Ledger, M: DiskMaker<D>> LockController<'a,
         requires empty { out.old.items ≡ [] }
         ensures { DoneAtOneMoment order result out.new.items }
     {
-        execute(
-            self.alloc,
-            &mut self.kept.lock(self.rt),
-            &mut self.disks,
-            order,
-            out,
-        )
+        let mut array = self.array.lock(self.rt);
+        array.execute(self.alloc, &mut self.disks, order, out)
     }
 
     fn fail(&self, disk: u8, accesses: Option<u64>, out: &mut Vec<u8>) -> Result<(), AllocError> {
-        let kept = self.kept.lock(self.rt);
-        set_fuse(kept.array(), self.fuses, disk, accesses, out)
+        let array = self.array.lock(self.rt);
+        array.set_fuse(self.fuses, disk, accesses, out)
     }
 
     fn show_sessions(&self, out: &mut Vec<u8>) -> Result<(), AllocError> {
@@ -74,13 +67,13 @@ impl<'a, R: Wait, D: Disk + Drop, L: Ledger, M: DiskMaker<D>> LockController<'a,
     }
 
     fn show_counts(&self, out: &mut Vec<u8>) -> Result<(), AllocError> {
-        let counts = self.kept.lock(self.rt).counts();
+        let counts = self.array.lock(self.rt).counts();
         write_counts(out, &counts).map_err(|_| AllocError)
     }
 }
 
-impl<'a, R: Wait, D: Disk + Drop, L: Ledger, M: DiskMaker<D>> Controller
-    for LockController<'a, R, D, L, M> {
+impl<'a, R: Wait, A: OperableArray<M> + Drop, L: Ledger, M> Controller
+    for LockController<'a, R, A, L, M> {
     ghost use Rattle.ar_service.specs.Control.{LockAnswers};
 
     ghost answers = { λ _ order result answer _. LockAnswers order result answer };

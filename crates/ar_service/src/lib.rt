@@ -8,4 +8,4 @@ mod service;
 
 pub use control::LockController;
 pub use operators::{MOST_OPERATORS, OperatedArray, PendingStops, Ports, run_operated};
-pub use service::{NewUnit, Plan, ServiceFault, TcpStops, serve_array};
+pub use service::{NewUnit, Plan, ServiceFault, TcpStops, serve_audited, serve_unaudited};

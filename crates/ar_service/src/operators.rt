@@ -1,13 +1,11 @@
 // The operators' door. Five threads take turns at it, as those of a pool do: four may converse, and the fifth is there
 // to refuse a fifth operator.
 use crate::control::LockController;
-use ar_disks::Disk;
 use ar_frames::{Gate, Sink, Source, send};
-use ar_history::Kept;
-use ar_operator::{DiskMaker, Fuse, OperatorEnd, converse};
+use ar_operator::{Fuse, OperableArray, OperatorEnd, converse};
 use ar_sessions::{
-    ANY_NUMBER, Desk, Door, Handler, NoMemory, SharedDoor, run_beside_background, run_pool,
-    start_pool, wake,
+    ANY_NUMBER, Desk, Door, Handler, MaintainedArray, NoMemory, ServedArray, SharedDoor,
+    run_beside_background, run_pool, start_pool, wake,
 };
 use log::Log;
 use std::alloc::{AllocError, Global};
@@ -30,10 +28,10 @@ const TOO_MANY: &[u8] = b"fault: too many operators\n";
 
 /// An array that hosts and operators use at the same time.
 #[derive(Drop)]
-pub struct OperatedArray<'a, R: Wait, D: Disk + Drop, L: Ledger, M: DiskMaker<D>> {
+pub struct OperatedArray<'a, R: Wait, A: OperableArray<M> + Drop, L: Ledger, M> {
     pub rt: &'a R,
     pub alloc: Global,
-    pub kept: &'a Mutex<Kept<D, L>>,
+    pub array: &'a Mutex<A>,
     pub desk: &'a Mutex<Desk<L>>,
     /// The fuses of its disks, by number.
     pub fuses: &'a [Fuse; 12],
@@ -58,8 +56,8 @@ pub struct PendingStops<S: Drop, W: Drop> {
 
 // What the operators' threads share.
 #[derive(Drop)]
-struct OperatorHandler<'a, R: Wait, D: Disk + Drop, L: Ledger, M: DiskMaker<D>, S: Drop, W: Drop> {
-    array: &'a OperatedArray<'a, R, D, L, M>,
+struct OperatorHandler<'a, R: Wait, A: OperableArray<M> + Drop, L: Ledger, M, S: Drop, W: Drop> {
+    array: &'a OperatedArray<'a, R, A, L, M>,
     hosts_port: u16,
     // How many operators converse, or are refused.
     open: AtomicU64,
@@ -72,14 +70,14 @@ struct OperatorHandler<'a, R: Wait, D: Disk + Drop, L: Ledger, M: DiskMaker<D>, 
 /// started, no host's connection was opened.
 pub fn run_operated<
     R: Threads + Wait + Clock + Log + Net<Listener = TcpListener, Stream = TcpStream> + Sync,
-    D: Disk + Drop + Send,
+    A: OperableArray<M> + MaintainedArray + ServedArray<L> + Drop + Send,
     L: Ledger + Send + Sync,
-    M: DiskMaker<D> + Copy + Send + Sync,
+    M: Copy + Send + Sync,
     H: Door + Drop + Send,
     O: Door + Drop + Send,
     G: Gate + Sync,
 >(
-    array: &OperatedArray<'_, R, D, L, M>,
+    array: &OperatedArray<'_, R, A, L, M>,
     hosts: H,
     operators: O,
     ports: Ports,
@@ -144,12 +142,12 @@ fn serve_in_scope<
 impl<
     'a,
     R: Wait + Clock + Net<Listener = TcpListener, Stream = TcpStream>,
-    D: Disk + Drop,
+    A: OperableArray<M> + Drop,
     L: Ledger,
-    M: DiskMaker<D> + Copy,
+    M: Copy,
     S: Source + Drop,
     W: Sink + Drop,
-> Handler<S, W> for OperatorHandler<'a, R, D, L, M, S, W> {
+> Handler<S, W> for OperatorHandler<'a, R, A, L, M, S, W> {
     // Converses with an operator, unless four do already. One whose `stop` is accepted is kept until it can be answered.
     fn handle(&self, _number: u64, mut reader: S, mut writer: W) {
         let others = self.open.fetch_add(1, Ordering::SeqCst);
@@ -169,13 +167,13 @@ impl<
 // Serves the hosts, and then ends the operators' threads.
 fn serve_to_end<
     R: Threads + Wait + Clock + Log + Net<Listener = TcpListener, Stream = TcpStream> + Sync,
-    D: Disk + Drop + Send,
+    A: OperableArray<M> + MaintainedArray + ServedArray<L> + Drop + Send,
     L: Ledger + Send + Sync,
-    M: DiskMaker<D>,
+    M,
     H: Door + Drop + Send,
     G: Gate + Sync,
 >(
-    array: &OperatedArray<'_, R, D, L, M>,
+    array: &OperatedArray<'_, R, A, L, M>,
     hosts: H,
     gate: &G,
     operators_port: u16,
@@ -188,17 +186,17 @@ fn serve_to_end<
 // Serves hosts: any number of connections in turn, or those that the door counts.
 fn serve_hosts<
     R: Threads + Wait + Clock + Log + Sync,
-    D: Disk + Drop + Send,
+    A: OperableArray<M> + MaintainedArray + ServedArray<L> + Drop + Send,
     L: Ledger + Send + Sync,
-    M: DiskMaker<D>,
+    M,
     H: Door + Drop + Send,
     G: Gate + Sync,
->(array: &OperatedArray<'_, R, D, L, M>, door: H, gate: &G) -> Result<(), NoMemory> {
-    let (rt, alloc, kept, desk) = (array.rt, array.alloc, array.kept, array.desk);
+>(array: &OperatedArray<'_, R, A, L, M>, door: H, gate: &G) -> Result<(), NoMemory> {
+    let (rt, alloc, shared, desk) = (array.rt, array.alloc, array.array, array.desk);
     if door.left() == ANY_NUMBER {
-        return run_pool(rt, alloc, door, kept, desk, gate);
+        return run_pool(rt, alloc, door, shared, desk, gate);
     }
-    let (door, ends) = run_beside_background(rt, alloc, door, kept, desk, gate);
+    let (door, ends) = run_beside_background(rt, alloc, door, shared, desk, gate);
     drop(door);
     ends?;
     Ok(())
@@ -231,15 +229,15 @@ fn refuse<W: Sink>(writer: &mut W) -> OperatorEnd {
 }
 
 // Answers an operator's lines.
-fn converse_with<R: Wait, D: Disk + Drop, L: Ledger, M: DiskMaker<D> + Copy, S: Source, W: Sink>(
-    array: &OperatedArray<'_, R, D, L, M>,
+fn converse_with<R: Wait, A: OperableArray<M> + Drop, L: Ledger, M: Copy, S: Source, W: Sink>(
+    array: &OperatedArray<'_, R, A, L, M>,
     reader: &mut S,
     writer: &mut W,
 ) -> OperatorEnd {
     let mut controller = LockController::new(
         array.rt,
         array.alloc,
-        array.kept,
+        array.array,
         array.desk,
         array.fuses,
         array.disks,

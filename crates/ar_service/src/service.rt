@@ -1,16 +1,18 @@
 // A whole service: units, doors, sessions, and the audit at the end.
-ghost use Rattle.std.specs.Prelude.{◌≡◌, [], Err, IfOk, IfErr};
-ghost use Rattle.ar_service.specs.Service.{CreatesUnits, IsAudited, refusal_in};
+ghost use Rattle.std.specs.Prelude.{◌≡◌, [], ◌∷◌, Err, IfOk, IfErr, OnOk, map};
+ghost use Rattle.ar_history.specs.Seat.{SeatState};
+ghost use Rattle.ar_history.specs.declared.counts.HostCounts.{HostCounts};
+ghost use Rattle.ar_service.specs.Service.{CreatesUnits, FailsAudit, IsAudited, refusal_in};
 
 use crate::{OperatedArray, PendingStops, Ports, run_operated};
 use ar_core::{Array, OutcomeOf, Refusal};
 use ar_disks::{Addr, Disk};
 use ar_frames::NoGate;
-use ar_history::{Kept, Mismatch, OperationOf, Report};
-use ar_operator::{DiskMaker, Fuse};
+use ar_history::{Counts, Kept, LiveArray, Mismatch, RecordedArray, Report, Seat};
+use ar_operator::{DiskMaker, Fuse, OperableArray};
 use ar_sessions::{
-    ANY_NUMBER, Desk, ListenFault, NoMemory, TcpDoor, TcpReader, TcpWriter, Timeouts,
-    run_beside_background,
+    ANY_NUMBER, Desk, ListenFault, MaintainedArray, NoMemory, ServedArray, TcpDoor, TcpReader,
+    TcpWriter, Timeouts, run_beside_background,
 };
 use log::Log;
 use std::alloc::Global;
@@ -78,13 +80,13 @@ impl From<NoMemory> for ServiceFault {
     }
 }
 
-/// Serves a new array by a plan: creates its units, listens, prints `listening PORT`, serves hosts and operators, and
-/// compares the hosts' transcripts with the history. `disks` are the fuses of its disks, by number, and what makes new
-/// ones; `stop` isn't set yet. Returns what came of it, with the operators that wait for it.
-pub fn serve_array<
+/// Serves a new array by a plan, and stores its history: creates its units, listens, prints `listening PORT`, serves
+/// hosts and operators, and compares the hosts' transcripts with the history. `disks` are the fuses of its disks, by
+/// number, and what makes new ones; `stop` isn't set yet. Returns what came of it, with the operators that wait for it.
+pub fn serve_audited<
     's,
-    L: Ledger + Send + Sync,
     D: Disk + Drop + Send,
+    L: Ledger + Send + Sync,
     M: DiskMaker<D> + Copy + Send + Sync,
     R: Threads
         + Wait
@@ -107,31 +109,23 @@ pub fn serve_array<
     requires four { blank.parts ≡ 4 }
     requires no_unit { array.store.book.units ≡ [] }
 {
-    let (fuses, disks) = disks;
-    let (kept, seats) = Kept::<D, L>::start(alloc, blank, array);
-    let kept = Mutex::new(kept);
-    let desk = Mutex::new(Desk::new(seats));
-    let operated = OperatedArray {
-        rt,
-        alloc,
-        kept: &kept,
-        desk: &desk,
-        fuses,
-        disks,
-        stop,
-    };
-    let (stops, served) = serve_plan(rt, &operated, stop, plan);
-    let kept = kept.into_inner();
-    let report = audit(served, &kept, desk.into_inner());
+    let (mut kept, seats) = Kept::<D, L>::start(alloc, blank, array);
+    let made = create_units::<D, Kept<D, L>>(&mut kept, plan.units);
+    let shared = Mutex::new(kept);
+    let (stops, served, desk) = serve_made(rt, alloc, made, &shared, seats, disks, stop, plan);
+    let kept = shared.into_inner();
+    let report = audit(served, &kept, desk);
     drop(kept);
     (stops, report)
 }
 
-// Creates the units, and serves hosts and, if they have a door, operators.
-fn serve_plan<
+/// Serves a new array as `serve_audited` does, but stores no history, so that it may be served for ever. Each reply is
+/// still the one that the unit's own entries give, in a history that contracts alone see; what is given up is the
+/// comparison at the end. Returns the number of commands of hosts 0 to 3 with a reply other than BUSY.
+pub fn serve_unaudited<
     's,
-    L: Ledger + Send + Sync,
     D: Disk + Drop + Send,
+    L: Ledger + Send + Sync,
     M: DiskMaker<D> + Copy + Send + Sync,
     R: Threads
         + Wait
@@ -142,15 +136,102 @@ fn serve_plan<
         + Sync,
 >(
     rt: &'s R,
-    operated: &OperatedArray<'_, R, D, L, M>,
+    alloc: Global,
+    blank: Blank,
+    array: Array<D>,
+    disks: (&[Fuse; 12], M),
+    stop: &'s AtomicBool,
+    plan: Plan<'_>,
+) -> (TcpStops<'s, R>, Result<[u64; 4], ServiceFault>)
+    requires name { blank.name ≡ L.name }
+    requires parts { blank.parts ≡ L.parts }
+    requires four { blank.parts ≡ 4 }
+    requires no_unit { array.store.book.units ≡ [] }
+{
+    let seats = Seat::<L>::unrecorded(alloc, blank);
+    let mut live = LiveArray::start(alloc, array);
+    let made = create_units::<D, LiveArray<D>>(&mut live, plan.units);
+    let shared = Mutex::new(live);
+    let (stops, served, desk) = serve_made(rt, alloc, made, &shared, seats, disks, stop, plan);
+    drop(desk);
+    let live = shared.into_inner();
+    let commands = commands_of(&live.counts());
+    drop(live);
+    match served {
+        Ok(()) => (stops, Ok(commands)),
+        Err(fault) => (stops, Err(fault)),
+    }
+}
+
+// Serves an array behind a lock by a plan, if its units were created. Returns the operators that wait for the end, what came
+// of the service, and the hosts' seats.
+fn serve_made<
+    's,
+    A: OperableArray<M> + MaintainedArray + ServedArray<L> + Drop + Send,
+    L: Ledger + Send + Sync,
+    M: Copy + Send + Sync,
+    R: Threads
+        + Wait
+        + Clock
+        + Net<Listener = TcpListener, Stream = TcpStream>
+        + Print
+        + Log
+        + Sync,
+>(
+    rt: &'s R,
+    alloc: Global,
+    made: Result<(), (usize, Refusal)>,
+    array: &Mutex<A>,
+    seats: [Seat<L>; 4],
+    disks: (&[Fuse; 12], M),
+    stop: &'s AtomicBool,
+    plan: Plan<'_>,
+) -> (TcpStops<'s, R>, Result<(), ServiceFault>, Desk<L>)
+    requires hosts { map (λ (s : SeatState). s.host.number) seats ≡ 0 ∷ 1 ∷ 2 ∷ 3 ∷ [] }
+{
+    let (fuses, disks) = disks;
+    if let Err((number, refusal)) = made {
+        let none = PendingStops::none(alloc);
+        return (
+            none,
+            Err(ServiceFault::Unit(number, refusal)),
+            Desk::new(seats),
+        );
+    }
+    let desk = Mutex::new(Desk::new(seats));
+    let operated = OperatedArray {
+        rt,
+        alloc,
+        array,
+        desk: &desk,
+        fuses,
+        disks,
+        stop,
+    };
+    let (stops, served) = serve_plan(rt, &operated, stop, plan);
+    (stops, served, desk.into_inner())
+}
+
+// Serves hosts and, if they have a door, operators.
+fn serve_plan<
+    's,
+    A: OperableArray<M> + MaintainedArray + ServedArray<L> + Drop + Send,
+    L: Ledger + Send + Sync,
+    M: Copy + Send + Sync,
+    R: Threads
+        + Wait
+        + Clock
+        + Net<Listener = TcpListener, Stream = TcpStream>
+        + Print
+        + Log
+        + Sync,
+>(
+    rt: &'s R,
+    operated: &OperatedArray<'_, R, A, L, M>,
     stop: &'s AtomicBool,
     plan: Plan<'_>,
 ) -> (TcpStops<'s, R>, Result<(), ServiceFault>) {
     let none = PendingStops::none(operated.alloc);
-    let made = create_units(&mut operated.kept.lock(rt), plan.units);
-    if let Err((number, refusal)) = made {
-        return (none, Err(ServiceFault::Unit(number, refusal)));
-    }
     match plan.operator {
         Some(port) => match open_both(rt, operated.alloc, port, stop, plan) {
             Ok((hosts, operators)) => {
@@ -169,9 +250,9 @@ fn serve_plan<
 
 // Serves the connections of a plan without operators.
 fn serve_counted<
+    A: OperableArray<M> + MaintainedArray + ServedArray<L> + Drop + Send,
     L: Ledger + Send + Sync,
-    D: Disk + Drop + Send,
-    M: DiskMaker<D>,
+    M,
     R: Threads
         + Wait
         + Clock
@@ -179,11 +260,11 @@ fn serve_counted<
         + Print
         + Log
         + Sync,
->(rt: &R, operated: &OperatedArray<'_, R, D, L, M>, plan: Plan<'_>) -> Result<(), ServiceFault> {
+>(rt: &R, operated: &OperatedArray<'_, R, A, L, M>, plan: Plan<'_>) -> Result<(), ServiceFault> {
     let hosts = open_hosts(rt, operated.alloc, None, plan)?;
     say_listening(rt, plan.port)?;
-    let (kept, desk) = (operated.kept, operated.desk);
-    let (_door, ends) = run_beside_background(rt, operated.alloc, hosts, kept, desk, &NoGate);
+    let (array, desk) = (operated.array, operated.desk);
+    let (_door, ends) = run_beside_background(rt, operated.alloc, hosts, array, desk, &NoGate);
     ends?;
     Ok(())
 }
@@ -200,8 +281,8 @@ fn open_both<'s, R: Clock + Net<Listener = TcpListener, Stream = TcpStream> + Pr
     let operators = TcpDoor::listen(rt, alloc, port, ANY_NUMBER)?;
     say_listening(rt, plan.port)?;
     let timeouts = Timeouts {
-        login: None,
         idle: Some(OPERATOR_IDLE),
+        ..Timeouts::NONE
     };
     Ok((hosts, operators.limited(timeouts, Some(stop))))
 }
@@ -226,15 +307,15 @@ fn say_listening(rt: &impl Print, port: u16) -> Result<(), ServiceFault> {
 }
 
 // Creates the units in their order, up to one that is refused: its number, and why.
-fn create_units<L: Ledger, D: Disk + Drop>(
-    kept: &mut Kept<D, L>,
+fn create_units<D: Disk + Drop, A: RecordedArray<D>>(
+    array: &mut A,
     units: &[NewUnit],
 ) -> Result<(), (usize, Refusal)>
-    ensures { CreatesUnits units.now kept.old result kept.new }
+    ensures { CreatesUnits units.now (A.state array.old) result (A.state array.new) }
 {
     for number in 0..units.len() {
         let unit = units[number];
-        let outcome = kept.operate(OperationOf::Make(unit.addr, unit.sectors));
+        let outcome = array.make(unit.addr, unit.sectors);
         if let Some(refusal) = refusal_in(&outcome) {
             return Err((number, refusal));
         }
@@ -260,10 +341,19 @@ fn audit<L: Ledger, D: Disk + Drop>(
 ) -> Result<Report, ServiceFault>
     ensures audited { IfOk result (IsAudited kept.now.history desk) }
     ensures failed { IfErr served (λ fault. result ≡ Err fault) }
+    ensures fails { OnOk served (IfErr result (FailsAudit kept.now.history desk)) }
 {
     served?;
     match desk.seats() {
         Ok(seats) => kept.close(&seats).map_err(ServiceFault::Mismatch),
         Err(_) => Err(ServiceFault::SeatOut),
     }
+}
+
+// The number of commands of each host.
+fn commands_of(counts: &Counts) -> [u64; 4]
+    ensures { result ≡ map (λ (host : HostCounts). host.commands) counts.now.hosts }
+{
+    let [zero, one, two, three] = counts.hosts;
+    [zero.commands, one.commands, two.commands, three.commands]
 }

@@ -20,6 +20,13 @@ pub enum Order {
     Serve(Service),
 }
 
+/// Whether the history is stored, and compared with hosts' transcripts at the end.
+#[derive(Clone, Copy, Debug, PartialEq, Eq)]
+pub enum Audit {
+    Full,
+    Off,
+}
+
 /// The array to serve, and how.
 #[derive(Drop)]
 pub struct Service {
@@ -30,6 +37,7 @@ pub struct Service {
     pub sessions: Option<u8>,
     pub operator: Option<u16>,
     pub timeouts: Timeouts,
+    pub audit: Audit,
     /// The units to create.
     pub units: Vec<NewUnit>,
     /// Their words.
@@ -50,6 +58,8 @@ impl Service {
 }
 
 static GEOMETRIES: [&str; 2] = ["small", "paper"];
+
+static AUDITS: [&str; 2] = ["full", "off"];
 
 /// Parses the words of a command line, the program's name first.
 pub fn order_in<S: AsStr>(alloc: Global, words: &[S]) -> Result<Order, Failure> {
@@ -94,6 +104,7 @@ fn serve_command<'a>(alloc: Global) -> Result<Command<'a>, AllocError> {
         .arg(port(alloc, "operator"))?
         .arg(seconds(alloc, "login-timeout").default_value("10"))?
         .arg(seconds(alloc, "idle-timeout"))?
+        .arg(audit_option(alloc))?
         .arg(log(alloc))?
         .arg(units(alloc))
 }
@@ -152,6 +163,13 @@ fn seconds<'a>(alloc: Global, name: &'static str) -> Arg<'a> {
         .value_parser(value_parser!(u32).range(1..=86_400))
 }
 
+fn audit_option<'a>(alloc: Global) -> Arg<'a> {
+    Arg::new(alloc, "audit")
+        .long("audit")
+        .value_parser(AUDITS.as_slice())
+        .default_value("full")
+}
+
 fn log<'a>(alloc: Global) -> Arg<'a> {
     Arg::new(alloc, "log")
         .long("log")
@@ -198,9 +216,19 @@ fn geometry_of(name: &str) -> Option<Geometry> {
     }
 }
 
+fn audit_of(name: &str) -> Option<Audit> {
+    match name {
+        "full" => Some(Audit::Full),
+        "off" => Some(Audit::Off),
+        _ => None,
+    }
+}
+
 fn service_of(alloc: Global, options: &ArgMatches<'_>) -> Result<Service, Failure> {
     let setup = setup_of(options).ok_or(CommandLineFault::Bad)?;
     let port = options.get_one("port").ok_or(CommandLineFault::Bad)?;
+    let audit = options.get_str("audit").ok_or(CommandLineFault::Bad)?;
+    let audit = audit_of(audit).ok_or(CommandLineFault::Bad)?;
     let sessions = options.get_one("sessions");
     let operator = options.get_one("operator");
     // Nothing else would end it.
@@ -217,7 +245,9 @@ fn service_of(alloc: Global, options: &ArgMatches<'_>) -> Result<Service, Failur
         timeouts: Timeouts {
             login: options.get_one("login-timeout"),
             idle: options.get_one("idle-timeout"),
+            whole: None,
         },
+        audit,
         log: options.get_flag("log"),
         units,
         words,

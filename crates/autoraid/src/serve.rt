@@ -1,9 +1,9 @@
 // Serves an array to hosts and operators, and prints what came of it.
-use crate::command_line::Service;
+use crate::command_line::{Audit, Service};
 use ar_core::Refusal;
-use ar_history::{Mismatch, Report};
+use ar_history::Mismatch;
 use ar_operator::{Fuse, FusedDisk, FusedMaker, start_fused};
-use ar_service::{ServiceFault, TcpStops, serve_array};
+use ar_service::{ServiceFault, TcpStops, serve_audited, serve_unaudited};
 use log::Log;
 use std::alloc::Global;
 use std::io;
@@ -42,8 +42,8 @@ pub enum ServeFault {
     NoMemory,
 }
 
-/// Creates the array and its units, listens, serves hosts and operators, and then compares the hosts' transcripts with
-/// the history. Operators that have asked for the end are answered last.
+/// Creates the array and its units, listens, and serves hosts and operators. Then it compares the hosts' transcripts with
+/// the history, unless none is stored. Operators that have asked for the end are answered last.
 pub fn run_server<
     R: Threads
         + Wait
@@ -55,20 +55,56 @@ pub fn run_server<
 >(rt: &R, alloc: Global, service: &Service) -> Result<(), ServeFault> {
     let fuses = Fuse::twelve();
     let stop = AtomicBool::new(false);
-    let Ok(array) = start_fused(alloc, service.setup, &fuses) else {
+    let (stops, served) = serve(rt, alloc, service, &fuses, &stop)?;
+    conclude(rt, alloc, service, stops, served)
+}
+
+// Serves a new array on disks with these fuses. Returns the operators that wait for the end, and the number of commands of
+// each host.
+fn serve<
+    's,
+    R: Threads
+        + Wait
+        + Clock
+        + Net<Listener = TcpListener, Stream = TcpStream>
+        + Print
+        + Log
+        + Sync,
+>(
+    rt: &'s R,
+    alloc: Global,
+    service: &Service,
+    fuses: &[Fuse; 12],
+    stop: &'s AtomicBool,
+) -> Result<(TcpStops<'s, R>, Result<[u64; 4], ServiceFault>), ServeFault> {
+    let Ok(array) = start_fused(alloc, service.setup, fuses) else {
         return Err(ServeFault::Start);
     };
-    let disks = (&fuses, FusedMaker::new(&fuses));
-    let (stops, served) = serve_array::<Brand, FusedDisk<'_>, FusedMaker<'_>, R>(
-        rt,
-        alloc,
-        Blank::new(4),
-        array,
-        disks,
-        &stop,
-        service.plan(),
-    );
-    conclude(rt, alloc, service, stops, served)
+    let disks = (fuses, FusedMaker::new(fuses));
+    let plan = service.plan();
+    match service.audit {
+        Audit::Full => {
+            let (stops, served) = serve_audited::<FusedDisk<'_>, Brand, FusedMaker<'_>, R>(
+                rt,
+                alloc,
+                Blank::new(4),
+                array,
+                disks,
+                stop,
+                plan,
+            );
+            Ok((stops, served.map(|report| report.commands)))
+        }
+        Audit::Off => Ok(serve_unaudited::<FusedDisk<'_>, Brand, FusedMaker<'_>, R>(
+            rt,
+            alloc,
+            Blank::new(4),
+            array,
+            disks,
+            stop,
+            plan,
+        )),
+    }
 }
 
 // Prints what came of the service, and answers the operators that wait for it.
@@ -77,7 +113,7 @@ fn conclude<R: Clock + Print>(
     alloc: Global,
     service: &Service,
     stops: TcpStops<'_, R>,
-    served: Result<Report, ServiceFault>,
+    served: Result<[u64; 4], ServiceFault>,
 ) -> Result<(), ServeFault> {
     let done = tell(rt, alloc, service, served);
     stops.answer(answer_after(&done));
@@ -100,10 +136,10 @@ fn tell(
     rt: &impl Print,
     alloc: Global,
     service: &Service,
-    served: Result<Report, ServiceFault>,
+    served: Result<[u64; 4], ServiceFault>,
 ) -> Result<(), ServeFault> {
     match served {
-        Ok(report) => tell_report(rt, &report).map_err(|_| ServeFault::Write),
+        Ok(commands) => tell_commands(rt, service.audit, commands).map_err(|_| ServeFault::Write),
         Err(ServiceFault::Mismatch(mismatch)) => Err(tell_mismatch(rt, mismatch)),
         Err(ServiceFault::Unit(number, refusal)) => Err(refused(alloc, service, number, refusal)),
         Err(ServiceFault::Listen) => Err(ServeFault::Listen),
@@ -113,11 +149,16 @@ fn tell(
     }
 }
 
-fn tell_report(rt: &impl Print, report: &Report) -> io::Result<()> {
-    for (host, commands) in report.commands.iter().enumerate() {
+// Prints the number of commands of each host, and how the service ended: `closed ok` says that the transcripts agree with
+// the history, `closed` that nothing was compared.
+fn tell_commands(rt: &impl Print, audit: Audit, commands: [u64; 4]) -> io::Result<()> {
+    for (host, commands) in commands.iter().enumerate() {
         println!(rt; "host {host} commands {commands}")?;
     }
-    println!(rt; "closed ok")
+    match audit {
+        Audit::Full => println!(rt; "closed ok"),
+        Audit::Off => println!(rt; "closed"),
+    }
 }
 
 fn tell_mismatch(rt: &impl Print, mismatch: Mismatch) -> ServeFault {
