@@ -25,14 +25,16 @@ pub enum IscsiEnd {
     Feature(FeatureEnd),
 }
 
-/// A port without units, behind a session for discovery.
+/// A port without units, behind a session for discovery. It refuses a login, and begins with one.
 #[derive(Clone, Copy, Debug, Drop)]
-pub struct NoUnits;
+pub struct NoUnits {
+    has_login: bool,
+}
 
 impl Port for NoUnits {
     ghost use Rattle.ar_iscsi.specs.Target.{no_units};
 
-    ghost has_login = { λ port. true };
+    ghost has_login = { λ port. port.has_login };
 
     ghost logins = { λ old host login new. new ≡ old };
 
@@ -146,7 +148,7 @@ fn serve_entered<R: Source, W: Sink, P: Port>(
             serve_feature(alloc, reader, writer, port, address, &mut work, buffer)
         }
         _ => {
-            let mut idle = NoUnits;
+            let mut idle = NoUnits { has_login: true };
             serve_feature(alloc, reader, writer, &mut idle, address, &mut work, buffer)
         }
     }
