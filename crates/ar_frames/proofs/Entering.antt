@@ -1,5 +1,6 @@
 -- Why the login's answer opens a session or ends it.
-use Rattle.std.proofs.Common.{◌≡◌, ℕ, ◌+◌, ◌<◌, ◌≤◌, true, false, List, [], ◌∷◌, ◌++◌, refl, sym, ap, subst, ◌∙◌, append-nil, take-append-drop, drop-cons, length, take, drop, slice_index, arith, inl, inr}
+use Rattle.std.proofs.Common.{◌≡◌, ℕ, ◌+◌, ◌<◌, ◌≤◌, true, false, List, [], ◌∷◌, ◌++◌, refl, sym, ap, subst, ◌∙◌}
+use Rattle.std.proofs.Common.{append-nil, take-append-drop, drop-cons, length, take, drop, slice_index, arith, inl, inr}
 use Rattle.std.proofs.lemmas.Bool.{cases_lt}
 use Rattle.std.proofs.lemmas.List.{drop_all}
 use Rattle.std.specs.Io.KnownBytes.{IsAtEnd}
@@ -13,16 +14,20 @@ use Rattle.ar_frames.specs.declared.port.Login.TheVariants.{Taken, BadHost, InUs
 use Rattle.ar_frames.specs.Stream.{SourceState, SinkState, Reading}
 use Rattle.ar_frames.specs.Conversation.{Commands, Conversation}
 use Rattle.ar_frames.specs.Port.{Logins}
-use Rattle.ar_frames.specs.Session.{silent, refused, in_use, admitted, Opening, cut, bad_host, host_in_use, taken, login_name, login_bytes, IsUnsent, Session}
+use Rattle.ar_frames.specs.Session.{silent, refused, in_use, admitted, Opening, cut, bad_host, host_in_use, taken}
+use Rattle.ar_frames.specs.Session.{login_name, login_bytes, IsUnsent, Session}
 use Rattle.ar_frames.specs.Login.{Names, ReportsAdmission, Enters, stage_of, greeting_of}
 use Rattle.ar_frames.proofs.Streams.{Reading-same, Writing-none}
 
 -- a login of the right name is that of the host in its last byte
-pub login_is : (login : List ℕ) → length login ≡ 9 → take 8 login ≡ login_name → login_bytes (slice_index login 8) ≡ login
+pub login_is : (login : List ℕ) → length login ≡ 9 → take 8 login ≡ login_name
+    → login_bytes (slice_index login 8) ≡ login
 login_is login len name =
     let last : slice_index login 8 ∷ [] ≡ drop 8 login =
-    sym (drop-cons login 8 0 (omega (arith, len)) ∙ ap (λ (l : List ℕ). slice_index login 8 ∷ l) (drop_all 9 login (omega (arith, len)))) in
-    ap (λ (l : List ℕ). l ++ (slice_index login 8 ∷ [])) (sym name) ∙ ap (λ (l : List ℕ). take 8 login ++ l) last ∙ take-append-drop 8 login
+    sym (drop-cons login 8 0 (omega (arith, len))
+    ∙ ap (λ (l : List ℕ). slice_index login 8 ∷ l) (drop_all 9 login (omega (arith, len)))) in
+    ap (λ (l : List ℕ). l ++ (slice_index login 8 ∷ [])) (sym name) ∙ ap (λ (l : List ℕ). take 8 login ++ l) last
+    ∙ take-append-drop 8 login
 
 -- no frame came yet
 pub no_frames : {P : Type 0} (commands : Commands P) (port : P) → Conversation commands port port [] [] 0
@@ -36,7 +41,8 @@ no_frames commands port = record {
 }
 
 -- input ended inside the login
-pub session_cut : {P : Type 0} (logins : Logins P) (commands : Commands P) (source source' : SourceState) (sink : SinkState) (port : P) (login : List ℕ)
+pub session_cut : {P : Type 0} (logins : Logins P) (commands : Commands P) (source source' : SourceState)
+    (sink : SinkState) (port : P) (login : List ℕ)
     → length login < 9 → Reading source source' login false → IsAtEnd source'.left
     → Session logins commands source source' sink sink port port (record { frames = 0; reason = reason.Cut })
 session_cut logins commands source source' sink port login short read end = record {
@@ -56,7 +62,8 @@ session_cut logins commands source source' sink port login short read end = reco
 }
 
 -- a read faulted inside the login
-pub session_read : {P : Type 0} (logins : Logins P) (commands : Commands P) (source source' : SourceState) (sink : SinkState) (port : P) (login : List ℕ)
+pub session_read : {P : Type 0} (logins : Logins P) (commands : Commands P) (source source' : SourceState)
+    (sink : SinkState) (port : P) (login : List ℕ)
     → length login < 9 → Reading source source' login true
     → Session logins commands source source' sink sink port port (record { frames = 0; reason = reason.Read })
 session_read logins commands source source' sink port login short read = record {
@@ -82,91 +89,114 @@ unsent_stage BadLogin = refl
 unsent_stage HostInUse = refl
 
 -- a whole login was answered, or its answer couldn't be written
-pub told : {P : Type 0} (logins : Logins P) (commands : Commands P) (source source' : SourceState) (sink sink' : SinkState) (port port' : P)
+pub told : {P : Type 0} (logins : Logins P) (commands : Commands P) (source source' : SourceState)
+    (sink sink' : SinkState) (port port' : P)
     (login : List ℕ) (admission : Admission) (entry : LoginResult) → Reading source source' login false
     → Opening logins port login (greeting_of admission ∷ []) (stage_of admission) port'
     → ((host : Host) → admission ≡ Admitted host → Names host login) → ReportsAdmission sink sink' admission entry
     → Enters logins commands source source' sink sink' port port' entry
 unfolding no_frames
-told logins commands source source' sink sink' port port' login admission (LoginAdmitted host) read opening named tells = record {
-  login = login;
-  names = named host tells.0;
-  opening = subst (λ (a : Admission). Opening logins port login (greeting_of a ∷ []) (stage_of a) port') tells.0 opening;
-  read = read;
-  written = tells.1;
-}
-told logins commands source source' sink sink' port port' login admission (LoginEnded reason.BadLogin) read opening named tells = record {
-  stage = refused;
-  login = login;
-  greeting = 0x01 ∷ [];
-  mid = port';
-  frames = [];
-  answers = [];
-  rest = [];
-  opening = subst (λ (a : Admission). Opening logins port login (greeting_of a ∷ []) (stage_of a) port') tells.0 opening;
-  conversation = no_frames commands port';
-  closes = (refl, refl, refl);
-  read = Reading-same source source' login (login ++ []) false (sym (append-nil login)) read;
-  ended = tt;
-  written = tells.1;
-}
-told logins commands source source' sink sink' port port' login admission (LoginEnded reason.HostInUse) read opening named tells = record {
-  stage = in_use;
-  login = login;
-  greeting = 0x01 ∷ [];
-  mid = port';
-  frames = [];
-  answers = [];
-  rest = [];
-  opening = subst (λ (a : Admission). Opening logins port login (greeting_of a ∷ []) (stage_of a) port') tells.0 opening;
-  conversation = no_frames commands port';
-  closes = (refl, refl, refl);
-  read = Reading-same source source' login (login ++ []) false (sym (append-nil login)) read;
-  ended = tt;
-  written = tells.1;
-}
-told logins commands source source' sink sink' port port' login admission (LoginEnded reason.Write) read opening named tells = record {
-  stage = stage_of admission;
-  login = login;
-  greeting = greeting_of admission ∷ [];
-  mid = port';
-  frames = [];
-  answers = [];
-  rest = [];
-  opening = opening;
-  conversation = no_frames commands port';
-  closes = (unsent_stage admission, refl);
-  read = Reading-same source source' login (login ++ []) false (sym (append-nil login)) read;
-  ended = tt;
-  written =
-      let greeting : List ℕ = greeting_of admission ∷ [] in
-      let whole : length (greeting ++ []) ≤ 0 + length greeting = omega (arith, ap length (append-nil greeting)) in
-      record { part = record { n = 0; proper = omega arith; written = tells }; whole = whole };
-}
-told logins commands source source' sink sink' port port' login admission (LoginEnded reason.End) read opening named tells = absurd tells
-told logins commands source source' sink sink' port port' login admission (LoginEnded (reason.TooShort n)) read opening named tells = absurd tells
-told logins commands source source' sink sink' port port' login admission (LoginEnded (reason.TooLong n)) read opening named tells = absurd tells
-told logins commands source source' sink sink' port port' login admission (LoginEnded reason.Cut) read opening named tells = absurd tells
-told logins commands source source' sink sink' port port' login admission (LoginEnded reason.Read) read opening named tells = absurd tells
-told logins commands source source' sink sink' port port' login admission (LoginEnded reason.Bound) read opening named tells = absurd tells
+told logins commands source source' sink sink' port port' login admission (LoginAdmitted host) read opening named
+    tells = record {
+      login = login;
+      names = named host tells.0;
+      opening = subst (λ (a : Admission). Opening logins port login (greeting_of a ∷ []) (stage_of a) port') tells.0
+          opening;
+      read = read;
+      written = tells.1;
+    }
+told logins commands source source' sink sink' port port' login admission (LoginEnded reason.BadLogin) read opening
+    named tells = record {
+      stage = refused;
+      login = login;
+      greeting = 0x01 ∷ [];
+      mid = port';
+      frames = [];
+      answers = [];
+      rest = [];
+      opening = subst (λ (a : Admission). Opening logins port login (greeting_of a ∷ []) (stage_of a) port') tells.0
+          opening;
+      conversation = no_frames commands port';
+      closes = (refl, refl, refl);
+      read = Reading-same source source' login (login ++ []) false (sym (append-nil login)) read;
+      ended = tt;
+      written = tells.1;
+    }
+told logins commands source source' sink sink' port port' login admission (LoginEnded reason.HostInUse) read opening
+    named tells = record {
+      stage = in_use;
+      login = login;
+      greeting = 0x01 ∷ [];
+      mid = port';
+      frames = [];
+      answers = [];
+      rest = [];
+      opening = subst (λ (a : Admission). Opening logins port login (greeting_of a ∷ []) (stage_of a) port') tells.0
+          opening;
+      conversation = no_frames commands port';
+      closes = (refl, refl, refl);
+      read = Reading-same source source' login (login ++ []) false (sym (append-nil login)) read;
+      ended = tt;
+      written = tells.1;
+    }
+told logins commands source source' sink sink' port port' login admission (LoginEnded reason.Write) read opening named
+    tells = record {
+      stage = stage_of admission;
+      login = login;
+      greeting = greeting_of admission ∷ [];
+      mid = port';
+      frames = [];
+      answers = [];
+      rest = [];
+      opening = opening;
+      conversation = no_frames commands port';
+      closes = (unsent_stage admission, refl);
+      read = Reading-same source source' login (login ++ []) false (sym (append-nil login)) read;
+      ended = tt;
+      written =
+          let greeting : List ℕ = greeting_of admission ∷ [] in
+          let whole : length (greeting ++ []) ≤ 0 + length greeting = omega (arith, ap length (append-nil greeting)) in
+          record { part = record { n = 0; proper = omega arith; written = tells }; whole = whole };
+    }
+told logins commands source source' sink sink' port port' login admission (LoginEnded reason.End) read opening named
+    tells = absurd tells
+told logins commands source source' sink sink' port port' login admission (LoginEnded (reason.TooShort n)) read opening
+    named tells = absurd tells
+told logins commands source source' sink sink' port port' login admission (LoginEnded (reason.TooLong n)) read opening
+    named tells = absurd tells
+told logins commands source source' sink sink' port port' login admission (LoginEnded reason.Cut) read opening named
+    tells = absurd tells
+told logins commands source source' sink sink' port port' login admission (LoginEnded reason.Read) read opening named
+    tells = absurd tells
+told logins commands source source' sink sink' port port' login admission (LoginEnded reason.Bound) read opening named
+    tells = absurd tells
 
 -- what the port said of a login of the right name
-pub opens_bad_host : {P : Type 0} (logins : Logins P) (port port' : P) (login : List ℕ) → length login ≡ 9 → take 8 login ≡ login_name
-    → 3 < slice_index login 8 → logins port (slice_index login 8) BadHost port' → Opening logins port login (0x01 ∷ []) refused port'
+pub opens_bad_host : {P : Type 0} (logins : Logins P) (port port' : P) (login : List ℕ) → length login ≡ 9
+    → take 8 login ≡ login_name
+    → 3 < slice_index login 8 → logins port (slice_index login 8) BadHost port'
+    → Opening logins port login (0x01 ∷ []) refused port'
 opens_bad_host logins port port' login len name above said =
-    subst (λ (l : List ℕ). Opening logins port l (0x01 ∷ []) refused port') (login_is login len name) (bad_host (slice_index login 8) port' above said)
+    subst (λ (l : List ℕ). Opening logins port l (0x01 ∷ []) refused port') (login_is login len name)
+    (bad_host (slice_index login 8) port' above said)
 
-pub opens_in_use : {P : Type 0} (logins : Logins P) (port port' : P) (login : List ℕ) → length login ≡ 9 → take 8 login ≡ login_name
-    → slice_index login 8 ≤ 3 → logins port (slice_index login 8) InUse port' → Opening logins port login (0x01 ∷ []) in_use port'
+pub opens_in_use : {P : Type 0} (logins : Logins P) (port port' : P) (login : List ℕ) → length login ≡ 9
+    → take 8 login ≡ login_name
+    → slice_index login 8 ≤ 3 → logins port (slice_index login 8) InUse port'
+    → Opening logins port login (0x01 ∷ []) in_use port'
 opens_in_use logins port port' login len name below said =
-    subst (λ (l : List ℕ). Opening logins port l (0x01 ∷ []) in_use port') (login_is login len name) (host_in_use (slice_index login 8) port' below said)
+    subst (λ (l : List ℕ). Opening logins port l (0x01 ∷ []) in_use port') (login_is login len name)
+    (host_in_use (slice_index login 8) port' below said)
 
-pub opens_taken : {P : Type 0} (logins : Logins P) (port port' : P) (login : List ℕ) (admission : Admission) (host : Host) → admission ≡ Admitted host
-    → length login ≡ 9 → take 8 login ≡ login_name → slice_index login 8 ≤ 3 → logins port (slice_index login 8) Taken port'
+pub opens_taken : {P : Type 0} (logins : Logins P) (port port' : P) (login : List ℕ) (admission : Admission)
+    (host : Host) → admission ≡ Admitted host
+    → length login ≡ 9 → take 8 login ≡ login_name → slice_index login 8 ≤ 3
+    → logins port (slice_index login 8) Taken port'
     → Opening logins port login (greeting_of admission ∷ []) (stage_of admission) port'
 opens_taken logins port port' login admission host is len name below said =
     subst (λ (a : Admission). Opening logins port login (greeting_of a ∷ []) (stage_of a) port') (sym is)
-    (subst (λ (l : List ℕ). Opening logins port l (0x00 ∷ []) admitted port') (login_is login len name) (taken (slice_index login 8) port' below said))
+    (subst (λ (l : List ℕ). Opening logins port l (0x00 ∷ []) admitted port') (login_is login len name)
+    (taken (slice_index login 8) port' below said))
 
 -- a number that isn't above three
 pub at_most_three : (n : ℕ) → (3 < n → ⊥) → n ≤ 3

@@ -32,14 +32,16 @@ receives_front a b c base front (Lost tag) first rest = record {
 }
 receives_front a b c base front (Ended end) first rest = record {
   body = front ++ rest.body;
-  closes = λ frames below. subst (Closes end admitted frames) (append_assoc base front rest.body) (rest.closes frames below);
+  closes = λ frames below. subst (Closes end admitted frames) (append_assoc base front rest.body)
+      (rest.closes frames below);
   read = Reading-trans a b c front rest.body (is_read_fault end) first rest.read;
   ended = rest.ended;
   unwritten = rest.unwritten;
 }
 
 -- input ended inside a frame
-pub stops_cut : (a b : SourceState) (front body : List ℕ) → IsCutRequest (front ++ body) → 0 < length (front ++ body) → Reading a b body false → IsAtEnd b.left
+pub stops_cut : (a b : SourceState) (front body : List ℕ) → IsCutRequest (front ++ body) → 0 < length (front ++ body)
+    → Reading a b body false → IsAtEnd b.left
     → StopsAfter front a b reason.Cut
 stops_cut a b front body cut some read end = record {
   body = body;
@@ -50,7 +52,8 @@ stops_cut a b front body cut some read end = record {
 }
 
 -- a read faulted inside a frame, or before it
-pub stops_read : (a b : SourceState) (front body : List ℕ) → IsCutRequest (front ++ body) → Reading a b body true → StopsAfter front a b reason.Read
+pub stops_read : (a b : SourceState) (front body : List ℕ) → IsCutRequest (front ++ body) → Reading a b body true
+    → StopsAfter front a b reason.Read
 stops_read a b front body cut read = record {
   body = body;
   closes = λ frames below. (below, cut);

@@ -1,5 +1,7 @@
 -- How calls on a stream join: their bytes one after the other.
-use Rattle.std.proofs.Common.{◌≡◌, ℕ, ◌+◌, ◌-◌, ◌<◌, ◌≤◌, Bool, false, List, [], ◌++◌, refl, sym, ap, subst, ◌∙◌, length, take, drop, slice_range, arith, drop_at, length-take-le, take_all, le_refl, append-nil, length-drop, length-append, take-append-drop, drop-drop, Some, None}
+use Rattle.std.proofs.Common.{◌≡◌, ℕ, ◌+◌, ◌-◌, ◌<◌, ◌≤◌, Bool, false, List, [], ◌++◌, refl, sym, ap, subst, ◌∙◌}
+use Rattle.std.proofs.Common.{length, take, drop, slice_range, arith, drop_at, length-take-le, take_all, le_refl}
+use Rattle.std.proofs.Common.{append-nil, length-drop, length-append, take-append-drop, drop-drop, Some, None}
 use Rattle.std.specs.Prelude.{Option}
 use Rattle.std.specs.Io.KnownBytes.{Keeps, Consumes, Appends}
 use Rattle.std.proofs.KnownBytes.{Consumes-trans, Appends-trans, Consumes-nil, Appends-nil}
@@ -17,14 +19,16 @@ pub Writing-none : (a : SinkState) → Writing a a [] false
 Writing-none a = record { took = Appends-nil a.taken; faults = refl }
 
 -- reads after reads without a fault
-pub Reading-trans : (a b c : SourceState) (xs ys : List ℕ) (f : Bool) → Reading a b xs false → Reading b c ys f → Reading a c (xs ++ ys) f
+pub Reading-trans : (a b c : SourceState) (xs ys : List ℕ) (f : Bool) → Reading a b xs false → Reading b c ys f
+    → Reading a c (xs ++ ys) f
 Reading-trans a b c xs ys f x y = record {
   given = Consumes-trans a.left b.left c.left xs ys x.given y.given;
   faults = y.faults ∙ ap (λ n. faults_after f n) x.faults;
 }
 
 -- writes after writes without a fault
-pub Writing-trans : (a b c : SinkState) (xs ys : List ℕ) (f : Bool) → Writing a b xs false → Writing b c ys f → Writing a c (xs ++ ys) f
+pub Writing-trans : (a b c : SinkState) (xs ys : List ℕ) (f : Bool) → Writing a b xs false → Writing b c ys f
+    → Writing a c (xs ++ ys) f
 Writing-trans a b c xs ys f x y = record {
   took = Appends-trans a.taken b.taken c.taken xs ys x.took y.took;
   faults = y.faults ∙ ap (λ n. faults_after f n) x.faults;
@@ -37,26 +41,32 @@ Reading-same a b xs ys f e r = subst (λ (l : List ℕ). Reading a b l f) e r
 pub Writing-same : (a b : SinkState) (xs ys : List ℕ) (f : Bool) → xs ≡ ys → Writing a b xs f → Writing a b ys f
 Writing-same a b xs ys f e r = subst (λ (l : List ℕ). Writing a b l f) e r
 
-take_split : (a b : ℕ) (old new : List ℕ) → a ≤ b → take a new ≡ take a old → take a old ++ slice_range new a b ≡ take b new
+take_split : (a b : ℕ) (old new : List ℕ) → a ≤ b → take a new ≡ take a old
+    → take a old ++ slice_range new a b ≡ take b new
 take_split a b old new h front =
     let same : a + (b - a) ≡ b = omega arith in
     ap (λ l. l ++ slice_range new a b) (sym front) ∙ sym (take-add a (b - a) new) ∙ ap (λ n. take n new) same
 
-slice_range-put_mid : (a k n : ℕ) (xs ys : List ℕ) → a ≤ length xs → n ≤ length ys → slice_range (put_mid a k xs ys) a (a + n) ≡ take n ys
+slice_range-put_mid : (a k n : ℕ) (xs ys : List ℕ) → a ≤ length xs → n ≤ length ys
+    → slice_range (put_mid a k xs ys) a (a + n) ≡ take n ys
 slice_range-put_mid a k n xs ys within fits =
     let same : (a + n) - a ≡ n = omega arith in
     let after = post_of a k xs in
-    ap (take ((a + n) - a)) (drop_at (take a xs) (ys ++ after) a (length-take-le a xs within)) ∙ ap (λ m. take m (ys ++ after)) same ∙ take-append-le n ys after fits
+    ap (take ((a + n) - a)) (drop_at (take a xs) (ys ++ after) a (length-take-le a xs within))
+    ∙ ap (λ m. take m (ys ++ after)) same ∙ take-append-le n ys after fits
 
 -- the bytes before a part that a read filled in part, and those that it filled
 pub take-filled : (at n room : ℕ) (piece part : List ℕ) → at ≤ length piece → n ≤ length part
     → take at piece ++ take n part ≡ take (at + n) (put_mid at room piece part)
 take-filled at n room piece part within fits =
-    let joined = take_split at (at + n) piece (put_mid at room piece part) (omega arith) (take-put_mid_below _ _ _ _ _ (le_refl _) within) in
+    let joined =
+    take_split at (at + n) piece (put_mid at room piece part) (omega arith)
+    (take-put_mid_below _ _ _ _ _ (le_refl _) within) in
     ap (λ l. take at piece ++ l) (sym (slice_range-put_mid at room n piece part within fits)) ∙ joined
 
 -- a part that was filled leaves the bytes before it
-pub take-unfilled : (at room : ℕ) (piece part : List ℕ) → at ≤ length piece → take at piece ≡ take at (put_mid at room piece part)
+pub take-unfilled : (at room : ℕ) (piece part : List ℕ) → at ≤ length piece
+    → take at piece ≡ take at (put_mid at room piece part)
 take-unfilled at room piece part within = sym (take-put_mid_below _ _ _ _ _ (le_refl _) within)
 
 -- calls that kept the bytes, and then reads
@@ -86,13 +96,15 @@ Appends-kept_all (Some x) None k = absurd k
 Appends-kept_all (Some x) (Some y) k = k ∙ sym (append-nil x)
 
 -- the bytes before a part, and those that were taken of it
-pub take-sent : (at n : ℕ) (xs : List ℕ) → at ≤ length xs → take at xs ++ take n (take (length xs - at) (drop at xs)) ≡ take (at + n) xs
+pub take-sent : (at n : ℕ) (xs : List ℕ) → at ≤ length xs
+    → take at xs ++ take n (take (length xs - at) (drop at xs)) ≡ take (at + n) xs
 take-sent at n xs within =
     let rest = take_all (length xs - at) (drop at xs) (omega (arith, length-drop at xs)) in
     ap (λ l. take at xs ++ take n l) rest ∙ sym (take-add at n xs)
 
 -- so many bytes came, and then these
-pub came_more : (a b c : SourceState) (xs : List ℕ) (count wanted : ℕ) → CameAll a b count → Reading b c xs false → count + length xs ≡ wanted → CameAll a c wanted
+pub came_more : (a b c : SourceState) (xs : List ℕ) (count wanted : ℕ) → CameAll a b count → Reading b c xs false
+    → count + length xs ≡ wanted → CameAll a c wanted
 came_more a b c xs count wanted came more e = record {
   bytes = came.bytes ++ xs;
   len = omega (arith, length-append came.bytes xs, came.len, e);
@@ -100,7 +112,8 @@ came_more a b c xs count wanted came more e = record {
 }
 
 -- so many bytes came, and then a part of what was wanted
-pub came_part : (a b c : SourceState) (xs : List ℕ) (count wanted : ℕ) (f : Bool) → CameAll a b count → Reading b c xs f → count + length xs < wanted → CamePart a c wanted f
+pub came_part : (a b c : SourceState) (xs : List ℕ) (count wanted : ℕ) (f : Bool) → CameAll a b count → Reading b c xs f
+    → count + length xs < wanted → CamePart a c wanted f
 came_part a b c xs count wanted f came more e = record {
   bytes = came.bytes ++ xs;
   short = omega (arith, length-append came.bytes xs, came.len, e);
@@ -111,10 +124,12 @@ came_part a b c xs count wanted f came more e = record {
 pub mem_reads : (at n : ℕ) (items copied rest : List ℕ) → copied ≡ take n (drop at items) → at + n ≤ length items
     → drop at items ≡ take n (copied ++ rest) ++ drop (at + n) items
 mem_reads at n items copied rest e within =
-    let len : length (take n (drop at items)) ≡ n = length-take-le n (drop at items) (omega (arith, length-drop at items)) in
+    let len : length (take n (drop at items)) ≡ n =
+    length-take-le n (drop at items) (omega (arith, length-drop at items)) in
     let short : n ≤ length copied = omega (arith, ap length e, len) in
     let exact : length copied ≤ n = omega (arith, ap length e, len) in
-    let front : take n (copied ++ rest) ≡ take n (drop at items) = take-append-le n copied rest short ∙ take_all n copied exact ∙ e in
+    let front : take n (copied ++ rest) ≡ take n (drop at items) =
+    take-append-le n copied rest short ∙ take_all n copied exact ∙ e in
     sym (take-append-drop n (drop at items)) ∙ ap (λ l. l ++ drop n (drop at items)) (sym front)
     ∙ ap (λ l. take n (copied ++ rest) ++ l) (drop-drop n at items)
 
@@ -122,7 +137,8 @@ mem_reads at n items copied rest e within =
 pub take-append_more : (xs ys : List ℕ) (n : ℕ) → take (length xs + n) (xs ++ ys) ≡ xs ++ take n ys
 take-append_more xs ys n =
     take-add (length xs) n (xs ++ ys)
-    ∙ ap (λ l. l ++ take n (drop (length xs) (xs ++ ys))) (take-append-le (length xs) xs ys (le_refl (length xs)) ∙ take_all (length xs) xs (le_refl (length xs)))
+    ∙ ap (λ l. l ++ take n (drop (length xs) (xs ++ ys))) (take-append-le (length xs) xs ys (le_refl (length xs))
+    ∙ take_all (length xs) xs (le_refl (length xs)))
     ∙ ap (λ l. xs ++ take n l) (drop_at xs ys (length xs) refl)
 
 -- a stream that is as it was

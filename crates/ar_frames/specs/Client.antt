@@ -1,5 +1,6 @@
 -- The client's side: what a login and a command write and read, by their result.
-use Rattle.std.specs.Prelude.{◌≡◌, ◌≢◌, ◌<◌, ◌≤◌, ◌⊎◌, ◌+◌, ℕ, Bool, true, false, if◌then◌else◌, List, [], ◌∷◌, ◌++◌, length, Result, Ok, Err}
+use Rattle.std.specs.Prelude.{◌≡◌, ◌≢◌, ◌<◌, ◌≤◌, ◌⊎◌, ◌+◌, ℕ, Bool, true, false, if◌then◌else◌, List, [], ◌∷◌, ◌++◌}
+use Rattle.std.specs.Prelude.{length, Result, Ok, Err}
 use Rattle.std.specs.Io.KnownBytes.{IsAtEnd}
 use Rattle.byteorder.specs.Endian.{big_number}
 use Rattle.ar_scsi.specs.declared.reply.Reply.{Reply}
@@ -80,20 +81,25 @@ pub record IsOthers (tag : ℕ) (bytes : List ℕ) : Type 0 where
 
 -- what is read of a reply after its first bytes `front`, by the result
 abbrev pub ReadsReply : List ℕ → SourceState → SourceState → ℕ → Result Reply AskFault → Type 0
-ReadsReply front source source' tag (Ok reply) = ReadsOf source source' (λ body. IsReplyFrame tag reply (front ++ body)) false
+ReadsReply front source source' tag (Ok reply) =
+    ReadsOf source source' (λ body. IsReplyFrame tag reply (front ++ body)) false
 ReadsReply front source source' tag (Err fault.Read) = ReadsOf source source' (λ body. IsCutReply (front ++ body)) true
 ReadsReply front source source' tag (Err fault.Write) = ⊥
 ReadsReply front source source' tag (Err fault.Cut) =
     ReadsOf source source' (λ body. IsCutReply (front ++ body)) false × IsAtEnd source'.left
-ReadsReply front source source' tag (Err fault.WrongTag) = ReadsOf source source' (λ body. IsOthers tag (front ++ body)) false
-ReadsReply front source source' tag (Err fault.BadFrame) = ReadsOf source source' (λ body. IsBadReply (front ++ body)) false
-ReadsReply front source source' tag (Err fault.NoMemory) = ReadsOf source source' (λ body. IsHeldUp (front ++ body)) false
+ReadsReply front source source' tag (Err fault.WrongTag) =
+    ReadsOf source source' (λ body. IsOthers tag (front ++ body)) false
+ReadsReply front source source' tag (Err fault.BadFrame) =
+    ReadsOf source source' (λ body. IsBadReply (front ++ body)) false
+ReadsReply front source source' tag (Err fault.NoMemory) =
+    ReadsOf source source' (λ body. IsHeldUp (front ++ body)) false
 
 -- what a command writes and reads, by the result: the whole frame is written, or a proper prefix, and then nothing is
 -- read
 abbrev pub Obtains : SourceState → SourceState → SinkState → SinkState → ℕ → List ℕ → Result Reply AskFault → Type 0
 Obtains source source' sink sink' tag frame (Err fault.Write) = WritesPart sink sink' frame × (source' ≡ source)
-Obtains source source' sink sink' tag frame answer = Writing sink sink' frame false × ReadsReply [] source source' tag answer
+Obtains source source' sink sink' tag frame answer =
+    Writing sink sink' frame false × ReadsReply [] source source' tag answer
 
 -- the result for a whole reply
 abbrev pub Judges : ℕ → List ℕ → Result Reply AskFault → Type 0
@@ -113,7 +119,8 @@ pub record Parses (status sense_len : ℕ) (body : List ℕ) (reply : Reply) : T
   pub body_is : body ≡ sense_bytes reply.sense ++ reply.payload
 
 -- a command: the request's one frame is written, and what replies to it is read
-pub record Asks (source source' : SourceState) (sink sink' : SinkState) (request : Request) (answer : Result Reply AskFault) : Type 0 where
+pub record Asks (source source' : SourceState) (sink sink' : SinkState) (request : Request)
+    (answer : Result Reply AskFault) : Type 0 where
   pub frame : List ℕ
   pub is_frame : IsFrame request frame
   pub obtains : Obtains source source' sink sink' request.tag frame answer

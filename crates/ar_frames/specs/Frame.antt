@@ -63,7 +63,8 @@ pub record IsReplyFrame (tag : ℕ) (reply : Reply) (bytes : List ℕ) : Type 0 
 abbrev pub IsCutFrame : ℕ → ℕ → List ℕ → Type 0
 IsCutFrame low high bytes =
     (length bytes < 4)
-    ⊎ ((4 ≤ length bytes) × (low ≤ big_number 4 bytes) × (big_number 4 bytes ≤ high) × (length bytes < 4 + big_number 4 bytes))
+    ⊎ ((4 ≤ length bytes) × (low ≤ big_number 4 bytes) × (big_number 4 bytes ≤ high)
+    × (length bytes < 4 + big_number 4 bytes))
 
 -- an incomplete request frame
 abbrev pub IsCutRequest : List ℕ → Type 0
@@ -82,5 +83,6 @@ NoneBeginsAnother =
 -- a reply frame that is a prefix of another is equal to it, and so are the tags and replies
 abbrev pub NoReplyBeginsAnother : Type 0
 NoReplyBeginsAnother =
-    (tag other : ℕ) (first second : Reply) (bytes more : List ℕ) → IsReplyFrame tag first bytes → IsReplyFrame other second (bytes ++ more)
+    (tag other : ℕ) (first second : Reply) (bytes more : List ℕ) → IsReplyFrame tag first bytes
+    → IsReplyFrame other second (bytes ++ more)
     → (more ≡ []) × (tag ≡ other) × (first ≡ second)

@@ -1,5 +1,6 @@
 -- A session: what it reads, gives to its port and writes, and when each end comes.
-use Rattle.std.specs.Prelude.{◌≡◌, ◌≢◌, ◌<◌, ◌≤◌, ◌+◌, ℕ, Bool, true, false, List, [], ◌∷◌, ◌++◌, length, take, Option, ⊤}
+use Rattle.std.specs.Prelude.{◌≡◌, ◌≢◌, ◌<◌, ◌≤◌, ◌+◌, ℕ, Bool, true, false, List, [], ◌∷◌, ◌++◌, length, take, Option}
+use Rattle.std.specs.Prelude.{⊤}
 use Rattle.std.specs.Io.KnownBytes.{IsAtEnd}
 use Rattle.byteorder.specs.Endian.{big_number}
 use Rattle.ar_frames.specs.declared.port.Login.TheVariants.{Taken, BadHost, InUse}
@@ -33,10 +34,14 @@ pub data Stage : Type 0 where
 -- A login: the port before, the bytes that were read of it, the reply that is due, the result, and the port after.
 pub data Opening {P : Type 0} (logins : Logins P) (old : P) : List ℕ → List ℕ → Stage → P → Type 0 where
   cut : (login : List ℕ) → length login < 9 → Opening logins old login [] silent old
-  other_name : (login : List ℕ) → length login ≡ 9 → take 8 login ≢ login_name → Opening logins old login (0x01 ∷ []) refused old
-  bad_host : (host : ℕ) (new : P) → 3 < host → logins old host BadHost new → Opening logins old (login_bytes host) (0x01 ∷ []) refused new
-  host_in_use : (host : ℕ) (new : P) → host ≤ 3 → logins old host InUse new → Opening logins old (login_bytes host) (0x01 ∷ []) in_use new
-  taken : (host : ℕ) (new : P) → host ≤ 3 → logins old host Taken new → Opening logins old (login_bytes host) (0x00 ∷ []) admitted new
+  other_name : (login : List ℕ) → length login ≡ 9 → take 8 login ≢ login_name
+      → Opening logins old login (0x01 ∷ []) refused old
+  bad_host : (host : ℕ) (new : P) → 3 < host → logins old host BadHost new
+      → Opening logins old (login_bytes host) (0x01 ∷ []) refused new
+  host_in_use : (host : ℕ) (new : P) → host ≤ 3 → logins old host InUse new
+      → Opening logins old (login_bytes host) (0x01 ∷ []) in_use new
+  taken : (host : ℕ) (new : P) → host ≤ 3 → logins old host Taken new
+      → Opening logins old (login_bytes host) (0x00 ∷ []) admitted new
 
 -- the login wasn't read whole, or the frame after `frames` whole ones wasn't, of which `rest` was read
 abbrev pub IsInside : Stage → ℕ → List ℕ → Type 0
@@ -132,7 +137,8 @@ WritesAnswers reason.Bound old new answers last = Writing old new answers false
 
 -- A whole session, from the streams and the port before it to those after it: it reads a login, `end.frames` frames and
 -- a rest, and writes the reply to the login and the reply frames.
-pub record Session {P : Type 0} (logins : Logins P) (commands : Commands P) (source source' : SourceState) (sink sink' : SinkState)
+pub record Session {P : Type 0} (logins : Logins P) (commands : Commands P) (source source' : SourceState)
+    (sink sink' : SinkState)
     (port port' : P) (end : SessionEnd) : Type 0 where
   pub stage : Stage
   pub login : List ℕ
@@ -146,4 +152,5 @@ pub record Session {P : Type 0} (logins : Logins P) (commands : Commands P) (sou
   pub closes : Closes end.reason stage end.frames rest
   pub read : Reading source source' (login ++ (frames ++ rest)) (is_read_fault end.reason)
   pub ended : EndsInput end.reason source'.left
-  pub written : WritesAnswers end.reason sink sink' (greeting ++ answers) (last_len (length greeting) conversation.replies)
+  pub written : WritesAnswers end.reason sink sink' (greeting ++ answers)
+      (last_len (length greeting) conversation.replies)

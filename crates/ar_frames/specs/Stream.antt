@@ -1,5 +1,6 @@
 -- Streams, as contracts see them: the bytes, if the stream reports them, and the number of faults.
-use Rattle.std.specs.Prelude.{◌≡◌, ℕ, ◌<◌, Bool, true, false, if◌then◌else◌, List, [], length, take, Option, Some, None, ⊤}
+use Rattle.std.specs.Prelude.{◌≡◌, ℕ, ◌<◌, Bool, true, false, if◌then◌else◌, List, [], length, take, Option, Some, None}
+use Rattle.std.specs.Prelude.{⊤}
 use Rattle.std.specs.Io.KnownBytes.{Consumes, Appends, IsAtEnd}
 use Rattle.ar_disks.specs.Disk.{counted}
 use Rattle.ar_frames.specs.declared.fill.FillResult.{FillResult}
@@ -7,9 +8,11 @@ use Rattle.ar_frames.specs.declared.fill.FillResult.TheVariants.{Full, Ended, Fa
 use Rattle.ar_frames.specs.declared.hold.Passed.{Passed}
 use Rattle.ar_frames.specs.declared.hold.Passed.TheVariants.{All, Ended as PassEnded, Failed as PassFailed}
 use Rattle.ar_frames.specs.declared.hold.BufferResult.{BufferResult}
-use Rattle.ar_frames.specs.declared.hold.BufferResult.TheVariants.{Kept, Refused, Lost, Ended as HoldEnded, Failed as HoldFailed}
+use Rattle.ar_frames.specs.declared.hold.BufferResult.TheVariants.{Kept, Refused, Lost, Ended as HoldEnded}
+use Rattle.ar_frames.specs.declared.hold.BufferResult.TheVariants.{Failed as HoldFailed}
 use Rattle.ar_frames.specs.declared.hold.Fetched.{Fetched}
-use Rattle.ar_frames.specs.declared.hold.Fetched.TheVariants.{Kept as FetchKept, Lost as FetchLost, Ended as FetchEnded, Failed as FetchFailed}
+use Rattle.ar_frames.specs.declared.hold.Fetched.TheVariants.{Kept as FetchKept, Lost as FetchLost, Ended as FetchEnded}
+use Rattle.ar_frames.specs.declared.hold.Fetched.TheVariants.{Failed as FetchFailed}
 use Rattle.ar_frames.specs.declared.fill.Sent.{Sent}
 use Rattle.ar_frames.specs.declared.fill.Sent.TheVariants.{Whole, Part}
 

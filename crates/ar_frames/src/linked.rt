@@ -66,7 +66,8 @@ impl<R: Read> Source for Linked<R> {
     fn read(&mut self, into: &mut [u8]) -> Option<usize>
         ensures bound { IfSome result (λ n. n ≤ length into.new) }
         ensures read { Reading (record { left = R.remaining self.old.stream; faults = self.old.read_faults })
-            (record { left = R.remaining self.new.stream; faults = self.new.read_faults }) (moved result into.new) (is_none result) }
+            (record { left = R.remaining self.new.stream; faults = self.new.read_faults }) (moved result into.new)
+            (is_none result) }
         ensures end { IfSome result (λ n. n ≡ 0 → 0 < length into.new → IsAtEnd (R.remaining self.new.stream)) }
         // The write faults stay.
         ensures apart { self.new.write_faults ≡ self.old.write_faults }
@@ -93,7 +94,8 @@ impl<W: Write> Sink for Linked<W> {
         ensures bound { IfSome result (λ n. n ≤ length from.now) }
         ensures some { IfSome result (λ n. 0 < length from.now → 0 < n) }
         ensures written { Writing (record { taken = W.contents self.old.stream; faults = self.old.write_faults })
-            (record { taken = W.contents self.new.stream; faults = self.new.write_faults }) (moved result from.now) (is_none result) }
+            (record { taken = W.contents self.new.stream; faults = self.new.write_faults }) (moved result from.now)
+            (is_none result) }
         // The read faults stay.
         ensures apart { self.new.read_faults ≡ self.old.read_faults }
     {

@@ -1,5 +1,6 @@
 // Streams in memory. A call transfers all that fits, and only a full sink faults.
-ghost use Rattle.std.specs.Prelude.{◌≡◌, ◌<◌, ◌≤◌, ◌+◌, ◌++◌, [], length, take, drop, min, Some, IfSome, is_none, is_some, IsSome, IfNone, ◌↔◌, ◌==◌};
+ghost use Rattle.std.specs.Prelude.{◌≡◌, ◌<◌, ◌≤◌, ◌+◌, ◌++◌, [], length, take, drop, min, Some, IfSome, is_none};
+ghost use Rattle.std.specs.Prelude.{is_some, IsSome, IfNone, ◌↔◌, ◌==◌};
 ghost use Rattle.std.specs.Io.KnownBytes.{IsAtEnd};
 ghost use Rattle.ar_frames.specs.Stream.{Reading, Writing, moved};
 ghost use Rattle.ar_frames.specs.Memory.{mem_source, mem_sink};

@@ -1,5 +1,6 @@
 // Writes frames, each in one piece if memory allows, since a stream may send every piece on by itself.
-ghost use Rattle.std.specs.Prelude.{◌≡◌, ◌<◌, ◌≤◌, ◌+◌, ◌++◌, IsTrue, IsFalse, length, max, take, vec_len, vec_capacity};
+ghost use Rattle.std.specs.Prelude.{◌≡◌, ◌<◌, ◌≤◌, ◌+◌, ◌++◌, IsTrue, IsFalse, length, max, take, vec_len};
+ghost use Rattle.std.specs.Prelude.{vec_capacity};
 ghost use Rattle.ar_frames.specs.Stream.{Sending};
 ghost use Rattle.ar_frames.specs.Frame.{IsReply, IsReplyFrame};
 ghost use Rattle.ar_frames.specs.Conversation.{reply_len};
@@ -65,7 +66,8 @@ pub(crate) fn send_joined<W: Sink>(
 // Joins two pieces at the front of the buffer. False: the allocation failed, and the capacity was and is too small for
 // them.
 fn join(buffer: &mut Vec<u8>, front: &[u8], rest: &[u8]) -> bool
-    ensures joined { IsTrue result → take (length front.now + length rest.now) buffer.new.items ≡ front.now ++ rest.now }
+    ensures joined { IsTrue result → take (length front.now + length rest.now) buffer.new.items
+        ≡ front.now ++ rest.now }
     ensures long { IsTrue result → length front.now + length rest.now ≤ vec_len buffer.new }
     ensures room { vec_capacity buffer.new ≤ max (vec_capacity buffer.old) (length front.now + length rest.now) }
     ensures kept { vec_capacity buffer.old ≤ vec_capacity buffer.new }

@@ -9,17 +9,20 @@ use Rattle.ar_sessions.specs.declared.sessions.Pending.{Pending}
 use Rattle.ar_sessions.specs.declared.sessions.Pending.TheVariants as pending
 use Rattle.ar_sessions.specs.Ends.{IsBegun, Becomes, ConnectionEnds, EndOf}
 
-module _ {D P H : Type 0} (opens : D → Option P → D → Type 0) (keeps : H → SessionEnd → Type 0) (served : P → SessionEnd → Type 0) where
+module _ {D P H : Type 0} (opens : D → Option P → D → Type 0) (keeps : H → SessionEnd → Type 0) (served : P → SessionEnd
+    → Type 0) where
   -- one that was opened, and was begun with a thread that keeps an end of it, or with none
   pub became : (is : H → Type 0) (this : Pending H) (a b : D) (pair : P) → opens a (Some pair) b
-      → ((handle : H) → is handle → (end : SessionEnd) → keeps handle end → served pair end) → IsBegun is this → Becomes opens keeps served a this b
+      → ((handle : H) → is handle → (end : SessionEnd) → keeps handle end → served pair end) → IsBegun is this
+      → Becomes opens keeps served a this b
   became is (pending.Served handle) a b pair opened kept begun =
       record { pair = pair; opened = opened; kept = kept handle begun }
   became is pending.Unopened a b pair opened kept begun = absurd begun
   became is pending.NoThread a b pair opened kept begun = record { pair = pair; opened = opened }
 
   -- one connection
-  ended : (this : Pending H) (end : ConnectionEnd) (a b : D) → Becomes opens keeps served a this b → EndOf keeps this end
+  ended : (this : Pending H) (end : ConnectionEnd) (a b : D) → Becomes opens keeps served a this b
+      → EndOf keeps this end
       → ConnectionEnds opens served a end b
   ended (pending.Served handle) (Served end) a b thread kept =
       inl (record { pair = thread.pair; opened = thread.opened; ended = thread.kept end kept })
@@ -28,7 +31,8 @@ module _ {D P H : Type 0} (opens : D → Option P → D → Type 0) (keeps : H �
   ended pending.NoThread end a b opened is = subst (λ e. ConnectionEnds opens served a e b) (sym is) opened
 
   -- all of them
-  pub all_ended : (these : List (Pending H)) (ends : List ConnectionEnd) (a b : D) → InTurn (Becomes opens keeps served) these a b
+  pub all_ended : (these : List (Pending H)) (ends : List ConnectionEnd) (a b : D)
+      → InTurn (Becomes opens keeps served) these a b
       → AllZip (EndOf keeps) these ends → InTurn (ConnectionEnds opens served) ends a b
   all_ended [] [] a b became are = became
   all_ended [] (end ∷ ends) a b became are = absurd are

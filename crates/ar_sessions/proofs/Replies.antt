@@ -1,5 +1,7 @@
 -- A reply to a host's command is one that a frame can carry.
-use Rattle.std.proofs.Common.{◌≡◌, ◌≢◌, ◌<◌, ◌≤◌, ◌+◌, ◌*◌, ◌^◌, ℕ, Bool, true, false, eqb, ◌&&◌, not, List, [], ◌∷◌, length, take, drop, slice_index, Option, Some, None, Result, Ok, Err, refl, sym, ap, subst, ◌∙◌, inl, inr, arith, length-take}
+use Rattle.std.proofs.Common.{◌≡◌, ◌≢◌, ◌<◌, ◌≤◌, ◌+◌, ◌*◌, ◌^◌, ℕ, Bool, true, false, eqb, ◌&&◌, not, List, [], ◌∷◌}
+use Rattle.std.proofs.Common.{length, take, drop, slice_index, Option, Some, None, Result, Ok, Err, refl, sym, ap}
+use Rattle.std.proofs.Common.{subst, ◌∙◌, inl, inr, arith, length-take}
 use Rattle.std.specs.Prelude.{All, ◌⊎◌}
 use Rattle.std.proofs.lemmas.Bool.{cond_both, leb-true}
 use Rattle.std.proofs.lemmas.List.{get_or-drop}
@@ -13,12 +15,15 @@ use Rattle.ar_scsi.specs.declared.reply.Status.{Status}
 use Rattle.ar_scsi.specs.declared.reply.Status.TheVariants.{Good, CheckCondition, Busy}
 use Rattle.ar_scsi.specs.declared.sense.Sense.{Sense}
 use Rattle.ar_scsi.specs.Data.{inquiry_data}
-use Rattle.ar_scsi.specs.Field.{number, operation_code, allocation_length, transfer_length_10, transfer_length_16, logical_block_address_10, logical_block_address_16, fua}
-use Rattle.ar_scsi.specs.Reading.{reading, where_valid, test_unit_ready_valid, inquiry_valid, read_capacity_10_valid, transfer_10_valid, transfer_16_valid}
+use Rattle.ar_scsi.specs.Field.{number, operation_code, allocation_length, transfer_length_10, transfer_length_16}
+use Rattle.ar_scsi.specs.Field.{logical_block_address_10, logical_block_address_16, fua}
+use Rattle.ar_scsi.specs.Reading.{reading, where_valid, test_unit_ready_valid, inquiry_valid, read_capacity_10_valid}
+use Rattle.ar_scsi.specs.Reading.{transfer_10_valid, transfer_16_valid}
 use Rattle.ar_scsi.specs.Reply.{good, check}
 use Rattle.ar_scsi.specs.Sense.{logical_unit_not_supported, logical_block_address_out_of_range, internal_target_failure}
 use Rattle.ar_unit.specs.Sectors.{Sector, joined}
-use Rattle.ar_unit.specs.Unit.{UnitState, Absent, Present, Answered, UnitEntry, IsWhole, IsGiven, answer, obeyed, unit_run, after, is_past_end, absent_reply}
+use Rattle.ar_unit.specs.Unit.{UnitState, Absent, Present, Answered, UnitEntry, IsWhole, IsGiven, answer, obeyed}
+use Rattle.ar_unit.specs.Unit.{unit_run, after, is_past_end, absent_reply}
 use Rattle.ar_unit.specs.Broken.{needs_blocks, is_good, where_broken}
 use Rattle.ar_unit.proofs.Laws.{after-whole}
 use Rattle.ar_unit.proofs.Pieces.{length-concat}
@@ -47,14 +52,16 @@ count_in (Ok Capacity) = 0
 count_in (Ok (Write lba count fua)) = 0
 count_in (Err sense) = 0
 
-few_valid : (valid : Bool) (command : Command) → (valid ≡ true → count_in (Ok command) ≤ 65535) → count_in (where_valid valid command) ≤ 65535
+few_valid : (valid : Bool) (command : Command) → (valid ≡ true → count_in (Ok command) ≤ 65535)
+    → count_in (where_valid valid command) ≤ 65535
 few_valid true command few = few refl
 few_valid false command few = omega arith
 
 few_10 : (cdb : List ℕ) → AreBytes cdb → transfer_length_10 cdb ≤ 65535
 unfolding number
 few_10 cdb bytes =
-    let below : big_number 2 (drop 7 cdb) < 256 ^ 2 = big_from-lt 0 2 (drop 7 cdb) (λ k. subst (λ (n : ℕ). n < 256) (sym (get_or-drop 7 cdb k 0)) (bytes (7 + k))) in
+    let below : big_number 2 (drop 7 cdb) < 256 ^ 2 =
+    big_from-lt 0 2 (drop 7 cdb) (λ k. subst (λ (n : ℕ). n < 256) (sym (get_or-drop 7 cdb k 0)) (bytes (7 + k))) in
     omega (arith, below)
 
 few_16 : (cdb : List ℕ) → transfer_16_valid cdb ≡ true → transfer_length_16 cdb ≤ 65535
@@ -66,52 +73,79 @@ few_read : (cdb : List ℕ) → AreBytes cdb → count_in (reading cdb) ≤ 6553
 unfolding reading
 few_read cdb bytes =
     let F : Result Command Sense → Type 0 = λ r. count_in r ≤ 65535 in
-    cond_both (eqb (operation_code cdb) 0x00) _ _ F (λ _. few_valid (test_unit_ready_valid cdb) TestReady (λ _. omega arith)) (λ _.
-    cond_both (eqb (operation_code cdb) 0x12) _ _ F (λ _. few_valid (inquiry_valid cdb) (Inquiry (allocation_length cdb)) (λ _. omega arith)) (λ _.
-    cond_both (eqb (operation_code cdb) 0x25) _ _ F (λ _. few_valid (read_capacity_10_valid cdb) Capacity (λ _. omega arith)) (λ _.
-    cond_both (eqb (operation_code cdb) 0x28) _ _ F (λ _. few_valid (transfer_10_valid cdb) (Read (logical_block_address_10 cdb) (transfer_length_10 cdb)) (λ _. few_10 cdb bytes)) (λ _.
-    cond_both (eqb (operation_code cdb) 0x2A) _ _ F (λ _. few_valid (transfer_10_valid cdb) (Write (logical_block_address_10 cdb) (transfer_length_10 cdb) (eqb (fua cdb) 1)) (λ _. omega arith)) (λ _.
-    cond_both (eqb (operation_code cdb) 0x88) _ _ F (λ _. few_valid (transfer_16_valid cdb) (Read (logical_block_address_16 cdb) (transfer_length_16 cdb)) (λ valid. few_16 cdb valid)) (λ _.
-    cond_both (eqb (operation_code cdb) 0x8A) _ _ F (λ _. few_valid (transfer_16_valid cdb) (Write (logical_block_address_16 cdb) (transfer_length_16 cdb) (eqb (fua cdb) 1)) (λ _. omega arith)) (λ _. omega arith)))))))
+    cond_both (eqb (operation_code cdb) 0x00) _ _ F
+    (λ _. few_valid (test_unit_ready_valid cdb) TestReady (λ _. omega arith)) (λ _.
+    cond_both (eqb (operation_code cdb) 0x12) _ _ F
+    (λ _. few_valid (inquiry_valid cdb) (Inquiry (allocation_length cdb)) (λ _. omega arith)) (λ _.
+    cond_both (eqb (operation_code cdb) 0x25) _ _ F
+    (λ _. few_valid (read_capacity_10_valid cdb) Capacity (λ _. omega arith)) (λ _.
+    cond_both (eqb (operation_code cdb) 0x28) _ _ F
+    (λ _. few_valid (transfer_10_valid cdb) (Read (logical_block_address_10 cdb) (transfer_length_10 cdb))
+    (λ _. few_10 cdb bytes)) (λ _.
+    cond_both (eqb (operation_code cdb) 0x2A) _ _ F
+    (λ _. few_valid (transfer_10_valid cdb)
+    (Write (logical_block_address_10 cdb) (transfer_length_10 cdb) (eqb (fua cdb) 1)) (λ _. omega arith)) (λ _.
+    cond_both (eqb (operation_code cdb) 0x88) _ _ F
+    (λ _. few_valid (transfer_16_valid cdb) (Read (logical_block_address_16 cdb) (transfer_length_16 cdb))
+    (λ valid. few_16 cdb valid)) (λ _.
+    cond_both (eqb (operation_code cdb) 0x8A) _ _ F
+    (λ _. few_valid (transfer_16_valid cdb)
+    (Write (logical_block_address_16 cdb) (transfer_length_16 cdb) (eqb (fua cdb) 1)) (λ _. omega arith))
+    (λ _. omega arith)))))))
 
 -- whole sectors, joined
-joined_len : (sectors : List Sector) → All (λ sector. length sector ≡ 512) sectors → length (joined sectors) ≡ 512 * length sectors
+joined_len : (sectors : List Sector) → All (λ sector. length sector ≡ 512) sectors
+    → length (joined sectors) ≡ 512 * length sectors
 joined_len sectors whole = sym (length-concat 512 sectors [] (λ i within. whole i [] within))
 
 obeyed_reply : (sectors : List Sector) (attention : Bool) (r : Result Command Sense) (bytes : List ℕ)
-    → All (λ sector. length sector ≡ 512) sectors → count_in r ≤ 65535 → IsReply (obeyed sectors attention r bytes).reply
+    → All (λ sector. length sector ≡ 512) sectors → count_in r ≤ 65535
+    → IsReply (obeyed sectors attention r bytes).reply
 unfolding obeyed
 obeyed_reply sectors attention (Err sense) bytes whole few = (refl, refl)
 obeyed_reply sectors attention (Ok TestReady) bytes whole few = (refl, omega arith)
-obeyed_reply sectors attention (Ok (Inquiry len)) bytes whole few =
-    (refl, (let cut : length (take len (inquiry_data true)) ≤ 36 = simp length-take (omega arith) in omega (arith, cut)))
+obeyed_reply sectors attention (Ok (Inquiry len)) bytes whole few = (
+  refl,
+  (let cut : length (take len (inquiry_data true))
+      ≤ 36 = simp length-take (omega arith) in omega (arith, cut)),
+)
 obeyed_reply sectors attention (Ok Capacity) bytes whole few = (refl, omega arith)
 obeyed_reply sectors attention (Ok (Read lba count)) bytes whole few =
-    cond_both (is_past_end (length sectors) lba count) (check logical_block_address_out_of_range) (good (joined (take count (drop lba sectors)))) IsReply
+    cond_both (is_past_end (length sectors) lba count) (check logical_block_address_out_of_range)
+    (good (joined (take count (drop lba sectors)))) IsReply
     (λ _. (refl, refl))
     (λ _.
     (let W : Sector → Type 0 = λ sector. length sector ≡ 512 in
-    let len = joined_len (take count (drop lba sectors)) (All-take W count (drop lba sectors) (All-drop W lba sectors whole)) in
+    let len = joined_len (take count (drop lba sectors))
+    (All-take W count (drop lba sectors) (All-drop W lba sectors whole)) in
     let cut : length (take count (drop lba sectors)) ≤ count = simp length-take (omega arith) in
     (refl, omega (arith, len, cut, few))))
 obeyed_reply sectors attention (Ok (Write lba count fua)) bytes whole few =
     cond_both (is_past_end (length sectors) lba count) _ _ (λ (a : Answered). IsReply a.reply) (λ _. (refl, refl)) (λ _.
-    cond_both (not (eqb (length bytes) (count * 512))) _ _ (λ (a : Answered). IsReply a.reply) (λ _. (refl, refl)) (λ _. (refl, omega arith)))
+    cond_both (not (eqb (length bytes) (count * 512))) _ _ (λ (a : Answered). IsReply a.reply) (λ _. (refl, refl))
+    (λ _. (refl, omega arith)))
 
 absent_is : (cdb : List ℕ) → IsReply (absent_reply cdb)
 absent_is cdb =
-    cond_both (eqb (operation_code cdb) 0x12) (good (take (allocation_length cdb) (inquiry_data false))) (check logical_unit_not_supported) IsReply
-    (λ _. (refl, (let cut : length (take (allocation_length cdb) (inquiry_data false)) ≤ 36 = simp length-take (omega arith) in omega (arith, cut))))
+    cond_both (eqb (operation_code cdb) 0x12) (good (take (allocation_length cdb) (inquiry_data false)))
+    (check logical_unit_not_supported) IsReply
+    (λ _. (
+      refl,
+      (let cut : length (take (allocation_length cdb) (inquiry_data false))
+          ≤ 36 = simp length-take (omega arith) in omega (arith, cut)),
+    ))
     (λ _. (refl, refl))
 
 -- the reply that a unit gives
-answer_reply : (state : UnitState) (cdb bytes : List ℕ) → IsWhole state → AreBytes cdb → IsReply (answer state cdb bytes).reply
+answer_reply : (state : UnitState) (cdb bytes : List ℕ) → IsWhole state → AreBytes cdb
+    → IsReply (answer state cdb bytes).reply
 unfolding answer
 answer_reply Absent cdb bytes whole are = absent_is cdb
 answer_reply (Present sectors true) cdb bytes whole are =
     cond_both (eqb (operation_code cdb) 0x12) _ _ (λ (a : Answered). IsReply a.reply)
     (λ _. obeyed_reply sectors true (reading cdb) bytes whole (few_read cdb are)) (λ _. (refl, refl))
-answer_reply (Present sectors false) cdb bytes whole are = obeyed_reply sectors false (reading cdb) bytes whole (few_read cdb are)
+answer_reply (Present sectors false) cdb bytes whole are =
+    obeyed_reply sectors false (reading cdb) bytes whole (few_read cdb are)
 
 -- what a history makes of a unit is whole
 run_whole : (state : UnitState) (entries : List UnitEntry) → IsWhole state → IsWhole (unit_run state entries)
@@ -125,7 +159,8 @@ marked_whole mark (Present sectors attention) whole = whole
 -- the reply of a broken array, and one that is BUSY in its place
 lost_reply : (cdb : List ℕ) (table : Reply) → IsReply table → IsReply (where_broken cdb table)
 lost_reply cdb table is =
-    cond_both (is_good table.status && needs_blocks (reading cdb)) (check internal_target_failure) table IsReply (λ _. (refl, refl)) (λ _. is)
+    cond_both (is_good table.status && needs_blocks (reading cdb)) (check internal_target_failure) table IsReply
+    (λ _. (refl, refl)) (λ _. is)
 
 busy_or_not : (status : Status) → (status ≡ Busy) ⊎ (status ≢ Busy)
 busy_or_not Busy = inl refl
@@ -139,17 +174,22 @@ given_reply table reply given is =
       | inr other ↦ subst IsReply (sym (given.answered other)) is
     ]
 
-unrecorded_reply : (broken : Bool) (old new : KeptState) (before after : SeatState) (lun : ℕ) (cdb payload : List ℕ) (reply : Reply) → AreBytes cdb
+unrecorded_reply : (broken : Bool) (old new : KeptState) (before after : SeatState) (lun : ℕ) (cdb payload : List ℕ)
+    (reply : Reply) → AreBytes cdb
     → is_broken new.array ≡ broken → IsUnrecorded old before lun cdb payload reply new after → IsReply reply
 unrecorded_reply true old new before after lun cdb payload reply are is none =
     let a : Address = (before.host.number, lun) in
-    let whole : IsWhole (history_unit old a) = marked_whole _ (replay old.history a) (run_whole Absent (entries_at a old.history) tt) in
+    let whole : IsWhole (history_unit old a) =
+    marked_whole _ (replay old.history a) (run_whole Absent (entries_at a old.history) tt) in
     given_reply (where_broken cdb (answer (history_unit old a) cdb payload).reply) reply (none.broken is)
-    (lost_reply cdb (answer (history_unit old a) cdb payload).reply (answer_reply (history_unit old a) cdb payload whole are))
-unrecorded_reply false old new before after lun cdb payload reply are is none = subst IsReply (sym (none.busy_is is)) (refl, refl)
+    (lost_reply cdb (answer (history_unit old a) cdb payload).reply
+    (answer_reply (history_unit old a) cdb payload whole are))
+unrecorded_reply false old new before after lun cdb payload reply are is none =
+    subst IsReply (sym (none.busy_is is)) (refl, refl)
 
 -- the reply to a host's command
-pub served_reply : (position : Option ℕ) (old new : KeptState) (before after : SeatState) (lun : ℕ) (cdb payload : List ℕ) (reply : Reply)
+pub served_reply : (position : Option ℕ) (old new : KeptState) (before after : SeatState) (lun : ℕ)
+    (cdb payload : List ℕ) (reply : Reply)
     → AreBytes cdb → ServesHost old before lun cdb payload reply position new after → IsReply reply
 served_reply (Some p) old new before after lun cdb payload reply are serves =
     let a : Address = (before.host.number, lun) in
@@ -159,7 +199,8 @@ served_reply None old new before after lun cdb payload reply are serves =
     unrecorded_reply (is_broken new.array) old new before after lun cdb payload reply are refl serves
 
 -- the reply to a command to a live array
-pub live_reply : (old new : ArrayState) (host : Host) (lun : ℕ) (cdb payload : List ℕ) (reply : Reply) (was now : List Entry) → AreBytes cdb
+pub live_reply : (old new : ArrayState) (host : Host) (lun : ℕ) (cdb payload : List ℕ) (reply : Reply)
+    (was now : List Entry) → AreBytes cdb
     → ServesCommand old was host lun cdb payload reply new now → IsReply reply
 live_reply old new host lun cdb payload reply was now are serves = by (is_broken new) (is_busy reply.status) refl refl
   where

@@ -1,7 +1,8 @@
 // Background maintenance, one step of the array at a time. A step leaves the history as it is and, unless the array has
 // failed, the contents of all units. While nothing happens to the array, an idle round costs a look at one number.
 ghost use Rattle.std.specs.Prelude.{◌≡◌, ◌<◌, nat_lt};
-ghost use Rattle.ar_sessions.specs.Background.{is_due, is_long, is_resting, begun, paused, stepped, pause_after, task_after, TakesTurn, MakesPass};
+ghost use Rattle.ar_sessions.specs.Background.{is_due, is_long, is_resting, begun, paused, stepped, pause_after};
+ghost use Rattle.ar_sessions.specs.Background.{task_after, TakesTurn, MakesPass};
 
 use crate::MaintainedArray;
 use ar_history::Task;
@@ -25,8 +26,8 @@ const LONGEST_PAUSE: u64 = 16;
 /// Pauses in a row after which an idle array is looked at all the same: a step that lacked memory may have it then.
 const PAUSES: u32 = 64;
 
-/// Milliseconds of the pause after a step that may have copied an extent under the lock. With blocks of 64 KiB such a step
-/// holds the lock for some 1 ms; with a pause of 2 ms four hosts kept two thirds of their rate during a rebuild.
+/// Milliseconds of the pause after a step that may have copied an extent under the lock. With blocks of 64 KiB such a
+/// step holds the lock for some 1 ms; with a pause of 2 ms four hosts kept two thirds of their rate during a rebuild.
 const EXTENT_PAUSE: u64 = 4;
 
 // Where the maintenance is in its rotation.

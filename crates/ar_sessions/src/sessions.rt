@@ -4,7 +4,8 @@ ghost use Rattle.std.specs.Prelude.{◌≡◌, ◌≢◌, ◌+◌, ◌<◌, ◌�
 ghost use Rattle.std.specs.List.{AllZip};
 ghost use Rattle.std.specs.VecDeque.{deque_len, deque_capacity};
 ghost use Rattle.ar_cache.specs.Backing.{InTurn};
-ghost use Rattle.ar_sessions.specs.Ends.{IsServedOver, IsPromised, GivesBack, LeavesOff, IsBegun, Becomes, ConnectionEnds, EndOf};
+ghost use Rattle.ar_sessions.specs.Ends.{IsServedOver, IsPromised, GivesBack, LeavesOff, IsBegun, Becomes};
+ghost use Rattle.ar_sessions.specs.Ends.{ConnectionEnds, EndOf};
 
 use crate::notes::{note_end, note_start};
 use crate::{Desk, Door, LockPort, MaintainedArray, Receipt, ServedArray, run_background};
@@ -54,8 +55,8 @@ pub struct Connection<'a, R: Wait, A: Drop, L: Ledger, G: Gate, S: Source + Drop
     writer: W,
 }
 
-// The promise of a session's thread: it returns the end of a session at an array `A` over these streams, in the states in
-// which it was given them, and the receipt for the session's seat.
+// The promise of a session's thread: it returns the end of a session at an array `A` over these streams, in the states
+// in which it was given them, and the receipt for the session's seat.
 #[derive(Drop)]
 struct AsServed<A, L, S: Source, W: Sink> {
     of: PhantomData<(A, L)>,
@@ -67,7 +68,8 @@ impl<A: ServedArray<L>, L: Ledger, S: Source, W: Sink> Promise<(SessionEnd, Opti
     for AsServed<A, L, S, W> {
     ghost use Rattle.ar_sessions.specs.Ends.{GivesBack};
 
-    ghost kept_by = { λ promise ended. GivesBack A.asks (S.state promise.reader.value) (W.state promise.writer.value) ended.0 ended.1 };
+    ghost kept_by = { λ promise ended. GivesBack A.asks (S.state promise.reader.value) (W.state promise.writer.value)
+        ended.0 ended.1 };
 }
 
 // The handle of a session's thread.
@@ -135,7 +137,8 @@ pub fn run_sessions<
             requires { O.to_come door ≡ join_list.left }
             ensures { (O.to_come result.0 ≡ 0)
                 × (vec_len result.1 ≡ join_list.left)
-                × InTurn (ConnectionEnds O.opens (IsServedOver A.asks O.Reader.state O.Writer.state)) result.1.items door result.0 }
+                × InTurn (ConnectionEnds O.opens (IsServedOver A.asks O.Reader.state O.Writer.state)) result.1.items
+                door result.0 }
         {
             let mut door = door;
             let ends = serve_all(scope, shared, &mut door, join_list);
@@ -175,7 +178,8 @@ pub fn run_beside_background<
         rt,
         move |scope| -> (O, Result<Vec<ConnectionEnd>, NoMemory>)
             ensures { IfOk result.1 (λ ends. (vec_len ends ≡ O.to_come door)
-                × InTurn (ConnectionEnds O.opens (IsServedOver A.asks O.Reader.state O.Writer.state)) ends.items door result.0)
+                × InTurn (ConnectionEnds O.opens (IsServedOver A.asks O.Reader.state O.Writer.state)) ends.items door
+                result.0)
                 × OnOk result.1 (O.to_come result.0 ≡ 0)
                 × OnErr result.1 (result.0 ≡ door) }
         {
@@ -209,7 +213,8 @@ where
     O::Writer: 's,
     requires { O.to_come door.old ≡ join_list.left }
     ensures count { vec_len result ≡ join_list.left }
-    ensures ends { InTurn (ConnectionEnds O.opens (IsServedOver A.asks O.Reader.state O.Writer.state)) result.items door.old door.new }
+    ensures ends { InTurn (ConnectionEnds O.opens (IsServedOver A.asks O.Reader.state O.Writer.state)) result.items
+        door.old door.new }
     ensures opened { O.to_come door.new ≡ 0 }
 {
     let JoinList {
@@ -284,7 +289,8 @@ fn begin<
         writer: Snapshot::of(&connection.writer),
     };
     let session = move || -> (SessionEnd, Option<Receipt>)
-        ensures { GivesBack A.asks (S.state connection.entry.reader) (W.state connection.entry.writer) result.0 result.1 }
+        ensures { GivesBack A.asks (S.state connection.entry.reader) (W.state connection.entry.writer)
+            result.0 result.1 }
     {
         let (end, receipt, _reader, _writer) = connection.serve_logged();
         (end, receipt)
@@ -304,7 +310,8 @@ fn join_all<R: Threads, A: ServedArray<L>, L: Ledger, S: Source, W: Sink>(
     requires none { vec_len ends ≡ 0 }
     requires room { deque_len pending ≤ vec_capacity ends }
     ensures count { vec_len result ≡ deque_len pending }
-    ensures order { AllZip (EndOf (λ handle. IsPromised A.asks S.state W.state handle.promise)) pending.items result.items }
+    ensures order { AllZip (EndOf (λ handle. IsPromised A.asks S.state W.state handle.promise))
+        pending.items result.items }
 {
     while let Some(next) = pending.pop_front() {
         ends.push_reserved(end_of(rt, next));
@@ -379,7 +386,8 @@ impl<
 
     /// Serves the connection's session as `serve` does, and logs its start and its end.
     pub fn serve_logged(self) -> (SessionEnd, Option<Receipt>, S, W)
-        ensures { LeavesOff A.asks (S.state self.entry.reader) (S.state result.2) (W.state self.entry.writer) (W.state result.3) result.0 result.1 }
+        ensures { LeavesOff A.asks (S.state self.entry.reader) (S.state result.2) (W.state self.entry.writer)
+            (W.state result.3) result.0 result.1 }
     {
         let (rt, number) = (self.shared.rt, self.number);
         let began = note_start(rt, number);
@@ -391,7 +399,8 @@ impl<
     // Serves the connection's session, and returns its seat to the desk for a receipt. The streams are returned as the
     // session left them, so that they are dropped, and so closed, only once the seat is back.
     fn run_session(self) -> (SessionEnd, Option<Receipt>, S, W)
-        ensures { LeavesOff A.asks (S.state self.entry.reader) (S.state result.2) (W.state self.entry.writer) (W.state result.3) result.0 result.1 }
+        ensures { LeavesOff A.asks (S.state self.entry.reader) (S.state result.2) (W.state self.entry.writer)
+            (W.state result.3) result.0 result.1 }
     {
         let Connection {
             shared,

@@ -1,5 +1,5 @@
-// What sessions and the background maintenance need of the array that they share behind a lock: its history is stored, or
-// seen by contracts alone.
+// What sessions and the background maintenance need of the array that they share behind a lock: its history is stored,
+// or seen by contracts alone.
 ghost use Rattle.std.specs.Prelude.{◌≡◌};
 ghost use Rattle.ar_book.specs.Tables.{free_groups};
 ghost use Rattle.ar_history.specs.Kept.{KeptState};

@@ -1,5 +1,6 @@
 // The two streams of a connection over TCP. Each waits in slices: between them it looks at its limits and at the stop
-// flag, so that no peer holds a session for longer than the limits say. A limit that is reached is a fault of the stream.
+// flag, so that no peer holds a session for longer than the limits say. A limit that is reached is a fault of the
+// stream.
 use crate::tcp::Timeouts;
 use std::alloc::Global;
 use std::io::{self, ErrorKind, Read, Write};

@@ -189,7 +189,8 @@ impl<'a, R: Clock + Log + Sync> Door for TcpDoor<'a, R> {
     }
 }
 
-// The streams of a connection. Reads are buffered, so that a small frame takes one system call; writes are sent at once.
+// The streams of a connection. Reads are buffered, so that a small frame takes one system call; writes are sent at
+// once.
 fn opened<'a, R: Clock>(
     rt: &'a R,
     alloc: Global,

@@ -17,5 +17,6 @@ returns-else-named-tag c = λ count len is. record {
   other = big_number 8 c.args.head.now;
   reply = c.in-Some.reply;
   not_this = λ same. c.if-named-tag.false (c.read_u64-named.ensures ∙ same);
-  frame = reply_read (big_number 8 c.args.head.now) c.in-Some.reply count c.args.head.now c.args.body len is c.told-head refl c.in-Some.ensures.some;
+  frame = reply_read (big_number 8 c.args.head.now) c.in-Some.reply count c.args.head.now c.args.body len is c.told-head
+      refl c.in-Some.ensures.some;
 }

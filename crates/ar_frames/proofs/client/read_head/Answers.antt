@@ -4,7 +4,8 @@ use Rattle.ar_frames.proofs.client.read_head.Goals as goal
 
 pub returns-in-Full : goal.returns-in-Full
 returns-in-Full g c = λ count count_len count_is.
-    reads_front _ _ _ count _ c.args.tag c.read_body.result c.in-Full.ensures.read (c.read_body.ensures count count_len count_is)
+    reads_front _ _ _ count _ c.args.tag c.read_body.result c.in-Full.ensures.read
+    (c.read_body.ensures count count_len count_is)
 
 pub returns-in-Ended : goal.returns-in-Ended
 returns-in-Ended g c = λ count count_len count_is.
@@ -12,7 +13,8 @@ returns-in-Ended g c = λ count count_len count_is.
     let short = c.in-Ended.ensures.stops.0 in (
       record {
         bytes = take n c.fill.new.into;
-        are = cut_head 10 33553930 c.args.len count (take n c.fill.new.into) count_len count_is (omega (arith, c.requires))
+        are = cut_head 10 33553930 c.args.len count (take n c.fill.new.into) count_len count_is
+            (omega (arith, c.requires))
             (omega (arith, length-take-le n c.fill.new.into (omega (arith, short)), short));
         read = c.in-Ended.ensures.read;
       },
@@ -25,7 +27,8 @@ returns-in-Failed g c = λ count count_len count_is.
     let short = c.in-Failed.ensures.stops in
     record {
       bytes = take n c.fill.new.into;
-      are = cut_head 10 33553930 c.args.len count (take n c.fill.new.into) count_len count_is (omega (arith, c.requires))
+      are = cut_head 10 33553930 c.args.len count (take n c.fill.new.into) count_len count_is
+          (omega (arith, c.requires))
           (omega (arith, length-take-le n c.fill.new.into (omega (arith, short)), short));
       read = c.in-Failed.ensures.read;
     }

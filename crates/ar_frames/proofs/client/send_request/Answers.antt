@@ -5,7 +5,9 @@ use Rattle.ar_frames.proofs.client.send_request.Goals as goal
 pub returns : goal.returns
 returns g c = record {
   frame = c.request_head-head.result ++ c.args.payload.now;
-  is_frame = request_sent (record { tag = c.args.tag; lun = c.args.lun; cdb = c.args.cdb.now; payload = c.args.payload.now }) c.request_head-head.result
+  is_frame = request_sent
+      (record { tag = c.args.tag; lun = c.args.lun; cdb = c.args.cdb.now; payload = c.args.payload.now })
+      c.request_head-head.result
       c.requires c.ranges.tag.fits c.told-cdb c.request_head-head.ensures;
   sending = c.send_joined.ensures.sends;
 }

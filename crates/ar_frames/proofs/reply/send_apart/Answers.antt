@@ -8,6 +8,7 @@ returns-in-Part-send g c =
     let rest = c.args.rest.now in
     let n = c.in-Part-send.n in
     record {
-      written = Writing-same _ _ _ _ _ (sym (take-append_more front rest n)) (Writing-trans _ _ _ _ _ _ c.in-Whole.ensures.written c.in-Part-send.ensures.written);
+      written = Writing-same _ _ _ _ _ (sym (take-append_more front rest n))
+          (Writing-trans _ _ _ _ _ _ c.in-Whole.ensures.written c.in-Part-send.ensures.written);
       proper = omega (arith, length-append front rest, c.in-Part-send.ensures.proper);
     }

@@ -15,7 +15,8 @@ returns-in-Some-clause-sends g c = record {
 
 pub returns-in-Some-clause-joined : goal.returns-in-Some-clause-joined
 returns-in-Some-clause-joined g c = λ some fits.
-    let none : length c.args.reply.now.payload ≡ 0 = ap length (sense_alone c.args.reply.now c.in-Some.sense c.requires c.in-Some.is) in
+    let none : length c.args.reply.now.payload ≡ 0 =
+    ap length (sense_alone c.args.reply.now c.in-Some.sense c.requires c.in-Some.is) in
     absurd (omega (arith, some, none))
 
 pub returns-in-None-clause-joined : goal.returns-in-None-clause-joined
@@ -34,7 +35,8 @@ returns-in-None-clause-joined g c = λ some fits.
 pub returns-in-None-clause-sends : goal.returns-in-None-clause-sends
 returns-in-None-clause-sends g c = record {
   frame = c.plain_head-head.result ++ c.as_slice-payload.result.now;
-  is_frame = plain_sent c.args.tag c.args.reply.now c.plain_head-head.result c.as_slice-payload.result.now c.ranges.tag.fits c.requires c.in-None.is
+  is_frame = plain_sent c.args.tag c.args.reply.now c.plain_head-head.result c.as_slice-payload.result.now
+      c.ranges.tag.fits c.requires c.in-None.is
       c.as_slice-payload.ensures c.plain_head-head.ensures;
   sending = c.send_joined.ensures.sends;
 }

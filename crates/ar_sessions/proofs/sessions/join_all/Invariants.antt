@@ -10,7 +10,11 @@ invariant-loop-next g l =
     record {
       count : vec_len l.ends + deque_len l.pending ≡ deque_len l.fn.pending;
       room : vec_len l.ends + deque_len l.pending ≤ vec_capacity l.ends;
-      order : (rest : List ConnectionEnd) → AllZip (EndOf (λ handle. IsPromised g.A.ServedArray.asks g.S.Source.state g.W.Sink.state handle.promise)) l.pending.items rest → AllZip (EndOf (λ handle. IsPromised g.A.ServedArray.asks g.S.Source.state g.W.Sink.state handle.promise)) l.fn.pending.items (l.ends.items ++ rest);
+      order : (rest : List ConnectionEnd)
+          → AllZip (EndOf (λ handle. IsPromised g.A.ServedArray.asks g.S.Source.state g.W.Sink.state handle.promise))
+          l.pending.items rest
+          → AllZip (EndOf (λ handle. IsPromised g.A.ServedArray.asks g.S.Source.state g.W.Sink.state handle.promise))
+          l.fn.pending.items (l.ends.items ++ rest);
     }
 
 abbrev pub decreases-loop-next : goal.decreases-loop-next

@@ -8,8 +8,10 @@ abbrev pub invariant-loop : goal.invariant-loop
 invariant-loop g l =
     record {
       became :
-          InTurn (Becomes g.O.Door.opens (λ handle. IsPromised g.A.ServedArray.asks g.O.Reader.Source.state g.O.Writer.Sink.state handle.promise)
-          (IsServedOver g.A.ServedArray.asks g.O.Reader.Source.state g.O.Writer.Sink.state)) l.pending.items l.initial.door l.door;
+          InTurn (Becomes g.O.Door.opens
+          (λ handle. IsPromised g.A.ServedArray.asks g.O.Reader.Source.state g.O.Writer.Sink.state handle.promise)
+          (IsServedOver g.A.ServedArray.asks g.O.Reader.Source.state g.O.Writer.Sink.state)) l.pending.items
+          l.initial.door l.door;
       opened : deque_len l.pending ≡ l.counter;
       to_come : l.counter + g.O.Door.to_come l.door ≡ l.left;
       room : l.left ≤ deque_capacity l.pending;
