@@ -1,5 +1,6 @@
--- One step of a session: a frame is read, executed at the port, and its reply written.
+-- One step of a session: a frame is read, executed at the port, and its reply written, before and behind an observer.
 use Rattle.std.specs.Prelude.{◌≡◌, ◌⊎◌, ◌<◌, ◌≤◌, ◌+◌, max, ℕ, zero, suc, false, List, [], ◌++◌, length, take}
+use Rattle.ar_disks.specs.declared.address.Host.{Host}
 use Rattle.ar_scsi.specs.declared.reply.Reply.{Reply}
 use Rattle.ar_scsi.specs.Reply.{busy}
 use Rattle.ar_frames.specs.declared.frame.Request.{Request}
@@ -15,6 +16,7 @@ use Rattle.ar_frames.specs.declared.end.SessionEnd.{SessionEnd}
 use Rattle.ar_frames.specs.Stream.{SourceState, SinkState, Reading, Writing, Sending}
 use Rattle.ar_frames.specs.Frame.{IsFrame, IsReplyFrame}
 use Rattle.ar_frames.specs.Conversation.{Commands, RepliesTo, Conversation, last_len, reply_len}
+use Rattle.ar_frames.specs.Observer.{Announces, Reports}
 use Rattle.ar_frames.specs.Session.{admitted, most_frames, Closes, EndsInput, WritesAnswers, WritesPart, is_read_fault}
 
 -- the rest of the request's frame was read, after its first bytes `front`
@@ -80,18 +82,33 @@ pub record GrowsFor (reply : Reply) (state state' : SessionModel) : Type 0 where
   pub grown : state'.room ≤ max state.room (reply_len reply)
   pub still : length reply.payload ≡ 0 → (state'.room ≡ state.room) × (state'.bytes ≡ state.bytes)
 
--- a command given to the port is counted; one that got BUSY without the port isn't
-abbrev pub Counts : {P : Type 0} → Commands P → P → Request → Reply → P → ℕ → ℕ → Type 0
-Counts commands port request reply port' given given' =
-    (commands port request.lun request.cdb request.payload reply port' × (given' ≡ given + 1))
-    ⊎ ((0 < length request.payload) × (reply ≡ busy) × (port' ≡ port) × (given' ≡ given))
+-- The calls of an observer for one command, the n-th of the host's session: it was announced with its request, and
+-- reported with its reply, of which as much was written as the step's result says.
+pub record Observes {O : Type 0} (announces : Announces O) (reports : Reports O) (host : Host) (n : ℕ)
+    (request : Request) (result : FrameResult) (old new : O) : Type 0 where
+  pub mid : O
+  pub sent : Sent
+  pub announced : announces old host n request mid
+  pub reported : reports mid host n sent new
+  pub sent_is : result ≡ result_after sent
+
+-- a command given to the port is counted; one that got BUSY without the port isn't, and the observer isn't called
+abbrev pub Counts : {P O : Type 0} → Commands P → Announces O → Reports O → Host → P → P → O → O → Request → Reply
+    → FrameResult → ℕ → ℕ → Type 0
+Counts commands announces reports host port port' observer observer' request reply result given given' =
+    (commands port request.lun request.cdb request.payload reply port' × (given' ≡ given + 1)
+    × Observes announces reports host given' request result observer observer')
+    ⊎ ((0 < length request.payload) × (reply ≡ busy) × (port' ≡ port) × (given' ≡ given) × (observer' ≡ observer))
 
 -- if the buffer has capacity for the frame of a reply with payload, the frame was assembled there
 abbrev pub IsAssembled : ℕ → Reply → SessionModel → Type 0
-IsAssembled tag reply state = 0 < length reply.payload → reply_len reply ≤ state.room → IsReplyFrame tag reply (take (reply_len reply) state.bytes)
+IsAssembled tag reply state =
+    0 < length reply.payload → reply_len reply ≤ state.room
+    → IsReplyFrame tag reply (take (reply_len reply) state.bytes)
 
 -- BUSY was written under this tag, whole or up to a write fault
-pub record RefusesRequest (sink sink' : SinkState) (tag : ℕ) (result : FrameResult) (state state' : SessionModel) : Type 0 where
+pub record RefusesRequest (sink sink' : SinkState) (tag : ℕ) (result : FrameResult)
+    (state state' : SessionModel) : Type 0 where
   pub frame : List ℕ
   pub is_frame : IsReplyFrame tag busy frame
   pub written : WritesReply sink sink' frame result
@@ -99,7 +116,9 @@ pub record RefusesRequest (sink sink' : SinkState) (tag : ℕ) (result : FrameRe
   pub uncounted : state'.given ≡ state.given
 
 -- a request got a reply, which was written whole or up to a write fault
-pub record AnswersRequest {P : Type 0} (commands : Commands P) (sink sink' : SinkState) (port port' : P) (request : Request) (result : FrameResult) (state state' : SessionModel) : Type 0 where
+pub record AnswersRequest {P O : Type 0} (commands : Commands P) (announces : Announces O) (reports : Reports O)
+    (host : Host) (sink sink' : SinkState) (port port' : P) (observer observer' : O) (request : Request)
+    (result : FrameResult) (state state' : SessionModel) : Type 0 where
   pub reply : Reply
   pub frame : List ℕ
   pub answers : RepliesTo commands port request reply port'
@@ -107,29 +126,42 @@ pub record AnswersRequest {P : Type 0} (commands : Commands P) (sink sink' : Sin
   pub written : WritesReply sink sink' frame result
   pub memory : GrowsFor reply state state'
   pub joined : IsAssembled request.tag reply state'
-  pub counts : Counts commands port request reply port' state.given state'.given
+  pub counts : Counts commands announces reports host port port' observer observer' request reply result state.given
+      state'.given
 
 -- a whole frame was read, and its reply written whole or up to a write fault
-pub record ServesFrame {P : Type 0} (commands : Commands P) (source source' : SourceState) (sink sink' : SinkState) (port port' : P) (state state' : SessionModel) (result : FrameResult) : Type 0 where
+pub record ServesFrame {P O : Type 0} (commands : Commands P) (announces : Announces O) (reports : Reports O)
+    (host : Host) (source source' : SourceState) (sink sink' : SinkState) (port port' : P) (observer observer' : O)
+    (state state' : SessionModel) (result : FrameResult) : Type 0 where
   pub request : Request
   pub reads : ReadsFrame [] source source' request
-  pub answers : AnswersRequest commands sink sink' port port' request result state state'
+  pub answers : AnswersRequest commands announces reports host sink sink' port port' observer observer' request result
+      state state'
 
--- no whole frame came; the sink, the port and the session's state are unchanged
-pub record EndsStep {P : Type 0} (source source' : SourceState) (sink sink' : SinkState) (port port' : P) (state state' : SessionModel) (end : EndReason) : Type 0 where
+-- no whole frame came; the sink, the port, the observer and the session's state are unchanged
+pub record EndsStep {P O : Type 0} (source source' : SourceState) (sink sink' : SinkState) (port port' : P)
+    (observer observer' : O) (state state' : SessionModel) (end : EndReason) : Type 0 where
   pub stops : StopsAfter [] source source' end
   pub same_sink : sink' ≡ sink
   pub same_port : port' ≡ port
+  pub same_observer : observer' ≡ observer
   pub same_state : state' ≡ state
 
 -- one step of a session, by its result
-abbrev pub FrameStep : {P : Type 0} → Commands P → SourceState → SourceState → SinkState → SinkState → P → P → SessionModel → SessionModel → FrameResult → Type 0
-FrameStep commands source source' sink sink' port port' state state' Answered = ServesFrame commands source source' sink sink' port port' state state' Answered
-FrameStep commands source source' sink sink' port port' state state' Unsent = ServesFrame commands source source' sink sink' port port' state state' Unsent
-FrameStep commands source source' sink sink' port port' state state' (ResultEnded end) = EndsStep source source' sink sink' port port' state state' end
+abbrev pub FrameStep : {P O : Type 0} → Commands P → Announces O → Reports O → Host → SourceState → SourceState
+    → SinkState → SinkState → P → P → O → O → SessionModel → SessionModel → FrameResult → Type 0
+FrameStep commands announces reports host source source' sink sink' port port' observer observer' state state' Answered
+    = ServesFrame commands announces reports host source source' sink sink' port port' observer observer' state state'
+    Answered
+FrameStep commands announces reports host source source' sink sink' port port' observer observer' state state' Unsent
+    = ServesFrame commands announces reports host source source' sink sink' port port' observer observer' state state'
+    Unsent
+FrameStep commands announces reports host source source' sink sink' port port' observer observer' state state'
+    (ResultEnded end) = EndsStep source source' sink sink' port port' observer observer' state state' end
 
 -- `count` frames were read and answered whole
-pub record Served {P : Type 0} (commands : Commands P) (source source' : SourceState) (sink sink' : SinkState) (port port' : P) (count : ℕ) : Type 0 where
+pub record Served {P : Type 0} (commands : Commands P) (source source' : SourceState) (sink sink' : SinkState)
+    (port port' : P) (count : ℕ) : Type 0 where
   pub frames : List ℕ
   pub answers : List ℕ
   pub conversation : Conversation commands port port' frames answers count
@@ -137,7 +169,8 @@ pub record Served {P : Type 0} (commands : Commands P) (source source' : SourceS
   pub written : Writing sink sink' answers false
 
 -- a session from its first frame to its end
-pub record ServesAll {P : Type 0} (commands : Commands P) (source source' : SourceState) (sink sink' : SinkState) (port port' : P) (end : SessionEnd) : Type 0 where
+pub record ServesAll {P : Type 0} (commands : Commands P) (source source' : SourceState) (sink sink' : SinkState)
+    (port port' : P) (end : SessionEnd) : Type 0 where
   pub frames : List ℕ
   pub answers : List ℕ
   pub rest : List ℕ
@@ -147,35 +180,60 @@ pub record ServesAll {P : Type 0} (commands : Commands P) (source source' : Sour
   pub ended : EndsInput end.reason source'.left
   pub written : WritesAnswers end.reason sink sink' answers (last_len 0 conversation.replies)
 
--- a moment between two frames: the streams, the port and the session's state
-pub record Moment (P : Type 0) : Type 0 where
+-- a moment between two frames: the streams, the port, the observer and the session's state
+pub record Moment (P O : Type 0) : Type 0 where
   pub source : SourceState
   pub sink : SinkState
   pub port : P
+  pub observer : O
   pub state : SessionModel
 
--- one step of a session, from one moment to the next
-abbrev pub StepsTo : {P : Type 0} → Commands P → Moment P → Moment P → FrameResult → Type 0
-StepsTo commands old new result = FrameStep commands old.source new.source old.sink new.sink old.port new.port old.state new.state result
+-- one step of a host's session, from one moment to the next
+abbrev pub StepsTo : {P O : Type 0} → Commands P → Announces O → Reports O → Host → Moment P O → Moment P O
+    → FrameResult → Type 0
+StepsTo commands announces reports host old new result =
+    FrameStep commands announces reports host old.source new.source old.sink new.sink old.port new.port old.observer
+    new.observer old.state new.state result
 
 -- this many frames were answered, each from the moment that the one before left
-abbrev pub HasStepped : {P : Type 0} → Commands P → ℕ → Moment P → Moment P → Type 0
-HasStepped commands zero first last = last ≡ first
-HasStepped {P = P} commands (suc n) first last =
-    (between : Moment P) × HasStepped commands n first between × StepsTo commands between last Answered
+abbrev pub HasStepped : {P O : Type 0} → Commands P → Announces O → Reports O → Host → ℕ → Moment P O → Moment P O
+    → Type 0
+HasStepped commands announces reports host zero first last = last ≡ first
+HasStepped {P = P} {O = O} commands announces reports host (suc n) first last =
+    (between : Moment P O) × HasStepped commands announces reports host n first between
+    × StepsTo commands announces reports host between last Answered
 
 -- the end of a session after `count` answered frames, and its last moment, from the one that they left
-pub data Finishes {P : Type 0} (commands : Commands P) (count : ℕ) (between last : Moment P) : SessionEnd → Type 0 where
+pub data Finishes {P O : Type 0} (commands : Commands P) (announces : Announces O) (reports : Reports O) (host : Host)
+    (count : ℕ) (between last : Moment P O) : SessionEnd → Type 0 where
   -- the limit of frames is reached: nothing more was done
-  full : count ≡ most_frames → last ≡ between → Finishes commands count between last (record { frames = count; reason = reason.Bound })
+  full : count ≡ most_frames → last ≡ between
+      → Finishes commands announces reports host count between last (record { frames = count; reason = reason.Bound })
   -- one more frame came, whose reply wasn't written whole
-  unsent : StepsTo commands between last Unsent → Finishes commands count between last (record { frames = count + 1; reason = reason.Write })
+  unsent : StepsTo commands announces reports host between last Unsent
+      → Finishes commands announces reports host count between last
+      (record { frames = count + 1; reason = reason.Write })
   -- no whole frame came, for this reason
-  stopped : (end : EndReason) → StepsTo commands between last (ResultEnded end) → Finishes commands count between last (record { frames = count; reason = end })
+  stopped : (end : EndReason) → StepsTo commands announces reports host between last (ResultEnded end)
+      → Finishes commands announces reports host count between last (record { frames = count; reason = end })
 
--- a session step by step: nothing but steps leads from its first moment to its last
-pub record RunsInSteps {P : Type 0} (commands : Commands P) (first last : Moment P) (end : SessionEnd) : Type 0 where
+-- a host's session step by step: nothing but steps leads from its first moment to its last
+pub record RunsInSteps {P O : Type 0} (commands : Commands P) (announces : Announces O) (reports : Reports O)
+    (host : Host) (first last : Moment P O) (end : SessionEnd) : Type 0 where
   pub count : ℕ
-  pub between : Moment P
-  pub answered : HasStepped commands count first between
-  pub finish : Finishes commands count between last end
+  pub between : Moment P O
+  pub answered : HasStepped commands announces reports host count first between
+  pub finish : Finishes commands announces reports host count between last end
+
+-- A host's session behind its login, step by step, from the observer that it was given to the one that it left. No
+-- command is counted before the first step, so that they have the numbers 1, 2, 3 ..
+pub record RunsObserved {P O : Type 0} (commands : Commands P) (announces : Announces O) (reports : Reports O)
+    (host : Host) (source source' : SourceState) (sink sink' : SinkState) (port port' : P) (observer observer' : O)
+    (end : SessionEnd) : Type 0 where
+  pub state : SessionModel
+  pub state' : SessionModel
+  pub uncounted : state.given ≡ 0
+  pub runs :
+      RunsInSteps commands announces reports host
+      (record { source = source; sink = sink; port = port; observer = observer; state = state })
+      (record { source = source'; sink = sink'; port = port'; observer = observer'; state = state' }) end

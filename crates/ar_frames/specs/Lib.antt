@@ -4,6 +4,7 @@ pub mod Frame
 pub mod FrameStep
 pub mod Login
 pub mod Memory
+pub mod Observer
 pub mod Port
 pub mod Session
 pub mod Stream

@@ -1,5 +1,5 @@
-// One step of a session: read a frame, execute it at the port, write the reply. The buffer for replies never has more
-// capacity than the longest frame has bytes.
+// One step of a session: read a frame, announce it, execute it at the port, write the reply, report it. The buffer for
+// replies never has more capacity than the longest frame has bytes.
 ghost use Rattle.std.specs.Prelude.{◌≡◌, ◌<◌, ◌≤◌, ◌+◌, ◌^◌, true, [], vec_capacity};
 ghost use Rattle.ar_frames.specs.Frame.{most_bytes};
 ghost use Rattle.ar_frames.specs.FrameStep.{AnswersRequest, RefusesRequest, FrameStep, result_after};
@@ -7,7 +7,8 @@ ghost use Rattle.ar_frames.specs.FrameStep.{AnswersRequest, RefusesRequest, Fram
 use crate::end::EndReason;
 use crate::fill::Sent;
 use crate::frame::Request;
-use crate::port::{Gate, Port};
+use crate::observer::Observer;
+use crate::port::Port;
 use crate::receive::{Incoming, receive};
 use crate::reply::send_reply;
 use crate::stream::{Sink, Source};
@@ -49,59 +50,62 @@ impl SessionState {
 }
 
 // Reads a frame, executes it at the port and writes the reply. A frame whose data couldn't be allocated gets BUSY.
-pub(crate) fn serve_frame<R: Source, W: Sink, P: Port, G: Gate>(
+pub(crate) fn serve_frame<R: Source, W: Sink, P: Port, O: Observer>(
     alloc: Global,
     reader: &mut R,
     writer: &mut W,
     port: &mut P,
-    gate: &G,
+    observer: &mut O,
     host: Host,
     state: &mut SessionState,
 ) -> FrameResult
     requires logged { P.has_login port.old ≡ true }
     requires room { state.old.given < 2 ^ 63 }
-    ensures step { FrameStep P.commands (R.state reader.old) (R.state reader.new)
-        (W.state writer.old) (W.state writer.new) port.old port.new
+    ensures step { FrameStep P.commands O.announces O.reports host (R.state reader.old) (R.state reader.new)
+        (W.state writer.old) (W.state writer.new) port.old port.new observer.old observer.new
         (record { room = vec_capacity state.old.buffer; bytes = state.old.buffer.items; given = state.old.given })
-        (record { room = vec_capacity state.new.buffer; bytes = state.new.buffer.items; given = state.new.given }) result }
+        (record { room = vec_capacity state.new.buffer; bytes = state.new.buffer.items; given = state.new.given })
+        result }
     ensures logged { P.has_login port.new ≡ true }
     ensures given { state.new.given ≤ state.old.given + 1 }
 {
     match receive(alloc, reader) {
-        Incoming::Whole(request) => answer(writer, port, gate, host, state, request),
+        Incoming::Whole(request) => answer(writer, port, observer, host, state, request),
         Incoming::Lost(tag) => refuse(writer, state, tag),
         Incoming::Ended(reason) => FrameResult::Ended(reason),
     }
 }
 
-// Executes a request at the port and writes the reply.
-fn answer<W: Sink, P: Port, G: Gate>(
+// Executes a request at the port and writes the reply. The observer sees the request before its data are given away,
+// and how far the reply was written.
+fn answer<W: Sink, P: Port, O: Observer>(
     writer: &mut W,
     port: &mut P,
-    gate: &G,
+    observer: &mut O,
     host: Host,
     state: &mut SessionState,
     request: Request,
 ) -> FrameResult
     requires logged { P.has_login port.old ≡ true }
     requires room { state.old.given < 2 ^ 63 }
-    ensures answers { AnswersRequest P.commands (W.state writer.old) (W.state writer.new) port.old port.new request result
+    ensures answers { AnswersRequest P.commands O.announces O.reports host (W.state writer.old) (W.state writer.new)
+        port.old port.new observer.old observer.new request result
         (record { room = vec_capacity state.old.buffer; bytes = state.old.buffer.items; given = state.old.given })
         (record { room = vec_capacity state.new.buffer; bytes = state.new.buffer.items; given = state.new.given }) }
     ensures logged { P.has_login port.new ≡ true }
     ensures given { state.new.given ≡ state.old.given + 1 }
 {
+    state.given += 1;
+    observer.before(host, state.given, &request);
     let Request {
         tag,
         lun,
         cdb,
         payload,
     } = request;
-    state.given += 1;
-    gate.before(host, state.given);
     let reply = port.command(lun, &cdb, payload);
     let sent = send_reply(writer, &mut state.buffer, tag, &reply);
-    gate.after(host, state.given);
+    observer.after(host, state.given, sent);
     result_of(sent)
 }
 

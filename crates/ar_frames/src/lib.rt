@@ -14,6 +14,7 @@ mod hold;
 mod linked;
 mod login;
 mod memory;
+mod observer;
 mod port;
 mod receive;
 mod reply;
@@ -27,8 +28,9 @@ pub use frame::{MOST_DATA, Request};
 pub use linked::Linked;
 pub use login::LOGIN_NAME;
 pub use memory::{MemSink, MemSource};
-pub use port::{Gate, Login, NoGate, Port};
-pub use session::{MOST_FRAMES, serve_gated, serve_session};
+pub use observer::{Gate, NoGate, Observer};
+pub use port::{Login, Port};
+pub use session::{MOST_FRAMES, serve_gated, serve_observed, serve_session};
 pub use stream::{Sink, Source};
 
 /// Lemma: no request frame is a proper prefix of another, and its bytes determine the request.

@@ -48,22 +48,3 @@ pub trait Port {
         ensures reply { IsReply result }
         ensures stays { has_login self.new ≡ true };
 }
-
-/// Observes each command that a session gives to its port.
-pub trait Gate {
-    /// Called before the n-th command of the session; `n` counts from 1.
-    fn before(&self, host: Host, n: u64);
-
-    /// Called after the reply to that command was written, or its write faulted.
-    fn after(&self, host: Host, n: u64);
-}
-
-/// A gate that does nothing.
-#[derive(Clone, Copy, Debug)]
-pub struct NoGate;
-
-impl Gate for NoGate {
-    fn before(&self, _host: Host, _n: u64) {}
-
-    fn after(&self, _host: Host, _n: u64) {}
-}

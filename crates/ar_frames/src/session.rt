@@ -2,12 +2,14 @@
 // before left.
 ghost use Rattle.std.specs.Prelude.{◌≡◌, true, false, vec_capacity};
 ghost use Rattle.ar_frames.specs.Session.{Session};
-ghost use Rattle.ar_frames.specs.FrameStep.{ServesAll, RunsInSteps};
+ghost use Rattle.ar_frames.specs.FrameStep.{ServesAll, RunsInSteps, RunsObserved};
+ghost use Rattle.ar_frames.specs.Login.{ObservesSession};
 
 use crate::end::{EndReason, SessionEnd};
 use crate::frame_step::{FrameResult, SessionState, serve_frame};
 use crate::login::{LoginResult, enter};
-use crate::port::{Gate, NoGate, Port};
+use crate::observer::{AtGate, Gate, NoGate, Observer};
+use crate::port::Port;
 use crate::stream::{Sink, Source};
 use ar_disks::Host;
 use std::alloc::Global;
@@ -40,40 +42,64 @@ pub fn serve_gated<R: Source, W: Sink, P: Port, G: Gate>(
     gate: &G,
 ) -> SessionEnd
     requires { P.has_login port.old ≡ false }
-    ensures { Session P.logins P.commands (R.state reader.old) (R.state reader.new)
+    ensures session { Session P.logins P.commands (R.state reader.old) (R.state reader.new)
         (W.state writer.old) (W.state writer.new) port.old port.new result }
+    ensures observed { ObservesSession P.logins P.commands (λ _ host n _ _. G.announced host n)
+        (λ _ host n _ _. G.reported host n) (R.state reader.old) (R.state reader.new)
+        (W.state writer.old) (W.state writer.new) port.old port.new (tt {0}) (tt {0}) result }
+{
+    serve_observed(alloc, reader, writer, port, &mut AtGate { gate })
+}
+
+/// Runs one session as `serve_session` does, and calls `observer` before each command that is given to the port and
+/// behind its reply, with the number that the command has in the session, from 1.
+pub fn serve_observed<R: Source, W: Sink, P: Port, O: Observer>(
+    alloc: Global,
+    reader: &mut R,
+    writer: &mut W,
+    port: &mut P,
+    observer: &mut O,
+) -> SessionEnd
+    requires { P.has_login port.old ≡ false }
+    ensures session { Session P.logins P.commands (R.state reader.old) (R.state reader.new)
+        (W.state writer.old) (W.state writer.new) port.old port.new result }
+    ensures observed { ObservesSession P.logins P.commands O.announces O.reports
+        (R.state reader.old) (R.state reader.new)
+        (W.state writer.old) (W.state writer.new) port.old port.new observer.old observer.new result }
 {
     match enter(reader, writer, port) {
-        LoginResult::Admitted(host) => serve_frames(alloc, reader, writer, port, gate, host),
+        LoginResult::Admitted(host) => serve_frames(alloc, reader, writer, port, observer, host),
         LoginResult::Ended(reason) => SessionEnd { frames: 0, reason },
     }
 }
 
 // Serves frames until one doesn't arrive whole, a reply can't be written, or `MOST_FRAMES` were answered.
-fn serve_frames<R: Source, W: Sink, P: Port, G: Gate>(
+fn serve_frames<R: Source, W: Sink, P: Port, O: Observer>(
     alloc: Global,
     reader: &mut R,
     writer: &mut W,
     port: &mut P,
-    gate: &G,
+    observer: &mut O,
     host: Host,
 ) -> SessionEnd
     requires { P.has_login port.old ≡ true }
-    ensures { ServesAll P.commands (R.state reader.old) (R.state reader.new)
+    ensures all { ServesAll P.commands (R.state reader.old) (R.state reader.new)
         (W.state writer.old) (W.state writer.new) port.old port.new result }
+    ensures observed { RunsObserved P.commands O.announces O.reports host (R.state reader.old) (R.state reader.new)
+        (W.state writer.old) (W.state writer.new) port.old port.new observer.old observer.new result }
 {
     let mut state = SessionState::new(alloc);
-    converse(alloc, reader, writer, port, gate, host, &mut state)
+    converse(alloc, reader, writer, port, observer, host, &mut state)
 }
 
 // Serves frames from a state that has counted no command, and whose buffer may have capacity already. Nothing but steps
 // changes the state, so that each begins with what the one before left.
-fn converse<R: Source, W: Sink, P: Port, G: Gate>(
+fn converse<R: Source, W: Sink, P: Port, O: Observer>(
     alloc: Global,
     reader: &mut R,
     writer: &mut W,
     port: &mut P,
-    gate: &G,
+    observer: &mut O,
     host: Host,
     state: &mut SessionState,
 ) -> SessionEnd
@@ -81,23 +107,33 @@ fn converse<R: Source, W: Sink, P: Port, G: Gate>(
     requires fresh { state.old.given ≡ 0 }
     ensures all { ServesAll P.commands (R.state reader.old) (R.state reader.new)
         (W.state writer.old) (W.state writer.new) port.old port.new result }
-    ensures in_steps { RunsInSteps P.commands
+    ensures in_steps { RunsInSteps P.commands O.announces O.reports host
         (record {
           source = R.state reader.old;
           sink = W.state writer.old;
           port = port.old;
-          state = record { room = vec_capacity state.old.buffer; bytes = state.old.buffer.items; given = state.old.given };
+          observer = observer.old;
+          state = record {
+            room = vec_capacity state.old.buffer;
+            bytes = state.old.buffer.items;
+            given = state.old.given;
+          };
         })
         (record {
           source = R.state reader.new;
           sink = W.state writer.new;
           port = port.new;
-          state = record { room = vec_capacity state.new.buffer; bytes = state.new.buffer.items; given = state.new.given };
+          observer = observer.new;
+          state = record {
+            room = vec_capacity state.new.buffer;
+            bytes = state.new.buffer.items;
+            given = state.new.given;
+          };
         })
         result }
 {
     for frames in 0..MOST_FRAMES {
-        match serve_frame(alloc, reader, writer, port, gate, host, state) {
+        match serve_frame(alloc, reader, writer, port, observer, host, state) {
             FrameResult::Answered => {}
             FrameResult::Unsent => {
                 return SessionEnd {

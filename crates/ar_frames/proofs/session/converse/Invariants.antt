@@ -7,17 +7,23 @@ abbrev pub invariant-loop-frames : goal.invariant-loop-frames
 invariant-loop-frames g l = record {
   served : Served g.P.Port.commands (g.R.Source.state l.initial.reader) (g.R.Source.state l.reader)
       (g.W.Sink.state l.initial.writer) (g.W.Sink.state l.writer) l.initial.port l.port l.frames;
-  stepped : HasStepped g.P.Port.commands l.frames
+  stepped : HasStepped g.P.Port.commands g.O.Observer.announces g.O.Observer.reports l.host l.frames
       (record {
         source = g.R.Source.state l.initial.reader;
         sink = g.W.Sink.state l.initial.writer;
         port = l.initial.port;
-        state = record { room = vec_capacity l.initial.state.buffer; bytes = l.initial.state.buffer.items; given = l.initial.state.given };
+        observer = l.initial.observer;
+        state = record {
+          room = vec_capacity l.initial.state.buffer;
+          bytes = l.initial.state.buffer.items;
+          given = l.initial.state.given;
+        };
       })
       (record {
         source = g.R.Source.state l.reader;
         sink = g.W.Sink.state l.writer;
         port = l.port;
+        observer = l.observer;
         state = record { room = vec_capacity l.state.buffer; bytes = l.state.buffer.items; given = l.state.given };
       });
   logged : g.P.Port.has_login l.port ≡ true;
