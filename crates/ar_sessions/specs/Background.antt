@@ -1,5 +1,6 @@
 -- Background maintenance, step by step.
-use Rattle.std.specs.Prelude.{◌≡◌, ℕ, ◌+◌, ◌*◌, Bool, true, false, not, ◌&&◌, ◌==◌, nat_lt, nat_le, min, if◌then◌else◌, Option, Some, None}
+use Rattle.std.specs.Prelude.{◌≡◌, ℕ, ◌+◌, ◌*◌, Bool, true, false, not, ◌&&◌, ◌==◌, nat_lt, nat_le, min, if◌then◌else◌}
+use Rattle.std.specs.Prelude.{Option, Some, None}
 use Rattle.ar_book.specs.Tables.{free_groups}
 use Rattle.ar_volume.specs.Image.{is_broken, image}
 use Rattle.ar_volume.specs.Sectors.{Address}
@@ -8,7 +9,7 @@ use Rattle.ar_core.specs.Step.{Steps}
 use Rattle.ar_history.specs.declared.operation.Task.{Task}
 use Rattle.ar_history.specs.declared.operation.Task.TheVariants.{Flush, Rebuild, Clean, Balance, Demote}
 use Rattle.ar_history.specs.Counts.{CountsTask, is_idle}
-use Rattle.ar_history.specs.Kept.{KeptState}
+use Rattle.ar_history.specs.Kept.{KeptState, StaysKept}
 use Rattle.ar_history.specs.Operations.{event_of_task}
 use Rattle.ar_sessions.specs.declared.background.Rotation.{Rotation}
 
@@ -53,7 +54,8 @@ paused rotation = record rotation { turns = rotation.turns + 1; pause = min (rot
 abbrev pub stepped : Rotation → Bool → ℕ → Rotation
 stepped rotation true events = record { task = task_after rotation.task; turns = 0; pause = 1; seen = events }
 stepped rotation false events =
-    if nat_lt (rotation.turns + 1) 5 then record rotation { task = task_after rotation.task; turns = rotation.turns + 1 }
+    if nat_lt (rotation.turns + 1) 5 then record rotation
+    { task = task_after rotation.task; turns = rotation.turns + 1 }
     else paused (record rotation { task = task_after rotation.task })
 
 -- the milliseconds of the pause after a step, if there is one: after a long one that did something, so that hosts go on
@@ -62,9 +64,11 @@ abbrev pub pause_after : Rotation → Bool → Option ℕ
 pause_after rotation true = if is_long rotation.task then Some 4 else None
 pause_after rotation false = if nat_lt (rotation.turns + 1) 5 then None else Some rotation.pause
 
--- the task's event was one step of the array, counted if it did something, as `told` says
+-- the task's event was one step of the array, counted if it did something, as `told` says; before and after it each
+-- unit was what its history makes it
 pub record DoesTask (old : KeptState) (task : Task) (told : Bool) (new : KeptState) : Type 0 where
   pub outcome : Outcome
+  pub kept : StaysKept old new
   pub steps : Steps old.array (event_of_task task) outcome new.array
   pub worked : told ≡ not (is_idle outcome)
   pub counts : CountsTask old task outcome new
@@ -85,14 +89,17 @@ pub record TakesTurn (old : KeptState) (task : Task) (told : Bool) (new : KeptSt
   pub images : is_broken new.array ≡ false → (a : Address) → image new.array a ≡ image old.array a
 
 -- The next task of the rotation was a step of the maintenance: the rotation after it, and the pause.
-pub record Performs (old : KeptState) (rotation : Rotation) (pause : Option ℕ) (new : KeptState) (next : Rotation) : Type 0 where
+pub record Performs (old : KeptState) (rotation : Rotation) (pause : Option ℕ) (new : KeptState)
+    (next : Rotation) : Type 0 where
   pub told : Bool
   pub turn : TakesTurn old rotation.task told new
   pub next_is : next ≡ stepped rotation told new.events
   pub pause_is : pause ≡ pause_after rotation told
 
--- One pass of the maintenance: which task was done, which comes next, and which pause follows, in milliseconds. While it
--- rests, none is done: the array stays, and the next pass follows a pause.
-pub record MakesPass (old : KeptState) (rotation : Rotation) (pause : Option ℕ) (new : KeptState) (next : Rotation) : Type 0 where
-  pub rests : is_resting rotation old.events ≡ true → (new ≡ old) × (next ≡ paused rotation) × (pause ≡ Some rotation.pause)
+-- One pass of the maintenance: which task was done, which comes next, and which pause follows, in milliseconds. While
+-- it rests, none is done: the array stays, and the next pass follows a pause.
+pub record MakesPass (old : KeptState) (rotation : Rotation) (pause : Option ℕ) (new : KeptState)
+    (next : Rotation) : Type 0 where
+  pub rests : is_resting rotation old.events ≡ true
+      → (new ≡ old) × (next ≡ paused rotation) × (pause ≡ Some rotation.pause)
   pub works : is_resting rotation old.events ≡ false → Performs old (begun rotation old.events) pause new next

@@ -1,5 +1,6 @@
 -- The seats on a desk.
-use Rattle.std.specs.Prelude.{◌≡◌, ℕ, ◌+◌, ◌-◌, ◌^◌, min, if◌then◌else◌, List, length, get_or, Option, Some, None, option_map}
+use Rattle.std.specs.Prelude.{◌≡◌, ℕ, Bool, true, false, ◌+◌, ◌-◌, ◌^◌, min, if◌then◌else◌, List, length, get_or, Option, Some, None}
+use Rattle.std.specs.Prelude.{option_map}
 use Rattle.ar_disks.specs.declared.address.Host.{Host}
 use Rattle.ar_scsi.specs.declared.reply.Reply.{Reply}
 use Rattle.ar_unit.specs.Broken.{is_good}
@@ -18,6 +19,30 @@ seat_at places number = get_or places number None
 pub record AreOwn (places : Places) : Type 0 where
   pub four : length places ≡ 4
   pub own : (number : ℕ) (seat : SeatState) → seat_at places number ≡ Some seat → seat.host.number ≡ number
+
+-- at some moment this was in a host's place on a desk, where each place has its own host's seat or none: its seat, or
+-- none
+pub record IsFound (number : ℕ) (found : Option SeatState) : Type 0 where
+  pub places : Places
+  pub own : AreOwn places
+  pub is : found ≡ seat_at places number
+
+-- there is a seat of this host, as it was found in its place
+pub record HasSeat (finds : ℕ → Option SeatState → Type 0) (host : ℕ) (held : Option SeatState) : Type 0 where
+  pub seat : SeatState
+  pub is : held ≡ Some seat
+  pub own : seat.host.number ≡ host
+  pub found : finds host held
+
+-- no seat was found in the host's place, and what is held is unchanged
+pub record FindsNoSeat (finds : ℕ → Option SeatState → Type 0) (host : ℕ) (old new : Option SeatState) : Type 0 where
+  pub same : new ≡ old
+  pub found : finds host None
+
+-- a host's seat was lent from its place, if it was there, as the result says
+abbrev pub Lends : (ℕ → Option SeatState → Type 0) → ℕ → Option SeatState → Bool → Option SeatState → Type 0
+Lends finds host old true new = HasSeat finds host new
+Lends finds host old false new = FindsNoSeat finds host old new
 
 -- a receipt: whose seat was returned, and the number of commands in its transcript then
 pub record ReceiptState : Type 0 where

@@ -13,35 +13,41 @@ use Rattle.ar_sessions.specs.declared.sessions.Pending.{Pending}
 use Rattle.ar_sessions.specs.declared.sessions.Pending.TheVariants as pending
 use Rattle.ar_sessions.specs.declared.pool.Next.{Next}
 use Rattle.ar_sessions.specs.declared.pool.Next.TheVariants as next
-use Rattle.ar_sessions.specs.Desk.{ReceiptState, receipt_for}
+use Rattle.ar_sessions.specs.Desk.{IsFound, ReceiptState, receipt_for}
 use Rattle.ar_sessions.specs.Port.{TakesSeat, AsksSeat}
 
 -- A session over streams in these states ended with `end`. It began at a port without a seat, and its logins and
 -- commands were those of a port to the shared array, for whose commands `asks` holds.
-pub record IsSessionEnd (asks : Commands SeatState) (source : SourceState) (sink : SinkState) (end : SessionEnd) : Type 0 where
+pub record IsSessionEnd (asks : Commands SeatState) (source : SourceState) (sink : SinkState)
+    (end : SessionEnd) : Type 0 where
   pub source' : SourceState
   pub sink' : SinkState
   pub port : Option SeatState
-  pub session : Session TakesSeat (AsksSeat asks) source source' sink sink' None port end
+  pub session : Session (TakesSeat IsFound) (AsksSeat asks) source source' sink sink' None port end
 
 -- The same, and this is the receipt for the seat that the port had in the end, or none if it had none.
-pub record GivesBack (asks : Commands SeatState) (source : SourceState) (sink : SinkState) (end : SessionEnd) (receipt : Option ReceiptState) : Type 0 where
+pub record GivesBack (asks : Commands SeatState) (source : SourceState) (sink : SinkState) (end : SessionEnd)
+    (receipt : Option ReceiptState) : Type 0 where
   pub served : IsSessionEnd asks source sink end
   pub receipt_is : receipt ≡ receipt_for served.port
 
 -- The same, and these are the states in which the session left the streams: nothing has used them since.
-pub record LeavesOff (asks : Commands SeatState) (source source' : SourceState) (sink sink' : SinkState) (end : SessionEnd) (receipt : Option ReceiptState) : Type 0 where
+pub record LeavesOff (asks : Commands SeatState) (source source' : SourceState) (sink sink' : SinkState)
+    (end : SessionEnd) (receipt : Option ReceiptState) : Type 0 where
   pub port : Option SeatState
-  pub session : Session TakesSeat (AsksSeat asks) source source' sink sink' None port end
+  pub session : Session (TakesSeat IsFound) (AsksSeat asks) source source' sink sink' None port end
   pub receipt_is : receipt ≡ receipt_for port
 
 -- A session over a connection's two streams, as they were when it was opened, ended with `end`.
-abbrev pub IsServedOver : {S W : Type 0} → Commands SeatState → (S → SourceState) → (W → SinkState) → S × W → SessionEnd → Type 0
+abbrev pub IsServedOver : {S W : Type 0} → Commands SeatState → (S → SourceState) → (W → SinkState) → S × W → SessionEnd
+    → Type 0
 IsServedOver asks source sink pair end = IsSessionEnd asks (source pair.0) (sink pair.1) end
 
 -- a session over the two streams in its thread's promise ended with `end`
-abbrev pub IsPromised : {A L S W : Type 0} → Commands SeatState → (S → SourceState) → (W → SinkState) → AsServed A L S W → SessionEnd → Type 0
-IsPromised asks source sink promise end = IsSessionEnd asks (source promise.reader.value) (sink promise.writer.value) end
+abbrev pub IsPromised : {A L S W : Type 0} → Commands SeatState → (S → SourceState) → (W → SinkState) → AsServed A L S W
+    → SessionEnd → Type 0
+IsPromised asks source sink promise end =
+    IsSessionEnd asks (source promise.reader.value) (sink promise.writer.value) end
 
 -- the end of a connection that could not be opened
 abbrev pub unopened : SessionEnd
@@ -53,8 +59,8 @@ pub record HasAccepted {D P : Type 0} (opens : D → Option P → D → Type 0) 
   pub opened : opens old (Some pair) new
 
 -- a door opened its next connection, and this is the end of a session over it
-pub record HasEnded {D P : Type 0} (opens : D → Option P → D → Type 0) (served : P → SessionEnd → Type 0) (old : D) (end : SessionEnd)
-    (new : D) : Type 0 where
+pub record HasEnded {D P : Type 0} (opens : D → Option P → D → Type 0) (served : P → SessionEnd → Type 0)
+    (old : D) (end : SessionEnd) (new : D) : Type 0 where
   pub pair : P
   pub opened : opens old (Some pair) new
   pub ended : served pair end
@@ -73,7 +79,8 @@ IsBegun is pending.Unopened = ⊥
 IsBegun is pending.NoThread = Unit {0}
 
 -- the state of a door's next connection: opened, with a thread or without one, or not opened
-abbrev pub Becomes : {D P H : Type 0} → (D → Option P → D → Type 0) → (H → SessionEnd → Type 0) → (P → SessionEnd → Type 0) → D
+abbrev pub Becomes : {D P H : Type 0} → (D → Option P → D → Type 0) → (H → SessionEnd → Type 0)
+    → (P → SessionEnd → Type 0) → D
     → Pending H → D → Type 0
 Becomes opens keeps served old (pending.Served handle) new = HasThread opens keeps served old handle new
 Becomes opens keeps served old pending.Unopened new = opens old None new
@@ -81,8 +88,10 @@ Becomes opens keeps served old pending.NoThread new = HasAccepted opens old new
 
 -- How a door's next connection ended: with a session over it if it was opened, and with `unopened` if it couldn't be;
 -- or it was opened and got no thread.
-abbrev pub ConnectionEnds : {D P : Type 0} → (D → Option P → D → Type 0) → (P → SessionEnd → Type 0) → D → ConnectionEnd → D → Type 0
-ConnectionEnds opens served old (Served end) new = HasEnded opens served old end new ⊎ (opens old None new × (end ≡ unopened))
+abbrev pub ConnectionEnds : {D P : Type 0} → (D → Option P → D → Type 0) → (P → SessionEnd → Type 0) → D → ConnectionEnd
+    → D → Type 0
+ConnectionEnds opens served old (Served end) new =
+    HasEnded opens served old end new ⊎ (opens old None new × (end ≡ unopened))
 ConnectionEnds opens served old NoThread new = HasAccepted opens old new
 
 -- a connection ended with its session

@@ -12,11 +12,13 @@ use Rattle.ar_history.specs.Serving.{ServesHost, ServesCommand, BeginsByPlace, D
 use Rattle.ar_frames.specs.Conversation.{Commands}
 use Rattle.ar_frames.specs.declared.port.Login.{Login}
 use Rattle.ar_frames.specs.declared.port.Login.TheVariants.{Taken, BadHost, InUse}
+use Rattle.ar_sessions.specs.Desk.{HasSeat, FindsNoSeat}
 
 -- A host's command was executed atomically: there are a state of an array before it and one after it, in both of which
 -- each unit is what its history makes it, and between them the command is served as `Kept::host` serves it. That these
 -- are states of the array behind the lock is not specified; the transcript's entry (`RecordsExchange`) is.
-pub record AtOneMoment (before : SeatState) (lun : ℕ) (cdb payload : List ℕ) (reply : Reply) (after : SeatState) : Type 0 where
+pub record AtOneMoment (before : SeatState) (lun : ℕ) (cdb payload : List ℕ) (reply : Reply)
+    (after : SeatState) : Type 0 where
   pub old : KeptState
   pub new : KeptState
   pub position : Option ℕ
@@ -34,20 +36,26 @@ abbrev pub is_good_access : List ℕ → Reply → Bool
 is_good_access cdb reply = is_good reply.status && needs_blocks (reading cdb)
 
 -- The transcript has grown by the command and its reply, or is unchanged; after a good access it has grown.
-pub record RecordsExchange (before : SeatState) (lun : ℕ) (cdb payload : List ℕ) (reply : Reply) (after : SeatState) : Type 0 where
+pub record RecordsExchange (before : SeatState) (lun : ℕ) (cdb payload : List ℕ) (reply : Reply)
+    (after : SeatState) : Type 0 where
   pub one :
-      (after.transcript ≡ before.transcript ++ exchange_of lun cdb payload reply ∷ []) ⊎ (after.transcript ≡ before.transcript)
-  pub done : is_good_access cdb reply ≡ true → after.transcript ≡ before.transcript ++ exchange_of lun cdb payload reply ∷ []
+      (after.transcript ≡ before.transcript ++ exchange_of lun cdb payload reply ∷ [])
+      ⊎ (after.transcript ≡ before.transcript)
+  pub done : is_good_access cdb reply ≡ true → after.transcript
+      ≡ before.transcript ++ exchange_of lun cdb payload reply ∷ []
 
 -- a command to a kept array
-pub record AsksKept (before : SeatState) (lun : ℕ) (cdb payload : List ℕ) (reply : Reply) (after : SeatState) : Type 0 where
+pub record AsksKept (before : SeatState) (lun : ℕ) (cdb payload : List ℕ) (reply : Reply)
+    (after : SeatState) : Type 0 where
   pub moment : AtOneMoment before lun cdb payload reply after
   pub entry : RecordsExchange before lun cdb payload reply after
 
 -- A command to a live array was executed atomically, too: there are a state of an array before it and one after it, in
 -- both of which each unit is what its history makes it, and between them the command is one step, served as
--- `LiveArray::host` serves it. That these are states of the array behind the lock is not specified. The seat is the same.
-pub record AsksLive (before : SeatState) (lun : ℕ) (cdb payload : List ℕ) (reply : Reply) (after : SeatState) : Type 0 where
+-- `LiveArray::host` serves it. That these are states of the array behind the lock is not specified. The seat is the
+-- same.
+pub record AsksLive (before : SeatState) (lun : ℕ) (cdb payload : List ℕ) (reply : Reply)
+    (after : SeatState) : Type 0 where
   pub old : KeptState
   pub new : KeptState
   pub kept : StaysKept old new
@@ -55,20 +63,16 @@ pub record AsksLive (before : SeatState) (lun : ℕ) (cdb payload : List ℕ) (r
   pub steps : Steps old.array (CmdEvent before.host lun cdb payload) (CmdOutcome reply) new.array
   pub seat : after ≡ before
 
--- the port has the seat of this host
-pub record HasSeat (port : Option SeatState) (host : ℕ) : Type 0 where
-  pub seat : SeatState
-  pub is : port ≡ Some seat
-  pub own : seat.host.number ≡ host
-
--- an accepted login brings the host's seat, a refused one nothing
-abbrev pub TakesSeat : Option SeatState → ℕ → Login → Option SeatState → Type 0
-TakesSeat old host Taken new = HasSeat new host
-TakesSeat old host BadHost new = new ≡ old
-TakesSeat old host InUse new = new ≡ old
+-- An accepted login brings the host's seat, a refused one nothing. The host is in use only if its seat is not in its
+-- place; what a look into a place finds the desk specifies.
+abbrev pub TakesSeat : (ℕ → Option SeatState → Type 0) → Option SeatState → ℕ → Login → Option SeatState → Type 0
+TakesSeat finds old host Taken new = HasSeat finds host new
+TakesSeat finds old host BadHost new = new ≡ old
+TakesSeat finds old host InUse new = FindsNoSeat finds host old new
 
 -- a command is executed with the port's seat, as this is specified of the array
-pub record AsksSeat (asks : Commands SeatState) (old : Option SeatState) (lun : ℕ) (cdb payload : List ℕ) (reply : Reply) (new : Option SeatState) : Type 0 where
+pub record AsksSeat (asks : Commands SeatState) (old : Option SeatState) (lun : ℕ) (cdb payload : List ℕ)
+    (reply : Reply) (new : Option SeatState) : Type 0 where
   pub before : SeatState
   pub after : SeatState
   pub held : old ≡ Some before

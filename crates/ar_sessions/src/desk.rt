@@ -1,14 +1,44 @@
 // The seats that no session holds. A place has its own host's seat or none, so that a host has one session at a time.
-ghost use Rattle.std.specs.Prelude.{◌≡◌, ◌<◌, [], ◌∷◌, map, set, Some, None, is_some, not, true, false, IfOk, IfErr, OnErr, IfSome};
+ghost use Rattle.std.specs.Prelude.{◌≡◌, ◌<◌, ℕ, [], ◌∷◌, map, set, Option, Some, None, is_some, not, true, false};
+ghost use Rattle.std.specs.Prelude.{IfOk, IfErr, OnErr, IfSome};
 ghost use Rattle.std.specs.List.{list_all};
 ghost use Rattle.ar_history.specs.Seat.{SeatState};
-ghost use Rattle.ar_sessions.specs.Desk.{seat_at, receipt_of, session_after};
+ghost use Rattle.ar_sessions.specs.Desk.{AreOwn, Lends, seat_at, receipt_of, session_after};
 
 use ar_disks::Host;
 use ar_history::Seat;
 use ar_scsi::{Reply, Status};
 use std::marker::Model;
 use std::sync::ledger::Ledger;
+
+/// A desk that lends each host's seat to one session at a time.
+pub trait SeatDesk<L: Ledger> {
+    /// What a look into the place of a host may find, by the host's number: its seat, or none. Only a desk defines it,
+    /// so that no other code can report a seat as missing that is in its place.
+    ghost finds: { ℕ → Option SeatState → Type 0 };
+
+    /// Moves a host's seat to `slot`. False: it isn't in its place.
+    fn lend(&mut self, host: Host, slot: &mut SeatSlot<L>) -> bool
+        ensures { Lends finds host.number slot.old result slot.new };
+
+    /// Counts a command of a host's session, by the number of bytes of its data and its reply.
+    fn count_command(&mut self, host: Host, sent: usize, reply: &Reply);
+}
+
+/// Room for one seat.
+#[derive(Drop)]
+pub struct SeatSlot<L: Ledger> {
+    seat: Option<Seat<L>>,
+}
+
+impl<L: Ledger> Model for SeatSlot<L> {
+    ghost use Rattle.std.specs.Prelude.{Option};
+    ghost use Rattle.ar_history.specs.Seat.{SeatState};
+
+    ghost Value = { Option SeatState };
+
+    ghost view = { λ slot. slot.seat };
+}
 
 /// The seats of hosts 0 to 3: each is in its own place, or held by a session.
 #[derive(Drop)]
@@ -104,6 +134,7 @@ impl<L: Ledger> Desk<L> {
         ensures seat { result ≡ seat_at self.old host.number }
         ensures own { IfSome result (λ seat. seat.host.number ≡ host.number) }
         ensures left { self.new ≡ set self.old host.number None }
+        ensures sound { AreOwn self.old }
     {
         self.places[usize::from(host.number())].take()
     }
@@ -171,5 +202,41 @@ impl<L: Ledger> Desk<L> {
             Some(seat) => seat,
             None => unreachable!(),
         }
+    }
+}
+
+impl<L: Ledger> SeatSlot<L> {
+    /// Without a seat.
+    pub fn new() -> SeatSlot<L>
+        ensures { result ≡ None }
+    {
+        SeatSlot { seat: None }
+    }
+
+    /// The seat, if there is one.
+    pub fn into_seat(self) -> Option<Seat<L>>
+        ensures { result ≡ self }
+    {
+        self.seat
+    }
+}
+
+impl<L: Ledger> SeatDesk<L> for Desk<L> {
+    ghost use Rattle.ar_sessions.specs.Desk.{IsFound};
+
+    ghost finds = { λ number found. IsFound number found };
+
+    fn lend(&mut self, host: Host, slot: &mut SeatSlot<L>) -> bool {
+        match self.take(host) {
+            Some(seat) => {
+                slot.seat = Some(seat);
+                true
+            }
+            None => false,
+        }
+    }
+
+    fn count_command(&mut self, host: Host, sent: usize, reply: &Reply) {
+        self.count(host, sent, reply);
     }
 }

@@ -16,7 +16,7 @@ mod socket;
 mod tcp;
 
 pub use background::run_background;
-pub use desk::{Desk, Receipt, SessionCounts};
+pub use desk::{Desk, Receipt, SeatDesk, SeatSlot, SessionCounts};
 pub use door::{Door, MemDoor};
 pub use pool::{Handler, MOST_AT_ONCE, SharedDoor, run_pool, start_pool};
 pub use port::LockPort;

@@ -4,7 +4,7 @@ ghost use Rattle.std.specs.Prelude.{◌≡◌, None};
 ghost use Rattle.ar_frames.specs.Frame.{IsReply};
 ghost use Rattle.ar_sessions.specs.Desk.{receipt_for};
 
-use crate::{Desk, Receipt, ServedArray};
+use crate::{Desk, Receipt, SeatDesk, SeatSlot, ServedArray};
 use ar_disks::Host;
 use ar_frames::{Login, Port};
 use ar_history::Seat;
@@ -17,14 +17,14 @@ use std::sync::{Mutex, Wait};
 /// A session's port to an array behind a lock. A login takes the host's seat from the desk, which has a lock of its
 /// own; a command holds the array's lock while it is executed.
 #[derive(Drop)]
-pub struct LockPort<'a, R: Wait, A: Drop, L: Ledger> {
+pub struct LockPort<'a, R: Wait, A: Drop, K: Drop, L: Ledger> {
     rt: &'a R,
     array: &'a Mutex<A>,
-    desk: &'a Mutex<Desk<L>>,
+    desk: &'a Mutex<K>,
     seat: Option<Seat<L>>,
 }
 
-impl<'a, R: Wait, A: Drop, L: Ledger> Model for LockPort<'a, R, A, L> {
+impl<'a, R: Wait, A: Drop, K: Drop, L: Ledger> Model for LockPort<'a, R, A, K, L> {
     ghost use Rattle.std.specs.Prelude.{Option};
     ghost use Rattle.ar_history.specs.Seat.{SeatState};
 
@@ -33,9 +33,9 @@ impl<'a, R: Wait, A: Drop, L: Ledger> Model for LockPort<'a, R, A, L> {
     ghost view = { λ port. port.seat };
 }
 
-impl<'a, R: Wait, A: Drop, L: Ledger> LockPort<'a, R, A, L> {
+impl<'a, R: Wait, A: Drop, K: Drop, L: Ledger> LockPort<'a, R, A, K, L> {
     /// A port without a seat: no host is logged in.
-    pub fn new(rt: &'a R, array: &'a Mutex<A>, desk: &'a Mutex<Desk<L>>) -> LockPort<'a, R, A, L>
+    pub fn new(rt: &'a R, array: &'a Mutex<A>, desk: &'a Mutex<K>) -> LockPort<'a, R, A, K, L>
         ensures { result ≡ None }
     {
         LockPort {
@@ -45,7 +45,9 @@ impl<'a, R: Wait, A: Drop, L: Ledger> LockPort<'a, R, A, L> {
             seat: None,
         }
     }
+}
 
+impl<'a, R: Wait, A: Drop, L: Ledger> LockPort<'a, R, A, Desk<L>, L> {
     /// Returns the seat to the desk, if the port has one, and returns the receipt for it.
     pub fn finish(self) -> Option<Receipt>
         ensures { result ≡ receipt_for self.entry }
@@ -55,13 +57,14 @@ impl<'a, R: Wait, A: Drop, L: Ledger> LockPort<'a, R, A, L> {
     }
 }
 
-impl<'a, R: Wait, A: ServedArray<L> + Drop, L: Ledger> Port for LockPort<'a, R, A, L> {
+impl<'a, R: Wait, A: ServedArray<L> + Drop, K: SeatDesk<L> + Drop, L: Ledger> Port
+    for LockPort<'a, R, A, K, L> {
     ghost use Rattle.std.specs.Prelude.{is_some};
     ghost use Rattle.ar_sessions.specs.Port.{TakesSeat, AsksSeat};
 
     ghost has_login = { λ port. is_some port };
 
-    ghost logins = { λ old host answer new. TakesSeat old host answer new };
+    ghost logins = { λ old host answer new. TakesSeat K.finds old host answer new };
 
     ghost commands = { λ old lun cdb payload reply new. AsksSeat A.asks old lun cdb payload reply new };
 
@@ -69,13 +72,12 @@ impl<'a, R: Wait, A: ServedArray<L> + Drop, L: Ledger> Port for LockPort<'a, R, 
         let Some(host) = Host::new(host) else {
             return Login::BadHost;
         };
-        match self.desk.lock(self.rt).take(host) {
-            Some(seat) => {
-                self.seat = Some(seat);
-                Login::Taken
-            }
-            None => Login::InUse,
+        let mut slot = SeatSlot::new();
+        if !self.desk.lock(self.rt).lend(host, &mut slot) {
+            return Login::InUse;
         }
+        self.seat = slot.into_seat();
+        Login::Taken
     }
 
     fn command(&mut self, lun: u8, cdb: &[u8; 16], payload: Bytes) -> Reply {
@@ -87,10 +89,10 @@ impl<'a, R: Wait, A: ServedArray<L> + Drop, L: Ledger> Port for LockPort<'a, R, 
 }
 
 // Executes a command, and then counts it at the desk.
-fn ask_counted<R: Wait, A: ServedArray<L> + Drop, L: Ledger>(
+fn ask_counted<R: Wait, A: ServedArray<L> + Drop, K: SeatDesk<L> + Drop, L: Ledger>(
     rt: &R,
     array: &Mutex<A>,
-    desk: &Mutex<Desk<L>>,
+    desk: &Mutex<K>,
     seat: &mut Seat<L>,
     lun: u8,
     cdb: &[u8; 16],
@@ -102,7 +104,7 @@ fn ask_counted<R: Wait, A: ServedArray<L> + Drop, L: Ledger>(
     let host = seat.host();
     let sent = payload.len();
     let reply = ask_locked(rt, array, seat, lun, cdb, payload);
-    desk.lock(rt).count(host, sent, &reply);
+    desk.lock(rt).count_command(host, sent, &reply);
     reply
 }
 

@@ -1,6 +1,7 @@
 use Rattle.std.proofs.Common.{rules, Option, subst}
 use Rattle.ar_history.specs.Seat.{SeatState}
 use Rattle.ar_frames.specs.Session.{Session}
+use Rattle.ar_sessions.specs.Desk.{IsFound}
 use Rattle.ar_sessions.specs.Port.{TakesSeat, AsksSeat}
 use Rattle.ar_sessions.proofs.sessions.Connection.run_session.Goals as goal
 
@@ -10,8 +11,10 @@ returns g c = record {
   session =
       subst
       (λ (port : Option SeatState).
-      Session TakesSeat (AsksSeat g.A.ServedArray.asks) (g.S.Source.state c.args.self.reader) (g.S.Source.state c.serve_gated-end.new.reader)
-      (g.W.Sink.state c.args.self.writer) (g.W.Sink.state c.serve_gated-end.new.writer) port c.serve_gated-end.new.port c.serve_gated-end.result)
-      c.new-port.ensures c.serve_gated-end.ensures;
+      Session (TakesSeat IsFound) (AsksSeat g.A.ServedArray.asks) (g.S.Source.state c.args.self.reader)
+      (g.S.Source.state c.serve_gated-end.new.reader)
+      (g.W.Sink.state c.args.self.writer) (g.W.Sink.state c.serve_gated-end.new.writer) port c.serve_gated-end.new.port
+      c.serve_gated-end.result)
+      c.new-port.ensures c.serve_gated-end.ensures.session;
   receipt_is = search rules;
 }
