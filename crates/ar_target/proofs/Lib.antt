@@ -1,0 +1,5 @@
+pub mod Finding
+pub mod Given
+pub mod Names
+pub mod Synchronizing
+pub mod Taking

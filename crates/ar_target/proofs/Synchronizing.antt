@@ -1,0 +1,40 @@
+-- A SYNCHRONIZE CACHE that is GOOD.
+use Rattle.std.proofs.Common.{◌≡◌, ℕ, refl, subst}
+use Rattle.ar_scsi.specs.declared.reply.Reply.{Reply}
+use Rattle.ar_scsi.specs.declared.reply.Status.{Status}
+use Rattle.ar_scsi.specs.declared.reply.Status.TheVariants.{Good, CheckCondition, Busy}
+use Rattle.ar_frames.specs.Conversation.{Commands}
+use Rattle.ar_target.specs.declared.flush_port.FlushOutcome.{FlushOutcome}
+use Rattle.ar_target.specs.declared.flush_port.FlushOutcome.TheVariants.{Done, NoUnit, ArrayFailed}
+use Rattle.ar_target.specs.FlushPort.{UnitFlushes}
+use Rattle.ar_target.specs.Serving.{Synchronizes, flush_reply, unit_unready, range_behind, unit_flushed}
+use Rattle.ar_target.specs.Told.{handed_on, handed_on_by}
+
+-- a status that is handed on isn't GOOD
+handed_on_by-not_good : (s : Status) (told : Reply) → s ≡ told.status → (handed_on_by s told).status ≡ Good → ⊥
+handed_on_by-not_good Good told is e = cc
+handed_on_by-not_good CheckCondition told is e = cc
+handed_on_by-not_good Busy told is e = cc
+
+-- nor is the reply
+handed_on-not_good : (told : Reply) → (handed_on told).status ≡ Good → ⊥
+unfolding handed_on
+handed_on-not_good told e = handed_on_by-not_good told.status told refl e
+
+-- a reply that is GOOD says that the flush is done
+done_where_good : (outcome : FlushOutcome) → (flush_reply outcome).status ≡ Good → outcome ≡ Done
+done_where_good Done e = refl
+done_where_good NoUnit e = cc
+done_where_good ArrayFailed e = cc
+
+pub flushed_where_good :
+    {P : Type 0} (commands : Commands P) (flushes : UnitFlushes P) (lba count : ℕ) (old : P) (lun : ℕ) (reply : Reply)
+    (new : P)
+    → Synchronizes commands flushes lba count old lun reply new → reply.status ≡ Good
+    → (mid : P) × flushes mid lun Done new
+flushed_where_good commands flushes lba count old lun _ _ (unit_unready told new asked none) e =
+    absurd (handed_on-not_good told e)
+flushed_where_good commands flushes lba count old lun _ _ (range_behind told last new asked some behind) e = cc
+flushed_where_good commands flushes lba count old lun _ _
+    (unit_flushed told last mid outcome new asked some within flushed) e =
+    (mid, subst (λ (o : FlushOutcome). flushes mid lun o new) (done_where_good outcome e) flushed)

@@ -1,0 +1,22 @@
+-- Fronts of lists that aren't empty.
+use Rattle.std.proofs.Common.{◌≢◌, ◌<◌, ◌++◌, ℕ, zero, suc, Bool, true, false, List, [], ◌∷◌, length, take, arith}
+use Rattle.ar_target.specs.declared.request.ModeSense.{ModeSense}
+use Rattle.ar_target.specs.Mode.{mode_header, mode_data}
+
+-- some of a list that has some
+pub taken_some : (n : ℕ) (l : List ℕ) → 0 < n → 0 < length l → take n l ≢ []
+taken_some zero l some long = absurd (omega arith)
+taken_some (suc n) [] some long = absurd (omega arith)
+taken_some (suc n) (x ∷ xs) some long = λ e. cc
+
+-- what begins with a header
+header_some : (is_long has_descriptor : Bool) (rest : List ℕ) → 0 < length (mode_header is_long has_descriptor ++ rest)
+header_some false false rest = omega arith
+header_some false true rest = omega arith
+header_some true false rest = omega arith
+header_some true true rest = omega arith
+
+-- mode data
+pub mode_data_some : (write_back : Bool) (sense : ModeSense) (last : ℕ) → 0 < length (mode_data write_back sense last)
+unfolding mode_data
+mode_data_some write_back sense last = header_some sense.is_long sense.has_descriptor _

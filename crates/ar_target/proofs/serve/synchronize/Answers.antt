@@ -1,0 +1,19 @@
+use Rattle.std.proofs.Common.{◌∙◌, sym}
+use Rattle.ar_target.specs.Serving.{unit_unready, range_behind, unit_flushed}
+use Rattle.ar_target.proofs.serve.synchronize.Goals as goal
+
+pub returns-then-is_behind-clause-synchronizes : goal.returns-then-is_behind-clause-synchronizes
+returns-then-is_behind-clause-synchronizes g c =
+    rw c.check.ensures
+    (range_behind _ c.in-Some.last _ c.ask-told.ensures.asked (sym c.last_block.ensures ∙ c.in-Some.is)
+    (sym c.is_behind.ensures ∙ c.if-is_behind.true))
+
+pub returns-in-Some-clause-synchronizes : goal.returns-in-Some-clause-synchronizes
+returns-in-Some-clause-synchronizes g c =
+    rw c.flush_reply.ensures.answer
+    (unit_flushed _ c.in-Some.last _ c.flush.result _ c.ask-told.ensures.asked (sym c.last_block.ensures ∙ c.in-Some.is)
+    (sym c.is_behind.ensures ∙ c.if-is_behind.false) c.flush.ensures.flush)
+
+pub returns-clause-synchronizes : goal.returns-clause-synchronizes
+returns-clause-synchronizes g c =
+    rw c.handed_on.ensures.answer (unit_unready _ _ c.ask-told.ensures.asked (sym c.last_block.ensures ∙ c.in-None.is))

@@ -1,0 +1,10 @@
+pub mod Answer
+pub mod DeviceServer
+pub mod FlushPort
+pub mod Laws
+pub mod Luns
+pub mod Mode
+pub mod Request
+pub mod Serving
+pub mod Told
+pub mod Vpd

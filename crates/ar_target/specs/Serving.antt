@@ -1,0 +1,77 @@
+-- What a device server does with a command, request by request.
+use Rattle.std.specs.Prelude.{◌≡◌, ℕ, ◌+◌, ◌-◌, Bool, nat_lt, IsTrue, false, List, [], take, Some, None}
+use Rattle.ar_scsi.specs.declared.reply.Reply.{Reply}
+use Rattle.ar_scsi.specs.Reply.{good, check}
+use Rattle.ar_scsi.specs.Sense.{logical_block_address_out_of_range, logical_unit_not_supported, internal_target_failure}
+use Rattle.ar_frames.specs.Conversation.{Commands}
+use Rattle.ar_target.specs.declared.attributes.Attributes.{Attributes}
+use Rattle.ar_target.specs.declared.flush_port.FlushOutcome.{FlushOutcome}
+use Rattle.ar_target.specs.declared.flush_port.FlushOutcome.TheVariants.{Done, NoUnit, ArrayFailed}
+use Rattle.ar_target.specs.declared.request.Request.{Request}
+use Rattle.ar_target.specs.declared.request.Request.TheVariants as request
+use Rattle.ar_target.specs.Answer.{invalid_answer, vpd_answer, mode_answer, long_capacity_answer, sense_answer}
+use Rattle.ar_target.specs.Answer.{ready_answer}
+use Rattle.ar_target.specs.FlushPort.{UnitFlushes}
+use Rattle.ar_target.specs.Luns.{ReportsLuns, lun_list}
+use Rattle.ar_target.specs.Request.{request_of}
+use Rattle.ar_target.specs.Told.{ready_cdb, inquiry_cdb, capacity_cdb, last_block, handed_on, IsReturned, ReturnsBy}
+
+-- `count` blocks from `lba` on, or all from `lba` on if `count` is 0, aren't on a unit whose last block is `last`
+-- (SBC-2, SYNCHRONIZE CACHE (10) command)
+abbrev pub is_behind : ℕ → ℕ → ℕ → Bool
+is_behind last lba count = nat_lt last (lba + (count - 1))
+
+-- the reply by the outcome of a flush
+abbrev pub flush_reply : FlushOutcome → Reply
+flush_reply Done = good []
+flush_reply NoUnit = check logical_unit_not_supported
+flush_reply ArrayFailed = check internal_target_failure
+
+-- SYNCHRONIZE CACHE: READ CAPACITY (10) is asked for first. Where it doesn't state the last block, its reply is the
+-- answer; a range that isn't on the unit is refused; otherwise the whole unit is flushed, and the reply says what came
+-- of it.
+pub data Synchronizes {P : Type 0} (commands : Commands P) (flushes : UnitFlushes P) (lba count : ℕ) (old : P)
+    (lun : ℕ) : Reply → P → Type 0 where
+  unit_unready :
+      (told : Reply) (new : P) → commands old lun capacity_cdb [] told new → last_block told ≡ None
+      → Synchronizes commands flushes lba count old lun (handed_on told) new
+  range_behind :
+      (told : Reply) (last : ℕ) (new : P) → commands old lun capacity_cdb [] told new → last_block told ≡ Some last
+      → IsTrue (is_behind last lba count)
+      → Synchronizes commands flushes lba count old lun (check logical_block_address_out_of_range) new
+  unit_flushed :
+      (told : Reply) (last : ℕ) (mid : P) (outcome : FlushOutcome) (new : P) → commands old lun capacity_cdb [] told mid
+      → last_block told ≡ Some last → is_behind last lba count ≡ false → flushes mid lun outcome new
+      → Synchronizes commands flushes lba count old lun (flush_reply outcome) new
+
+-- What is done with each request at the port, and its reply.
+abbrev pub MeetsRequest : {P : Type 0} → Commands P → UnitFlushes P → Attributes → Request → P → ℕ → List ℕ → List ℕ
+    → Reply → P → Type 0
+MeetsRequest commands flushes attributes request.Given old lun cdb payload reply new =
+    commands old lun cdb payload reply new
+MeetsRequest commands flushes attributes (request.InvalidAtTarget sense) old lun cdb payload reply new =
+    (reply ≡ check sense) × (new ≡ old)
+MeetsRequest commands flushes attributes (request.InvalidAtUnit sense) old lun cdb payload reply new =
+    ReturnsBy commands capacity_cdb (invalid_answer sense) old lun reply new
+MeetsRequest commands flushes attributes (request.Vpd page len) old lun cdb payload reply new =
+    ReturnsBy commands inquiry_cdb (vpd_answer attributes lun page len) old lun reply new
+MeetsRequest commands flushes attributes (request.ReportLuns len) old lun cdb payload reply new =
+    ReportsLuns commands len old reply new
+MeetsRequest commands flushes attributes (request.ReportWellKnown len) old lun cdb payload reply new =
+    IsReturned (good (take len (lun_list []))) reply × (new ≡ old)
+MeetsRequest commands flushes attributes (request.ModeSense sense) old lun cdb payload reply new =
+    ReturnsBy commands capacity_cdb (mode_answer attributes.write_back sense) old lun reply new
+MeetsRequest commands flushes attributes (request.RequestSense len) old lun cdb payload reply new =
+    ReturnsBy commands ready_cdb (sense_answer len) old lun reply new
+MeetsRequest commands flushes attributes (request.LongCapacity len) old lun cdb payload reply new =
+    ReturnsBy commands capacity_cdb (long_capacity_answer len) old lun reply new
+MeetsRequest commands flushes attributes (request.Synchronize lba count) old lun cdb payload reply new =
+    Synchronizes commands flushes lba count old lun reply new
+MeetsRequest commands flushes attributes request.StartStop old lun cdb payload reply new =
+    ReturnsBy commands ready_cdb ready_answer old lun reply new
+
+-- what a device server does with a command: what its CDB asks for
+abbrev pub MeetsCommand : {P : Type 0} → Commands P → UnitFlushes P → Attributes → P → ℕ → List ℕ → List ℕ → Reply → P
+    → Type 0
+MeetsCommand commands flushes attributes old lun cdb payload reply new =
+    MeetsRequest commands flushes attributes (request_of cdb) old lun cdb payload reply new

@@ -1,0 +1,70 @@
+-- The pages of vital product data (VPD) of a unit. Each begins with the peripheral (00h: a direct access block device
+-- is connected), its PAGE CODE, and the length of what follows.
+use Rattle.std.specs.Prelude.{ℕ, ◌+◌, ◌/◌, ◌%◌, nat_lt, if◌then◌else◌, List, [], ◌∷◌, ◌++◌, replicate}
+use Rattle.std.specs.Int.{w16, w32, to_be_bytes}
+use Rattle.ar_target.specs.declared.attributes.Attributes.{Attributes}
+use Rattle.ar_target.specs.declared.request.VpdPage.{VpdPage}
+use Rattle.ar_target.specs.declared.request.VpdPage.TheVariants.{SupportedPages, UnitSerialNumber, DeviceIdentification}
+use Rattle.ar_target.specs.declared.request.VpdPage.TheVariants.{BlockLimits, BlockDeviceCharacteristics}
+
+-- the hexadecimal digit of a number below 16, in ASCII
+unfoldable pub hex_digit : ℕ → ℕ
+hex_digit n = if nat_lt n 10 then 48 + n else 55 + n
+
+-- the two digits of each byte
+abbrev pub hex_digits : List ℕ → List ℕ
+hex_digits [] = []
+hex_digits (byte ∷ bytes) = hex_digit (byte / 16) ∷ hex_digit (byte % 16) ∷ hex_digits bytes
+
+-- what tells a unit from all others: its array in four bytes, its host, its LUN
+abbrev pub unit_name : ℕ → ℕ → ℕ → List ℕ
+unit_name array host lun = to_be_bytes w32 array ++ (host ∷ lun ∷ [])
+
+-- PRODUCT SERIAL NUMBER: the unit's name in twelve hexadecimal digits
+abbrev pub serial_number : ℕ → ℕ → ℕ → List ℕ
+serial_number array host lun = hex_digits (unit_name array host lun)
+
+-- Supported VPD pages (SPC-3, Supported VPD pages): the codes of the pages, ascending
+abbrev pub supported_pages : List ℕ
+supported_pages = 0x00 ∷ 0x00 ∷ 0x00 ∷ 0x05 ∷ 0x00 ∷ 0x80 ∷ 0x83 ∷ 0xB0 ∷ 0xB1 ∷ []
+
+-- Unit Serial Number (SPC-3, Unit Serial Number VPD page)
+unfoldable pub unit_serial_number : ℕ → ℕ → ℕ → List ℕ
+unit_serial_number array host lun = (0x00 ∷ 0x80 ∷ 0x00 ∷ 0x0C ∷ []) ++ serial_number array host lun
+
+-- a designator of the logical unit in ASCII, T10 vendor ID based: AUTORAID and the serial number (SPC-3, T10 vendor
+-- ID based designator format)
+abbrev pub vendor_designator : ℕ → ℕ → ℕ → List ℕ
+vendor_designator array host lun =
+    (0x02 ∷ 0x01 ∷ 0x00 ∷ 0x14 ∷ 0x41 ∷ 0x55 ∷ 0x54 ∷ 0x4F ∷ 0x52 ∷ 0x41 ∷ 0x49 ∷ 0x44 ∷ [])
+    ++ serial_number array host lun
+
+-- a designator of the logical unit in binary, NAA Locally Assigned (3h): the byte 41h and the unit's name (SPC-3, NAA
+-- Locally Assigned designator format)
+abbrev pub naa_designator : ℕ → ℕ → ℕ → List ℕ
+naa_designator array host lun = (0x01 ∷ 0x03 ∷ 0x00 ∷ 0x08 ∷ 0x30 ∷ 0x41 ∷ []) ++ unit_name array host lun
+
+-- Device Identification (SPC-3, Device Identification VPD page)
+unfoldable pub device_identification : ℕ → ℕ → ℕ → List ℕ
+device_identification array host lun =
+    (0x00 ∷ 0x83 ∷ 0x00 ∷ 0x24 ∷ []) ++ (vendor_designator array host lun ++ naa_designator array host lun)
+
+-- Block Limits (SBC-3, Block Limits VPD page): OPTIMAL TRANSFER LENGTH GRANULARITY is the array's block, MAXIMUM
+-- TRANSFER LENGTH 65,535 blocks; no other limit is reported
+unfoldable pub block_limits : ℕ → List ℕ
+block_limits block_sectors =
+    (0x00 ∷ 0xB0 ∷ 0x00 ∷ 0x3C ∷ 0x00 ∷ 0x00 ∷ [])
+    ++ (to_be_bytes w16 block_sectors ++ ((0x00 ∷ 0x00 ∷ 0xFF ∷ 0xFF ∷ []) ++ replicate 52 0))
+
+-- Block Device Characteristics (SBC-3, Block Device Characteristics VPD page): MEDIUM ROTATION RATE 0001h, a medium
+-- that doesn't rotate; no nominal form factor
+unfoldable pub block_device_characteristics : List ℕ
+block_device_characteristics = (0x00 ∷ 0xB1 ∷ 0x00 ∷ 0x3C ∷ 0x00 ∷ 0x01 ∷ []) ++ replicate 58 0
+
+-- the page of the unit at a LUN
+abbrev pub vpd_data : Attributes → ℕ → VpdPage → List ℕ
+vpd_data attributes lun SupportedPages = supported_pages
+vpd_data attributes lun UnitSerialNumber = unit_serial_number attributes.array attributes.host lun
+vpd_data attributes lun DeviceIdentification = device_identification attributes.array attributes.host lun
+vpd_data attributes lun BlockLimits = block_limits attributes.block_sectors
+vpd_data attributes lun BlockDeviceCharacteristics = block_device_characteristics

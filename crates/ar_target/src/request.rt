@@ -1,0 +1,281 @@
+// Decodes the command descriptor blocks (CDBs) that the device server answers; any other is given to the port. Reserved
+// and obsolete bits are ignored.
+ghost use Rattle.std.specs.Prelude.{◌≡◌, ◌≤◌, ◌<◌, ◌==◌, ℕ};
+ghost use Rattle.std.specs.Int.{bit_at};
+ghost use Rattle.ar_scsi.specs.Field as field;
+ghost use Rattle.ar_target.specs.Request as table;
+
+use ar_scsi::{Sense, allocation_length};
+use byteorder::{BigEndian, ByteOrder};
+
+/// A page of vital product data (VPD).
+#[derive(Clone, Copy, Debug, PartialEq, Eq)]
+pub enum VpdPage {
+    /// 00h: the codes of the pages.
+    SupportedPages,
+    /// 80h.
+    UnitSerialNumber,
+    /// 83h: names of the unit.
+    DeviceIdentification,
+    /// B0h: the largest transfer, and the best multiple of blocks.
+    BlockLimits,
+    /// B1h: the medium doesn't rotate.
+    BlockDeviceCharacteristics,
+}
+
+/// What a MODE SENSE asks for.
+#[derive(Clone, Copy, Debug, PartialEq, Eq)]
+pub struct ModeSense {
+    /// MODE SENSE (10), whose header has eight bytes in place of four.
+    pub is_long: bool,
+    /// A block descriptor is returned: DBD is 0.
+    pub has_descriptor: bool,
+    /// Which bits of the page can be changed is returned in place of their values.
+    pub changeable: bool,
+    /// ALLOCATION LENGTH in bytes.
+    pub len: u16,
+}
+
+/// What is asked of a device server. A `len` is an ALLOCATION LENGTH in bytes.
+#[derive(Clone, Copy, Debug, PartialEq, Eq)]
+pub enum Request {
+    /// A command for the port, untouched.
+    Given,
+    /// A CDB that is refused with this sense, whatever is at its LUN.
+    InvalidAtTarget(Sense),
+    /// A CDB that a unit refuses with this sense, unless it has another to report first.
+    InvalidAtUnit(Sense),
+    /// INQUIRY of a VPD page.
+    Vpd { page: VpdPage, len: u16 },
+    /// REPORT LUNS of the host's units.
+    ReportLuns { len: u32 },
+    /// REPORT LUNS of well known logical units, of which there are none.
+    ReportWellKnown { len: u32 },
+    /// MODE SENSE (6) or (10) of the caching page or of all pages.
+    ModeSense(ModeSense),
+    /// REQUEST SENSE in fixed format.
+    RequestSense { len: u8 },
+    /// READ CAPACITY (16).
+    LongCapacity { len: u32 },
+    /// SYNCHRONIZE CACHE (10) or (16) of `count` blocks from `lba` on, or of all behind it if `count` is 0.
+    Synchronize { lba: u64, count: u32 },
+    /// START STOP UNIT.
+    StartStop,
+}
+
+/// MODE SENSE of saved values: ILLEGAL REQUEST, SAVING PARAMETERS NOT SUPPORTED.
+pub const SAVING_PARAMETERS_NOT_SUPPORTED: Sense = Sense {
+    key: 0x05,
+    asc: 0x39,
+    ascq: 0x00,
+};
+
+/// Decodes a CDB, padded to 16 bytes.
+#[tactic(auto, unfolding(crate::specs::Request::request_of))]
+pub fn request_of(cdb: &[u8; 16]) -> Request
+    ensures request { result ≡ table.request_of cdb.now }
+    ensures suits { table.SuitsRequest result }
+{
+    match cdb[0] {
+        0x12 => inquiry(cdb),
+        0xA0 => report_luns(cdb),
+        0x1A => mode_sense_6(cdb),
+        0x5A => mode_sense_10(cdb),
+        0x03 => request_sense(cdb),
+        0x9E => service_action_in_16(cdb),
+        0x35 => synchronize_cache_10(cdb),
+        0x91 => synchronize_cache_16(cdb),
+        0x1B => start_stop_unit(cdb),
+        _ => Request::Given,
+    }
+}
+
+// Whether bit `place` of a byte is 1.
+fn flag(byte: u8, place: u32) -> bool
+    requires { place < 8 }
+    ensures { result ≡ (bit_at byte place == 1) }
+{
+    byte >> place & 1 == 1
+}
+
+// NACA, bit 2 of the CONTROL byte.
+fn naca(control: u8) -> bool
+    ensures { result ≡ (bit_at control 2 == 1) }
+{
+    flag(control, 2)
+}
+
+// The number in the two bytes from byte `i` on.
+#[tactic(auto, unfolding(ar_scsi::specs::Field::number))]
+fn number_16(cdb: &[u8; 16], i: usize) -> u16
+    requires { i ≤ 14 }
+    ensures { result ≡ field.number i 2 cdb.now }
+{
+    BigEndian::read_u16(&cdb[i..])
+}
+
+// The number in the four bytes from byte `i` on.
+#[tactic(auto, unfolding(ar_scsi::specs::Field::number))]
+fn number_32(cdb: &[u8; 16], i: usize) -> u32
+    requires { i ≤ 12 }
+    ensures { result ≡ field.number i 4 cdb.now }
+{
+    BigEndian::read_u32(&cdb[i..])
+}
+
+// The number in the eight bytes from byte `i` on.
+#[tactic(auto, unfolding(ar_scsi::specs::Field::number))]
+fn number_64(cdb: &[u8; 16], i: usize) -> u64
+    requires { i ≤ 8 }
+    ensures { result ≡ field.number i 8 cdb.now }
+{
+    BigEndian::read_u64(&cdb[i..])
+}
+
+// The request if the fields are valid; a unit refuses any other.
+fn where_fields_valid(valid: bool, request: Request) -> Request
+    ensures { result ≡ table.where_fields_valid valid request }
+{
+    if valid {
+        request
+    } else {
+        Request::InvalidAtUnit(Sense::INVALID_FIELD_IN_CDB)
+    }
+}
+
+// INQUIRY; of a page that isn't supported, and with NACA, the port refuses it.
+fn inquiry(cdb: &[u8; 16]) -> Request
+    ensures request { result ≡ table.inquiry_request cdb.now }
+    ensures suits { table.SuitsRequest result }
+{
+    if !flag(cdb[1], 0) || naca(cdb[5]) {
+        return Request::Given;
+    }
+    match vpd_page_of(cdb[2]) {
+        Some(page) => Request::Vpd {
+            page,
+            len: allocation_length(cdb),
+        },
+        None => Request::Given,
+    }
+}
+
+// The VPD page of a page code.
+fn vpd_page_of(code: u8) -> Option<VpdPage>
+    ensures { result ≡ table.vpd_page_of code }
+{
+    match code {
+        0x00 => Some(VpdPage::SupportedPages),
+        0x80 => Some(VpdPage::UnitSerialNumber),
+        0x83 => Some(VpdPage::DeviceIdentification),
+        0xB0 => Some(VpdPage::BlockLimits),
+        0xB1 => Some(VpdPage::BlockDeviceCharacteristics),
+        _ => None,
+    }
+}
+
+fn report_luns(cdb: &[u8; 16]) -> Request
+    ensures request { result ≡ table.report_luns_request cdb.now }
+    ensures suits { table.SuitsRequest result }
+{
+    let len = number_32(cdb, 6);
+    if naca(cdb[11]) || len < 16 {
+        return Request::InvalidAtTarget(Sense::INVALID_FIELD_IN_CDB);
+    }
+    match cdb[2] {
+        0 | 2 => Request::ReportLuns { len },
+        1 => Request::ReportWellKnown { len },
+        _ => Request::InvalidAtTarget(Sense::INVALID_FIELD_IN_CDB),
+    }
+}
+
+// Whether the page is supported: the caching page or all, without subpages; or all with theirs.
+fn has_mode_page(cdb: &[u8; 16]) -> bool
+    ensures { result ≡ table.has_mode_page cdb.now }
+{
+    match cdb[2] % 64 {
+        0x08 => cdb[3] == 0x00,
+        0x3F => cdb[3] == 0x00 || cdb[3] == 0xFF,
+        _ => false,
+    }
+}
+
+// MODE SENSE of `sense`; `control` is the CONTROL byte.
+fn mode_sense(cdb: &[u8; 16], control: u8, sense: ModeSense) -> Request
+    ensures { result ≡ table.mode_sense_request cdb.now control sense }
+{
+    if naca(control) || !has_mode_page(cdb) {
+        return Request::InvalidAtUnit(Sense::INVALID_FIELD_IN_CDB);
+    }
+    if cdb[2] >> 6 == 3 {
+        return Request::InvalidAtUnit(SAVING_PARAMETERS_NOT_SUPPORTED);
+    }
+    Request::ModeSense(sense)
+}
+
+fn mode_sense_6(cdb: &[u8; 16]) -> Request
+    ensures { result ≡ table.mode_sense_6_request cdb.now }
+{
+    let sense = ModeSense {
+        is_long: false,
+        has_descriptor: !flag(cdb[1], 3),
+        changeable: cdb[2] >> 6 == 1,
+        len: u16::from(cdb[4]),
+    };
+    mode_sense(cdb, cdb[5], sense)
+}
+
+fn mode_sense_10(cdb: &[u8; 16]) -> Request
+    ensures { result ≡ table.mode_sense_10_request cdb.now }
+{
+    let sense = ModeSense {
+        is_long: true,
+        has_descriptor: !flag(cdb[1], 3),
+        changeable: cdb[2] >> 6 == 1,
+        len: number_16(cdb, 7),
+    };
+    mode_sense(cdb, cdb[9], sense)
+}
+
+fn request_sense(cdb: &[u8; 16]) -> Request
+    ensures { result ≡ table.request_sense_request cdb.now }
+{
+    if naca(cdb[5]) || flag(cdb[1], 0) {
+        Request::InvalidAtTarget(Sense::INVALID_FIELD_IN_CDB)
+    } else {
+        Request::RequestSense { len: cdb[4] }
+    }
+}
+
+// SERVICE ACTION IN (16), of which READ CAPACITY (16) is supported.
+fn service_action_in_16(cdb: &[u8; 16]) -> Request
+    ensures { result ≡ table.service_action_in_16_request cdb.now }
+{
+    let valid_address = flag(cdb[14], 0) || number_64(cdb, 2) == 0;
+    let valid = cdb[1] % 32 == 0x10 && !naca(cdb[15]) && valid_address;
+    let len = number_32(cdb, 10);
+    where_fields_valid(valid, Request::LongCapacity { len })
+}
+
+fn synchronize_cache_10(cdb: &[u8; 16]) -> Request
+    ensures { result ≡ table.synchronize_cache_10_request cdb.now }
+{
+    let lba = u64::from(number_32(cdb, 2));
+    let count = u32::from(number_16(cdb, 7));
+    where_fields_valid(!naca(cdb[9]), Request::Synchronize { lba, count })
+}
+
+fn synchronize_cache_16(cdb: &[u8; 16]) -> Request
+    ensures { result ≡ table.synchronize_cache_16_request cdb.now }
+{
+    let lba = number_64(cdb, 2);
+    let count = number_32(cdb, 10);
+    where_fields_valid(!naca(cdb[15]), Request::Synchronize { lba, count })
+}
+
+// START STOP UNIT: the unit is always ready, whatever is asked for.
+fn start_stop_unit(cdb: &[u8; 16]) -> Request
+    ensures { result ≡ table.start_stop_unit_request cdb.now }
+{
+    where_fields_valid(!naca(cdb[5]), Request::StartStop)
+}

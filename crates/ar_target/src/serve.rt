@@ -1,0 +1,97 @@
+// What is done with a command: it is given to the port, or answered by what the port tells of the unit.
+ghost use Rattle.std.specs.Prelude.{◌≡◌, true};
+ghost use Rattle.ar_frames.specs.Frame.{IsReply};
+ghost use Rattle.ar_target.specs.Request.{SuitsRequest};
+ghost use Rattle.ar_target.specs.Serving as serving;
+
+use crate::answer::{answer_capacity, answer_mode, answer_sense, answer_vpd, refuse};
+use crate::attributes::Attributes;
+use crate::flush_port::{FlushOutcome, FlushPort};
+use crate::luns::{list_reply, report_luns};
+use crate::request::Request;
+use crate::told::{CAPACITY, INQUIRY, READY, ask, handed_on, last_block};
+use ar_scsi::{Reply, Sense};
+use bytes::Bytes;
+use std::alloc::Global;
+
+/// Does what a request asks for at the unit of `lun`. `cdb` is its command block, and `payload` the data that came with
+/// it, which the device server's own requests ignore.
+pub(crate) fn serve<P: FlushPort>(
+    alloc: Global,
+    port: &mut P,
+    attributes: &Attributes,
+    request: Request,
+    lun: u8,
+    cdb: &[u8; 16],
+    payload: Bytes,
+) -> Reply
+    requires logged { P.has_login port.old ≡ true }
+    requires suits { SuitsRequest request }
+    ensures answers { serving.MeetsRequest P.commands P.flushes attributes.now request port.old lun cdb.now payload
+        result port.new }
+    ensures reply { IsReply result }
+    ensures stays { P.has_login port.new ≡ true }
+{
+    match request {
+        Request::Given => port.command(lun, cdb, payload),
+        Request::InvalidAtTarget(sense) => Reply::check(sense),
+        Request::InvalidAtUnit(sense) => refuse(sense, ask(port, lun, &CAPACITY)),
+        Request::Vpd { page, len } => {
+            answer_vpd(alloc, attributes, lun, page, len, ask(port, lun, &INQUIRY))
+        }
+        Request::ReportLuns { len } => report_luns(alloc, port, len),
+        Request::ReportWellKnown { len } => list_reply(alloc, &[], len as usize),
+        Request::ModeSense(sense) => {
+            answer_mode(
+                alloc,
+                attributes.write_back,
+                sense,
+                ask(port, lun, &CAPACITY),
+            )
+        }
+        Request::RequestSense { len } => answer_sense(alloc, len, ask(port, lun, &READY)),
+        Request::LongCapacity { len } => answer_capacity(alloc, len, ask(port, lun, &CAPACITY)),
+        Request::Synchronize { lba, count } => synchronize(port, lun, lba, count),
+        Request::StartStop => ask(port, lun, &READY),
+    }
+}
+
+// SYNCHRONIZE CACHE. The whole unit is flushed, whatever part of it is asked for.
+fn synchronize<P: FlushPort>(port: &mut P, lun: u8, lba: u64, count: u32) -> Reply
+    requires { P.has_login port.old ≡ true }
+    ensures synchronizes { serving.Synchronizes P.commands P.flushes lba count port.old lun result port.new }
+    ensures reply { IsReply result }
+    ensures stays { P.has_login port.new ≡ true }
+{
+    let told = ask(port, lun, &CAPACITY);
+    match last_block(&told) {
+        Some(last) => {
+            if is_behind(last, lba, count) {
+                Reply::check(Sense::LOGICAL_BLOCK_ADDRESS_OUT_OF_RANGE)
+            } else {
+                flush_reply(port.flush(lun))
+            }
+        }
+        None => handed_on(told),
+    }
+}
+
+// Whether `count` blocks from `lba` on, or all from there on if it is 0, aren't on a unit whose last block is `last`.
+// The sum, in 128 bits, doesn't overflow.
+fn is_behind(last: u32, lba: u64, count: u32) -> bool
+    ensures { result ≡ serving.is_behind last lba count }
+{
+    u128::from(last) < u128::from(lba) + u128::from(count.saturating_sub(1))
+}
+
+// The reply to SYNCHRONIZE CACHE by the outcome of the flush.
+fn flush_reply(outcome: FlushOutcome) -> Reply
+    ensures answer { result ≡ serving.flush_reply outcome }
+    ensures reply { IsReply result }
+{
+    match outcome {
+        FlushOutcome::Done => Reply::good(Bytes::new()),
+        FlushOutcome::NoUnit => Reply::check(Sense::LOGICAL_UNIT_NOT_SUPPORTED),
+        FlushOutcome::ArrayFailed => Reply::check(Sense::INTERNAL_TARGET_FAILURE),
+    }
+}

@@ -1,0 +1,101 @@
+// The pages of vital product data (VPD) of a unit.
+ghost use Rattle.std.specs.Prelude.{◌≡◌, ◌<◌};
+ghost use Rattle.ar_target.specs.Vpd as page;
+
+/// Supported VPD pages (SPC-3, Supported VPD pages).
+pub(crate) fn supported_pages() -> [u8; 9]
+    ensures { result ≡ page.supported_pages }
+{
+    [0x00, 0x00, 0x00, 0x05, 0x00, 0x80, 0x83, 0xB0, 0xB1]
+}
+
+// A hexadecimal digit in ASCII.
+#[tactic(auto, unfolding(crate::specs::Vpd::hex_digit))]
+fn hex_digit(value: u8) -> u8
+    requires { value < 16 }
+    ensures { result ≡ page.hex_digit value }
+{
+    if value < 10 {
+        b'0' + value
+    } else {
+        b'A' - 10 + value
+    }
+}
+
+// The serial number of a unit: its array, host and LUN in hexadecimal digits.
+fn serial_number(array: u32, host: u8, lun: u8) -> [u8; 12]
+    ensures { result ≡ page.serial_number array host lun }
+{
+    let number = array.to_be_bytes();
+    [
+        hex_digit(number[0] / 16),
+        hex_digit(number[0] % 16),
+        hex_digit(number[1] / 16),
+        hex_digit(number[1] % 16),
+        hex_digit(number[2] / 16),
+        hex_digit(number[2] % 16),
+        hex_digit(number[3] / 16),
+        hex_digit(number[3] % 16),
+        hex_digit(host / 16),
+        hex_digit(host % 16),
+        hex_digit(lun / 16),
+        hex_digit(lun % 16),
+    ]
+}
+
+/// Unit Serial Number (SPC-3, Unit Serial Number VPD page).
+#[tactic(auto, unfolding(crate::specs::Vpd::unit_serial_number))]
+pub(crate) fn unit_serial_number(array: u32, host: u8, lun: u8) -> [u8; 16]
+    ensures { result ≡ page.unit_serial_number array host lun }
+{
+    let mut bytes = [0; 16];
+    bytes[1] = 0x80;
+    bytes[3] = 0x0C;
+    bytes[4..].copy_from_slice(&serial_number(array, host, lun));
+    bytes
+}
+
+/// Device Identification (SPC-3, Device Identification VPD page): a T10 vendor ID based designator, and an NAA Locally
+/// Assigned one.
+#[tactic(auto, unfolding(crate::specs::Vpd::device_identification))]
+pub(crate) fn device_identification(array: u32, host: u8, lun: u8) -> [u8; 40]
+    ensures { result ≡ page.device_identification array host lun }
+{
+    let s = serial_number(array, host, lun);
+    let number = array.to_be_bytes();
+    [
+        0x00, 0x83, 0x00, 0x24, //
+        0x02, 0x01, 0x00, 0x14, b'A', b'U', b'T', b'O', b'R', b'A', b'I', b'D', //
+        s[0], s[1], s[2], s[3], s[4], s[5], s[6], s[7], s[8], s[9], s[10], s[11], //
+        0x01, 0x03, 0x00, 0x08, 0x30, 0x41, //
+        number[0], number[1], number[2], number[3], host, lun,
+    ]
+}
+
+/// Block Limits (SBC-3, Block Limits VPD page), for an array with blocks of `block_sectors` sectors.
+#[tactic(auto, unfolding(crate::specs::Vpd::block_limits))]
+pub(crate) fn block_limits(block_sectors: u16) -> [u8; 64]
+    ensures { result ≡ page.block_limits block_sectors }
+{
+    let granularity = block_sectors.to_be_bytes();
+    let mut bytes = [0; 64];
+    bytes[1] = 0xB0;
+    bytes[3] = 0x3C;
+    bytes[6] = granularity[0];
+    bytes[7] = granularity[1];
+    bytes[10] = 0xFF;
+    bytes[11] = 0xFF;
+    bytes
+}
+
+/// Block Device Characteristics (SBC-3, Block Device Characteristics VPD page).
+#[tactic(auto, unfolding(crate::specs::Vpd::block_device_characteristics))]
+pub(crate) fn block_device_characteristics() -> [u8; 64]
+    ensures { result ≡ page.block_device_characteristics }
+{
+    let mut bytes = [0; 64];
+    bytes[1] = 0xB1;
+    bytes[3] = 0x3C;
+    bytes[5] = 0x01;
+    bytes
+}
