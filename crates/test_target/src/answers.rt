@@ -1,0 +1,424 @@
+// Command blocks and their answers, in tables.
+ghost use Rattle.std.specs.Prelude.{◌≡◌, true};
+
+use crate::fake::Fake;
+use ar_frames::{Login, Port};
+use ar_scsi::{Reply, Sense, Status};
+use ar_target::{Attributes, DeviceServer};
+use bytes::Bytes;
+use std::alloc::Global;
+use std::process::Abort;
+
+type Server = DeviceServer<Fake>;
+
+#[derive(Clone, Copy)]
+enum Wanted<'a> {
+    /// GOOD, with these bytes.
+    Good(&'a [u8]),
+    /// CHECK CONDITION with a sense: key, code and qualifier.
+    Check(u8, u8, u8),
+}
+
+use Wanted::{Check, Good};
+
+// A LUN, a command block, and its reply.
+type Row<'a> = (u8, &'a [u8], Wanted<'a>);
+
+const DONE: Wanted = Good(&[]);
+
+const ATTENTION: Wanted = Check(0x06, 0x2A, 0x09);
+
+const NO_UNIT: Wanted = Check(0x05, 0x25, 0x00);
+
+const INVALID: Wanted = Check(0x05, 0x24, 0x00);
+
+const FAILED: Wanted = Check(0x04, 0x44, 0x00);
+
+// A device server of array 0CBCh with a cache and blocks of 128 sectors, at which host 2 is logged in.
+fn logged_in(rt: &impl Abort, alloc: Global, attention: bool) -> Server
+    ensures { result.port.taken ≡ true }
+{
+    let attributes = Attributes {
+        array: 3260,
+        host: 0,
+        write_back: true,
+        block_sectors: 128,
+    };
+    let mut server = DeviceServer::new(alloc, Fake::new(alloc, attention), attributes);
+    match server.login(2) {
+        Login::Taken => server,
+        login => panic!(rt; "{login:?}"),
+    }
+}
+
+// A command block, padded to 16 bytes.
+fn padded(cdb: &[u8]) -> [u8; 16] {
+    let mut block = [0; 16];
+    let len = cdb.len().min(16);
+    block[..len].copy_from_slice(&cdb[..len]);
+    block
+}
+
+fn is_wanted(reply: &Reply, wanted: Wanted) -> bool {
+    match wanted {
+        Good(bytes) => {
+            reply.status == Status::Good
+                && reply.sense.is_none()
+                && reply.payload.as_slice() == bytes
+        }
+        Check(key, asc, ascq) => *reply == Reply::check(Sense { key, asc, ascq }),
+    }
+}
+
+fn check(rt: &impl Abort, server: &mut Server, number: usize, row: Row)
+    requires { server.old.port.taken ≡ true }
+    ensures { server.new.port.taken ≡ true }
+{
+    let (lun, cdb, wanted) = row;
+    let reply = server.command(lun, &padded(cdb), Bytes::new());
+    assert!(rt;
+        is_wanted(&reply, wanted),
+        "row {number}, counted from 0: {reply:?}"
+    );
+}
+
+// Gives the server these commands in order.
+fn play(rt: &impl Abort, server: &mut Server, rows: &[Row])
+    requires { server.old.port.taken ≡ true }
+    ensures { server.new.port.taken ≡ true }
+{
+    for (number, row) in rows.iter().enumerate() {
+        check(rt, server, number, *row);
+    }
+}
+
+// The Device Identification page of host 2's LUN 3.
+static NAMES: &[u8] = &[
+    0x00, 0x83, 0x00, 0x24, // 36 bytes of designators
+    0x02, 0x01, 0x00, 0x14, // in ASCII, of the logical unit, T10 vendor ID based, 20 bytes
+    b'A', b'U', b'T', b'O', b'R', b'A', b'I', b'D', //
+    b'0', b'0', b'0', b'0', b'0', b'C', b'B', b'C', b'0', b'2', b'0', b'3', //
+    0x01, 0x03, 0x00, 0x08, // in binary, of the logical unit, NAA, 8 bytes
+    0x30, 0x41, 0x00, 0x00, 0x0C, 0xBC, 0x02, 0x03,
+];
+
+#[test]
+fn pages_of_vital_product_data(rt: HostRuntime) {
+    let mut server = logged_in(&rt, rt.alloc(), false);
+    play(
+        &rt,
+        &mut server,
+        &[
+            (
+                0,
+                &[0x12, 1, 0x00, 0, 255],
+                Good(&[0, 0, 0, 5, 0x00, 0x80, 0x83, 0xB0, 0xB1]),
+            ),
+            (0, &[0x12, 1, 0x00, 0, 4], Good(&[0, 0, 0, 5])),
+            (
+                0,
+                &[0x12, 1, 0x80, 1, 0],
+                Good(b"\x00\x80\x00\x0C00000CBC0200"),
+            ),
+            (
+                3,
+                &[0x12, 1, 0x80, 1, 0],
+                Good(b"\x00\x80\x00\x0C00000CBC0203"),
+            ),
+            (3, &[0x12, 1, 0x83, 0, 255], Good(NAMES)),
+            (
+                0,
+                &[0x12, 1, 0xB0, 0, 16],
+                Good(&[0, 0xB0, 0, 0x3C, 0, 0, 0, 128, 0, 0, 0xFF, 0xFF, 0, 0, 0, 0]),
+            ),
+            (
+                0,
+                &[0x12, 1, 0xB1, 0, 8],
+                Good(&[0, 0xB1, 0, 0x3C, 0, 1, 0, 0]),
+            ),
+            (0, &[0x12, 1, 0xB2, 0, 255], INVALID),
+            (0, &[0x12, 0, 0x80, 0, 255], INVALID),
+            (0, &[0x12, 1, 0x00, 0, 255, 0x04], INVALID),
+            (7, &[0x12, 1, 0x80, 0, 5], Good(&[0x7F, 0, 5, 2, 0x1F])),
+            (9, &[0x12, 1, 0x80, 0, 5], FAILED),
+        ],
+    );
+    drop(server);
+}
+
+// LUNs 0, 3 and 5.
+static LUNS: &[u8] = &[
+    0, 0, 0, 24, 0, 0, 0, 0, 0, 0, 0, 0, 0, 0, 0, 0, 0, 3, 0, 0, 0, 0, 0, 0, 0, 5, 0, 0, 0, 0, 0, 0,
+];
+
+#[test]
+fn logical_units_are_listed(rt: HostRuntime) {
+    let mut server = logged_in(&rt, rt.alloc(), false);
+    play(
+        &rt,
+        &mut server,
+        &[
+            (7, &[0xA0, 0, 0, 0, 0, 0, 0, 0, 1, 0], Good(LUNS)),
+            (0, &[0xA0, 0, 2, 0, 0, 0, 0, 0, 0, 16], Good(&LUNS[..16])),
+            (0, &[0xA0, 0, 1, 0, 0, 0, 0, 0, 1, 0], Good(&[0; 8])),
+            (0, &[0xA0, 0, 3, 0, 0, 0, 0, 0, 1, 0], INVALID),
+            (9, &[0xA0, 0, 0, 0, 0, 0, 0, 0, 0, 15], INVALID),
+        ],
+    );
+    drop(server);
+}
+
+#[test]
+fn mode_data(rt: HostRuntime) {
+    let mut server = logged_in(&rt, rt.alloc(), false);
+    play(
+        &rt,
+        &mut server,
+        &[
+            (0, &[0x1A, 8, 0x08, 0, 4], Good(&[0x17, 0, 0x10, 0])),
+            (
+                0,
+                &[0x1A, 0, 0x08, 0, 12],
+                Good(&[0x1F, 0, 0x10, 8, 0, 0, 3, 0xE8, 0, 0, 2, 0]),
+            ),
+            (
+                0,
+                &[0x1A, 8, 0x3F, 0xFF, 7],
+                Good(&[0x17, 0, 0x10, 0, 8, 0x12, 4]),
+            ),
+            (
+                0,
+                &[0x1A, 8, 0x48, 0, 7],
+                Good(&[0x17, 0, 0x10, 0, 8, 0x12, 0]),
+            ),
+            (
+                0,
+                &[0x1A, 8, 0x88, 0, 7],
+                Good(&[0x17, 0, 0x10, 0, 8, 0x12, 4]),
+            ),
+            (0, &[0x1A, 8, 0xC8, 0, 7], Check(0x05, 0x39, 0x00)),
+            (0, &[0x1A, 8, 0x0A, 0, 7], INVALID),
+            (0, &[0x1A, 8, 0x08, 1, 7], INVALID),
+            (0, &[0x1A, 8, 0x08, 0, 0], DONE),
+            (
+                0,
+                &[0x5A, 8, 0x08, 0, 0, 0, 0, 0, 8],
+                Good(&[0, 0x1A, 0, 0x10, 0, 0, 0, 0]),
+            ),
+            (
+                0,
+                &[0x5A, 0, 0x3F, 0, 0, 0, 0, 0, 16],
+                Good(&[0, 0x22, 0, 0x10, 0, 0, 0, 8, 0, 0, 3, 0xE8, 0, 0, 2, 0]),
+            ),
+            (7, &[0x1A, 8, 0x08, 0, 4], NO_UNIT),
+            (7, &[0x1A, 8, 0x0A, 0, 4], NO_UNIT),
+        ],
+    );
+    drop(server);
+}
+
+#[test]
+fn capacities_of_eight_bytes(rt: HostRuntime) {
+    let mut server = logged_in(&rt, rt.alloc(), false);
+    play(
+        &rt,
+        &mut server,
+        &[
+            (
+                0,
+                &[0x9E, 0x10, 0, 0, 0, 0, 0, 0, 0, 0, 0, 0, 0, 12],
+                Good(&[0, 0, 0, 0, 0, 0, 3, 0xE7, 0, 0, 2, 0]),
+            ),
+            (
+                0,
+                &[0x9E, 0x10, 0, 0, 0, 0, 0, 0, 0, 1, 0, 0, 0, 12],
+                INVALID,
+            ),
+            (
+                0,
+                &[0x9E, 0x10, 0, 0, 0, 0, 0, 0, 0, 1, 0, 0, 0, 4, 1],
+                Good(&[0, 0, 0, 0]),
+            ),
+            (
+                0,
+                &[0x9E, 0x12, 0, 0, 0, 0, 0, 0, 0, 0, 0, 0, 0, 12],
+                INVALID,
+            ),
+            (
+                7,
+                &[0x9E, 0x10, 0, 0, 0, 0, 0, 0, 0, 0, 0, 0, 0, 12],
+                NO_UNIT,
+            ),
+        ],
+    );
+    drop(server);
+}
+
+#[test]
+fn sense_is_returned_as_data(rt: HostRuntime) {
+    let mut server = logged_in(&rt, rt.alloc(), false);
+    play(
+        &rt,
+        &mut server,
+        &[
+            (
+                0,
+                &[0x03, 0, 0, 0, 255],
+                Good(&[0x70, 0, 0, 0, 0, 0, 0, 0x0A, 0, 0, 0, 0, 0, 0, 0, 0, 0, 0]),
+            ),
+            (
+                0,
+                &[0x03, 0, 0, 0, 8],
+                Good(&[0x70, 0, 0, 0, 0, 0, 0, 0x0A]),
+            ),
+            (0, &[0x03, 1, 0, 0, 255], INVALID),
+            (
+                7,
+                &[0x03, 0, 0, 0, 14],
+                Good(&[0x70, 0, 5, 0, 0, 0, 0, 0x0A, 0, 0, 0, 0, 0x25, 0]),
+            ),
+            (
+                5,
+                &[0x03, 0, 0, 0, 14],
+                Good(&[0x70, 0, 4, 0, 0, 0, 0, 0x0A, 0, 0, 0, 0, 0x44, 0]),
+            ),
+        ],
+    );
+    drop(server);
+}
+
+#[test]
+fn caches_are_synchronized(rt: HostRuntime) {
+    let mut server = logged_in(&rt, rt.alloc(), false);
+    play(
+        &rt,
+        &mut server,
+        &[
+            (0, &[0x35, 0, 0, 0, 0, 0, 0, 0, 0], DONE),
+            (0, &[0x35, 2, 0, 0, 3, 0xE7, 0, 0, 1], DONE),
+            (
+                0,
+                &[0x35, 0, 0, 0, 3, 0xE7, 0, 0, 2],
+                Check(0x05, 0x21, 0x00),
+            ),
+            (
+                0,
+                &[0x35, 0, 0, 0, 3, 0xE8, 0, 0, 0],
+                Check(0x05, 0x21, 0x00),
+            ),
+            (0, &[0x91, 0, 0, 0, 0, 0, 0, 0, 0, 0, 0, 0, 3, 0xE8], DONE),
+            (
+                0,
+                &[
+                    0x91, 0, 0xFF, 0xFF, 0xFF, 0xFF, 0xFF, 0xFF, 0xFF, 0xFF, 0xFF, 0xFF, 0xFF, 0xFF,
+                ],
+                Check(0x05, 0x21, 0x00),
+            ),
+            (3, &[0x35, 0, 0, 0, 0, 0, 0, 0, 0], FAILED),
+            (7, &[0x35, 0, 0, 0, 0, 0, 0, 0, 0], NO_UNIT),
+            (0, &[0x1B, 0, 0, 0, 0], DONE),
+            (0, &[0x1B, 0, 0, 0, 1], DONE),
+            (5, &[0x1B, 0, 0, 0, 1], FAILED),
+        ],
+    );
+    flushed(&rt, server, 4);
+}
+
+// The server has flushed this many units.
+fn flushed(rt: &impl Abort, server: Server, count: u64) {
+    let port = server.into_port();
+    assert!(rt; port.flushes == count, "{} flushes", port.flushes);
+}
+
+#[test]
+fn request_sense_reports_a_unit_attention(rt: HostRuntime) {
+    let mut server = logged_in(&rt, rt.alloc(), true);
+    play(
+        &rt,
+        &mut server,
+        &[
+            (0, &[0x12, 1, 0x80, 0, 4], Good(&[0, 0x80, 0, 0x0C])),
+            (0, &[0xA0, 0, 0, 0, 0, 0, 0, 0, 0, 16], Good(&LUNS[..16])),
+            (
+                0,
+                &[0x03, 0, 0, 0, 18],
+                Good(&[
+                    0x70, 0, 6, 0, 0, 0, 0, 0x0A, 0, 0, 0, 0, 0x2A, 9, 0, 0, 0, 0,
+                ]),
+            ),
+            (0, &[0x03, 0, 0, 0, 3], Good(&[0x70, 0, 0])),
+        ],
+    );
+    drop(server);
+}
+
+#[test]
+fn a_unit_attention_comes_before_a_flush(rt: HostRuntime) {
+    let mut server = logged_in(&rt, rt.alloc(), true);
+    play(
+        &rt,
+        &mut server,
+        &[
+            (0, &[0x35, 0, 0, 0, 0, 0, 0, 0, 0], ATTENTION),
+            (0, &[0x35], DONE),
+        ],
+    );
+    flushed(&rt, server, 1);
+}
+
+#[test]
+fn a_unit_attention_comes_before_other_faults(rt: HostRuntime) {
+    let mut server = logged_in(&rt, rt.alloc(), true);
+    play(
+        &rt,
+        &mut server,
+        &[
+            (0, &[0x1A, 8, 0x0A, 0, 4], ATTENTION),
+            (0, &[0x1A, 8, 0x0A, 0, 4], INVALID),
+        ],
+    );
+    drop(server);
+}
+
+#[test]
+fn other_commands_are_the_ports(rt: HostRuntime) {
+    let mut server = logged_in(&rt, rt.alloc(), false);
+    play(
+        &rt,
+        &mut server,
+        &[
+            (0, &[0x00], DONE),
+            (0, &[0x25], Good(&[0, 0, 3, 0xE7, 0, 0, 2, 0])),
+            (0, &[0x28, 0, 0, 0, 0, 0, 0, 0, 1], Good(&[0x5A; 512])),
+            (
+                0,
+                &[0x12, 0, 0, 0, 36],
+                Good(b"\x00\x00\x05\x02\x1F\x00\x00\x00AUTORAIDTWO LEVEL ARRAY 0001"),
+            ),
+            (0, &[0xA3, 0x0C], Check(0x05, 0x20, 0x00)),
+        ],
+    );
+    drop(server);
+}
+
+// The bytes of a WRITE come to the port.
+#[test]
+fn the_data_of_a_write_are_the_ports(rt: HostRuntime) {
+    let mut server = logged_in(&rt, rt.alloc(), false);
+    writes(&rt, rt.alloc(), &mut server);
+    given(&rt, server, 512);
+}
+
+fn writes(rt: &impl Abort, alloc: Global, server: &mut Server)
+    requires { server.old.port.taken ≡ true }
+{
+    let sector = Bytes::copy_from_slice(alloc, &[0xA5; 512]).expect(rt, "memory");
+    let reply = server.command(0, &padded(&[0x2A, 0, 0, 0, 0, 7, 0, 0, 1]), sector);
+    assert!(rt; is_wanted(&reply, DONE), "{reply:?}");
+}
+
+// Commands with this many bytes in all were given to the port.
+fn given(rt: &impl Abort, server: Server, bytes: u64) {
+    let port = server.into_port();
+    assert!(rt; port.bytes == bytes, "{} bytes", port.bytes);
+}
