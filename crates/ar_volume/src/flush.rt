@@ -4,15 +4,26 @@ ghost use Rattle.ar_disks.specs.declared.address.Key.{Key};
 ghost use Rattle.std.specs.Map.{keys_of};
 ghost use Rattle.ar_cache.specs.Backing.{InTurn, StopsInTurn, stored};
 ghost use Rattle.ar_cache.specs.Cache.{cached, with_entries};
-ghost use Rattle.ar_volume.specs.Flush.{FlushesOne};
+ghost use Rattle.ar_volume.specs.Flush.{FlushesOne, FlushesUnit};
 ghost use Rattle.ar_volume.specs.Following.{ArrayFollows, PutsStored};
 ghost use Rattle.ar_volume.specs.Image.{is_broken};
 ghost use Rattle.ar_volume.specs.Sectors.{key_of, keys_from};
 ghost use Rattle.ar_volume.specs.Seen.{SameSeen, KeepsCachedBut};
 ghost use Rattle.ar_volume.specs.Storing.{BreaksForced, ForcesBlock, LeavesSome};
 
-use crate::{Blocks, Flush};
+use crate::{Blocks, Flush, Health};
 use ar_disks::{Addr, Completion, Disk, Key};
+
+/// How the destaging of a unit's cached blocks ended.
+#[derive(Clone, Copy, Debug, PartialEq, Eq)]
+pub enum UnitFlush {
+    /// None of the unit's blocks is cached any more: its contents are on the disks.
+    Done,
+    /// There is no such unit, and nothing changed.
+    Absent,
+    /// The array has failed, before or during this call.
+    Broken,
+}
 
 impl<D: Disk> Blocks<D> {
     /// Destages the least recently used cached block.
@@ -43,6 +54,25 @@ impl<D: Disk> Blocks<D> {
             return Completion::Broken;
         }
         self.cache.flush_all(&mut self.behind)
+    }
+
+    /// Destages all cached blocks of the unit at `addr`, in ascending order, and no other block.
+    pub fn flush_unit(&mut self, addr: Addr) -> UnitFlush
+        ensures flushes { FlushesUnit self.old addr result self.new }
+        ensures seen { is_broken self.new ≡ false → SameSeen self.old self.new }
+        ensures follows { ArrayFollows self.old self.new }
+    {
+        if let Health::Broken = self.health() {
+            return UnitFlush::Broken;
+        }
+        let Some(sectors) = self.sectors(addr) else {
+            return UnitFlush::Absent;
+        };
+        let last = (sectors - 1) / self.geometry().sectors();
+        match self.force(addr, 0, last) {
+            Completion::Done => UnitFlush::Done,
+            Completion::Broken => UnitFlush::Broken,
+        }
     }
 
     // Destages one block, if it is cached.
