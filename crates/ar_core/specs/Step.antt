@@ -19,9 +19,9 @@ use Rattle.ar_store.specs.Placing.{SameUnits}
 use Rattle.ar_unit.specs.Unit.{UnitEntry, Make, Grow, Remove, Cmd, answer, unit_run, IsGiven, IsServed}
 use Rattle.ar_unit.specs.Broken.{shape_of, broken_answer}
 use Rattle.ar_core.specs.Events.{Event}
-use Rattle.ar_core.specs.declared.event.EventOf.TheVariants.{Make as MakeEvent, Grow as GrowEvent, Remove as RemoveEvent, Cmd as CmdEvent, Flush as FlushEvent, Demote as DemoteEvent, Clean as CleanEvent, Balance as BalanceEvent, AddDisk as AddDiskEvent, DiskOut as DiskOutEvent, Replace as ReplaceEvent, Rebuild as RebuildEvent}
+use Rattle.ar_core.specs.declared.event.EventOf.TheVariants.{Make as MakeEvent, Grow as GrowEvent, Remove as RemoveEvent, Cmd as CmdEvent, Flush as FlushEvent, FlushUnit as FlushUnitEvent, Demote as DemoteEvent, Clean as CleanEvent, Balance as BalanceEvent, AddDisk as AddDiskEvent, DiskOut as DiskOutEvent, Replace as ReplaceEvent, Rebuild as RebuildEvent}
 use Rattle.ar_core.specs.Events.{Outcome}
-use Rattle.ar_core.specs.declared.event.OutcomeOf.TheVariants.{Make as MakeOutcome, Grow as GrowOutcome, Remove as RemoveOutcome, Cmd as CmdOutcome, Flush as FlushOutcome, Demote as DemoteOutcome, Clean as CleanOutcome, Balance as BalanceOutcome, AddDisk as AddDiskOutcome, DiskOut as DiskOutOutcome, Replace as ReplaceOutcome, Rebuild as RebuildOutcome}
+use Rattle.ar_core.specs.declared.event.OutcomeOf.TheVariants.{Make as MakeOutcome, Grow as GrowOutcome, Remove as RemoveOutcome, Cmd as CmdOutcome, Flush as FlushOutcome, FlushUnit as FlushUnitOutcome, Demote as DemoteOutcome, Clean as CleanOutcome, Balance as BalanceOutcome, AddDisk as AddDiskOutcome, DiskOut as DiskOutOutcome, Replace as ReplaceOutcome, Rebuild as RebuildOutcome}
 use Rattle.ar_volume.specs.Sectors.{Address, address_of, keys_in, same_address}
 use Rattle.ar_volume.specs.Image.{ArrayState, geometry_of, is_broken, attention_at, image_at, image, with_book}
 use Rattle.ar_core.specs.Causes.{HasCause}
@@ -31,7 +31,7 @@ use Rattle.ar_volume.specs.Seen.{IsForced}
 use Rattle.ar_cache.specs.Backing.{InTurn}
 use Rattle.ar_volume.specs.Storing.{ReadsBlock, ReadsFirst, StopsStoring, StoresBlocks}
 use Rattle.ar_volume.specs.Changes.{Makes, Grows, Removes}
-use Rattle.ar_volume.specs.Flush.{FlushesOne}
+use Rattle.ar_volume.specs.Flush.{FlushesOne, FlushesUnit}
 use Rattle.ar_volume.specs.Moves.{DemotesOne, CleansOne}
 use Rattle.ar_volume.specs.Rebuild.{RebuildsOne}
 use Rattle.ar_volume.specs.Balance.{BalancesOne}
@@ -148,6 +148,7 @@ Answers old (GrowEvent addr sectors) (GrowOutcome result) new = Grows old addr s
 Answers old (RemoveEvent addr) (RemoveOutcome result) new = Removes old addr result new
 Answers old (CmdEvent host lun cdb payload) (CmdOutcome reply) new = Obeys old (addr_in host lun) cdb payload reply new
 Answers old FlushEvent (FlushOutcome answer) new = FlushesOne old answer new
+Answers old (FlushUnitEvent addr) (FlushUnitOutcome answer) new = FlushesUnit old addr answer new
 Answers old DemoteEvent (DemoteOutcome answer) new = DemotesOne old answer new
 Answers old CleanEvent (CleanOutcome answer) new = CleansOne old answer new
 Answers old BalanceEvent (BalanceOutcome answer) new = BalancesOne old answer new

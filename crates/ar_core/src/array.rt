@@ -81,6 +81,7 @@ impl<D: Disk + Drop> Array<D> {
                 OutcomeOf::Cmd(self.command(alloc, Addr { host, lun }, &cdb, payload.as_slice()))
             }
             EventOf::Flush => OutcomeOf::Flush(self.flush_one()),
+            EventOf::FlushUnit(addr) => OutcomeOf::FlushUnit(self.flush_unit(addr)),
             EventOf::Demote => OutcomeOf::Demote(self.demote_one()),
             EventOf::Clean => OutcomeOf::Clean(self.clean_one()),
             EventOf::Balance => OutcomeOf::Balance(self.balance_one()),

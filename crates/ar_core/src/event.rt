@@ -5,7 +5,7 @@ use ar_disks::{Addr, Host};
 use ar_moves::Move;
 use ar_rebuild::Rebuild;
 use ar_scsi::Reply;
-use ar_volume::{Flush, NewDisk, Refusal};
+use ar_volume::{Flush, NewDisk, Refusal, UnitFlush};
 use bytes::Bytes;
 
 /// An event of an array of disks of type `D`.
@@ -33,6 +33,8 @@ pub enum EventOf<N> {
     },
     /// Destages the least recently used block of the cache.
     Flush,
+    /// Destages all cached blocks of a unit, for a host that requests it by SYNCHRONIZE CACHE (SBC-2).
+    FlushUnit(Addr),
     /// Moves the least recently written mirrored block to a parity group.
     Demote,
     /// Moves one block out of the emptiest group whose blocks all fit in the other groups of its class.
@@ -57,6 +59,7 @@ pub enum OutcomeOf<N> {
     Remove(Result<(), Refusal>),
     Cmd(Reply),
     Flush(Flush),
+    FlushUnit(UnitFlush),
     Demote(Move),
     Clean(Move),
     Balance(Balance),

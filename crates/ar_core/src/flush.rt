@@ -8,8 +8,8 @@ ghost use Rattle.ar_volume.specs.Following.{ArrayFollows, PutsStored};
 ghost use Rattle.ar_volume.specs.Image.{is_broken, image_at, image_on_disks};
 ghost use Rattle.ar_volume.specs.Storing.{LeavesSome};
 
-use crate::{Array, Completion, EventOf, Flush, OutcomeOf};
-use ar_disks::Disk;
+use crate::{Array, Completion, EventOf, Flush, OutcomeOf, UnitFlush};
+use ar_disks::{Addr, Disk};
 
 impl<D: Disk> Array<D> {
     ghost use Rattle.ar_core.specs.Step.{Steps};
@@ -19,6 +19,15 @@ impl<D: Disk> Array<D> {
         ensures { Steps self.old EventOf.Flush (OutcomeOf.Flush result) self.new }
     {
         self.blocks.flush_one()
+    }
+
+    /// Destages all cached blocks of the unit at `addr`, in ascending order: the step of `EventOf::FlushUnit`. After
+    /// `Done` the disks have all of the unit's contents. Returns `Broken` if the array has failed, before or during this
+    /// call, and else `Absent` if there is no such unit.
+    pub fn flush_unit(&mut self, addr: Addr) -> UnitFlush
+        ensures { Steps self.old (EventOf.FlushUnit addr) (OutcomeOf.FlushUnit result) self.new }
+    {
+        self.blocks.flush_unit(addr)
     }
 
     /// Destages all cached blocks, the least recently used first. With an empty cache nothing changes. Returns `Broken`

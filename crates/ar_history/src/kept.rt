@@ -102,8 +102,8 @@ impl<D: Disk, L: Ledger> Kept<D, L> {
         self.live.counts()
     }
 
-    /// Returns a number that is raised by each command, each operation, and each step of background work that did
-    /// something. While it stays, nothing has changed the array.
+    /// Returns a number that is raised by each command, each operation, each flush of a unit, and each step of
+    /// background work that did something. While it stays, nothing has changed the array.
     pub fn events(&self) -> u64
         ensures { result ≡ self.now.events }
     {

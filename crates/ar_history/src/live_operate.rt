@@ -1,7 +1,7 @@
 // Operations and background work on a live array. Each is one step of the array; each create, resize or delete that is
 // done is recorded.
 ghost use Rattle.std.specs.Prelude.{◌≡◌, ◌++◌, ◌∷◌, [], true, false, if◌then◌else◌, Some};
-ghost use Rattle.ar_volume.specs.Image.{is_broken, image};
+ghost use Rattle.ar_volume.specs.Image.{is_broken, image, image_at, image_on_disks};
 ghost use Rattle.ar_volume.specs.Sectors.{Address};
 ghost use Rattle.ar_core.specs.Step.{Steps, is_quiet};
 ghost use Rattle.ar_history.specs.Counts.{CountsNothing, CountsOperation, CountsTask};
@@ -9,7 +9,7 @@ ghost use Rattle.ar_history.specs.Kept.{StaysKept, history_entry};
 ghost use Rattle.ar_history.specs.Operations.{event_of, event_of_task, entry_asked, is_done};
 
 use crate::{Entry, LiveArray, Operation, OperationOf, Task, is_idle};
-use ar_core::{Event, EventOf, Outcome, OutcomeOf};
+use ar_core::{Event, EventOf, Outcome, OutcomeOf, UnitFlush};
 use ar_disks::{Addr, Disk};
 
 impl<D: Disk + Drop> LiveArray<D> {
@@ -40,6 +40,23 @@ impl<D: Disk + Drop> LiveArray<D> {
         let outcome = self.quiet(event_in(task));
         self.count_task(task, is_idle(&outcome));
         outcome
+    }
+
+    /// Destages all cached blocks of the unit at `addr`; after `Done` the disks have all of its contents. Returns
+    /// `Broken` if the array has failed, before or during this call, and else `Absent` if there is no such unit. The
+    /// history doesn't change, nor until data loss does any unit.
+    pub fn flush_unit(&mut self, addr: Addr) -> UnitFlush
+        ensures steps { Steps self.old.array (EventOf.FlushUnit addr) (OutcomeOf.FlushUnit result) self.new.array }
+        ensures on_disks { result ≡ UnitFlush.Done → image_at self.new.array addr ≡ image_on_disks self.new.array.store addr }
+        ensures history { self.new.history ≡ self.old.history }
+        ensures room { self.new.room ≡ self.old.room }
+        ensures images { is_broken self.new.array ≡ false → (a : Address) → image self.new.array a ≡ image self.old.array a }
+        ensures kept { StaysKept self.old self.new }
+        ensures counts { CountsOperation self.old self.new }
+    {
+        let answer = self.destage(addr);
+        self.count_event();
+        answer
     }
 
     // Executes an operation, and counts nothing.
@@ -104,6 +121,18 @@ impl<D: Disk + Drop> LiveArray<D> {
         ensures uncounted { CountsNothing self.old self.new }
     {
         self.array.step(self.alloc, event)
+    }
+
+    // Destages a unit's cached blocks, and counts nothing.
+    fn destage(&mut self, addr: Addr) -> UnitFlush
+        ensures steps { Steps self.old.array (EventOf.FlushUnit addr) (OutcomeOf.FlushUnit result) self.new.array }
+        ensures history { self.new.history ≡ self.old.history }
+        ensures room { self.new.room ≡ self.old.room }
+        ensures images { is_broken self.new.array ≡ false → (a : Address) → image self.new.array a ≡ image self.old.array a }
+        ensures kept { StaysKept self.old self.new }
+        ensures uncounted { CountsNothing self.old self.new }
+    {
+        self.array.flush_unit(addr)
     }
 
     // Executes an event, and records `entry` if it was done.

@@ -1,7 +1,7 @@
 // Operations and background work. Capacity for an entry is reserved before the array acts, so that each create, resize
 // or delete that is done is recorded.
 ghost use Rattle.std.specs.Prelude.{◌≡◌, ◌≢◌, ◌⊎◌, ◌<◌, ◌++◌, true, false, Some, None, IsTrue, IsOk, OnOk, length, vec_len, vec_capacity};
-ghost use Rattle.ar_volume.specs.Image.{is_broken, image};
+ghost use Rattle.ar_volume.specs.Image.{is_broken, image, image_at, image_on_disks};
 ghost use Rattle.ar_volume.specs.Sectors.{Address};
 ghost use Rattle.ar_core.specs.Step.{Steps, is_quiet};
 ghost use Rattle.ar_history.specs.Counts.{CountsNothing, CountsOperation, CountsTask};
@@ -10,7 +10,7 @@ ghost use Rattle.ar_history.specs.Operations.{Does, IsRefused, AllocatesFor, eve
 
 use crate::live_operate::is_done;
 use crate::{Entry, Kept, Operation, OperationOf, Task};
-use ar_core::{Event, EventOf, Outcome, OutcomeOf, Refusal, UnitRefusal};
+use ar_core::{Event, EventOf, Outcome, OutcomeOf, Refusal, UnitFlush, UnitRefusal};
 use ar_disks::{Addr, Disk};
 use std::alloc::AllocError;
 use std::sync::ledger::Ledger;
@@ -56,6 +56,21 @@ impl<D: Disk + Drop, L: Ledger> Kept<D, L> {
         ensures counts { CountsTask self.old task result self.new }
     {
         self.live.background(task)
+    }
+
+    /// Destages all cached blocks of the unit at `addr`; after `Done` the disks have all of its contents. Returns
+    /// `Broken` if the array has failed, before or during this call, and else `Absent` if there is no such unit. The
+    /// history doesn't change, nor until data loss does any unit.
+    pub fn flush_unit(&mut self, addr: Addr) -> UnitFlush
+        ensures steps { Steps self.old.array (EventOf.FlushUnit addr) (OutcomeOf.FlushUnit result) self.new.array }
+        ensures on_disks { result ≡ UnitFlush.Done → image_at self.new.array addr ≡ image_on_disks self.new.array.store addr }
+        ensures history { self.new.history ≡ self.old.history }
+        ensures room { self.new.room ≡ self.old.room }
+        ensures images { is_broken self.new.array ≡ false → (a : Address) → image self.new.array a ≡ image self.old.array a }
+        ensures kept { StaysKept self.old self.new }
+        ensures counts { CountsOperation self.old self.new }
+    {
+        self.live.flush_unit(addr)
     }
 
     // Executes an operation, and counts nothing.

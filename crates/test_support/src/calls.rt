@@ -2,7 +2,9 @@
 use crate::asked::event_of_work;
 use crate::draw::Work;
 use crate::shape::Shape;
-use ar_core::{Balance, Event, EventOf, Flush, Move, OutcomeOf, Rebuild, Refusal};
+use ar_core::{
+    Balance, Event, EventOf, Flush, Move, OutcomeOf, Rebuild, Refusal, UnitFlush, UnitRefusal,
+};
 use ar_disks::{Addr, FuseDisk, Host};
 use ar_scsi::{Reply, Sense, Status, sense18};
 use bytes::Bytes;
@@ -17,6 +19,8 @@ pub enum Call {
     Grow(u8, u8, u32),
     /// Deletes it.
     Remove(u8, u8),
+    /// Destages its cached blocks.
+    FlushUnit(u8, u8),
     /// WRITE (10): address, sectors, and the byte of all of them.
     Write(u8, u8, u8, u8, u8),
     /// The same with FORCE UNIT ACCESS.
@@ -37,7 +41,7 @@ pub enum Call {
 /// What a call returns.
 #[derive(Clone, Copy, Debug, PartialEq, Eq)]
 pub enum Return {
-    /// A unit or a disk is changed.
+    /// A unit or a disk is changed, or a unit's blocks are on the disks.
     Done,
     Refused(Refusal),
     /// GOOD, without bytes.
@@ -91,6 +95,7 @@ pub fn event(alloc: Global, shape: Shape, call: Call) -> Result<Event<FuseDisk>,
         Call::Make(host, lun, sectors) => EventOf::Make(unit_of(host, lun), sectors),
         Call::Grow(host, lun, sectors) => EventOf::Grow(unit_of(host, lun), sectors),
         Call::Remove(host, lun) => EventOf::Remove(unit_of(host, lun)),
+        Call::FlushUnit(host, lun) => EventOf::FlushUnit(unit_of(host, lun)),
         Call::Work(work) => event_of_work(work),
         Call::AddDisk => EventOf::AddDisk(shape.new_disk(alloc, u64::MAX)?),
         Call::DiskOut(number) => EventOf::DiskOut(number),
@@ -164,6 +169,7 @@ pub fn returned<N>(outcome: &OutcomeOf<N>) -> Return {
             Err((refusal, _)) => Return::Refused(*refusal),
         },
         OutcomeOf::Flush(flush) => flushed(*flush),
+        OutcomeOf::FlushUnit(flush) => unit_flushed(*flush),
         OutcomeOf::Demote(moved) | OutcomeOf::Clean(moved) => moved_to(*moved),
         OutcomeOf::Balance(balance) => Return::Balance(*balance),
         OutcomeOf::Rebuild(rebuild) => Return::Rebuild(*rebuild),
@@ -178,6 +184,14 @@ fn flushed(flush: Flush) -> Return {
         Flush::Flushed(_) => Return::Other,
         Flush::Idle => Return::Idle,
         Flush::Broken => Return::Broken,
+    }
+}
+
+fn unit_flushed(flush: UnitFlush) -> Return {
+    match flush {
+        UnitFlush::Done => Return::Done,
+        UnitFlush::Absent => Return::Refused(Refusal::Unit(UnitRefusal::Absent)),
+        UnitFlush::Broken => Return::Broken,
     }
 }
 
