@@ -1,7 +1,7 @@
-// Cached blocks that go to the disks once a disk is lost, all by one call or one by one.
+// Cached blocks that go to the disks, all by one call, a unit's or one by one, mostly once a disk is lost.
 use crate::calls::{make_call, play};
 use crate::fuses::{MAKE, THREE_GROUPS, WRITES};
-use ar_core::{Array, HomeOf, Shown};
+use ar_core::{Array, HomeOf, Refusal, Shown, UnitRefusal};
 use ar_disks::{Block, Completion, FuseDisk};
 use std::process::Abort;
 use test_support::{Call, FOUR_GROUPS, Return, Shape, Work, is_filled, unit_of};
@@ -217,4 +217,58 @@ fn nothing_is_flushed_past_two_lost_disks(rt: HostRuntime) {
         ..FOUR_GROUPS
     };
     run(&rt, shape, &[&WAITING, &TWO_OUT]);
+}
+
+const ABSENT: Answer = Answer::Returns(Return::Refused(Refusal::Unit(UnitRefusal::Absent)));
+
+/// Two blocks of a unit and one of another wait in the cache, the higher one written first.
+const TWO_UNITS: [Step; 6] = [
+    (Ask::Does(Call::Make(0, 0, 8)), DONE),
+    (Ask::Does(Call::Make(1, 0, 8)), DONE),
+    (Ask::Does(Call::Write(0, 0, 6, 2, 0xA4)), GOOD),
+    (Ask::Does(Call::Write(1, 0, 0, 2, 0xB1)), GOOD),
+    (Ask::Does(Call::Write(0, 0, 2, 2, 0xA2)), GOOD),
+    (Ask::Does(Call::FlushUnit(2, 0)), ABSENT),
+];
+
+/// The first unit's blocks are placed in ascending order, on the pair of disks of the first mirrored slots. The other's stays in
+/// the cache, and is the next to be destaged.
+const ONE_UNIT: [Step; 13] = [
+    (Ask::Does(Call::FlushUnit(0, 0)), DONE),
+    (Ask::Home(0), Answer::Unplaced),
+    (Ask::Home(1), Answer::At(0, 0)),
+    (Ask::Home(3), Answer::At(0, 1)),
+    (Ask::Shows(0, 0, 0), Answer::Byte(0xA2)),
+    (Ask::Shows(1, 0, 0), Answer::Byte(0xA2)),
+    (Ask::Shows(0, 0, 1), Answer::Byte(0xA4)),
+    (Ask::Shows(1, 0, 1), Answer::Byte(0xA4)),
+    (Ask::Shows(2, 0, 0), Answer::Byte(0xEE)),
+    (Ask::Does(Call::FlushUnit(0, 0)), DONE),
+    (Ask::Shows(2, 0, 0), Answer::Byte(0xEE)),
+    (
+        Ask::Does(Call::Work(Work::Flush)),
+        Answer::Returns(Return::Flushed(1, 0)),
+    ),
+    (
+        Ask::Does(Call::Work(Work::Flush)),
+        Answer::Returns(Return::Idle),
+    ),
+];
+
+/// With two disks out no unit is flushed, whether there is one or not.
+const LOST_UNIT: [Step; 5] = [
+    (Ask::Does(Call::DiskOut(1)), DONE),
+    (Ask::Does(Call::FlushUnit(1, 0)), DONE),
+    (Ask::Does(Call::DiskOut(2)), DONE),
+    (Ask::Does(Call::FlushUnit(0, 0)), BROKEN),
+    (Ask::Does(Call::FlushUnit(2, 0)), BROKEN),
+];
+
+#[test]
+fn one_unit_is_flushed_and_no_other(rt: HostRuntime) {
+    let shape = Shape {
+        cache: 4,
+        ..FOUR_GROUPS
+    };
+    run(&rt, shape, &[&TWO_UNITS, &ONE_UNIT, &LOST_UNIT]);
 }

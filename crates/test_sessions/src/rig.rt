@@ -51,13 +51,15 @@ impl<L: Ledger> Rig<L> {
         assert!(rt; is_made, "unit 0 of host {host} is made");
     }
 
-    /// Does what comes between two commands: creates, resizes or deletes a unit, or does work in the background.
+    /// Does what comes between two commands: creates, resizes, deletes or flushes a unit, or does work in the
+    /// background.
     pub fn step(&self, rt: &impl Wait, ask: &Ask) -> Outcome<FuseDisk> {
         let mut kept = self.kept.lock(rt);
         match ask {
             Ask::Make(place, sectors) => kept.operate(OperationOf::Make(unit_at(*place), *sectors)),
             Ask::Grow(place, sectors) => kept.operate(OperationOf::Grow(unit_at(*place), *sectors)),
             Ask::Remove(place) => kept.operate(OperationOf::Remove(unit_at(*place))),
+            Ask::FlushUnit(place) => OutcomeOf::FlushUnit(kept.flush_unit(unit_at(*place))),
             Ask::Work(Work::Demote) => kept.background(Task::Demote),
             Ask::Work(Work::Clean) => kept.background(Task::Clean),
             Ask::Work(Work::Balance) => kept.background(Task::Balance),

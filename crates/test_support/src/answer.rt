@@ -6,6 +6,8 @@ use std::alloc::Global;
 pub enum Answer {
     /// A unit was made, removed or lengthened.
     Done,
+    /// A unit's blocks are on the disks.
+    Flushed,
     /// It wasn't.
     Refused(Refused),
     Replied(PlainReply),
@@ -13,7 +15,7 @@ pub enum Answer {
     Open,
 }
 
-/// Why a unit isn't made, removed or lengthened.
+/// Why a unit isn't made, removed, lengthened or flushed.
 #[derive(Clone, Copy, Debug, PartialEq, Eq)]
 pub enum Refused {
     BadLun,

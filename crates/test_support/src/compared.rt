@@ -1,7 +1,7 @@
 // An array's answers beside those of the model.
 use crate::answer::{Answer, PlainReply, Refused};
 use crate::kinds::Kind;
-use ar_core::{Balance, Flush, Move, OutcomeOf, Rebuild, Refusal, UnitRefusal};
+use ar_core::{Balance, Flush, Move, OutcomeOf, Rebuild, Refusal, UnitFlush, UnitRefusal};
 use ar_scsi::{Reply, Status};
 
 /// Whether an array answered as plain lists did. What its work did is its own affair, but no loss and no want of memory may be
@@ -14,6 +14,9 @@ pub fn agrees<N>(outcome: &OutcomeOf<N>, wanted: &Answer) -> bool {
             OutcomeOf::Make(done) | OutcomeOf::Grow(done) | OutcomeOf::Remove(done),
             Answer::Refused(refused),
         ) => *done == Err(refusal(*refused)),
+        (OutcomeOf::FlushUnit(flush), Answer::Flushed) => *flush == UnitFlush::Done,
+        (OutcomeOf::FlushUnit(flush), Answer::Refused(Refused::Absent)) => *flush
+            == UnitFlush::Absent,
         (OutcomeOf::Cmd(reply), Answer::Replied(wanted)) => is_same(reply, wanted),
         (_, Answer::Open) => kind_of_work(outcome) != Kind::Other,
         _ => false,

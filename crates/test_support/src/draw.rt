@@ -22,6 +22,8 @@ pub enum Ask {
     Remove(Place),
     /// A unit grows to so many sectors.
     Grow(Place, u32),
+    /// A unit's cached blocks are destaged.
+    FlushUnit(Place),
     Work(Work),
     Command(Command),
 }
@@ -71,14 +73,15 @@ pub(crate) fn draw(alloc: Global, rng: &mut SmallRng, host: Option<u8>) -> Resul
         // Any unit is removed as often as any other, so that the first ones, which more is asked of, stay a while.
         4 | 5 => Ask::Remove(any_place(rng)),
         6..=8 => Ask::Grow(place, length(rng)),
-        kind @ 9..=14 => Ask::Work(work_of(kind)),
+        9 => Ask::FlushUnit(place),
+        kind @ 10..=14 => Ask::Work(work_of(kind)),
         _ => Ask::Command(draw_command(alloc, rng, place)?),
     })
 }
 
 fn work_of(kind: u8) -> Work {
     match kind {
-        9 | 10 => Work::Flush,
+        10 => Work::Flush,
         11 => Work::Demote,
         12 => Work::Clean,
         13 => Work::Balance,

@@ -44,6 +44,7 @@ impl PlainArray {
             Ask::Make(place, sectors) => self.make(*place, *sectors),
             Ask::Remove(place) => Ok(self.remove(*place)),
             Ask::Grow(place, sectors) => self.grow(*place, *sectors),
+            Ask::FlushUnit(place) => Ok(self.flush(*place)),
             Ask::Work(_) => Ok(Answer::Open),
             Ask::Command(command) => Ok(Answer::Replied(self.command(command)?)),
         }
@@ -108,6 +109,14 @@ impl PlainArray {
         }
         unit.grow(sectors)?;
         Ok(Answer::Done)
+    }
+
+    // The lists are always flushed.
+    fn flush(&self, place: Place) -> Answer {
+        match self.number(place) {
+            Some(_) => Answer::Flushed,
+            None => Answer::Refused(Refused::Absent),
+        }
     }
 
     fn command(&mut self, command: &Command) -> Result<PlainReply, AllocError> {

@@ -13,7 +13,8 @@ pub struct Run {
     alloc: Global,
     rng: SmallRng,
     pub lists: PlainArray,
-    /// How often an answer of each kind came. Who asks an array for work in the background counts what it did.
+    /// How often an answer of each kind came, but to a flush of a unit. Who asks an array for work in the background counts
+    /// what it did.
     pub tally: Tally,
 }
 
@@ -32,7 +33,7 @@ impl Run {
     pub fn next(&mut self, host: Option<u8>) -> Result<(Ask, Answer), AllocError> {
         let ask = draw(self.alloc, &mut self.rng, host)?;
         let answer = self.lists.step(&ask)?;
-        if !matches!(ask, Ask::Work(_)) {
+        if !matches!(ask, Ask::FlushUnit(_) | Ask::Work(_)) {
             self.tally.add(Kind::of(&ask, &answer));
         }
         Ok((ask, answer))
