@@ -1,5 +1,5 @@
 -- An array and its history: each unit is what its entries make it.
-use Rattle.std.specs.Prelude.{◌≡◌, ◌⊎◌, ◌+◌, max, ℕ, Bool, false, if◌then◌else◌, Ok, List, [], ◌∷◌}
+use Rattle.std.specs.Prelude.{◌≡◌, ◌⊎◌, ◌+◌, ◌/◌, max, ℕ, Bool, false, if◌then◌else◌, Ok, List, [], ◌∷◌}
 use Rattle.ar_scsi.specs.declared.reply.Reply.{Reply}
 use Rattle.ar_unit.specs.Unit.{UnitState, Absent, Present}
 use Rattle.ar_unit.specs.Broken.{shape_of}
@@ -24,9 +24,9 @@ pub record KeptState : Type 0 where
   pub counts : Counts
   pub events : ℕ
 
--- a list keeps its capacity, or doubles it; it grows by at least four
-abbrev pub MayDouble : ℕ → ℕ → Type 0
-MayDouble old new = (new ≡ old) ⊎ (new ≡ old + max old 4)
+-- a list keeps its capacity, or grows by half of it; it grows by at least four
+abbrev pub MayGrow : ℕ → ℕ → Type 0
+MayGrow old new = (new ≡ old) ⊎ (new ≡ old + max (old / 2) 4)
 
 -- both units are present and equally long, or both are absent
 pub record SameLength (one other : UnitState) : Type 0 where

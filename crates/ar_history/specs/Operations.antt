@@ -11,7 +11,7 @@ use Rattle.ar_core.specs.declared.event.EventOf.TheVariants as events
 use Rattle.ar_core.specs.declared.event.OutcomeOf.TheVariants as outcomes
 use Rattle.ar_history.specs.declared.entry.Entry.{Entry}
 use Rattle.ar_history.specs.declared.entry.Entry.TheVariants as entries
-use Rattle.ar_history.specs.Kept.{KeptState, MayDouble}
+use Rattle.ar_history.specs.Kept.{KeptState, MayGrow}
 use Rattle.ar_history.specs.declared.operation.OperationOf.{OperationOf}
 use Rattle.ar_history.specs.declared.operation.OperationOf.TheVariants.{Make, Grow, Remove, AddDisk, DiskOut, Replace}
 use Rattle.ar_history.specs.declared.operation.Task.{Task}
@@ -67,10 +67,10 @@ pub record IsRefused (old : ArrayState) (event : Event) (outcome : Outcome) (new
 abbrev pub Does : ArrayState → Event → Outcome → ArrayState → Type 0
 Does old event outcome new = Steps old event outcome new ⊎ IsRefused old event outcome new
 
--- The memory that is allocated to record an event: a history with capacity left keeps it, a full one may double it. An
+-- The memory that is allocated to record an event: a history with capacity left keeps it, a full one may grow. An
 -- event that leaves no entry, and one on a failed array, allocates nothing.
 pub record AllocatesFor (event : Event) (old new : KeptState) : Type 0 where
   pub placed : length old.history < old.room → new.room ≡ old.room
-  pub grown : MayDouble old.room new.room
+  pub grown : MayGrow old.room new.room
   pub unasked : entry_asked event ≡ None → new.room ≡ old.room
   pub lost : is_broken old.array ≡ true → new.room ≡ old.room

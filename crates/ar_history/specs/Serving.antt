@@ -15,7 +15,7 @@ use Rattle.ar_history.specs.declared.entry.Exchange.{Exchange}
 use Rattle.ar_history.specs.declared.entry.Entry.{Entry}
 use Rattle.ar_history.specs.declared.entry.Entry.TheVariants.{Cmd}
 use Rattle.ar_history.specs.History.{replay}
-use Rattle.ar_history.specs.Kept.{KeptState, MayDouble, exchange_of, replayed_unit, history_unit}
+use Rattle.ar_history.specs.Kept.{KeptState, MayGrow, exchange_of, replayed_unit, history_unit}
 use Rattle.ar_history.specs.Operations.{Does}
 use Rattle.ar_history.specs.Seat.{SeatState}
 
@@ -125,12 +125,12 @@ pub record GrowsNothing (old : KeptState) (before : SeatState) (new : KeptState)
   pub room : new.room ≡ old.room
   pub seat : after ≡ before
 
--- The memory that is allocated to record a command: a list with capacity left keeps it, a full one may double it. If the
+-- The memory that is allocated to record a command: a list with capacity left keeps it, a full one may grow. If the
 -- history gets no capacity, neither does the transcript, and nothing grows for a failed array.
 pub record Allocates (old : KeptState) (before : SeatState) (new : KeptState) (after : SeatState) : Type 0 where
   pub placed : length old.history < old.room → new.room ≡ old.room
   pub seat_placed : length before.transcript < before.room → after.room ≡ before.room
-  pub grown : MayDouble old.room new.room
-  pub seat_grown : MayDouble before.room after.room
+  pub grown : MayGrow old.room new.room
+  pub seat_grown : MayGrow before.room after.room
   pub seat_unasked : new.room ≡ length old.history → after.room ≡ before.room
   pub lost : is_broken old.array ≡ true → GrowsNothing old before new after

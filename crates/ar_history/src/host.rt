@@ -46,7 +46,7 @@ impl<D: Disk + Drop, L: Ledger> Kept<D, L> {
         ensures kept { StaysKept self.old self.new }
         ensures counts { CountsCommand self.old seat.old.host.number cdb (length payload) result.reply self.new }
 
-        // Out of memory, and what BUSY leaves unchanged. A list with capacity left keeps it; a full one may double it.
+        // Out of memory, and what BUSY leaves unchanged. A list with capacity left keeps it; a full one may grow.
         // Nothing grows for a failed array.
         ensures begun { BeginsByPlace self.old seat.old lun cdb payload result.reply self.new seat.new }
         ensures busy { is_busy result.reply.status ≡ true → LeavesStorage self.old.array self.new.array }

@@ -15,7 +15,7 @@ use std::sync::ledger::{Blank, Book, Ledger, Share};
 /// An array with its stored history. The ledger counts the commands in it; each seat's share counts those of its host.
 ///
 /// A history is append-only. An entry takes 136 bytes, and a command another 128 bytes in its host's transcript; both
-/// lists double their capacity when full, from four on. Data-out and reply bytes are stored once, however many share
+/// full lists grow by half of their capacity, from four on. Data-out and reply bytes are stored once, however many share
 /// them: a READ or WRITE of n sectors keeps 512 n bytes.
 #[derive(Drop)]
 pub struct Kept<D: Disk, L: Ledger> {

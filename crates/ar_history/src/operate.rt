@@ -5,7 +5,7 @@ ghost use Rattle.ar_volume.specs.Image.{is_broken, image, image_at, image_on_dis
 ghost use Rattle.ar_volume.specs.Sectors.{Address};
 ghost use Rattle.ar_core.specs.Step.{Steps, is_quiet};
 ghost use Rattle.ar_history.specs.Counts.{CountsNothing, CountsOperation, CountsTask};
-ghost use Rattle.ar_history.specs.Kept.{HistoryAgrees, MayDouble, StaysKept, history_entry};
+ghost use Rattle.ar_history.specs.Kept.{HistoryAgrees, MayGrow, StaysKept, history_entry};
 ghost use Rattle.ar_history.specs.Operations.{Does, IsRefused, AllocatesFor, event_of, event_of_task, entry_asked};
 
 use crate::live_operate::is_done;
@@ -176,7 +176,7 @@ impl<D: Disk + Drop, L: Ledger> Kept<D, L> {
         ensures sound { result ≡ false → is_broken self.old.array ≡ false }
         ensures granted { length self.old.history < self.new.room → result ≡ true }
         ensures placed { length self.old.history < self.old.room → self.new.room ≡ self.old.room }
-        ensures grown { MayDouble self.old.room self.new.room }
+        ensures grown { MayGrow self.old.room self.new.room }
         ensures lost { is_broken self.old.array ≡ true → self.new.room ≡ self.old.room }
         ensures uncounted { CountsNothing self.old self.new }
     {
@@ -184,16 +184,16 @@ impl<D: Disk + Drop, L: Ledger> Kept<D, L> {
     }
 }
 
-// Doubles the capacity of a full list. By `reserve_exact`, since std gives no upper bound on what `reserve` adds.
+// Grows a full list by half of its capacity. By `reserve_exact`, since std gives no upper bound on what `reserve` adds.
 pub(crate) fn reserve_place<T>(list: &mut Vec<T>) -> Result<(), AllocError>
     ensures items { list.new.items ≡ list.old.items }
     ensures place { OnOk result (vec_len list.new < vec_capacity list.new) }
     ensures granted { vec_len list.old < vec_capacity list.new → IsOk result }
     ensures placed { vec_len list.old < vec_capacity list.old → IsOk result × (vec_capacity list.new ≡ vec_capacity list.old) }
-    ensures grown { MayDouble (vec_capacity list.old) (vec_capacity list.new) }
+    ensures grown { MayGrow (vec_capacity list.old) (vec_capacity list.new) }
 {
     if list.len() < list.capacity() {
         return Ok(());
     }
-    list.reserve_exact(list.len().max(FIRST_PLACES))
+    list.reserve_exact((list.len() / 2).max(FIRST_PLACES))
 }
