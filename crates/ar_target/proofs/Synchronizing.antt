@@ -1,5 +1,5 @@
 -- A SYNCHRONIZE CACHE that is GOOD.
-use Rattle.std.proofs.Common.{◌≡◌, ℕ, refl, subst}
+use Rattle.std.proofs.Common.{◌≡◌, ◌∙◌, ℕ, refl, sym, ap, subst}
 use Rattle.ar_scsi.specs.declared.reply.Reply.{Reply}
 use Rattle.ar_scsi.specs.declared.reply.Status.{Status}
 use Rattle.ar_scsi.specs.declared.reply.Status.TheVariants.{Good, CheckCondition, Busy}
@@ -36,5 +36,7 @@ flushed_where_good commands flushes lba count old lun _ _ (unit_unready told new
     absurd (handed_on-not_good told e)
 flushed_where_good commands flushes lba count old lun _ _ (range_behind told last new asked some behind) e = cc
 flushed_where_good commands flushes lba count old lun _ _
-    (unit_flushed told last mid outcome new asked some within flushed) e =
-    (mid, subst (λ (o : FlushOutcome). flushes mid lun o new) (done_where_good outcome e) flushed)
+    (unit_flushed told last mid reply new asked some within flush) e =
+    let done : flush.outcome ≡ Done =
+    done_where_good flush.outcome (ap (λ (r : Reply). r.status) (sym flush.told) ∙ e) in
+    (mid, subst (λ (o : FlushOutcome). flushes mid lun o new) done flush.flushed)

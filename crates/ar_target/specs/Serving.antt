@@ -27,9 +27,15 @@ flush_reply Done = good []
 flush_reply NoUnit = check logical_unit_not_supported
 flush_reply ArrayFailed = check internal_target_failure
 
+-- a unit was flushed, and the reply is that of the outcome
+pub record FlushesAtPort {P : Type 0} (flushes : UnitFlushes P) (old : P) (lun : ℕ) (reply : Reply) (new : P) : Type 0
+  where
+    pub outcome : FlushOutcome
+    pub flushed : flushes old lun outcome new
+    pub told : reply ≡ flush_reply outcome
+
 -- SYNCHRONIZE CACHE: READ CAPACITY (10) is asked for first. Where it doesn't state the last block, its reply is the
--- answer; a range that isn't on the unit is refused; otherwise the whole unit is flushed, and the reply says what came
--- of it.
+-- answer; a range that isn't on the unit is refused; otherwise the whole unit is flushed.
 pub data Synchronizes {P : Type 0} (commands : Commands P) (flushes : UnitFlushes P) (lba count : ℕ) (old : P)
     (lun : ℕ) : Reply → P → Type 0 where
   unit_unready :
@@ -40,9 +46,9 @@ pub data Synchronizes {P : Type 0} (commands : Commands P) (flushes : UnitFlushe
       → IsTrue (is_behind last lba count)
       → Synchronizes commands flushes lba count old lun (check logical_block_address_out_of_range) new
   unit_flushed :
-      (told : Reply) (last : ℕ) (mid : P) (outcome : FlushOutcome) (new : P) → commands old lun capacity_cdb [] told mid
-      → last_block told ≡ Some last → is_behind last lba count ≡ false → flushes mid lun outcome new
-      → Synchronizes commands flushes lba count old lun (flush_reply outcome) new
+      (told : Reply) (last : ℕ) (mid : P) (reply : Reply) (new : P) → commands old lun capacity_cdb [] told mid
+      → last_block told ≡ Some last → is_behind last lba count ≡ false → FlushesAtPort flushes mid lun reply new
+      → Synchronizes commands flushes lba count old lun reply new
 
 -- What is done with each request at the port, and its reply.
 abbrev pub MeetsRequest : {P : Type 0} → Commands P → UnitFlushes P → Attributes → Request → P → ℕ → List ℕ → List ℕ

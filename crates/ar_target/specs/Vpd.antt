@@ -49,12 +49,12 @@ unfoldable pub device_identification : ℕ → ℕ → ℕ → List ℕ
 device_identification array host lun =
     (0x00 ∷ 0x83 ∷ 0x00 ∷ 0x24 ∷ []) ++ (vendor_designator array host lun ++ naa_designator array host lun)
 
--- Block Limits (SBC-3, Block Limits VPD page): OPTIMAL TRANSFER LENGTH GRANULARITY is the array's block, MAXIMUM
--- TRANSFER LENGTH 65,535 blocks; no other limit is reported
+-- Block Limits (SBC-2, Block Limits VPD page, as long as the standard data claim no SBC-3): OPTIMAL TRANSFER LENGTH
+-- GRANULARITY is the array's block, MAXIMUM TRANSFER LENGTH 65,535 blocks, no OPTIMAL TRANSFER LENGTH is reported
 unfoldable pub block_limits : ℕ → List ℕ
 block_limits block_sectors =
-    (0x00 ∷ 0xB0 ∷ 0x00 ∷ 0x3C ∷ 0x00 ∷ 0x00 ∷ [])
-    ++ (to_be_bytes w16 block_sectors ++ ((0x00 ∷ 0x00 ∷ 0xFF ∷ 0xFF ∷ []) ++ replicate 52 0))
+    (0x00 ∷ 0xB0 ∷ 0x00 ∷ 0x0C ∷ 0x00 ∷ 0x00 ∷ [])
+    ++ (to_be_bytes w16 block_sectors ++ (0x00 ∷ 0x00 ∷ 0xFF ∷ 0xFF ∷ 0x00 ∷ 0x00 ∷ 0x00 ∷ 0x00 ∷ []))
 
 -- Block Device Characteristics (SBC-3, Block Device Characteristics VPD page): MEDIUM ROTATION RATE 0001h, a medium
 -- that doesn't rotate; no nominal form factor

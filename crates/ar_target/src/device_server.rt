@@ -14,8 +14,10 @@ use std::alloc::Global;
 #[derive(Drop)]
 pub struct DeviceServer<P> {
     alloc: Global,
-    port: P,
-    attributes: Attributes,
+    /// The port of the array's own commands.
+    pub port: P,
+    /// What is reported of the array and of the host, which is that of the latest login.
+    pub attributes: Attributes,
 }
 
 impl<P> DeviceServer<P> {

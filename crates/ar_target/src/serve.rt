@@ -69,11 +69,21 @@ fn synchronize<P: FlushPort>(port: &mut P, lun: u8, lba: u64, count: u32) -> Rep
             if is_behind(last, lba, count) {
                 Reply::check(Sense::LOGICAL_BLOCK_ADDRESS_OUT_OF_RANGE)
             } else {
-                flush_reply(port.flush(lun))
+                flush_unit(port, lun)
             }
         }
         None => handed_on(told),
     }
+}
+
+// Flushes a unit, and replies by the outcome.
+fn flush_unit<P: FlushPort>(port: &mut P, lun: u8) -> Reply
+    requires { P.has_login port.old ≡ true }
+    ensures flushes { serving.FlushesAtPort P.flushes port.old lun result port.new }
+    ensures reply { IsReply result }
+    ensures stays { P.has_login port.new ≡ true }
+{
+    flush_reply(port.flush(lun))
 }
 
 // Whether `count` blocks from `lba` on, or all from there on if it is 0, aren't on a unit whose last block is `last`.

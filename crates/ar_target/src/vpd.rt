@@ -72,15 +72,15 @@ pub(crate) fn device_identification(array: u32, host: u8, lun: u8) -> [u8; 40]
     ]
 }
 
-/// Block Limits (SBC-3, Block Limits VPD page), for an array with blocks of `block_sectors` sectors.
+/// Block Limits (SBC-2, Block Limits VPD page), for an array with blocks of `block_sectors` sectors.
 #[tactic(auto, unfolding(crate::specs::Vpd::block_limits))]
-pub(crate) fn block_limits(block_sectors: u16) -> [u8; 64]
+pub(crate) fn block_limits(block_sectors: u16) -> [u8; 16]
     ensures { result ≡ page.block_limits block_sectors }
 {
     let granularity = block_sectors.to_be_bytes();
-    let mut bytes = [0; 64];
+    let mut bytes = [0; 16];
     bytes[1] = 0xB0;
-    bytes[3] = 0x3C;
+    bytes[3] = 0x0C;
     bytes[6] = granularity[0];
     bytes[7] = granularity[1];
     bytes[10] = 0xFF;

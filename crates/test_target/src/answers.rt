@@ -129,7 +129,7 @@ fn pages_of_vital_product_data(rt: HostRuntime) {
             (
                 0,
                 &[0x12, 1, 0xB0, 0, 16],
-                Good(&[0, 0xB0, 0, 0x3C, 0, 0, 0, 128, 0, 0, 0xFF, 0xFF, 0, 0, 0, 0]),
+                Good(&[0, 0xB0, 0, 0x0C, 0, 0, 0, 128, 0, 0, 0xFF, 0xFF, 0, 0, 0, 0]),
             ),
             (
                 0,

@@ -10,9 +10,8 @@ returns-then-is_behind-clause-synchronizes g c =
 
 pub returns-in-Some-clause-synchronizes : goal.returns-in-Some-clause-synchronizes
 returns-in-Some-clause-synchronizes g c =
-    rw c.flush_reply.ensures.answer
-    (unit_flushed _ c.in-Some.last _ c.flush.result _ c.ask-told.ensures.asked (sym c.last_block.ensures ∙ c.in-Some.is)
-    (sym c.is_behind.ensures ∙ c.if-is_behind.false) c.flush.ensures.flush)
+    unit_flushed _ c.in-Some.last _ _ _ c.ask-told.ensures.asked (sym c.last_block.ensures ∙ c.in-Some.is)
+    (sym c.is_behind.ensures ∙ c.if-is_behind.false) c.flush_unit.ensures.flushes
 
 pub returns-clause-synchronizes : goal.returns-clause-synchronizes
 returns-clause-synchronizes g c =
