@@ -1,6 +1,7 @@
 pub mod Background
 pub mod Desk
 pub mod Ends
+pub mod Flushing
 pub mod Port
 -- definitions of lower crates that clauses of this crate cite
 pub use Rattle.ar_history.specs.Seat

@@ -7,6 +7,7 @@
 mod background;
 mod desk;
 mod door;
+mod flushing;
 mod notes;
 mod pool;
 mod port;
@@ -18,6 +19,7 @@ mod tcp;
 pub use background::run_background;
 pub use desk::{Desk, Receipt, SeatDesk, SeatSlot, SessionCounts};
 pub use door::{Door, MemDoor};
+pub use flushing::FlushedArray;
 pub use pool::{Handler, MOST_AT_ONCE, SharedDoor, run_pool, start_pool};
 pub use port::LockPort;
 pub use sessions::{ConnectionEnd, NoMemory, run_beside_background, run_sessions};

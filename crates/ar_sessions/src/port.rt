@@ -18,10 +18,10 @@ use std::sync::{Mutex, Wait};
 /// own; a command holds the array's lock while it is executed.
 #[derive(Drop)]
 pub struct LockPort<'a, R: Wait, A: Drop, K: Drop, L: Ledger> {
-    rt: &'a R,
-    array: &'a Mutex<A>,
+    pub(crate) rt: &'a R,
+    pub(crate) array: &'a Mutex<A>,
     desk: &'a Mutex<K>,
-    seat: Option<Seat<L>>,
+    pub(crate) seat: Option<Seat<L>>,
 }
 
 impl<'a, R: Wait, A: Drop, K: Drop, L: Ledger> Model for LockPort<'a, R, A, K, L> {
