@@ -4,75 +4,106 @@ ghost use Rattle.std.specs.Prelude.{◌≡◌, []};
 ghost use Rattle.ar_operator.specs.Executing.{IsArrayOrder};
 ghost use Rattle.ar_service.specs.Control.{DoneAtOneMoment};
 
+use crate::doors::OperatedArray;
+use crate::shown::ShownArray;
 use ar_disks::Host;
-use ar_language::Order;
+use ar_language::{Action, Order};
 use ar_operator::{
-    Controller, Fuse, OperableArray, OperatorOrder, write_counts, write_help, write_session,
+    Controller, OperableArray, OperatorOrder, write_counts, write_help, write_session,
 };
 use ar_sessions::Desk;
-use std::alloc::{AllocError, Global};
+use ar_status::{EventKind, EventLog};
+use std::alloc::AllocError;
+use std::sync::Wait;
 use std::sync::ledger::Ledger;
-use std::sync::{Mutex, Wait};
+use std::time::Clock;
+
+/// The answer of an action that was done.
+const DONE: &[u8] = b"ok\n";
 
 /// A controller of an array behind a lock, whose hosts' seats are on a desk with a lock of its own.
 #[derive(Drop)]
 pub struct LockController<'a, R: Wait, A: OperableArray<M> + Drop, L: Ledger, M> {
-    rt: &'a R,
-    alloc: Global,
-    array: &'a Mutex<A>,
-    desk: &'a Mutex<Desk<L>>,
-    // The fuses of the array's disks, by number.
-    fuses: &'a [Fuse; 12],
-    disks: M,
+    array: &'a OperatedArray<'a, R, A, L, M>,
 }
 
 impl<'a, R: Wait, A: OperableArray<M> + Drop, L: Ledger, M> LockController<'a, R, A, L, M> {
-    /// A controller whose new disks `disks` makes.
-    pub fn new(
-        rt: &'a R,
-        alloc: Global,
-        array: &'a Mutex<A>,
-        desk: &'a Mutex<Desk<L>>,
-        fuses: &'a [Fuse; 12],
-        disks: M,
-    ) -> LockController<'a, R, A, L, M> {
-        LockController {
-            rt,
-            alloc,
-            array,
-            desk,
-            fuses,
-            disks,
-        }
+    /// A controller of an operated array.
+    pub fn new(array: &'a OperatedArray<'a, R, A, L, M>) -> LockController<'a, R, A, L, M> {
+        LockController { array }
     }
 
-    // Executes an order on the array, under its lock.
+    fn fail(&self, disk: u8, accesses: Option<u64>, out: &mut Vec<u8>) -> Result<(), AllocError> {
+        let array = self.array.array.lock(self.array.rt);
+        array.set_fuse(self.array.fuses, disk, accesses, out)
+    }
+
+    fn show_sessions(&self, out: &mut Vec<u8>) -> Result<(), AllocError> {
+        let desk = self.array.desk.lock(self.array.rt);
+        write_sessions(&desk, out)
+    }
+
+    fn show_counts(&self, out: &mut Vec<u8>) -> Result<(), AllocError> {
+        let counts = self.array.array.lock(self.array.rt).counts();
+        write_counts(out, &counts).map_err(|_| AllocError)
+    }
+}
+
+impl<
+    'a,
+    R: Wait + Clock,
+    A: OperableArray<M> + ShownArray + Drop,
+    L: Ledger,
+    M: Copy,
+> LockController<'a, R, A, L, M> {
+    // Executes an order on the array, under its lock, and lists what has happened. The list's lock is taken first.
     fn execute(&mut self, order: Order, out: &mut Vec<u8>) -> Result<(), AllocError>
         requires allowed { IsArrayOrder order }
         requires empty { out.old.items ≡ [] }
         ensures { DoneAtOneMoment order result out.new.items }
     {
-        let mut array = self.array.lock(self.rt);
-        array.execute(self.alloc, &mut self.disks, order, out)
-    }
-
-    fn fail(&self, disk: u8, accesses: Option<u64>, out: &mut Vec<u8>) -> Result<(), AllocError> {
-        let array = self.array.lock(self.rt);
-        array.set_fuse(self.fuses, disk, accesses, out)
-    }
-
-    fn show_sessions(&self, out: &mut Vec<u8>) -> Result<(), AllocError> {
-        let desk = self.desk.lock(self.rt);
-        write_sessions(&desk, out)
-    }
-
-    fn show_counts(&self, out: &mut Vec<u8>) -> Result<(), AllocError> {
-        let counts = self.array.lock(self.rt).counts();
-        write_counts(out, &counts).map_err(|_| AllocError)
+        let mut disks = self.array.disks;
+        let mut log = self.array.log.lock(self.array.rt);
+        let seconds = self.array.seconds();
+        let mut array = self.array.array.lock(self.array.rt);
+        let done = array.execute(self.array.alloc, &mut disks, order, out);
+        list_done(&mut log, seconds, order, out);
+        array.see(seconds, &mut log);
+        done
     }
 }
 
-impl<'a, R: Wait, A: OperableArray<M> + Drop, L: Ledger, M> Controller
+// Lists what an order has done to a unit, by its answer.
+fn list_done(log: &mut EventLog, seconds: u64, order: Order, answer: &[u8]) {
+    if let Order::Act(action) = order {
+        if let Some(kind) = event_of(action) {
+            if answer == DONE {
+                log.add(seconds, kind);
+            }
+        }
+    }
+}
+
+// What an action does to a unit, if it is one on a unit.
+fn event_of(action: Action) -> Option<EventKind> {
+    match action {
+        Action::Make(addr, _) => Some(EventKind::UnitMade {
+            host: addr.host.number(),
+            lun: addr.lun,
+        }),
+        Action::Grow(addr, _) => Some(EventKind::UnitGrown {
+            host: addr.host.number(),
+            lun: addr.lun,
+        }),
+        Action::Remove(addr) => Some(EventKind::UnitDropped {
+            host: addr.host.number(),
+            lun: addr.lun,
+        }),
+        _ => None,
+    }
+}
+
+impl<'a, R: Wait + Clock, A: OperableArray<M> + ShownArray + Drop, L: Ledger, M: Copy> Controller
     for LockController<'a, R, A, L, M> {
     ghost use Rattle.ar_service.specs.Control.{LockAnswers};
 

@@ -1,11 +1,23 @@
-//! A served array as a whole: its units, the doors of hosts and operators, sessions and maintenance, and the audit at the
-//! end. An operator's order is executed under the array's lock (`LockController`), as a host's command is.
+//! A served array as a whole: its units, the doors of hosts, operators and HTTP clients, sessions and maintenance, and the
+//! audit at the end. An operator's order is executed under the array's lock (`LockController`), as a host's command is.
 #![tactic(auto)]
 
 mod control;
+mod doors;
+mod initiators;
+mod monitoring;
 mod operators;
 mod service;
+mod shown;
+mod watching;
 
 pub use control::LockController;
-pub use operators::{MOST_OPERATORS, OperatedArray, PendingStops, Ports, run_operated};
-pub use service::{NewUnit, Plan, ServiceFault, TcpStops, serve_audited, serve_unaudited};
+pub use doors::{OperatedArray, Ports, SideDoors, run_operated};
+pub use initiators::{IscsiPort, Targets};
+pub use monitoring::Monitor;
+pub use operators::{MOST_OPERATORS, PendingStops};
+pub use service::{
+    HttpPort, NewUnit, Plan, ServiceFault, TcpStops, serve_audited, serve_unaudited,
+};
+pub use shown::ShownArray;
+pub use watching::Watch;

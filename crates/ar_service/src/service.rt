@@ -4,24 +4,29 @@ ghost use Rattle.ar_history.specs.Seat.{SeatState};
 ghost use Rattle.ar_history.specs.declared.counts.HostCounts.{HostCounts};
 ghost use Rattle.ar_service.specs.Service.{CreatesUnits, FailsAudit, IsAudited, refusal_in};
 
-use crate::{OperatedArray, PendingStops, Ports, run_operated};
+use crate::doors::{OperatedArray, Ports, SideDoors, run_operated};
+use crate::initiators::IscsiPort;
+use crate::operators::PendingStops;
+use crate::shown::{ShownArray, health_of};
 use ar_core::{Array, OutcomeOf, Refusal};
 use ar_disks::{Addr, Disk};
 use ar_frames::NoGate;
 use ar_history::{Counts, Kept, LiveArray, Mismatch, RecordedArray, Report, Seat};
 use ar_operator::{DiskMaker, Fuse, OperableArray};
 use ar_sessions::{
-    ANY_NUMBER, Desk, ListenFault, MaintainedArray, NoMemory, ServedArray, TcpDoor, TcpReader,
-    TcpWriter, Timeouts, run_beside_background,
+    ANY_NUMBER, Desk, FlushedArray, ListenFault, MaintainedArray, NoMemory, ServedArray, TcpDoor,
+    TcpReader, TcpWriter, Timeouts,
 };
+use ar_status::EventLog;
 use log::Log;
 use std::alloc::Global;
+use std::hash::RandomState;
 use std::net::{Net, TcpListener, TcpStream};
 use std::sync::atomic::AtomicBool;
 use std::sync::ledger::{Blank, Ledger};
 use std::sync::{Mutex, Wait};
 use std::thread::Threads;
-use std::time::Clock;
+use std::time::{Clock, Instant};
 
 /// Operators over TCP whose `stop` was accepted.
 pub type TcpStops<'a, R> = PendingStops<TcpReader<'a, R>, TcpWriter<'a, R>>;
@@ -29,11 +34,25 @@ pub type TcpStops<'a, R> = PendingStops<TcpReader<'a, R>, TcpWriter<'a, R>>;
 /// The seconds for which an operator may be silent.
 const OPERATOR_IDLE: u32 = 600;
 
+/// The seconds for which an initiator may be silent, if hosts have no limit. Initiators send a NOP-Out every few seconds.
+const INITIATOR_IDLE: u32 = 600;
+
+/// The seconds that an HTTP connection may last.
+const HTTP_WHOLE: u32 = 10;
+
 /// A unit to create.
 #[derive(Clone, Copy)]
 pub struct NewUnit {
     pub addr: Addr,
     pub sectors: u32,
+}
+
+/// A port for HTTP clients.
+#[derive(Clone, Copy)]
+pub struct HttpPort {
+    pub port: u16,
+    /// The keys of the maps of header fields, whose names clients choose.
+    pub keys: RandomState,
 }
 
 /// What a service is to do.
@@ -47,6 +66,10 @@ pub struct Plan<'a> {
     pub sessions: Option<u8>,
     /// The TCP port to listen at for operators, on 127.0.0.1.
     pub operator: Option<u16>,
+    /// The TCP port to listen at for HTTP clients, on 127.0.0.1.
+    pub http: Option<HttpPort>,
+    /// The TCP port to listen at for initiators over iSCSI, on 127.0.0.1.
+    pub iscsi: Option<IscsiPort>,
     /// How long hosts may be silent.
     pub timeouts: Timeouts,
 }
@@ -66,6 +89,15 @@ pub enum ServiceFault {
     SeatOut,
     /// A transcript isn't its host's part of the history.
     Mismatch(Mismatch),
+}
+
+// What a service begins with beside its array.
+#[derive(Drop)]
+struct Begun<L: Ledger> {
+    // Whether its units were created: otherwise the number of the one that was refused, and why.
+    made: Result<(), (usize, Refusal)>,
+    seats: [Seat<L>; 4],
+    log: EventLog,
 }
 
 impl From<ListenFault> for ServiceFault {
@@ -109,10 +141,12 @@ pub fn serve_audited<
     requires four { blank.parts ≡ 4 }
     requires no_unit { array.store.book.units ≡ [] }
 {
+    let log = EventLog::new(health_of(array.health()), array.disks());
     let (mut kept, seats) = Kept::<D, L>::start(alloc, blank, array);
     let made = create_units::<D, Kept<D, L>>(&mut kept, plan.units);
+    let begun = Begun { made, seats, log };
     let shared = Mutex::new(kept);
-    let (stops, served, desk) = serve_made(rt, alloc, made, &shared, seats, disks, stop, plan);
+    let (stops, served, desk) = serve_made(rt, alloc, &shared, begun, disks, stop, plan);
     let kept = shared.into_inner();
     let report = audit(served, &kept, desk);
     drop(kept);
@@ -148,11 +182,13 @@ pub fn serve_unaudited<
     requires four { blank.parts ≡ 4 }
     requires no_unit { array.store.book.units ≡ [] }
 {
+    let log = EventLog::new(health_of(array.health()), array.disks());
     let seats = Seat::<L>::unrecorded(alloc, blank);
     let mut live = LiveArray::start(alloc, array);
     let made = create_units::<D, LiveArray<D>>(&mut live, plan.units);
+    let begun = Begun { made, seats, log };
     let shared = Mutex::new(live);
-    let (stops, served, desk) = serve_made(rt, alloc, made, &shared, seats, disks, stop, plan);
+    let (stops, served, desk) = serve_made(rt, alloc, &shared, begun, disks, stop, plan);
     drop(desk);
     let live = shared.into_inner();
     let commands = commands_of(&live.counts());
@@ -167,7 +203,13 @@ pub fn serve_unaudited<
 // of the service, and the hosts' seats.
 fn serve_made<
     's,
-    A: OperableArray<M> + MaintainedArray + ServedArray<L> + Drop + Send,
+    A: OperableArray<M>
+        + MaintainedArray
+        + ServedArray<L>
+        + FlushedArray
+        + ShownArray
+        + Drop
+        + Send,
     L: Ledger + Send + Sync,
     M: Copy + Send + Sync,
     R: Threads
@@ -180,16 +222,16 @@ fn serve_made<
 >(
     rt: &'s R,
     alloc: Global,
-    made: Result<(), (usize, Refusal)>,
     array: &Mutex<A>,
-    seats: [Seat<L>; 4],
+    begun: Begun<L>,
     disks: (&[Fuse; 12], M),
     stop: &'s AtomicBool,
     plan: Plan<'_>,
 ) -> (TcpStops<'s, R>, Result<(), ServiceFault>, Desk<L>)
-    requires hosts { map (λ (s : SeatState). s.host.number) seats ≡ 0 ∷ 1 ∷ 2 ∷ 3 ∷ [] }
+    requires hosts { map (λ (s : SeatState). s.host.number) begun.seats ≡ 0 ∷ 1 ∷ 2 ∷ 3 ∷ [] }
 {
     let (fuses, disks) = disks;
+    let Begun { made, seats, log } = begun;
     if let Err((number, refusal)) = made {
         let none = PendingStops::none(alloc);
         return (
@@ -199,6 +241,7 @@ fn serve_made<
         );
     }
     let desk = Mutex::new(Desk::new(seats));
+    let log = Mutex::new(log);
     let operated = OperatedArray {
         rt,
         alloc,
@@ -206,16 +249,24 @@ fn serve_made<
         desk: &desk,
         fuses,
         disks,
+        log: &log,
+        began: Instant::now(rt).ok(),
         stop,
     };
     let (stops, served) = serve_plan(rt, &operated, stop, plan);
     (stops, served, desk.into_inner())
 }
 
-// Serves hosts and, if they have a door, operators.
+// Listens, and serves hosts, operators and HTTP clients.
 fn serve_plan<
     's,
-    A: OperableArray<M> + MaintainedArray + ServedArray<L> + Drop + Send,
+    A: OperableArray<M>
+        + MaintainedArray
+        + ServedArray<L>
+        + FlushedArray
+        + ShownArray
+        + Drop
+        + Send,
     L: Ledger + Send + Sync,
     M: Copy + Send + Sync,
     R: Threads
@@ -231,75 +282,117 @@ fn serve_plan<
     stop: &'s AtomicBool,
     plan: Plan<'_>,
 ) -> (TcpStops<'s, R>, Result<(), ServiceFault>) {
-    let none = PendingStops::none(operated.alloc);
-    match plan.operator {
-        Some(port) => match open_both(rt, operated.alloc, port, stop, plan) {
-            Ok((hosts, operators)) => {
-                let ports = Ports {
-                    hosts: plan.port,
-                    operators: port,
-                };
-                let (stops, served) = run_operated(operated, hosts, operators, ports, &NoGate);
-                (stops, served.map_err(|_| ServiceFault::NoMemory))
-            }
-            Err(fault) => (none, Err(fault)),
-        },
-        None => (none, serve_counted(rt, operated, plan)),
+    match open_doors(rt, operated.alloc, stop, plan) {
+        Ok((hosts, doors)) => {
+            let (stops, served) = run_operated(operated, hosts, doors, ports_of(plan), &NoGate);
+            (stops, served.map_err(|_| ServiceFault::NoMemory))
+        }
+        Err(fault) => (PendingStops::none(operated.alloc), Err(fault)),
     }
 }
 
-// Serves the connections of a plan without operators.
-fn serve_counted<
-    A: OperableArray<M> + MaintainedArray + ServedArray<L> + Drop + Send,
-    L: Ledger + Send + Sync,
-    M,
-    R: Threads
-        + Wait
-        + Clock
-        + Net<Listener = TcpListener, Stream = TcpStream>
-        + Print
-        + Log
-        + Sync,
->(rt: &R, operated: &OperatedArray<'_, R, A, L, M>, plan: Plan<'_>) -> Result<(), ServiceFault> {
-    let hosts = open_hosts(rt, operated.alloc, None, plan)?;
-    say_listening(rt, plan.port)?;
-    let (array, desk) = (operated.array, operated.desk);
-    let (_door, ends) = run_beside_background(rt, operated.alloc, hosts, array, desk, &NoGate);
-    ends?;
-    Ok(())
-}
-
-// Opens the doors of hosts and operators.
-fn open_both<'s, R: Clock + Net<Listener = TcpListener, Stream = TcpStream> + Print + Log>(
+// Opens the doors of a plan, and says so.
+fn open_doors<'s, R: Clock + Net<Listener = TcpListener, Stream = TcpStream> + Print + Log + Sync>(
     rt: &'s R,
     alloc: Global,
-    port: u16,
     stop: &'s AtomicBool,
     plan: Plan<'_>,
-) -> Result<(TcpDoor<'s, R>, TcpDoor<'s, R>), ServiceFault> {
-    let hosts = open_hosts(rt, alloc, Some(stop), plan)?;
-    let operators = TcpDoor::listen(rt, alloc, port, ANY_NUMBER)?;
-    say_listening(rt, plan.port)?;
-    let timeouts = Timeouts {
-        idle: Some(OPERATOR_IDLE),
-        ..Timeouts::NONE
+) -> Result<(TcpDoor<'s, R>, SideDoors<TcpDoor<'s, R>>), ServiceFault> {
+    let hosts = open_hosts(rt, alloc, stop, plan)?;
+    let operators = match plan.operator {
+        Some(port) => Some(open_operators(rt, alloc, port, stop)?),
+        None => None,
     };
-    Ok((hosts, operators.limited(timeouts, Some(stop))))
+    let watchers = match plan.http {
+        Some(http) => Some((open_watchers(rt, alloc, http.port, stop)?, http.keys)),
+        None => None,
+    };
+    let initiators = match plan.iscsi {
+        Some(iscsi) => Some((open_initiators(rt, alloc, stop, iscsi.port, plan)?, iscsi)),
+        None => None,
+    };
+    say_listening(rt, plan.port)?;
+    Ok((
+        hosts,
+        SideDoors {
+            operators,
+            watchers,
+            initiators,
+        },
+    ))
 }
 
-// Opens the hosts' door.
+// The ports of a plan.
+fn ports_of(plan: Plan<'_>) -> Ports {
+    Ports {
+        hosts: plan.port,
+        operators: plan.operator,
+        watchers: plan.http.map(|http| http.port),
+        initiators: plan.iscsi.map(|iscsi| iscsi.port),
+    }
+}
+
+// Opens the hosts' door. Only an operator's `stop` closes it before its last connection.
 fn open_hosts<'s, R: Clock + Net<Listener = TcpListener, Stream = TcpStream> + Log>(
     rt: &'s R,
     alloc: Global,
-    stop: Option<&'s AtomicBool>,
+    stop: &'s AtomicBool,
     plan: Plan<'_>,
 ) -> Result<TcpDoor<'s, R>, ServiceFault> {
     let sessions = match plan.sessions {
         Some(sessions) => usize::from(sessions),
         None => ANY_NUMBER,
     };
+    let stop = plan.operator.map(|_| stop);
     let hosts = TcpDoor::listen(rt, alloc, plan.port, sessions)?;
     Ok(hosts.limited(plan.timeouts, stop))
+}
+
+// Opens the operators' door.
+fn open_operators<'s, R: Clock + Net<Listener = TcpListener, Stream = TcpStream> + Log>(
+    rt: &'s R,
+    alloc: Global,
+    port: u16,
+    stop: &'s AtomicBool,
+) -> Result<TcpDoor<'s, R>, ServiceFault> {
+    let timeouts = Timeouts {
+        idle: Some(OPERATOR_IDLE),
+        ..Timeouts::NONE
+    };
+    let door = TcpDoor::listen(rt, alloc, port, ANY_NUMBER)?;
+    Ok(door.limited(timeouts, Some(stop)))
+}
+
+// Opens the door of HTTP clients.
+fn open_watchers<'s, R: Clock + Net<Listener = TcpListener, Stream = TcpStream> + Log>(
+    rt: &'s R,
+    alloc: Global,
+    port: u16,
+    stop: &'s AtomicBool,
+) -> Result<TcpDoor<'s, R>, ServiceFault> {
+    let timeouts = Timeouts {
+        whole: Some(HTTP_WHOLE),
+        ..Timeouts::NONE
+    };
+    let door = TcpDoor::listen(rt, alloc, port, ANY_NUMBER)?;
+    Ok(door.limited(timeouts, Some(stop)))
+}
+
+// Opens the door of initiators. One that is silent is ended, since it keeps its host's seat.
+fn open_initiators<'s, R: Clock + Net<Listener = TcpListener, Stream = TcpStream> + Log>(
+    rt: &'s R,
+    alloc: Global,
+    stop: &'s AtomicBool,
+    port: u16,
+    plan: Plan<'_>,
+) -> Result<TcpDoor<'s, R>, ServiceFault> {
+    let timeouts = Timeouts {
+        login: plan.timeouts.login,
+        idle: Some(plan.timeouts.idle.unwrap_or(INITIATOR_IDLE)),
+        whole: None,
+    };
+    let door = TcpDoor::listen(rt, alloc, port, ANY_NUMBER)?;
+    Ok(door.limited(timeouts, Some(stop)))
 }
 
 fn say_listening(rt: &impl Print, port: u16) -> Result<(), ServiceFault> {

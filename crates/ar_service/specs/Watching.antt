@@ -1,0 +1,124 @@
+-- A look at a served array, as the pages show it.
+use Rattle.std.specs.Prelude.{◌≡◌, ℕ, ◌-◌, ◌++◌, Bool, true, false, List, [], length, map, Option, Some, None}
+use Rattle.std.specs.List.{range_with_len}
+use Rattle.ar_disks.specs.Geometry.{block_len_of}
+use Rattle.ar_extents.specs.declared.health.Health.{Health}
+use Rattle.ar_extents.specs.declared.health.Health.TheVariants as health
+use Rattle.ar_book.specs.Tables.{free_groups, room}
+use Rattle.ar_volume.specs.Image.{ArrayState, geometry_of}
+use Rattle.ar_history.specs.Kept.{KeptState}
+use Rattle.ar_history.specs.declared.counts.Counts.{Counts}
+use Rattle.ar_history.specs.declared.counts.HostCounts.{HostCounts}
+use Rattle.ar_history.specs.declared.counts.OperationCounts.{OperationCounts}
+use Rattle.ar_history.specs.declared.counts.ReplyCounts.{ReplyCounts}
+use Rattle.ar_history.specs.declared.counts.TaskCounts.{TaskCounts}
+use Rattle.ar_picture.specs.Drawings.{svg_text}
+use Rattle.ar_picture.specs.declared.picture.Picture.{Picture}
+use Rattle.ar_script.specs.Pictures.{IsPicture}
+use Rattle.ar_status.specs.Changes.{between, events_in, listed_with}
+use Rattle.ar_status.specs.declared.changes.EventLog.{EventLog}
+use Rattle.ar_status.specs.declared.events.EventKind.TheVariants.{DiskAdded}
+use Rattle.ar_status.specs.declared.events.RecentEvents.{RecentEvents}
+use Rattle.ar_status.specs.declared.status.ArrayHealth.{ArrayHealth}
+use Rattle.ar_status.specs.declared.status.ArrayHealth.TheVariants as watched
+use Rattle.ar_status.specs.declared.status.ArrayStatus.{ArrayStatus}
+use Rattle.ar_status.specs.declared.status.HostCounters.{HostCounters}
+use Rattle.ar_status.specs.declared.status.MaintenanceSteps.{MaintenanceSteps}
+use Rattle.ar_status.specs.declared.status.OperationCounters.{OperationCounters}
+use Rattle.ar_status.specs.declared.status.ReplyCounters.{ReplyCounters}
+
+-- the health, as the pages have it
+abbrev pub health_watched : Health → ArrayHealth
+health_watched health.Whole = watched.Whole
+health_watched (health.Out disk) = watched.Out disk
+health_watched (health.Rebuilding disk done) = watched.Rebuilding disk done
+health_watched health.Broken = watched.Broken
+
+-- replies by status, as the pages have them
+abbrev pub replies_watched : ReplyCounts → ReplyCounters
+replies_watched counts = record { good = counts.good; check_condition = counts.check; busy = counts.busy }
+
+-- replies by operation, as the pages have them
+abbrev pub operations_watched : OperationCounts → OperationCounters
+operations_watched counts = record {
+  test_unit_ready = replies_watched counts.ready;
+  inquiry = replies_watched counts.inquiry;
+  read_capacity = replies_watched counts.capacity;
+  read = replies_watched counts.read;
+  write = replies_watched counts.write;
+  other = replies_watched counts.other;
+}
+
+-- what was done for a host, as the pages have it
+abbrev pub host_watched : HostCounts → HostCounters
+host_watched counts = record {
+  commands = counts.commands;
+  read_bytes = counts.read;
+  written_bytes = counts.written;
+  replies = operations_watched counts.replies;
+}
+
+-- maintenance steps, as the pages have them
+abbrev pub steps_watched : TaskCounts → MaintenanceSteps
+steps_watched counts = record {
+  flush = counts.flushed;
+  demote = counts.demoted;
+  clean = counts.cleaned;
+  balance = counts.balanced;
+  rebuild = counts.rebuilt;
+}
+
+-- The status is that of this array with these counts, `stored` entries of whose history are stored, at this second, with
+-- these events. The memory of the history is not specified.
+pub record IsStatusOf (array : ArrayState) (counts : Counts) (stored seconds : ℕ) (latest : RecentEvents)
+    (status : ArrayStatus) : Type 0 where
+  pub uptime : status.uptime_seconds ≡ seconds
+  pub health : status.health ≡ health_watched array.store.disks.health
+  pub disks : status.disks ≡ length array.store.disks.disks
+  pub extents : status.extents ≡ array.store.disks.extents
+  pub free_groups : status.free_groups ≡ free_groups array.store.book
+  pub block_bytes : status.block_bytes ≡ block_len_of (geometry_of array)
+  pub room : status.room_blocks ≡ room array.store.book
+  pub entries : status.history_entries ≡ stored
+  pub hosts : status.hosts ≡ map host_watched counts.hosts
+  pub steps : status.steps ≡ steps_watched counts.tasks
+  pub events : status.events ≡ latest
+
+-- the array was compared with how it was seen last: its health, and its disks; and what leads from one look to the
+-- other was listed
+pub record SeesArray (seconds : ℕ) (array : ArrayState) (old new : EventLog) : Type 0 where
+  pub health : new.health ≡ health_watched array.store.disks.health
+  pub disks : new.disks ≡ length array.store.disks.disks
+  pub events :
+      events_in new.events
+      ≡ listed_with seconds
+      (between old.health (health_watched array.store.disks.health)
+      ++ map DiskAdded (range_with_len old.disks (length array.store.disks.disks - old.disks)))
+      (events_in old.events)
+
+-- the data of the picture, if it is to be drawn
+abbrev pub MayDraw : Bool → ArrayState → Option Picture → Type 0
+MayDraw false array None = Unit {0}
+MayDraw false array (Some picture) = ⊥
+MayDraw true array None = ⊥
+MayDraw true array (Some picture) = IsPicture array picture
+
+-- The status of an array at one moment, and the data of its picture at the same one. The time, the events, and how many
+-- entries are stored are not specified.
+pub record CopiesMoment (draws : Bool) (status : ArrayStatus) (drawing : Option Picture) : Type 0 where
+  pub state : KeptState
+  pub stored : ℕ
+  pub is : IsStatusOf state.array state.counts stored status.uptime_seconds status.events status
+  pub picture : MayDraw draws state.array drawing
+
+-- the text of a picture; without one it is empty
+abbrev pub text_drawn : Option Picture → List ℕ
+text_drawn None = []
+text_drawn (Some picture) = svg_text picture
+
+-- A look shows an array at one moment, and the picture of the same moment. That it is the array behind the lock is not
+-- specified.
+pub record ShowsMoment (draws : Bool) (status : ArrayStatus) (text : List ℕ) : Type 0 where
+  pub picture : Option Picture
+  pub copied : CopiesMoment draws status picture
+  pub drawn : text ≡ text_drawn picture

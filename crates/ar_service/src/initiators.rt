@@ -1,0 +1,147 @@
+// Initiators over iSCSI. Each connection is a session with the target of one host, or for discovery. A session with a target
+// takes the host's seat, as one over the array's own frames does, and returns it at its end.
+ghost use Rattle.std.specs.Prelude.{◌≡◌};
+
+use crate::doors::OperatedArray;
+use ar_disks::Host;
+use ar_frames::{Login, Port, Sink, Source};
+use ar_iscsi::serve_target;
+use ar_scsi::Reply;
+use ar_sessions::{Desk, FlushedArray, Handler, LockPort, ServedArray};
+use ar_target::{Attributes, DeviceServer, FlushOutcome, FlushPort};
+use bytes::Bytes;
+use log::{Log, info};
+use std::alloc::{AllocError, Global};
+use std::io::Write;
+use std::sync::ledger::Ledger;
+use std::sync::{Mutex, Wait};
+use std::thread;
+use std::time::{Clock, Duration};
+
+/// How often a login looks for its host's seat, if another session has it, and the milliseconds between two looks.
+const LOOKS: u32 = 100;
+
+const LOOK_PAUSE: u64 = 10;
+
+/// The door of initiators, and what is reported to them of the array.
+#[derive(Clone, Copy)]
+pub struct IscsiPort {
+    /// The TCP port to listen at, on 127.0.0.1.
+    pub port: u16,
+    /// Distinguishes the array from others in the names of its units. Nothing outlives the program, so that it has to be
+    /// another one at each start.
+    pub array: u32,
+    /// Whether a WRITE may be GOOD before its blocks are on the disks: the array has a cache.
+    pub write_back: bool,
+    /// Sectors of a block.
+    pub block_sectors: u16,
+}
+
+/// What the threads at the initiators' door share.
+#[derive(Drop)]
+pub struct Targets<'a, R: Wait, A: Drop, L: Ledger, M> {
+    array: &'a OperatedArray<'a, R, A, L, M>,
+    attributes: Attributes,
+    // Address and port, as `127.0.0.1:3260`.
+    address: Vec<u8>,
+}
+
+impl<'a, R: Wait, A: Drop, L: Ledger, M> Targets<'a, R, A, L, M> {
+    /// The targets of the four hosts at a port.
+    pub fn new(
+        array: &'a OperatedArray<'a, R, A, L, M>,
+        iscsi: IscsiPort,
+    ) -> Result<Targets<'a, R, A, L, M>, AllocError> {
+        let address = address_of(array.alloc, iscsi.port)?;
+        Ok(Targets {
+            array,
+            attributes: Attributes {
+                array: iscsi.array,
+                host: 0,
+                write_back: iscsi.write_back,
+                block_sectors: iscsi.block_sectors,
+            },
+            address,
+        })
+    }
+}
+
+// The address of a port, as it is reported to initiators.
+fn address_of(alloc: Global, port: u16) -> Result<Vec<u8>, AllocError> {
+    let mut address = Vec::new(alloc);
+    write!(address, "127.0.0.1:{port}").map_err(|_| AllocError)?;
+    Ok(address)
+}
+
+// A port whose login waits for up to a second while another session has the host's seat: an initiator may log in again as
+// soon as it has logged out, and its last session is still being closed then.
+#[derive(Drop)]
+struct PatientPort<'a, R: Wait, L: Ledger, P: Drop> {
+    rt: &'a R,
+    desk: &'a Mutex<Desk<L>>,
+    port: P,
+}
+
+impl<'a, R: Wait + Clock, L: Ledger, P: Port + Drop> Port for PatientPort<'a, R, L, P> {
+    ghost has_login = { λ patient. P.has_login patient.port };
+
+    ghost logins = { λ old host login new. P.logins old.port host login new.port };
+
+    ghost commands = { λ old lun cdb payload reply new. P.commands old.port lun cdb payload reply new.port };
+
+    fn login(&mut self, host: u8) -> Login {
+        wait_for_seat(self.rt, self.desk, host);
+        self.port.login(host)
+    }
+
+    fn command(&mut self, lun: u8, cdb: &[u8; 16], payload: Bytes) -> Reply {
+        self.port.command(lun, cdb, payload)
+    }
+}
+
+impl<'a, R: Wait + Clock, L: Ledger, P: FlushPort + Drop> FlushPort for PatientPort<'a, R, L, P> {
+    ghost flushes = { λ old lun outcome new. P.flushes old.port lun outcome new.port };
+
+    fn flush(&mut self, lun: u8) -> FlushOutcome {
+        self.port.flush(lun)
+    }
+}
+
+// Waits until a host has no session, or for a second.
+fn wait_for_seat<R: Wait + Clock, L: Ledger>(rt: &R, desk: &Mutex<Desk<L>>, number: u8) {
+    let Some(host) = Host::new(number) else {
+        return;
+    };
+    for _ in 0..LOOKS {
+        if desk.lock(rt).counts(host).is_none() {
+            return;
+        }
+        thread::sleep(rt, Duration::from_millis(LOOK_PAUSE));
+    }
+}
+
+impl<
+    'a,
+    R: Wait + Clock + Log,
+    A: ServedArray<L> + FlushedArray + Drop,
+    L: Ledger,
+    M,
+    S: Source + Drop,
+    W: Sink + Drop,
+> Handler<S, W> for Targets<'a, R, A, L, M> {
+    // Serves a session.
+    fn handle(&self, number: u64, mut reader: S, mut writer: W) {
+        let (rt, alloc) = (self.array.rt, self.array.alloc);
+        let (array, desk) = (self.array.array, self.array.desk);
+        let port = PatientPort {
+            rt,
+            desk,
+            port: LockPort::new(rt, array, desk),
+        };
+        let mut server = DeviceServer::new(alloc, port, self.attributes);
+        let end = serve_target(alloc, &mut reader, &mut writer, &mut server, &self.address);
+        let PatientPort { port, .. } = server.into_port();
+        let _receipt = port.finish();
+        info!(rt; "iSCSI session {number} ended: {end:?}");
+    }
+}

@@ -1,0 +1,91 @@
+// A thread that looks at the array ten times a second: so each event is listed with its time, and the log has it, also
+// while nobody watches. A look costs hosts the lock for about a microsecond.
+ghost use Rattle.std.specs.Prelude.{◌≤◌, length};
+
+use crate::doors::OperatedArray;
+use crate::shown::ShownArray;
+use ar_status::{EventKind, RecentEvent, RecentEvents};
+use log::{Log, info};
+use std::sync::Wait;
+use std::sync::atomic::Ordering;
+use std::sync::ledger::Ledger;
+use std::thread;
+use std::time::{Clock, Duration};
+
+/// Milliseconds between two looks.
+const PAUSE: u64 = 100;
+
+/// The memory of the history at which it is logged first, in bytes.
+const FIRST_BYTES: u64 = 1 << 20;
+
+/// What looks at an array until the service ends.
+pub trait Monitor {
+    /// Looks at it again and again.
+    fn monitor(&self);
+
+    /// Ends the service.
+    fn end(&self);
+}
+
+impl<'a, R: Wait + Clock + Log, A: ShownArray + Drop, L: Ledger, M> Monitor
+    for OperatedArray<'a, R, A, L, M> {
+    fn monitor(&self) {
+        let mut logged = RecentEvents::new();
+        let mut bytes = FIRST_BYTES;
+        for _ in self.rt.forever() {
+            if self.stop.load(Ordering::SeqCst) {
+                break;
+            }
+            let status = self.see();
+            log_events(self.rt, logged.as_slice(), status.events.as_slice());
+            logged = status.events;
+            bytes = log_bytes(self.rt, bytes, status.history_bytes);
+            thread::sleep(self.rt, Duration::from_millis(PAUSE));
+        }
+    }
+
+    fn end(&self) {
+        self.stop.store(true, Ordering::SeqCst);
+    }
+}
+
+// Logs the events of a list that an older one doesn't have. Both have the newest first.
+fn log_events<R: Log>(rt: &R, old: &[RecentEvent], new: &[RecentEvent]) {
+    for event in new[..count_new(old, new)].iter().rev() {
+        log_event(rt, event.kind);
+    }
+}
+
+// How many events came behind those of the old list.
+fn count_new(old: &[RecentEvent], new: &[RecentEvent]) -> usize
+    ensures { result ≤ length new.now }
+{
+    for count in 0..new.len() {
+        if old.starts_with(&new[count..]) {
+            return count;
+        }
+    }
+    new.len()
+}
+
+fn log_event<R: Log>(rt: &R, kind: EventKind) {
+    match kind {
+        EventKind::DiskFailed { disk } => info!(rt; "disk {disk} failed"),
+        EventKind::DiskReplaced { disk } => info!(rt; "disk {disk} replaced"),
+        EventKind::DiskRebuilt { disk } => info!(rt; "disk {disk} rebuilt"),
+        EventKind::DiskAdded { disk } => info!(rt; "disk {disk} added"),
+        EventKind::ArrayFailed => info!(rt; "array failed: two disks missing at once"),
+        EventKind::UnitMade { host, lun } => info!(rt; "unit {host} {lun} made"),
+        EventKind::UnitGrown { host, lun } => info!(rt; "unit {host} {lun} grown"),
+        EventKind::UnitDropped { host, lun } => info!(rt; "unit {host} {lun} dropped"),
+    }
+}
+
+// Logs the memory of the history where it has reached `limit`, and returns that at which it is logged next.
+fn log_bytes<R: Log>(rt: &R, limit: u64, bytes: u64) -> u64 {
+    if bytes < limit {
+        return limit;
+    }
+    info!(rt; "the history takes {bytes} bytes");
+    bytes.saturating_mul(2)
+}

@@ -1,0 +1,121 @@
+// HTTP clients that watch the array. Its numbers, and the data of its picture, are copied under its lock; all else is
+// done outside.
+ghost use Rattle.std.specs.Prelude.{◌≡◌, IfOk};
+ghost use Rattle.ar_service.specs.Watching.{CopiesMoment, MayDraw, text_drawn};
+
+use crate::doors::OperatedArray;
+use crate::shown::ShownArray;
+use ar_frames::Linked;
+use ar_picture::{Picture, write_svg};
+use ar_sessions::Handler;
+use ar_status::{ArrayStatus, EventLog, Look, Watched, serve_connection};
+use std::alloc::{AllocError, Global};
+use std::hash::RandomState;
+use std::io::{Read, Write};
+use std::sync::Wait;
+use std::sync::ledger::Ledger;
+use std::time::Clock;
+
+/// A served array, as HTTP clients watch it.
+#[derive(Drop)]
+pub struct Watch<'a, R: Wait + Clock, A: ShownArray + Drop, L: Ledger, M> {
+    array: &'a OperatedArray<'a, R, A, L, M>,
+    // Of the maps of header fields, whose names clients choose.
+    keys: RandomState,
+}
+
+impl<'a, R: Wait + Clock, A: ShownArray + Drop, L: Ledger, M> Watch<'a, R, A, L, M> {
+    /// A watch over an array, with the keys of the maps of header fields.
+    pub fn new(
+        array: &'a OperatedArray<'a, R, A, L, M>,
+        keys: RandomState,
+    ) -> Watch<'a, R, A, L, M> {
+        Watch { array, keys }
+    }
+
+    // The status, and the data of the picture if it is to be drawn. The log's lock is taken before the array's, so that
+    // looks are compared in the order in which they were taken.
+    fn copied(
+        &self,
+        alloc: Global,
+        draws: bool,
+    ) -> Result<(ArrayStatus, Option<Picture>), AllocError>
+        ensures { IfOk result (λ copied. CopiesMoment draws copied.0 copied.1) }
+    {
+        let mut log = self.array.log.lock(self.array.rt);
+        let seconds = self.array.seconds();
+        let array = self.array.array.lock(self.array.rt);
+        copy_moment::<A>(alloc, &array, &mut log, seconds, draws)
+    }
+}
+
+// Looks at an array, and copies what is shown of it.
+fn copy_moment<A: ShownArray>(
+    alloc: Global,
+    array: &A,
+    log: &mut EventLog,
+    seconds: u64,
+    draws: bool,
+) -> Result<(ArrayStatus, Option<Picture>), AllocError>
+    ensures { IfOk result (λ copied. CopiesMoment draws copied.0 copied.1) }
+{
+    array.see(seconds, log);
+    let status = array.status(seconds, log.events());
+    let picture = picture_if(alloc, array, draws)?;
+    Ok((status, picture))
+}
+
+// The data of the picture, if it is to be drawn.
+fn picture_if<A: ShownArray>(
+    alloc: Global,
+    array: &A,
+    draws: bool,
+) -> Result<Option<Picture>, AllocError>
+    ensures { IfOk result (MayDraw draws (A.state array.now).array) }
+{
+    if draws {
+        Ok(Some(array.picture(alloc)?))
+    } else {
+        Ok(None)
+    }
+}
+
+// The text of a picture; without one it is empty.
+fn draw(alloc: Global, picture: &Option<Picture>) -> Result<Vec<u8>, AllocError>
+    ensures { IfOk result (λ text. text.items ≡ text_drawn picture.now) }
+{
+    let mut text = Vec::new(alloc);
+    if let Some(picture) = picture {
+        write_svg(&mut text, picture).map_err(|_| AllocError)?;
+    }
+    Ok(text)
+}
+
+impl<'a, R: Wait + Clock, A: ShownArray + Drop, L: Ledger, M> Watched for Watch<'a, R, A, L, M> {
+    ghost use Rattle.ar_service.specs.Watching.{ShowsMoment};
+
+    ghost shows = { λ _ draws status picture. ShowsMoment draws status picture };
+
+    fn look(&self, alloc: Global, draws: bool) -> Result<Look, AllocError> {
+        let (status, picture) = self.copied(alloc, draws)?;
+        let picture = draw(alloc, &picture)?;
+        Ok(Look { status, picture })
+    }
+}
+
+impl<
+    'a,
+    R: Wait + Clock,
+    A: ShownArray + Drop,
+    L: Ledger,
+    M,
+    S: Read + Drop,
+    W: Write + Drop,
+> Handler<Linked<S>, Linked<W>> for Watch<'a, R, A, L, M> {
+    // Answers one request. One that isn't answered has a client that is gone, or memory was short.
+    fn handle(&self, _number: u64, reader: Linked<S>, writer: Linked<W>) {
+        let (mut reader, mut writer) = (reader.into_inner(), writer.into_inner());
+        let alloc = self.array.alloc;
+        let _answered = serve_connection(alloc, self.keys, self, &mut reader, &mut writer);
+    }
+}
