@@ -4,12 +4,13 @@ use ar_cli::CommandLineFault;
 use ar_disks::Geometry;
 use ar_language::unit_and_number;
 use ar_script::Setup;
-use ar_service::{NewUnit, Plan};
+use ar_service::{HttpPort, IscsiPort, NewUnit, Plan};
 use ar_sessions::Timeouts;
 use clap::error::ErrorKind;
 use clap::{Arg, ArgAction, ArgMatches, Command, Error as ParseError, value_parser};
 use std::alloc::{AllocError, Global};
 use std::convert::AsStr;
+use std::hash::RandomState;
 
 /// A parsed command line.
 #[derive(Drop)]
@@ -27,6 +28,15 @@ pub enum Audit {
     Off,
 }
 
+/// Random numbers of a service.
+#[derive(Clone, Copy)]
+pub struct RandomNumbers {
+    /// The keys of the maps of HTTP header fields; `None` if nothing is served over HTTP.
+    pub keys: Option<RandomState>,
+    /// Distinguishes the array from others in the names of its units over iSCSI.
+    pub array: u32,
+}
+
 /// The array to serve, and how.
 #[derive(Drop)]
 pub struct Service {
@@ -36,6 +46,8 @@ pub struct Service {
     pub port: u16,
     pub sessions: Option<u8>,
     pub operator: Option<u16>,
+    pub http: Option<u16>,
+    pub iscsi: Option<u16>,
     pub timeouts: Timeouts,
     pub audit: Audit,
     /// The units to create.
@@ -45,15 +57,35 @@ pub struct Service {
 }
 
 impl Service {
-    /// The plan of the service.
-    pub fn plan(&self) -> Plan<'_> {
+    /// The plan of the service, with these random numbers.
+    pub fn plan(&self, random: RandomNumbers) -> Plan<'_> {
         Plan {
             units: self.units.as_slice(),
             port: self.port,
             sessions: self.sessions,
             operator: self.operator,
+            http: http_port(self.http, random.keys),
+            iscsi: self.iscsi_port(random.array),
             timeouts: self.timeouts,
         }
+    }
+
+    // The port for initiators, if there is one, and what is reported to them of the array.
+    fn iscsi_port(&self, array: u32) -> Option<IscsiPort> {
+        Some(IscsiPort {
+            port: self.iscsi?,
+            array,
+            write_back: self.setup.cache > 0,
+            block_sectors: self.setup.geometry.sectors() as u16,
+        })
+    }
+}
+
+// The port for HTTP clients, if there is one, and keys for it.
+fn http_port(port: Option<u16>, keys: Option<RandomState>) -> Option<HttpPort> {
+    match (port, keys) {
+        (Some(port), Some(keys)) => Some(HttpPort { port, keys }),
+        _ => None,
     }
 }
 
@@ -102,6 +134,8 @@ fn serve_command<'a>(alloc: Global) -> Result<Command<'a>, AllocError> {
         .arg(port(alloc, "port").required(true))?
         .arg(sessions(alloc))?
         .arg(port(alloc, "operator"))?
+        .arg(port(alloc, "http"))?
+        .arg(port(alloc, "iscsi"))?
         .arg(seconds(alloc, "login-timeout").default_value("10"))?
         .arg(seconds(alloc, "idle-timeout"))?
         .arg(audit_option(alloc))?
@@ -242,6 +276,8 @@ fn service_of(alloc: Global, options: &ArgMatches<'_>) -> Result<Service, Failur
         port,
         sessions,
         operator,
+        http: options.get_one("http"),
+        iscsi: options.get_one("iscsi"),
         timeouts: Timeouts {
             login: options.get_one("login-timeout"),
             idle: options.get_one("idle-timeout"),

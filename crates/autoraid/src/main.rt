@@ -9,15 +9,17 @@ mod serve;
 
 use ar_cli::{end_with, words_of};
 use ar_script::{Runner, Setup, run_on, run_script};
-use command_line::{Order, Service, order_in};
+use command_line::{Order, RandomNumbers, Service, order_in};
 use drawing::draw;
 use failure::Failure;
 use log::sink::Console;
 use log::{Level, Log, Logged};
 use serve::{ServeFault, run_server};
 use std::alloc::Global;
+use std::hash::RandomState;
 use std::net::{Net, TcpListener, TcpStream};
 use std::process::ExitCode;
+use std::random::RandomSource;
 use std::sync::Wait;
 use std::thread::Threads;
 use std::time::Clock;
@@ -48,15 +50,33 @@ fn serve_logging<
         + Net<Listener = TcpListener, Stream = TcpStream>
         + Print
         + Eprint
+        + RandomSource
         + Sync,
 >(rt: &R, alloc: Global, service: &Service) -> Result<(), ServeFault> {
+    let random = random_for(rt, service)?;
     let level = if service.log {
         Level::Info
     } else {
         Level::Warn
     };
     let logged = Logged::new(rt, level, Console(rt));
-    run_server(&logged.with_target("autoraid"), alloc, service)
+    run_server(&logged.with_target("autoraid"), alloc, service, random)
+}
+
+// The random numbers that a service needs.
+fn random_for(rt: &impl RandomSource, service: &Service) -> Result<RandomNumbers, ServeFault> {
+    let keys = match service.http {
+        Some(_) => Some(RandomState::new(rt).map_err(|_| ServeFault::Listen)?),
+        None => None,
+    };
+    let mut array = [0; 4];
+    if service.iscsi.is_some() {
+        rt.fill_bytes(&mut array).map_err(|_| ServeFault::Listen)?;
+    }
+    Ok(RandomNumbers {
+        keys,
+        array: u32::from_be_bytes(array),
+    })
 }
 
 // Runs a script, and draws the array if a file is named.

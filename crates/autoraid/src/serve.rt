@@ -1,5 +1,5 @@
 // Serves an array to hosts and operators, and prints what came of it.
-use crate::command_line::{Audit, Service};
+use crate::command_line::{Audit, RandomNumbers, Service};
 use ar_core::Refusal;
 use ar_history::Mismatch;
 use ar_operator::{Fuse, FusedDisk, FusedMaker, start_fused};
@@ -25,7 +25,7 @@ pub enum ServeFault {
     /// A unit can't be created.
     #[error("unit {word} refused {refusal}")]
     Unit { word: String, refusal: Refusal },
-    /// Listening at a port failed.
+    /// Listening at a port failed, or the system has no random numbers for HTTP or iSCSI.
     #[error("listen fault")]
     Listen,
     /// A session did not return its seat.
@@ -42,7 +42,7 @@ pub enum ServeFault {
     NoMemory,
 }
 
-/// Creates the array and its units, listens, and serves hosts and operators. Then it compares the hosts' transcripts with
+/// Creates the array and its units, listens, and serves hosts, operators, initiators and HTTP clients. Then it compares the hosts' transcripts with
 /// the history, unless none is stored. Operators that have asked for the end are answered last.
 pub fn run_server<
     R: Threads
@@ -52,10 +52,10 @@ pub fn run_server<
         + Print
         + Log
         + Sync,
->(rt: &R, alloc: Global, service: &Service) -> Result<(), ServeFault> {
+>(rt: &R, alloc: Global, service: &Service, random: RandomNumbers) -> Result<(), ServeFault> {
     let fuses = Fuse::twelve();
     let stop = AtomicBool::new(false);
-    let (stops, served) = serve(rt, alloc, service, &fuses, &stop)?;
+    let (stops, served) = serve(rt, alloc, service, random, &fuses, &stop)?;
     conclude(rt, alloc, service, stops, served)
 }
 
@@ -74,6 +74,7 @@ fn serve<
     rt: &'s R,
     alloc: Global,
     service: &Service,
+    random: RandomNumbers,
     fuses: &[Fuse; 12],
     stop: &'s AtomicBool,
 ) -> Result<(TcpStops<'s, R>, Result<[u64; 4], ServiceFault>), ServeFault> {
@@ -81,7 +82,7 @@ fn serve<
         return Err(ServeFault::Start);
     };
     let disks = (fuses, FusedMaker::new(fuses));
-    let plan = service.plan();
+    let plan = service.plan(random);
     match service.audit {
         Audit::Full => {
             let (stops, served) = serve_audited::<FusedDisk<'_>, Brand, FusedMaker<'_>, R>(
