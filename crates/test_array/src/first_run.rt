@@ -20,7 +20,8 @@ pub const FIRST_RUN: [Row; 7] = [
     ),
 ];
 
-fn push_event<R: Abort + AllocGlobal>(
+/// Appends the event of a call.
+pub fn push_event<R: Abort + AllocGlobal>(
     rt: &R,
     shape: Shape,
     events: &mut Vec<Event<FuseDisk>>,

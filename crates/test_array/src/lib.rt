@@ -15,6 +15,8 @@ mod fuses;
 #[cfg(test)]
 mod generated;
 #[cfg(test)]
+mod longest;
+#[cfg(test)]
 mod mixed;
 #[cfg(test)]
 mod scarce;
