@@ -14,7 +14,7 @@ use Rattle.ar_language.specs.declared.fault.Fault.{Fault}
 use Rattle.ar_language.specs.declared.fault.Fault.TheVariants.{Start, Line}
 use Rattle.ar_language.specs.declared.lines.Lines.{Lines}
 use Rattle.ar_language.specs.Lines.{lines_in, lines_of, first_of, front_of, line_fault, bytes_left, Took, HasNoEnd, is_printable, IsLine, IsFirst, IsLacking, IsAllTaken, AreThere, IsFaultFrom, IsUnasked, IsToldOfFirst, IsToldOfNext, IsNextLineFault, is_given, IsReached, IsNumbered, IsOfNext}
-use Rattle.ar_language.specs.Left.{bytes_read, lines_begun, lines_left, IsBegunByByte, IsLineRefused, GoesOn}
+use Rattle.ar_language.specs.Left.{bytes_read, lines_begun, lines_left, IsBegunByByte, IsSettled, HasFault, IsLineRefused, GoesOn}
 use Rattle.ar_language.proofs.Parting.{lines_in-ended, lines_in-last, some_line, printable_has_no_end}
 
 -- what comes behind the bytes that were read: nothing, where the end was met
@@ -313,6 +313,17 @@ none_behind old new many some given same drained = at new.is_begun refl
     at : (b : Bool) → new.is_begun ≡ b → ⊥
     at true is = let few = subst (λ b. new.given + cond b 1 0 ≤ 1000000) is new.few in omega arith
     at false is = some (sym same ∙ ap (λ b. front_of b new.line.items ++ reader_buffer new.source) is ∙ drained)
+
+-- a line that needs more input isn't settled
+pub not_settled : {R : Type 0} {reads : Ghosts R} (old new : Lines R reads) → IsLine (bytes_read old) → new.given ≡ old.given
+    → bytes_read new ≡ bytes_read old → reader_buffer new.source ≡ [] → old.is_at_end ≡ false → IsSettled old → ⊥
+not_settled old new whole given same drained more settled = at settled
+  where
+    at : IsSettled old → ⊥
+    at (inl end) = no_end_there (front_of old.is_begun old.line.items) (reader_buffer old.source) whole end
+    at (inr (inl fault)) = no_fault_there (bytes_read old) fault.kind whole fault.is
+    at (inr (inr (inl many))) = none_behind old new many.0 many.1 given same drained
+    at (inr (inr (inr ended))) = absurd (cc)
 
 -- ---- a line that was begun is there
 

@@ -1,10 +1,12 @@
 -- What is left of a script, and how far its lines were read.
-use Rattle.std.specs.Prelude.{◌≡◌, ◌≢◌, ◌⊎◌, ℕ, ◌+◌, Bool, true, false, if◌then◌else◌, List, [], ◌∷◌, ◌++◌, Option, Result, IfErr}
+use Rattle.std.specs.Prelude.{◌≡◌, ◌≢◌, ◌⊎◌, ℕ, ◌+◌, ◌==◌, ◌&&◌, not, Bool, true, false, if◌then◌else◌, List, [], ◌∷◌, ◌++◌, Option, IsSome, Result, IfErr}
+use Rattle.std.specs.List.{position}
 use Rattle.std.specs.Io.Buffered.{reader_buffer, reader_remaining}
 use Rattle.std.specs.Io.KnownBytes.{prepend_known}
 use Rattle.std.specs.declared.io.traits.Read.{Ghosts}
 use Rattle.ar_language.specs.declared.fault.Fault.{Fault}
 use Rattle.ar_language.specs.declared.fault.Fault.TheVariants.{Start, Line}
+use Rattle.ar_language.specs.declared.fault.FaultKind.{FaultKind}
 use Rattle.ar_language.specs.declared.fault.FaultKind.TheVariants.{TooManyLines}
 use Rattle.ar_language.specs.declared.lines.Lines.{Lines}
 use Rattle.ar_language.specs.Lines.{front_of, bytes_left, lines_of, is_given, is_lacking, Took, IsAllTaken, IsFaultFrom, IsOfStream, IsNextLineFault, IsOfNext, IsReached, IsNumbered}
@@ -44,6 +46,30 @@ IsLineRefused lines begun (Line n kind) =
     (n ≡ lines.given + 1)
     × (((kind ≡ TooManyLines) × (lines.given ≡ 1000000) × (bytes_read lines ≢ []) × (begun ≡ false))
     ⊎ (IsFaultFrom (bytes_read lines) kind × (begun ≡ true)))
+
+-- what was read has a fault, whatever follows it
+pub record HasFault (bytes : List ℕ) : Type 0 where
+  pub kind : FaultKind
+  pub is : IsFaultFrom bytes kind
+
+-- No input is needed to know the next line, its fault, or that there is none: its line feed was read, or what was read
+-- has a fault, or follows a million lines, or is all of the input.
+abbrev pub IsSettled : {R : Type 0} {reads : Ghosts R} → Lines R reads → Type 0
+IsSettled lines =
+    IsSome (position (λ byte. byte == 10) (reader_buffer lines.source)) ⊎ HasFault (bytes_read lines)
+    ⊎ ((lines.given ≡ 1000000) × (bytes_read lines ≢ [])) ⊎ (lines.is_at_end ≡ true)
+
+-- What advancing to the next line leaves of the reader's state, by what it returned.
+pub record CountsLine {R : Type 0} {reads : Ghosts R} (old : Lines R reads) (result : Result Bool Fault) (new : Lines R reads) : Type 0 where
+  -- a line that is returned is counted and closed; else nothing that was read is lost
+  pub count : new.given ≡ old.given + (if is_given result then 1 else 0)
+  pub closed : is_given result ≡ true → new.is_begun ≡ false
+  pub kept : is_given result ≡ false → bytes_read new ≡ bytes_read old
+  -- a line that lacks its end is awaited unless the input has ended, and nothing is left of what was read but its front
+  pub awaited : new.is_awaited ≡ (is_lacking result && not old.is_at_end)
+  pub drained : is_lacking result ≡ true → reader_buffer new.source ≡ []
+  pub begun : is_lacking result ≡ true → bytes_read old ≡ [] → new.is_begun ≡ old.is_begun
+  pub ended : new.is_at_end ≡ old.is_at_end
 
 -- What ends the reading of lines, even if the reader doesn't report its bytes: a stream faulted while the next line was
 -- awaited and the input hadn't ended, or the line is refused.

@@ -32,7 +32,7 @@ pub struct Lines<R: Read + Drop> {
 }
 
 impl<R: Read + Drop> Lines<R> {
-    ghost use Rattle.ar_language.specs.Left.{bytes_read, lines_begun, lines_left, IsLineRefused, IsFresh};
+    ghost use Rattle.ar_language.specs.Left.{bytes_read, lines_begun, lines_left, CountsLine, IsLineRefused, IsFresh};
 
     /// The lines of `reader`, none of them read yet. It allocates room for the longest line and a buffer of 8 KiB, and
     /// fails if it can't; no other call allocates.
@@ -80,13 +80,7 @@ impl<R: Read + Drop> Lines<R> {
         ensures lacking { is_lacking result ≡ true → IsLacking self.old.is_at_end (bytes_read self.old) }
         ensures refused { IfErr result (IsLineRefused self.old self.new.is_begun) }
 
-        ensures kept { is_given result ≡ false → bytes_read self.new ≡ bytes_read self.old }
-        ensures drained { is_lacking result ≡ true → reader_buffer self.new.source ≡ [] }
-        ensures ended { self.new.is_at_end ≡ self.old.is_at_end }
-        ensures awaited { self.new.is_awaited ≡ (is_lacking result && not self.old.is_at_end) }
-        ensures count { self.new.given ≡ self.old.given + (if is_given result then 1 else 0) }
-        ensures closed { is_given result ≡ true → self.new.is_begun ≡ false }
-        ensures begun { is_lacking result ≡ true → bytes_read self.old ≡ [] → self.new.is_begun ≡ self.old.is_begun }
+        ensures counts { CountsLine self.old result self.new }
     {
         self.is_awaited = false;
         if !self.is_begun && self.source.buffer().is_empty() {

@@ -1,11 +1,11 @@
 // Waits for the next line. The output is flushed before the input is accessed, so that no answer is held back
 // meanwhile.
-ghost use Rattle.std.specs.Prelude.{◌≡◌, ◌≢◌, ◌==◌, ◌⊎◌, IsSome, IfErr, OnOk, true, false, [], length};
+ghost use Rattle.std.specs.Prelude.{◌≡◌, ◌==◌, ◌⊎◌, IsSome, IfErr, OnOk, true, false, [], length};
 ghost use Rattle.std.specs.List.{position};
 ghost use Rattle.std.specs.Io.Buffered.{reader_buffer, writer_buffer, writer_contents};
 ghost use Rattle.std.specs.Io.KnownBytes.{Keeps};
-ghost use Rattle.ar_language.specs.Lines.{Took, IsFirst, IsFaultFrom, IsUnasked, is_given, is_write_fault, IsNextLineFault, IsOfNext, IsReached, IsNumbered};
-ghost use Rattle.ar_language.specs.Left.{bytes_read, lines_begun, lines_left, IsAwaited, IsBegunByByte, EndsReading, GoesOn};
+ghost use Rattle.ar_language.specs.Lines.{Took, IsFirst, IsUnasked, is_given, is_write_fault, IsNextLineFault, IsOfNext, IsReached, IsNumbered};
+ghost use Rattle.ar_language.specs.Left.{bytes_read, lines_begun, lines_left, IsAwaited, IsBegunByByte, IsSettled, EndsReading, GoesOn};
 
 use crate::{Fault, FaultKind, Lines};
 use std::io::{BufWriter, Read, Write};
@@ -21,25 +21,14 @@ pub fn next_line<R: Read + Drop, W: Write + Drop>(
     ensures begun { IsBegunByByte lines.old → IsBegunByByte lines.new }
     ensures awaited { OnOk result (lines.new.is_awaited ≡ false) }
 
-    // The input isn't accessed if the line's end was read, or the end of the input was met.
-    ensures unasked { IsSome (position (λ byte. byte == 10) (reader_buffer lines.old.source))
-        → IsUnasked lines.old.source lines.new.source }
+    // Neither stream is accessed where what was read holds a whole line or a fault, or where the input has ended.
+    ensures settled { IsSettled lines.old → IsUnasked lines.old.source lines.new.source × (out.new ≡ out.old) }
     ensures buffered { IsSome (position (λ byte. byte == 10) (reader_buffer lines.old.source)) → is_given result ≡ true
         → IsFirst lines.old.is_at_end (bytes_read lines.old) lines.new.line.items (bytes_read lines.new) }
-    ensures ended { lines.old.is_at_end ≡ true → IsUnasked lines.old.source lines.new.source }
 
-    // Nor is the output flushed then. If the input was accessed, the buffer of the output is empty, unless the flush
-    // failed.
+    // No answer is added or lost. If the input was accessed, the buffer of the output is empty, unless the flush failed.
     ensures answers { Keeps (writer_contents W.contents out.old) (writer_contents W.contents out.new) }
-    ensures untouched { IsSome (position (λ byte. byte == 10) (reader_buffer lines.old.source)) → out.new ≡ out.old }
-    ensures over { lines.old.is_at_end ≡ true → out.new ≡ out.old }
     ensures written { is_write_fault result ≡ false → IsUnasked lines.old.source lines.new.source ⊎ (writer_buffer out.new ≡ []) }
-
-    // Neither is done if what was read has a fault: the line's own, or that it is one too many.
-    ensures faulty { (kind : FaultKind) → IsFaultFrom (bytes_read lines.old) kind
-        → IsUnasked lines.old.source lines.new.source × (out.new ≡ out.old) }
-    ensures too_many { lines.old.given ≡ 1000000 → bytes_read lines.old ≢ []
-        → IsUnasked lines.old.source lines.new.source × (out.new ≡ out.old) }
 {
     let is_given = lines.advance()?;
     if !lines.is_awaited() {

@@ -2,7 +2,7 @@ use Rattle.std.proofs.Common.{rules, ◌≡◌, Err, false}
 use Rattle.std.specs.Io.Buffered.{reader_buffer}
 use Rattle.ar_language.specs.Lines.{front_of, is_given}
 use Rattle.ar_language.specs.Left.{bytes_read}
-use Rattle.ar_language.proofs.Going.{goes_told, goes_refused, goes_later, kept_lines, no_end_there, no_fault_there, none_behind}
+use Rattle.ar_language.proofs.Going.{goes_told, goes_refused, goes_later, kept_lines, no_end_there, not_settled}
 use Rattle.ar_language.proofs.next.next_line.Goals as goal
 
 pub returns-in_err-is_given-clause-goes_on : goal.returns-in_err-is_given-clause-goes_on
@@ -12,12 +12,12 @@ returns-in_err-is_given-clause-goes_on g c =
     let fault = c.in_err-is_given.field-0.0 in
     let none : is_given c.advance.result ≡ false = search rules in
     let told : c.from_residual.result ≡ Err fault = search rules in
-    goes_refused old new fault c.from_residual.result told c.advance.ensures.unasked c.advance.ensures.ended (c.advance.ensures.kept none) (search rules)
+    goes_refused old new fault c.from_residual.result told c.advance.ensures.unasked c.advance.ensures.counts.ended (c.advance.ensures.counts.kept none) (search rules)
     c.in_err-is_given.ensures.refused
 
 pub returns-then-not-is_awaited-clause-goes_on : goal.returns-then-not-is_awaited-clause-goes_on
 returns-then-not-is_awaited-clause-goes_on g c =
-    goes_told c.args.lines.now c.advance.new.self _ c.advance.ensures.unasked c.advance.ensures.ended (search rules) (search rules) (search rules) (search rules) (search rules)
+    goes_told c.args.lines.now c.advance.new.self _ c.advance.ensures.unasked c.advance.ensures.counts.ended (search rules) (search rules) (search rules) (search rules) (search rules)
     (search rules) (search rules)
 
 pub returns-clause-goes_on : goal.returns-clause-goes_on
@@ -25,25 +25,13 @@ returns-clause-goes_on g c =
     let old = c.args.lines.now in
     let mid = c.advance.new.self in
     goes_later old mid c.await_line.new.lines c.await_line.result
-    (kept_lines old mid c.advance.ensures.unasked c.advance.ensures.ended (search rules)) (search rules) c.await_line.ensures.goes_on
-
-pub returns-clause-unasked : goal.returns-clause-unasked
-returns-clause-unasked g c =
-    let old = c.args.lines.now in
-    λ some. absurd (no_end_there (front_of old.is_begun old.line.items) (reader_buffer old.source) (search rules) some)
+    (kept_lines old mid c.advance.ensures.unasked c.advance.ensures.counts.ended (search rules)) (search rules) c.await_line.ensures.goes_on
 
 pub returns-clause-buffered : goal.returns-clause-buffered
 returns-clause-buffered g c =
     let old = c.args.lines.now in
     λ some. absurd (no_end_there (front_of old.is_begun old.line.items) (reader_buffer old.source) (search rules) some)
 
-pub returns-clause-untouched : goal.returns-clause-untouched
-returns-clause-untouched g c =
-    let old = c.args.lines.now in
-    λ some. absurd (no_end_there (front_of old.is_begun old.line.items) (reader_buffer old.source) (search rules) some)
-
-pub returns-clause-faulty : goal.returns-clause-faulty
-returns-clause-faulty g c = λ kind is. absurd (no_fault_there (bytes_read c.args.lines.now) kind (search rules) is)
-
-pub returns-clause-too_many : goal.returns-clause-too_many
-returns-clause-too_many g c = λ many some. absurd (none_behind c.args.lines.now c.advance.new.self many some (search rules) (search rules) (search rules))
+pub returns-clause-settled : goal.returns-clause-settled
+returns-clause-settled g c =
+    λ settled. absurd (not_settled c.args.lines.now c.advance.new.self (search rules) (search rules) (search rules) (search rules) (search rules) settled)
