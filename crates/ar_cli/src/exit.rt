@@ -26,8 +26,8 @@ pub fn end_with<R: Eprint, F: ExitStatus + Drop>(rt: &R, done: Result<(), F>) ->
     }
 }
 
-/// Prints a failure as a line on standard error, and exits with its status. Where standard error takes nothing, the status alone
-/// reports it.
+/// Prints a failure as a line on standard error, and exits with its status. Where standard error takes nothing, the
+/// status alone reports it.
 pub fn fail<R: Eprint, F: ExitStatus>(rt: &R, failure: &F) -> ExitCode
     ensures { exit_status result ≡ F.status_of failure.now }
 {

@@ -8,8 +8,8 @@ use thiserror::Error;
 /// Why a command line is refused.
 #[derive(Clone, Copy, Debug, PartialEq, Eq, Error)]
 pub enum CommandLineFault {
-    /// The words are not those that the program takes, or one of them is not UTF-8. A request for help or for the version is
-    /// refused as well.
+    /// The words are not those that the program takes, or one of them is not UTF-8. A request for help or for the
+    /// version is refused as well.
     #[error("bad command line")]
     Bad,
     /// An allocation failed.

@@ -1,5 +1,5 @@
-//! What the command lines of all programs share: the words that a program was started with, the faults of a command line, and the
-//! exit status. The options themselves are each program's own, by `clap`.
+//! What the command lines of all programs share: the words that a program was started with, the faults of a command
+//! line, and the exit status. The options themselves are each program's own, by `clap`.
 #![tactic(auto)]
 
 mod exit;

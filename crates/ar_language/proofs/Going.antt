@@ -1,5 +1,8 @@
 -- The next line, from what was read to what a reader has left.
-use Rattle.std.proofs.Common.{◌≡◌, ◌≢◌, ◌∙◌, ◌++◌, ◌+◌, ◌≤◌, ◌⊎◌, add-zero, ℕ, take, length, nat_lt, Result, Ok, Err, IfErr, arith, Bool, true, false, not, cond, List, [], ◌∷◌, ◌&&◌, Option, Some, None, option_map, IsSome, ◌==◌, eqb-true, refl, sym, ap, subst, inl, inr, append_assoc, append-nil, length-append}
+use Rattle.std.proofs.Common.{◌≡◌, ◌≢◌, ◌∙◌, ◌++◌, ◌+◌, ◌≤◌, ◌⊎◌, add-zero, ℕ, take, length, nat_lt, Result, Ok, Err}
+use Rattle.std.proofs.Common.{IfErr, arith, Bool, true, false, not, cond, List, [], ◌∷◌, ◌&&◌, Option, Some, None}
+use Rattle.std.proofs.Common.{option_map, IsSome, ◌==◌, eqb-true, refl, sym, ap, subst, inl, inr, append_assoc}
+use Rattle.std.proofs.Common.{append-nil, length-append}
 use Rattle.std.proofs.lemmas.Bool.{le-ltb}
 use Rattle.std.proofs.lemmas.List.{take_all}
 use Rattle.std.proofs.lemmas.List.Folds.{list_all-append}
@@ -9,12 +12,17 @@ use Rattle.std.specs.Io.Buffered.{reader_buffer, reader_capacity, reader_inner}
 use Rattle.std.specs.Io.KnownBytes.{prepend_known}
 use Rattle.std.specs.declared.io.traits.Read.{Ghosts}
 use Rattle.ar_language.specs.declared.fault.FaultKind.{FaultKind}
-use Rattle.ar_language.specs.declared.fault.FaultKind.TheVariants.{LineTooLong, TooManyLines, BadCharacter, ReadFault, WriteFault}
+use Rattle.ar_language.specs.declared.fault.FaultKind.TheVariants.{LineTooLong, TooManyLines, BadCharacter, ReadFault}
+use Rattle.ar_language.specs.declared.fault.FaultKind.TheVariants.{WriteFault}
 use Rattle.ar_language.specs.declared.fault.Fault.{Fault}
 use Rattle.ar_language.specs.declared.fault.Fault.TheVariants.{Start, Line}
 use Rattle.ar_language.specs.declared.lines.Lines.{Lines}
-use Rattle.ar_language.specs.Lines.{lines_in, lines_of, first_of, front_of, line_fault, bytes_left, Took, HasNoEnd, is_printable, IsLine, IsFirst, IsLacking, IsAllTaken, AreThere, IsFaultFrom, IsUnasked, IsToldOfFirst, IsToldOfNext, IsNextLineFault, is_given, IsReached, IsNumbered, IsOfNext}
-use Rattle.ar_language.specs.Left.{bytes_read, lines_begun, lines_left, IsBegunByByte, IsSettled, HasFault, IsLineRefused, GoesOn}
+use Rattle.ar_language.specs.Lines.{lines_in, lines_of, first_of, front_of, line_fault, bytes_left, Took, HasNoEnd}
+use Rattle.ar_language.specs.Lines.{is_printable, IsLine, IsFirst, IsLacking, IsAllTaken, AreThere, IsFaultFrom}
+use Rattle.ar_language.specs.Lines.{IsUnasked, IsToldOfFirst, IsToldOfNext, IsNextLineFault, is_given, IsReached}
+use Rattle.ar_language.specs.Lines.{IsNumbered, IsOfNext}
+use Rattle.ar_language.specs.Left.{bytes_read, lines_begun, lines_left, IsBegunByByte, IsSettled, HasFault}
+use Rattle.ar_language.specs.Left.{IsLineRefused, GoesOn}
 use Rattle.ar_language.proofs.Parting.{lines_in-ended, lines_in-last, some_line, printable_has_no_end}
 
 -- what comes behind the bytes that were read: nothing, where the end was met
@@ -25,7 +33,8 @@ behind false false inner = inner
 
 -- the lines that are left are those of what was read and of what comes behind it
 left_is : (at_end no_room : Bool) (front buffered : List ℕ) (inner : Option (List ℕ))
-    → lines_of (prepend_known front (bytes_left at_end buffered (cond no_room None (prepend_known buffered inner)))) ≡ lines_of (prepend_known (front ++ buffered) (behind at_end no_room inner))
+    → lines_of (prepend_known front (bytes_left at_end buffered (cond no_room None (prepend_known buffered inner))))
+    ≡ lines_of (prepend_known (front ++ buffered) (behind at_end no_room inner))
 left_is true true front buffered inner = refl
 left_is false true front buffered inner = refl
 left_is true false front buffered None = refl
@@ -34,21 +43,28 @@ left_is false false front buffered None = refl
 left_is false false front buffered (Some xs) = ap (λ l. Some (lines_in l)) (sym (append_assoc front buffered xs))
 
 abbrev beyond : {R : Type 0} {reads : Ghosts R} → Lines R reads → Option (List ℕ)
-beyond {reads = reads} lines = behind lines.is_at_end (reader_capacity lines.source == 0) (reads.remaining (reader_inner lines.source))
+beyond {reads = reads} lines =
+    behind lines.is_at_end (reader_capacity lines.source == 0) (reads.remaining (reader_inner lines.source))
 
-left_of : {R : Type 0} {reads : Ghosts R} (lines : Lines R reads) → lines_left lines ≡ lines_of (prepend_known (bytes_read lines) (beyond lines))
-left_of {reads = reads} lines = left_is lines.is_at_end (reader_capacity lines.source == 0) _ (reader_buffer lines.source) (reads.remaining (reader_inner lines.source))
+left_of : {R : Type 0} {reads : Ghosts R} (lines : Lines R reads)
+    → lines_left lines ≡ lines_of (prepend_known (bytes_read lines) (beyond lines))
+left_of {reads = reads} lines =
+    left_is lines.is_at_end (reader_capacity lines.source == 0) _ (reader_buffer lines.source)
+    (reads.remaining (reader_inner lines.source))
 
 -- where nothing was asked, the same comes behind what was read
-beyond_stays : {R : Type 0} {reads : Ghosts R} (old new : Lines R reads) → IsUnasked old.source new.source → new.is_at_end ≡ old.is_at_end → beyond new ≡ beyond old
+beyond_stays : {R : Type 0} {reads : Ghosts R} (old new : Lines R reads) → IsUnasked old.source new.source
+    → new.is_at_end ≡ old.is_at_end → beyond new ≡ beyond old
 beyond_stays {reads = reads} old new unasked ended =
     ap (λ a. behind a (reader_capacity new.source == 0) (reads.remaining (reader_inner new.source))) ended
     ∙ ap (λ n. behind old.is_at_end (n == 0) (reads.remaining (reader_inner new.source))) unasked.capacity
     ∙ ap (λ r. behind old.is_at_end (reader_capacity old.source == 0) (reads.remaining r)) unasked.inner
 
 -- the first line, where it was read whole
-taken_from : (at_end no_room : Bool) (inner : Option (List ℕ)) (read line rest : List ℕ) → IsLine line → IsFirst at_end read line rest
-    → Took (lines_of (prepend_known read (behind at_end no_room inner))) (lines_of (prepend_known rest (behind at_end no_room inner))) (line ∷ [])
+taken_from : (at_end no_room : Bool) (inner : Option (List ℕ)) (read line rest : List ℕ) → IsLine line
+    → IsFirst at_end read line rest
+    → Took (lines_of (prepend_known read (behind at_end no_room inner)))
+    (lines_of (prepend_known rest (behind at_end no_room inner))) (line ∷ [])
 taken_from at_end true inner read line rest whole is = tt
 taken_from true false None read line rest whole is = tt
 taken_from false false None read line rest whole is = tt
@@ -70,78 +86,101 @@ taken_from true false (Some more) read line rest whole is = at line is whole
         ap lines_in (append-nil read ∙ last.1) ∙ lines_in-last x xs (printable_has_no_end (x ∷ xs) sound.printable)
         ∙ ap (λ bytes. (x ∷ xs) ∷ lines_in (bytes ++ [])) (sym last.3)
 
-pub taken_line : {R : Type 0} {reads : Ghosts R} (old new : Lines R reads) → IsUnasked old.source new.source → new.is_at_end ≡ old.is_at_end
-    → IsFirst old.is_at_end (bytes_read old) new.line.items (bytes_read new) → Took (lines_left old) (lines_left new) (new.line.items ∷ [])
+pub taken_line : {R : Type 0} {reads : Ghosts R} (old new : Lines R reads) → IsUnasked old.source new.source
+    → new.is_at_end ≡ old.is_at_end
+    → IsFirst old.is_at_end (bytes_read old) new.line.items (bytes_read new)
+    → Took (lines_left old) (lines_left new) (new.line.items ∷ [])
 taken_line {reads = reads} old new unasked ended is =
     let line = new.line.items in
-    let front = taken_from old.is_at_end (reader_capacity old.source == 0) (reads.remaining (reader_inner old.source)) (bytes_read old) line (bytes_read new) new.whole is in
-    let right = left_of new ∙ ap (λ b. lines_of (prepend_known (bytes_read new) b)) (beyond_stays old new unasked ended) in
+    let front = taken_from old.is_at_end (reader_capacity old.source == 0) (reads.remaining (reader_inner old.source))
+    (bytes_read old) line (bytes_read new) new.whole is in
+    let right = left_of new
+    ∙ ap (λ b. lines_of (prepend_known (bytes_read new) b)) (beyond_stays old new unasked ended) in
     subst (λ l. Took l (lines_left new) (line ∷ [])) (sym (left_of old))
     (subst (λ l. Took (lines_of (prepend_known (bytes_read old) (beyond old))) l (line ∷ [])) (sym right) front)
 
 -- why the first line isn't given
-told_of : (read : List ℕ) (more : Option (List ℕ)) (kind : FaultKind) → IsFaultFrom read kind → IsToldOfNext (lines_of (prepend_known read more)) kind
+told_of : (read : List ℕ) (more : Option (List ℕ)) (kind : FaultKind) → IsFaultFrom read kind
+    → IsToldOfNext (lines_of (prepend_known read more)) kind
 told_of read None kind is = tt
 told_of read (Some xs) kind is = inr (inl (is xs))
 
-told_more : (read : List ℕ) (more : Option (List ℕ)) → read ≢ [] → IsToldOfNext (lines_of (prepend_known read more)) TooManyLines
+told_more : (read : List ℕ) (more : Option (List ℕ)) → read ≢ []
+    → IsToldOfNext (lines_of (prepend_known read more)) TooManyLines
 told_more read None some = tt
 told_more [] (Some xs) some = absurd (some refl)
 told_more (x ∷ read) (Some xs) some = inr (inr (refl, some_line (x ∷ (read ++ xs)) (λ e. cc)))
 
-pub refused_line : {R : Type 0} {reads : Ghosts R} (lines : Lines R reads) (begun : Bool) (fault : Fault) → IsLineRefused lines begun fault → IsNextLineFault (lines_left lines) fault
+pub refused_line : {R : Type 0} {reads : Ghosts R} (lines : Lines R reads) (begun : Bool) (fault : Fault)
+    → IsLineRefused lines begun fault → IsNextLineFault (lines_left lines) fault
 refused_line lines begun Start is = absurd is
 refused_line lines begun (Line n kind) is =
     subst (λ l. IsToldOfNext l kind) (sym (left_of lines))
     (elim is.1 [
-      | inl full ↦ subst (IsToldOfNext (lines_of (prepend_known (bytes_read lines) (beyond lines)))) (sym full.0) (told_more (bytes_read lines) (beyond lines) full.2)
+      | inl full ↦ subst (IsToldOfNext (lines_of (prepend_known (bytes_read lines) (beyond lines)))) (sym full.0)
+          (told_more (bytes_read lines) (beyond lines) full.2)
       | inr wrong ↦ told_of (bytes_read lines) (beyond lines) kind wrong.0
     ])
 
 -- and where none was taken before
-pub stops_later : (old mid : Option (List (List ℕ))) (fault : Fault) → Took old mid [] → IsNextLineFault mid fault → IsNextLineFault old fault
+pub stops_later : (old mid : Option (List (List ℕ))) (fault : Fault) → Took old mid [] → IsNextLineFault mid fault
+    → IsNextLineFault old fault
 stops_later old mid Start kept stops = absurd stops
 stops_later None mid (Line n kind) kept stops = tt
 stops_later (Some all) None (Line n kind) kept stops = absurd kept
 stops_later (Some all) (Some left) (Line n kind) kept stops = subst (λ l. IsToldOfFirst l kind) (sym kept) stops
 
-pub took_later : (old mid new : Option (List (List ℕ))) (lines : List (List ℕ)) → Took old mid [] → Took mid new lines → Took old new lines
+pub took_later : (old mid new : Option (List (List ℕ))) (lines : List (List ℕ)) → Took old mid [] → Took mid new lines
+    → Took old new lines
 took_later None mid new lines kept took = tt
 took_later (Some all) None new lines kept took = absurd kept
 took_later (Some all) (Some left) None lines kept took = absurd took
 took_later (Some all) (Some left) (Some rest) lines kept took = kept ∙ took
 
 -- lines are kept, where what was read is
-kept_from : (read new : List ℕ) (more : Option (List ℕ)) → new ≡ read → Took (lines_of (prepend_known read more)) (lines_of (prepend_known new more)) []
+kept_from : (read new : List ℕ) (more : Option (List ℕ)) → new ≡ read
+    → Took (lines_of (prepend_known read more)) (lines_of (prepend_known new more)) []
 kept_from read new None same = tt
 kept_from read new (Some xs) same = ap (λ l. lines_in (l ++ xs)) (sym same)
 
-pub kept_lines : {R : Type 0} {reads : Ghosts R} (old new : Lines R reads) → IsUnasked old.source new.source → new.is_at_end ≡ old.is_at_end
+pub kept_lines : {R : Type 0} {reads : Ghosts R} (old new : Lines R reads) → IsUnasked old.source new.source
+    → new.is_at_end ≡ old.is_at_end
     → bytes_read new ≡ bytes_read old → Took (lines_left old) (lines_left new) []
 kept_lines old new unasked ended same =
-    let right = left_of new ∙ ap (λ b. lines_of (prepend_known (bytes_read new) b)) (beyond_stays old new unasked ended) in
+    let right = left_of new
+    ∙ ap (λ b. lines_of (prepend_known (bytes_read new) b)) (beyond_stays old new unasked ended) in
     subst (λ l. Took l (lines_left new) []) (sym (left_of old))
-    (subst (λ l. Took (lines_of (prepend_known (bytes_read old) (beyond old))) l []) (sym right) (kept_from (bytes_read old) (bytes_read new) (beyond old) same))
+    (subst (λ l. Took (lines_of (prepend_known (bytes_read old) (beyond old))) l []) (sym right)
+    (kept_from (bytes_read old) (bytes_read new) (beyond old) same))
 
 -- ---- what the call comes to
 
 -- none is left behind the end of the input, where all that was read is given
-none_from : (no_room : Bool) (inner : Option (List ℕ)) → IsAllTaken (lines_of (prepend_known [] (behind true no_room inner)))
+none_from : (no_room : Bool) (inner : Option (List ℕ))
+    → IsAllTaken (lines_of (prepend_known [] (behind true no_room inner)))
 none_from true inner = tt
 none_from false None = tt
 none_from false (Some more) = refl
 
-none_left : {R : Type 0} {reads : Ghosts R} (lines : Lines R reads) → lines.is_at_end ≡ true → bytes_read lines ≡ [] → IsAllTaken (lines_left lines)
+none_left : {R : Type 0} {reads : Ghosts R} (lines : Lines R reads) → lines.is_at_end ≡ true → bytes_read lines ≡ []
+    → IsAllTaken (lines_left lines)
 none_left {reads = reads} lines ended none =
     subst IsAllTaken (sym (left_of lines))
-    (subst (λ a. IsAllTaken (lines_of (prepend_known (bytes_read lines) (behind a (reader_capacity lines.source == 0) (reads.remaining (reader_inner lines.source)))))) (sym ended)
-    (subst (λ read. IsAllTaken (lines_of (prepend_known read (behind true (reader_capacity lines.source == 0) (reads.remaining (reader_inner lines.source)))))) (sym none)
+    (subst (λ a. IsAllTaken
+    (lines_of (prepend_known (bytes_read lines)
+    (behind a (reader_capacity lines.source == 0) (reads.remaining (reader_inner lines.source)))))) (sym ended)
+    (subst (λ read. IsAllTaken
+    (lines_of (prepend_known read
+    (behind true (reader_capacity lines.source == 0) (reads.remaining (reader_inner lines.source)))))) (sym none)
     (none_from (reader_capacity lines.source == 0) (reads.remaining (reader_inner lines.source)))))
 
 -- a line was given, or none is left
-pub goes_told : {R : Type 0} {reads : Ghosts R} (old new : Lines R reads) (given : Bool) → IsUnasked old.source new.source → new.is_at_end ≡ old.is_at_end
-    → (given ≡ true → IsFirst old.is_at_end (bytes_read old) new.line.items (bytes_read new)) → (not given ≡ true → IsLacking old.is_at_end (bytes_read old))
-    → (given ≡ false → bytes_read new ≡ bytes_read old) → new.is_awaited ≡ (not given && not old.is_at_end) → new.is_awaited ≡ false
+pub goes_told : {R : Type 0} {reads : Ghosts R} (old new : Lines R reads) (given : Bool)
+    → IsUnasked old.source new.source → new.is_at_end ≡ old.is_at_end
+    → (given ≡ true → IsFirst old.is_at_end (bytes_read old) new.line.items (bytes_read new))
+    → (not given ≡ true → IsLacking old.is_at_end (bytes_read old))
+    → (given ≡ false → bytes_read new ≡ bytes_read old) → new.is_awaited ≡ (not given && not old.is_at_end)
+    → new.is_awaited ≡ false
     → new.given ≡ old.given + cond given 1 0 → (given ≡ true → new.is_begun ≡ false) → GoesOn old (Ok given) new
 goes_told old new true unasked ended is lacking kept awaited told count closed = record {
   taken = λ _. taken_line old new unasked ended (is refl);
@@ -178,12 +217,15 @@ goes_told old new false unasked ended is lacking kept awaited told count closed 
         at false none = absurd (cc)
 
 -- a fault of a line is its own
-fault_in : (shown long : Bool) (kind : FaultKind) → cond shown (cond long (Some LineTooLong) None) (Some BadCharacter) ≡ Some kind → (kind ≡ LineTooLong) ⊎ (kind ≡ BadCharacter)
+fault_in : (shown long : Bool) (kind : FaultKind)
+    → cond shown (cond long (Some LineTooLong) None) (Some BadCharacter) ≡ Some kind
+    → (kind ≡ LineTooLong) ⊎ (kind ≡ BadCharacter)
 fault_in true true kind is = inl (let same = is in cc)
 fault_in true false kind is = absurd (cc)
 fault_in false long kind is = inr (let same = is in cc)
 
-own_fault : (read : List ℕ) (kind : FaultKind) → IsFaultFrom read kind → (kind ≢ ReadFault) × ((kind ≢ WriteFault) × (kind ≢ TooManyLines))
+own_fault : (read : List ℕ) (kind : FaultKind) → IsFaultFrom read kind
+    → (kind ≢ ReadFault) × ((kind ≢ WriteFault) × (kind ≢ TooManyLines))
 own_fault read kind is =
     let line = first_of (lines_in (read ++ [])) in
     elim (fault_in (list_all is_printable (take 4096 line)) (nat_lt 4096 (length line)) kind (is [])) [
@@ -199,12 +241,15 @@ told_at given n true kind few is (inl full) = absurd (let no = full.1.1 in cc)
 told_at given n true kind few is (inr wrong) =
     (inl is, (omega arith, omega arith, λ many. absurd (wrong.0 many), λ over. absurd (omega arith)))
 told_at given n false kind few is (inl full) =
-    let many = full.1.0 in (inr (omega arith, inr (inl full.0)), (omega arith, omega arith, λ _. omega arith, λ _. inl full.0))
+    let many = full.1.0 in
+    (inr (omega arith, inr (inl full.0)), (omega arith, omega arith, λ _. omega arith, λ _. inl full.0))
 told_at given n false kind few is (inr wrong) = absurd (let no = wrong.1 in cc)
 
 -- a line was refused
-pub goes_refused : {R : Type 0} {reads : Ghosts R} (old new : Lines R reads) (fault : Fault) (result : Result Bool Fault) → result ≡ Err fault
-    → IsUnasked old.source new.source → new.is_at_end ≡ old.is_at_end → bytes_read new ≡ bytes_read old → new.given ≡ old.given
+pub goes_refused : {R : Type 0} {reads : Ghosts R} (old new : Lines R reads) (fault : Fault)
+    (result : Result Bool Fault) → result ≡ Err fault
+    → IsUnasked old.source new.source → new.is_at_end ≡ old.is_at_end → bytes_read new ≡ bytes_read old
+    → new.given ≡ old.given
     → IsLineRefused old new.is_begun fault → GoesOn old result new
 goes_refused old new Start result is unasked ended same count refused = absurd refused
 goes_refused old new (Line n kind) result is unasked ended same count refused =
@@ -224,9 +269,14 @@ goes_refused old new (Line n kind) result is unasked ended same count refused =
     })
   where
     apart : (kind ≢ ReadFault) × (kind ≢ WriteFault)
-    apart = elim refused.1 [ inl full ↦ ((let same = full.0 in λ e. cc), (let same = full.0 in λ e. cc)) | inr wrong ↦ ((own_fault (bytes_read old) kind wrong.0).0, (own_fault (bytes_read old) kind wrong.0).1.0) ]
+    apart = elim refused.1 [
+      | inl full ↦ ((let same = full.0 in λ e. cc), (let same = full.0 in λ e. cc))
+      | inr wrong ↦
+          ((own_fault (bytes_read old) kind wrong.0).0, (own_fault (bytes_read old) kind wrong.0).1.0)
+    ]
 
-    here : (m : ℕ) (k : FaultKind) → IsLineRefused old new.is_begun (Line m k) → IsLineRefused new new.is_begun (Line m k)
+    here : (m : ℕ) (k : FaultKind) → IsLineRefused old new.is_begun (Line m k)
+        → IsLineRefused new new.is_begun (Line m k)
     here m k is = (
       is.0 ∙ ap (λ i. i + 1) (sym count),
       elim is.1 [
@@ -235,7 +285,8 @@ goes_refused old new (Line n kind) result is unasked ended same count refused =
       ],
     )
 
-    cases : ((kind ≡ TooManyLines) × ((new.given ≡ 1000000) × (new.is_begun ≡ false))) ⊎ ((kind ≢ TooManyLines) × (new.is_begun ≡ true))
+    cases : ((kind ≡ TooManyLines) × ((new.given ≡ 1000000) × (new.is_begun ≡ false)))
+        ⊎ ((kind ≢ TooManyLines) × (new.is_begun ≡ true))
     cases = elim refused.1 [
       | inl full ↦ inl (full.0, (count ∙ full.1, full.3))
       | inr wrong ↦ inr ((own_fault (bytes_read old) kind wrong.0).1.1, wrong.1)
@@ -245,10 +296,12 @@ goes_refused old new (Line n kind) result is unasked ended same count refused =
     told = told_at new.given n new.is_begun kind new.few (refused.0 ∙ ap (λ m. m + 1) (sym count)) cases
 
 -- lines that were kept meanwhile
-pub goes_later : {R : Type 0} {reads : Ghosts R} (old mid new : Lines R reads) (result : Result Bool Fault) → Took (lines_left old) (lines_left mid) []
+pub goes_later : {R : Type 0} {reads : Ghosts R} (old mid new : Lines R reads) (result : Result Bool Fault)
+    → Took (lines_left old) (lines_left mid) []
     → mid.given ≡ old.given → GoesOn mid result new → GoesOn old result new
 goes_later old mid new result kept count goes = record {
-  taken = λ given. took_later (lines_left old) (lines_left mid) (lines_left new) (new.line.items ∷ []) kept (goes.taken given);
+  taken = λ given. took_later (lines_left old) (lines_left mid) (lines_left new) (new.line.items ∷ []) kept
+      (goes.taken given);
   none = goes.none;
   kept = λ given. took_later (lines_left old) (lines_left mid) (lines_left new) [] kept (goes.kept given);
   stops = stops result goes.stops;
@@ -261,15 +314,18 @@ goes_later old mid new result kept count goes = record {
   numbered = goes.numbered;
 }
   where
-    stops : (r : Result Bool Fault) → IfErr r (IsNextLineFault (lines_left mid)) → IfErr r (IsNextLineFault (lines_left old))
+    stops : (r : Result Bool Fault) → IfErr r (IsNextLineFault (lines_left mid))
+        → IfErr r (IsNextLineFault (lines_left old))
     stops (Ok more) told = tt
     stops (Err fault) told = stops_later (lines_left old) (lines_left mid) fault kept told
 
 -- what was taken of a line grows by what was read meanwhile
-pub grows : (front buffered later rest : List ℕ) (n : ℕ) → n ≤ length front → (length buffered == 0) ≡ false → later ++ rest ≡ front ++ buffered → rest ≡ [] → n + 1 ≤ length later
+pub grows : (front buffered later rest : List ℕ) (n : ℕ) → n ≤ length front → (length buffered == 0) ≡ false
+    → later ++ rest ≡ front ++ buffered → rest ≡ [] → n + 1 ≤ length later
 grows front [] later rest n few some same none = absurd (cc)
 grows front (x ∷ xs) later rest n few some same none =
-    let all = ap (λ (l : List ℕ). length l) (sym (append-nil later) ∙ ap (λ (l : List ℕ). later ++ l) (sym none) ∙ same) ∙ length-append front (x ∷ xs) in
+    let all = ap (λ (l : List ℕ). length l) (sym (append-nil later) ∙ ap (λ (l : List ℕ). later ++ l) (sym none) ∙ same)
+    ∙ length-append front (x ∷ xs) in
     omega arith
 
 -- behind what was taken of a line, bytes that have no fault end none
@@ -277,11 +333,14 @@ right : (a b : Bool) → (a && b) ≡ true → b ≡ true
 right true b h = h
 right false b h = absurd (cc)
 
-pub no_end_there : (front buffered : List ℕ) → IsLine (front ++ buffered) → IsSome (position (λ byte. byte == 10) buffered) → ⊥
+pub no_end_there : (front buffered : List ℕ) → IsLine (front ++ buffered)
+    → IsSome (position (λ byte. byte == 10) buffered) → ⊥
 no_end_there front buffered whole some = at (position (λ byte. byte == 10) buffered) refl some
   where
     none : HasNoEnd buffered
-    none = printable_has_no_end buffered (right (list_all is_printable front) (list_all is_printable buffered) (sym (list_all-append is_printable front buffered) ∙ whole.printable))
+    none = printable_has_no_end buffered
+        (right (list_all is_printable front) (list_all is_printable buffered)
+        (sym (list_all-append is_printable front buffered) ∙ whole.printable))
 
     at : (o : Option ℕ) → position (λ byte. byte == 10) buffered ≡ o → IsSome o → ⊥
     at None is found = absurd (cc)
@@ -293,7 +352,8 @@ no_end_there front buffered whole some = at (position (λ byte. byte == 10) buff
 pub sound_line : (line : List ℕ) → IsLine line → line_fault line ≡ None
 sound_line line whole =
     let all : take 4096 line ≡ line = take_all 4096 line whole.short in
-    ap (λ l. cond (list_all is_printable l) (cond (nat_lt 4096 (length line)) (Some LineTooLong) None) (Some BadCharacter)) all
+    ap (λ l. cond (list_all is_printable l) (cond (nat_lt 4096 (length line)) (Some LineTooLong) None)
+    (Some BadCharacter)) all
     ∙ ap (λ b. cond b (cond (nat_lt 4096 (length line)) (Some LineTooLong) None) (Some BadCharacter)) whole.printable
     ∙ ap (λ b. cond b (Some LineTooLong) None) (le-ltb 4096 (length line) whole.short)
 
@@ -306,7 +366,8 @@ no_fault_there (x ∷ xs) kind whole is =
     cc
 
 -- behind a million lines nothing of one is read that isn't refused
-pub none_behind : {R : Type 0} {reads : Ghosts R} (old new : Lines R reads) → old.given ≡ 1000000 → bytes_read old ≢ [] → new.given ≡ old.given
+pub none_behind : {R : Type 0} {reads : Ghosts R} (old new : Lines R reads) → old.given ≡ 1000000 → bytes_read old ≢ []
+    → new.given ≡ old.given
     → bytes_read new ≡ bytes_read old → reader_buffer new.source ≡ [] → ⊥
 none_behind old new many some given same drained = at new.is_begun refl
   where
@@ -315,7 +376,8 @@ none_behind old new many some given same drained = at new.is_begun refl
     at false is = some (sym same ∙ ap (λ b. front_of b new.line.items ++ reader_buffer new.source) is ∙ drained)
 
 -- a line that needs more input isn't settled
-pub not_settled : {R : Type 0} {reads : Ghosts R} (old new : Lines R reads) → IsLine (bytes_read old) → new.given ≡ old.given
+pub not_settled : {R : Type 0} {reads : Ghosts R} (old new : Lines R reads) → IsLine (bytes_read old)
+    → new.given ≡ old.given
     → bytes_read new ≡ bytes_read old → reader_buffer new.source ≡ [] → old.is_at_end ≡ false → IsSettled old → ⊥
 not_settled old new whole given same drained more settled = at settled
   where
@@ -341,15 +403,19 @@ pub none_there : (script : Option (List (List ℕ))) → AreThere script 0
 none_there None = tt
 none_there (Some lines) = omega arith
 
-pub begun_there : {R : Type 0} {reads : Ghosts R} (lines : Lines R reads) → IsBegunByByte lines → AreThere (lines_left lines) (cond lines.is_begun 1 0)
+pub begun_there : {R : Type 0} {reads : Ghosts R} (lines : Lines R reads) → IsBegunByByte lines
+    → AreThere (lines_left lines) (cond lines.is_begun 1 0)
 begun_there lines begun = at lines.is_begun refl
   where
     at : (b : Bool) → lines.is_begun ≡ b → AreThere (lines_left lines) (cond b 1 0)
-    at true is = subst (λ l. AreThere l 1) (sym (left_of lines)) (some_there (bytes_read lines) (beyond lines) (begun.some is))
+    at true is =
+        subst (λ l. AreThere l 1) (sym (left_of lines)) (some_there (bytes_read lines) (beyond lines) (begun.some is))
     at false is = none_there (lines_left lines)
 
 -- behind lines that were taken
-pub there_behind : (script left : Option (List (List ℕ))) (lines : List (List ℕ)) (n : ℕ) → Took script left lines → AreThere left n → AreThere script (length lines + n)
+pub there_behind : (script left : Option (List (List ℕ))) (lines : List (List ℕ)) (n : ℕ) → Took script left lines
+    → AreThere left n → AreThere script (length lines + n)
 there_behind None left lines n took there = tt
 there_behind (Some all) None lines n took there = absurd took
-there_behind (Some all) (Some left) lines n took there = let len = ap (λ (l : List (List ℕ)). length l) took ∙ length-append lines left in omega arith
+there_behind (Some all) (Some left) lines n took there = let len =
+    ap (λ (l : List (List ℕ)). length l) took ∙ length-append lines left in omega arith

@@ -7,12 +7,14 @@ use Rattle.ar_language.specs.declared.order.Order.{Order}
 use Rattle.ar_language.specs.Forms.{Words, Gives, ParsesAs}
 
 -- a name that is this text is read as it
-pub named : (Reads : List ℕ → Words → Result Order FaultKind → Type 0) (name text : List ℕ) (words : Words) (r : Result Order FaultKind)
+pub named : (Reads : List ℕ → Words → Result Order FaultKind
+    → Type 0) (name text : List ℕ) (words : Words) (r : Result Order FaultKind)
     → name ≡ text → Reads text words r → Reads name words r
 named Reads name text words r same reads =
     let P : List ℕ → Type 0 = λ n. Reads n words r in subst P (sym same) reads
 
-given : (Form : Type 0) (Asked : Order → Type 0) (o : Option Order) → Gives Form Asked o → ParsesAs Form Asked (ok_or o BadArgument)
+given : (Form : Type 0) (Asked : Order → Type 0) (o : Option Order) → Gives Form Asked o
+    → ParsesAs Form Asked (ok_or o BadArgument)
 given Form Asked None h = (refl, h)
 given Form Asked (Some order) h = h
 
@@ -26,6 +28,7 @@ answered Form Asked o p r gives same value =
 
 -- words of a form that says the same, and orders that are asked for so too
 pub gives_as : (Form Form' : Type 0) (Asked Asked' : Order → Type 0) (o : Option Order)
-    → (Form → Form') → (Form' → Form) → ((order : Order) → Asked order → Asked' order) → Gives Form Asked o → Gives Form' Asked' o
+    → (Form → Form') → (Form' → Form) → ((order : Order) → Asked order → Asked' order) → Gives Form Asked o
+    → Gives Form' Asked' o
 gives_as Form Form' Asked Asked' None there back as_well h = λ form. h (back form)
 gives_as Form Form' Asked Asked' (Some order) there back as_well h = (there h.0, as_well order h.1)

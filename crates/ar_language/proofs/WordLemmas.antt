@@ -1,5 +1,6 @@
 -- What std's and hex's contracts say in this crate's words.
-use Rattle.std.proofs.Common.{◌≡◌, ◌↔◌, ◌<◌, ◌≤◌, ◌-◌, ◌*◌, ◌&&◌, ◌^◌, ◌++◌, drop, take, replicate, ap, ℕ, Bool, true, false, not, List, length, Result, Ok, Err, IsOk, MatchResult, sym, ◌∙◌, rules, arith}
+use Rattle.std.proofs.Common.{◌≡◌, ◌↔◌, ◌<◌, ◌≤◌, ◌-◌, ◌*◌, ◌&&◌, ◌^◌, ◌++◌, drop, take, replicate, ap, ℕ, Bool, true}
+use Rattle.std.proofs.Common.{false, not, List, length, Result, Ok, Err, IsOk, MatchResult, sym, ◌∙◌, rules, arith}
 use Rattle.std.specs.List.{list_all, AllPass}
 use Rattle.std.specs.Char.{is_ascii_digit}
 use Rattle.std.specs.Str.Parse.{digits_value}
@@ -15,7 +16,8 @@ own : IsNumeralModel (λ ds. list_all is_ascii_digit ds ≡ true) (digits_value 
 own = numerals_by_value (λ ds. list_all is_ascii_digit ds ≡ true) (search rules)
 
 -- what the first of at most ten bytes say, where they are digits
-pub small : (word : List ℕ) (i : ℕ) → list_all is_ascii_digit (take i word) ≡ true → length word ≤ 10 → digits_value 10 (take i word) < 10 ^ 10
+pub small : (word : List ℕ) (i : ℕ) → list_all is_ascii_digit (take i word) ≡ true → length word ≤ 10
+    → digits_value 10 (take i word) < 10 ^ 10
 small word i digits short = digits_value_short own (take i word) 10 digits (omega (arith, length-take i word))
 
 pub both : (a b : Bool) → a ≡ true → b ≡ true → (a && b) ≡ true
@@ -46,8 +48,10 @@ decoded_value text out n r h ok =
     sym (decode_sized-twice text n good.0) ∙ written_value (decode_sized text n) out r h ok
 
 -- the bytes of a block with the zeros after them
-pub padded : (out : List ℕ) (n : ℕ) → length out ≡ n → out ++ drop n (replicate 16 0) ≡ out ++ replicate (16 - length out) 0
-padded out n len = ap (λ (zs : List ℕ). out ++ zs) (drop-replicate n 16 0 ∙ ap (λ (k : ℕ). replicate (16 - k) 0) (sym len))
+pub padded : (out : List ℕ) (n : ℕ) → length out ≡ n
+    → out ++ drop n (replicate 16 0) ≡ out ++ replicate (16 - length out) 0
+padded out n len =
+    ap (λ (zs : List ℕ). out ++ zs) (drop-replicate n 16 0 ∙ ap (λ (k : ℕ). replicate (16 - k) 0) (sym len))
 
 -- a test of a result, and the one that denies it
 pub ok_unless_err : (ok err : Bool) → ok ≡ not err → err ≡ false → ok ≡ true

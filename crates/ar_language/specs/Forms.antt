@@ -1,5 +1,7 @@
 -- The grammar of the script language: what a line asks for, by its first word. The words after it are counted from 0.
-use Rattle.std.specs.Prelude.{◌≡◌, ◌⊎◌, ℕ, ◌-◌, ◌*◌, ◌<◌, ◌^◌, ◌++◌, ◌==◌, Bool, true, List, [], ◌∷◌, length, replicate, slice_index_or, codes, Option, Some, None, MatchOption, Result, Ok, Err, MatchResult, MatchBool, bytes_eq, map}
+use Rattle.std.specs.Prelude.{◌≡◌, ◌⊎◌, ℕ, ◌-◌, ◌*◌, ◌<◌, ◌^◌, ◌++◌, ◌==◌, Bool, true, List, [], ◌∷◌, length, replicate}
+use Rattle.std.specs.Prelude.{slice_index_or, codes, Option, Some, None, MatchOption, Result, Ok, Err, MatchResult}
+use Rattle.std.specs.Prelude.{MatchBool, bytes_eq, map}
 use Rattle.std.specs.List.{list_any, slice_split}
 use Rattle.std.specs.Borrow.{Bor}
 use Rattle.std.specs.Str.Parse.{digits_value}
@@ -8,7 +10,8 @@ use Rattle.ar_disks.specs.declared.address.Addr.{Addr}
 use Rattle.ar_scsi.specs.declared.command.Command.{Command}
 use Rattle.ar_scsi.specs.declared.command.Command.TheVariants.{TestReady, Inquiry, Capacity, Read, Write}
 use Rattle.ar_scsi.specs.Block.{Says}
-use Rattle.ar_language.specs.Blocks.{test_unit_ready_block, inquiry_block, read_capacity_block, read_10_block, read_16_block, write_10_block, write_16_block}
+use Rattle.ar_language.specs.Blocks.{test_unit_ready_block, inquiry_block, read_capacity_block, read_10_block}
+use Rattle.ar_language.specs.Blocks.{read_16_block, write_10_block, write_16_block}
 use Rattle.ar_language.specs.Words.{IsNumber, IsBytePair, IsBlockWord}
 use Rattle.ar_language.specs.declared.fault.FaultKind.{FaultKind}
 use Rattle.ar_language.specs.declared.fault.FaultKind.TheVariants.{BadArgument, UnknownWord}
@@ -102,7 +105,8 @@ AsksTur words = AsksCommand words test_unit_ready_block TestReady empty_data Byt
 
 -- `inquiry H L LEN`
 abbrev pub AsksInquiry : Words → Order → Type 0
-AsksInquiry words = AsksCommand words (inquiry_block (value (word words 2))) (Inquiry (value (word words 2))) empty_data Bytes
+AsksInquiry words =
+    AsksCommand words (inquiry_block (value (word words 2))) (Inquiry (value (word words 2))) empty_data Bytes
 
 -- `capacity H L`
 abbrev pub AsksCapacity : Words → Order → Type 0
@@ -118,7 +122,8 @@ pub record HasSectors (Lba : List ℕ → Type 0) (words : Words) : Type 0 where
 -- `read H L LBA COUNT` and `read16 H L LBA COUNT`, by the blocks of READ (10) and of READ (16)
 abbrev pub AsksRead : (ℕ → ℕ → List ℕ) → Words → Order → Type 0
 AsksRead block words =
-    AsksCommand words (block (value (word words 2)) (value (word words 3))) (Read (value (word words 2)) (value (word words 3))) empty_data Runs
+    AsksCommand words (block (value (word words 2)) (value (word words 3)))
+    (Read (value (word words 2)) (value (word words 3))) empty_data Runs
 
 -- the words of a WRITE that ends with `fua`
 abbrev pub EndsWithFua : Words → Type 0
@@ -138,7 +143,8 @@ abbrev pub AsksWrite : (ℕ → ℕ → Bool → List ℕ) → Words → Order �
 AsksWrite block words order =
     (byte : ℕ) × IsByte (word words 4) byte
     × AsksCommand words (block (value (word words 2)) (value (word words 3)) (length words == 6))
-    (Write (value (word words 2)) (value (word words 3)) (length words == 6)) (record { len = value (word words 3) * 512; byte = byte }) Runs order
+    (Write (value (word words 2)) (value (word words 3)) (length words == 6))
+    (record { len = value (word words 3) * 512; byte = byte }) Runs order
 
 -- a unit and a command block, and optionally a number of bytes and their value
 pub record HasCommandBlock (words : Words) : Type 0 where
@@ -159,7 +165,8 @@ IsSent words sent =
 -- `cdb H L HEX` and `cdb H L HEX COUNT BYTE`
 abbrev pub AsksBlock : Words → Order → Type 0
 AsksBlock words order =
-    (addr : Addr) × (cdb : List ℕ) × (sent : Data) × NamesUnit words addr × IsBlock (word words 2) cdb × IsSent words sent
+    (addr : Addr) × (cdb : List ℕ) × (sent : Data) × NamesUnit words addr × IsBlock (word words 2) cdb
+    × IsSent words sent
     × (order ≡ Act (actions.Command addr cdb sent Bytes))
 
 -- `levels H L`
@@ -233,10 +240,14 @@ ReadsCommand name words result =
     MatchBool (bytes_eq name (codes "tur")) (ParsesAs (HasUnit words) (AsksTur words) result) (
     MatchBool (bytes_eq name (codes "inquiry")) (ParsesAs (HasUnitAndNumber 16 words) (AsksInquiry words) result) (
     MatchBool (bytes_eq name (codes "capacity")) (ParsesAs (HasUnit words) (AsksCapacity words) result) (
-    MatchBool (bytes_eq name (codes "read")) (ParsesAs (HasSectors (IsNumberOf 32) words) (AsksRead read_10_block words) result) (
-    MatchBool (bytes_eq name (codes "write")) (ParsesAs (HasSectorsAndByte (IsNumberOf 32) words) (AsksWrite write_10_block words) result) (
-    MatchBool (bytes_eq name (codes "read16")) (ParsesAs (HasSectors IsNumber words) (AsksRead read_16_block words) result) (
-    MatchBool (bytes_eq name (codes "write16")) (ParsesAs (HasSectorsAndByte IsNumber words) (AsksWrite write_16_block words) result) (
+    MatchBool (bytes_eq name (codes "read"))
+    (ParsesAs (HasSectors (IsNumberOf 32) words) (AsksRead read_10_block words) result) (
+    MatchBool (bytes_eq name (codes "write"))
+    (ParsesAs (HasSectorsAndByte (IsNumberOf 32) words) (AsksWrite write_10_block words) result) (
+    MatchBool (bytes_eq name (codes "read16"))
+    (ParsesAs (HasSectors IsNumber words) (AsksRead read_16_block words) result) (
+    MatchBool (bytes_eq name (codes "write16"))
+    (ParsesAs (HasSectorsAndByte IsNumber words) (AsksWrite write_16_block words) result) (
     MatchBool (bytes_eq name (codes "cdb")) (ParsesAs (HasCommandBlock words) (AsksBlock words) result) (
     ReadsArrayOrder name words result))))))))
 
@@ -256,11 +267,13 @@ asked (Err kind) = Err kind
 -- the words of a line, of which the first names the order
 abbrev pub ReadsNamed : Words → Result (Option Order) FaultKind → Type 0
 ReadsNamed [] result = result ≡ Ok None
-ReadsNamed (name ∷ words) result = (read : Result Order FaultKind) × ReadsOrder name.now words read × (result ≡ asked read)
+ReadsNamed (name ∷ words) result =
+    (read : Result Order FaultKind) × ReadsOrder name.now words read × (result ≡ asked read)
 
 -- the same, but an empty word is a bad argument
 abbrev pub ReadsWords : Words → Result (Option Order) FaultKind → Type 0
-ReadsWords words result = MatchBool (list_any (λ text. length text.now == 0) words) (result ≡ Err BadArgument) (ReadsNamed words result)
+ReadsWords words result =
+    MatchBool (list_any (λ text. length text.now == 0) words) (result ≡ Err BadArgument) (ReadsNamed words result)
 
 -- an empty line, or one that begins with `#`
 abbrev pub is_silent : List ℕ → Bool

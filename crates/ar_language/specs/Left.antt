@@ -1,5 +1,6 @@
 -- What is left of a script, and how far its lines were read.
-use Rattle.std.specs.Prelude.{◌≡◌, ◌≢◌, ◌⊎◌, ℕ, ◌+◌, ◌==◌, ◌&&◌, not, Bool, true, false, if◌then◌else◌, List, [], ◌∷◌, ◌++◌, Option, IsSome, Result, IfErr}
+use Rattle.std.specs.Prelude.{◌≡◌, ◌≢◌, ◌⊎◌, ℕ, ◌+◌, ◌==◌, ◌&&◌, not, Bool, true, false, if◌then◌else◌, List, [], ◌∷◌}
+use Rattle.std.specs.Prelude.{◌++◌, Option, IsSome, Result, IfErr}
 use Rattle.std.specs.List.{position}
 use Rattle.std.specs.Io.Buffered.{reader_buffer, reader_remaining}
 use Rattle.std.specs.Io.KnownBytes.{prepend_known}
@@ -9,7 +10,8 @@ use Rattle.ar_language.specs.declared.fault.Fault.TheVariants.{Start, Line}
 use Rattle.ar_language.specs.declared.fault.FaultKind.{FaultKind}
 use Rattle.ar_language.specs.declared.fault.FaultKind.TheVariants.{TooManyLines}
 use Rattle.ar_language.specs.declared.lines.Lines.{Lines}
-use Rattle.ar_language.specs.Lines.{front_of, bytes_left, lines_of, is_given, is_lacking, Took, IsAllTaken, IsFaultFrom, IsOfStream, IsNextLineFault, IsOfNext, IsReached, IsNumbered}
+use Rattle.ar_language.specs.Lines.{front_of, bytes_left, lines_of, is_given, is_lacking, Took, IsAllTaken, IsFaultFrom}
+use Rattle.ar_language.specs.Lines.{IsOfStream, IsNextLineFault, IsOfNext, IsReached, IsNumbered}
 
 -- the bytes that were read and are in no returned line: the front of the next line, and what is buffered
 abbrev pub bytes_read : {R : Type 0} {reads : Ghosts R} → Lines R reads → List ℕ
@@ -60,7 +62,8 @@ IsSettled lines =
     ⊎ ((lines.given ≡ 1000000) × (bytes_read lines ≢ [])) ⊎ (lines.is_at_end ≡ true)
 
 -- What advancing to the next line leaves of the reader's state, by what it returned.
-pub record CountsLine {R : Type 0} {reads : Ghosts R} (old : Lines R reads) (result : Result Bool Fault) (new : Lines R reads) : Type 0 where
+pub record CountsLine {R : Type 0} {reads : Ghosts R} (old : Lines R reads) (result : Result Bool Fault)
+    (new : Lines R reads) : Type 0 where
   -- a line that is returned is counted and closed; else nothing that was read is lost
   pub count : new.given ≡ old.given + (if is_given result then 1 else 0)
   pub closed : is_given result ≡ true → new.is_begun ≡ false
@@ -76,7 +79,8 @@ pub record CountsLine {R : Type 0} {reads : Ghosts R} (old : Lines R reads) (res
 abbrev pub EndsReading : {R : Type 0} {reads : Ghosts R} → Lines R reads → Fault → Type 0
 EndsReading lines Start = ⊥
 EndsReading lines (Line n kind) =
-    (IsOfStream kind × (lines.is_awaited ≡ true) × (lines.is_at_end ≡ false)) ⊎ IsLineRefused lines lines.is_begun (Line n kind)
+    (IsOfStream kind × (lines.is_awaited ≡ true) × (lines.is_at_end ≡ false))
+    ⊎ IsLineRefused lines lines.is_begun (Line n kind)
 
 -- The next line needs more input: nothing that was read is left but its front, and the input hasn't ended.
 pub record IsAwaited {R : Type 0} {reads : Ghosts R} (lines : Lines R reads) : Type 0 where
@@ -85,7 +89,8 @@ pub record IsAwaited {R : Type 0} {reads : Ghosts R} (lines : Lines R reads) : T
   pub drained : reader_buffer lines.source ≡ []
 
 -- The effect of advancing to the next line, which may need more input.
-pub record GoesOn {R : Type 0} {reads : Ghosts R} (old : Lines R reads) (result : Result Bool Fault) (new : Lines R reads) : Type 0 where
+pub record GoesOn {R : Type 0} {reads : Ghosts R} (old : Lines R reads) (result : Result Bool Fault)
+    (new : Lines R reads) : Type 0 where
   -- it is returned, the first of those that were left; or none is left; or it stays the first
   pub taken : is_given result ≡ true → Took (lines_left old) (lines_left new) (new.line.items ∷ [])
   pub none : is_lacking result ≡ true → IsAllTaken (lines_left new)

@@ -1,10 +1,13 @@
 -- The lines of a script, and the faults of a line.
-use Rattle.std.specs.Prelude.{◌≡◌, ◌≢◌, ◌⊎◌, ◌+◌, ◌-◌, ◌≤◌, ◌&&◌, ◌++◌, ◌==◌, ⊤, ℕ, Bool, true, false, not, IsTrue, nat_le, nat_lt, max, if◌then◌else◌, Option, Some, None, option_map, Result, Ok, Err, List, [], ◌∷◌, length, take, slice_index_or}
+use Rattle.std.specs.Prelude.{◌≡◌, ◌≢◌, ◌⊎◌, ◌+◌, ◌-◌, ◌≤◌, ◌&&◌, ◌++◌, ◌==◌, ⊤, ℕ, Bool, true, false, not, IsTrue}
+use Rattle.std.specs.Prelude.{nat_le, nat_lt, max, if◌then◌else◌, Option, Some, None, option_map, Result, Ok, Err, List}
+use Rattle.std.specs.Prelude.{[], ◌∷◌, length, take, slice_index_or}
 use Rattle.std.specs.List.{list_all, All}
 use Rattle.std.specs.Io.Buffered.{reader_inner, reader_capacity}
 use Rattle.std.specs.declared.io.buffered.BufReader.{BufReader}
 use Rattle.ar_language.specs.declared.fault.FaultKind.{FaultKind}
-use Rattle.ar_language.specs.declared.fault.FaultKind.TheVariants.{UnknownWord, BadArgument, LineTooLong, TooManyLines, BadCharacter, NoMemory, ReadFault, WriteFault}
+use Rattle.ar_language.specs.declared.fault.FaultKind.TheVariants.{UnknownWord, BadArgument, LineTooLong, TooManyLines}
+use Rattle.ar_language.specs.declared.fault.FaultKind.TheVariants.{BadCharacter, NoMemory, ReadFault, WriteFault}
 use Rattle.ar_language.specs.declared.fault.Fault.{Fault}
 use Rattle.ar_language.specs.declared.fault.Fault.TheVariants.{Start, Line}
 
@@ -65,7 +68,8 @@ is_printable byte = nat_le 32 byte && nat_le byte 126
 abbrev pub IsPart : List ℕ → List ℕ → Option ℕ → Type 0
 IsPart bytes part None = IsTrue (list_all is_printable part) × (bytes ≡ part)
 IsPart bytes part (Some next) =
-    IsTrue (list_all is_printable part) × (is_printable next ≡ false) × (take (length part + 1) bytes ≡ part ++ next ∷ [])
+    IsTrue (list_all is_printable part) × (is_printable next ≡ false)
+    × (take (length part + 1) bytes ≡ part ++ next ∷ [])
 
 -- there is a next byte, and it is no line feed
 abbrev pub is_bad_next : Option ℕ → Bool
@@ -146,7 +150,8 @@ IsOfStream kind = (kind ≡ ReadFault) ⊎ (kind ≡ WriteFault)
 
 -- why the first of these lines isn't taken: a stream faulted, or it has a fault, or is one too many
 abbrev pub IsToldOfFirst : List (List ℕ) → FaultKind → Type 0
-IsToldOfFirst lines kind = IsOfStream kind ⊎ (line_fault (first_of lines) ≡ Some kind) ⊎ ((kind ≡ TooManyLines) × (lines ≢ []))
+IsToldOfFirst lines kind =
+    IsOfStream kind ⊎ (line_fault (first_of lines) ≡ Some kind) ⊎ ((kind ≡ TooManyLines) × (lines ≢ []))
 
 -- the same for the lines that are left, if they are known
 abbrev pub IsToldOfNext : Option (List (List ℕ)) → FaultKind → Type 0
@@ -167,14 +172,16 @@ line_at lines n = slice_index_or lines (n - 1) []
 abbrev pub IsNumbered : Fault → Type 0
 IsNumbered Start = Unit {0}
 IsNumbered (Line n kind) =
-    (1 ≤ n) × (n ≤ 1000001) × (kind ≡ TooManyLines → n ≡ 1000001) × (n ≡ 1000001 → (kind ≡ TooManyLines) ⊎ (kind ≡ ReadFault))
+    (1 ≤ n) × (n ≤ 1000001) × (kind ≡ TooManyLines → n ≡ 1000001)
+    × (n ≡ 1000001 → (kind ≡ TooManyLines) ⊎ (kind ≡ ReadFault))
 
 -- A fault is reported at the last line that was begun or at the one after it: there as `ReadFault`, as `TooManyLines`
 -- or, if no line was begun, as `WriteFault`.
 abbrev pub IsReached : ℕ → Fault → Type 0
 IsReached reached Start = ⊥
 IsReached reached (Line n kind) =
-    (n ≡ reached) ⊎ ((n ≡ reached + 1) × ((kind ≡ ReadFault) ⊎ (kind ≡ TooManyLines) ⊎ ((kind ≡ WriteFault) × (reached ≡ 0))))
+    (n ≡ reached)
+    ⊎ ((n ≡ reached + 1) × ((kind ≡ ReadFault) ⊎ (kind ≡ TooManyLines) ⊎ ((kind ≡ WriteFault) × (reached ≡ 0))))
 
 -- With `given` lines returned and `begun` lines begun, a fault is reported at the next line, and `WriteFault` at the
 -- last line that was begun, or at the first.

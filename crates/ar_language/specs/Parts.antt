@@ -51,4 +51,5 @@ pub record AreBlock (host lun block : List ℕ) : Type 0 where
 -- the command with that block, and with these data
 abbrev pub AsksBlockWith : List ℕ → List ℕ → List ℕ → Data → Order → Type 0
 AsksBlockWith host lun block sent order =
-    (addr : Addr) × (cdb : List ℕ) × IsAddress host lun addr × IsBlock block cdb × (order ≡ Act (actions.Command addr cdb sent Bytes))
+    (addr : Addr) × (cdb : List ℕ) × IsAddress host lun addr × IsBlock block cdb
+    × (order ≡ Act (actions.Command addr cdb sent Bytes))

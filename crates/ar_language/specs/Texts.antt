@@ -1,7 +1,8 @@
 -- The texts of faults.
 use Rattle.std.specs.Prelude.{ℕ, List, codes}
 use Rattle.ar_language.specs.declared.fault.FaultKind.{FaultKind}
-use Rattle.ar_language.specs.declared.fault.FaultKind.TheVariants.{UnknownWord, BadArgument, LineTooLong, TooManyLines, BadCharacter, NoMemory, ReadFault, WriteFault}
+use Rattle.ar_language.specs.declared.fault.FaultKind.TheVariants.{UnknownWord, BadArgument, LineTooLong, TooManyLines}
+use Rattle.ar_language.specs.declared.fault.FaultKind.TheVariants.{BadCharacter, NoMemory, ReadFault, WriteFault}
 
 -- what a fault is called
 abbrev pub fault_kind_text : FaultKind → List ℕ

@@ -5,7 +5,8 @@
 //     READ, WRITE (16)    | 88, 8A | flags | LBA:8 | transfer length:4 | 0 | 0 |
 ghost use Rattle.std.specs.Prelude.{◌≡◌};
 ghost use Rattle.ar_scsi.specs.Block.{Says};
-ghost use Rattle.ar_language.specs.Blocks.{test_unit_ready_block, inquiry_block, read_capacity_block, block_10, block_16, flags_of};
+ghost use Rattle.ar_language.specs.Blocks.{test_unit_ready_block, inquiry_block, read_capacity_block, block_10};
+ghost use Rattle.ar_language.specs.Blocks.{block_16, flags_of};
 ghost use Rattle.ar_language.specs.Blocks.{read_10_block, read_16_block, write_10_block, write_16_block};
 
 use ar_scsi::Command;

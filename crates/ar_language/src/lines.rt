@@ -1,9 +1,13 @@
 // Splits a buffered input into lines. The lines that are left are those of the input without the ones that were
 // returned, and only `ask` accesses the input.
-ghost use Rattle.std.specs.Prelude.{◌≡◌, ◌+◌, if◌then◌else◌, IfOk, IfSome, IsTrue, is_some, ◌≢◌, ◌==◌, ◌&&◌, ◌||◌, not, true, false, length, ◌-◌, ◌≤◌, ◌<◌, ◌++◌, [], ◌∷◌, None, OnOk, IfErr, OnErr, unwrap_or, vec_len, vec_capacity};
+ghost use Rattle.std.specs.Prelude.{◌≡◌, ◌+◌, if◌then◌else◌, IfOk, IfSome, IsTrue, is_some, ◌≢◌, ◌==◌, ◌&&◌, ◌||◌, not};
+ghost use Rattle.std.specs.Prelude.{true, false, length, ◌-◌, ◌≤◌, ◌<◌, ◌++◌, [], ◌∷◌, None, OnOk, IfErr, OnErr};
+ghost use Rattle.std.specs.Prelude.{unwrap_or, vec_len, vec_capacity};
 ghost use Rattle.std.specs.List.{list_all, prefix_len};
 ghost use Rattle.std.specs.Io.Buffered.{reader_buffer, reader_capacity, reader_inner, writer_buffer};
-ghost use Rattle.ar_language.specs.Lines.{lines_of, Took, IsPart, IsFirst, IsLacking, IsFaultFrom, IsUnasked, is_printable, IsLine, front_of, is_bad_next, is_given, is_lacking, part_fault, with_bad};
+ghost use Rattle.ar_language.specs.Lines.{lines_of, Took, IsPart, IsFirst, IsLacking, IsFaultFrom, IsUnasked};
+ghost use Rattle.ar_language.specs.Lines.{is_printable, IsLine, front_of, is_bad_next, is_given, is_lacking};
+ghost use Rattle.ar_language.specs.Lines.{part_fault, with_bad};
 
 use crate::{Fault, FaultKind};
 use std::alloc::Global;
@@ -100,8 +104,10 @@ impl<R: Read + Drop> Lines<R> {
     fn begin(&mut self) -> Result<(), Fault>
         ensures same { (self.new.source ≡ self.old.source) × (self.new.is_at_end ≡ self.old.is_at_end)
             × (self.new.is_awaited ≡ self.old.is_awaited) × (self.new.given ≡ self.old.given) }
-        ensures begun { OnOk result ((self.new.is_begun ≡ true) × (self.new.line.items ≡ front_of self.old.is_begun self.old.line.items)) }
-        ensures full { IfErr result (λ fault. (fault ≡ Fault.Line 1000001 FaultKind.TooManyLines) × (self.old.given ≡ 1000000)) }
+        ensures begun { OnOk result ((self.new.is_begun ≡ true)
+            × (self.new.line.items ≡ front_of self.old.is_begun self.old.line.items)) }
+        ensures full { IfErr result (λ fault. (fault ≡ Fault.Line 1000001 FaultKind.TooManyLines)
+            × (self.old.given ≡ 1000000)) }
         ensures unbegun { OnErr result ((self.old.is_begun ≡ false) × (self.new.is_begun ≡ false)) }
         ensures room { vec_capacity self.new.line ≡ vec_capacity self.old.line }
     {
@@ -191,7 +197,8 @@ fn take_part<R: Read + Drop>(
     ensures drained { IfOk result (λ has_end. has_end ≡ false → reader_buffer source.new ≡ []) }
     ensures refused { IfErr result (IsFaultFrom (line.old.items ++ reader_buffer source.old)) }
 
-    ensures unchanged { OnErr result ((line.new.items ≡ line.old.items) × (reader_buffer source.new ≡ reader_buffer source.old)) }
+    ensures unchanged { OnErr result ((line.new.items ≡ line.old.items)
+        × (reader_buffer source.new ≡ reader_buffer source.old)) }
     ensures whole { IsLine line.new.items }
     ensures room { 4096 ≤ vec_capacity line.new }
 {

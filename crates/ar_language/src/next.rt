@@ -4,8 +4,10 @@ ghost use Rattle.std.specs.Prelude.{◌≡◌, ◌==◌, ◌⊎◌, IsSome, IfEr
 ghost use Rattle.std.specs.List.{position};
 ghost use Rattle.std.specs.Io.Buffered.{reader_buffer, writer_buffer, writer_contents};
 ghost use Rattle.std.specs.Io.KnownBytes.{Keeps};
-ghost use Rattle.ar_language.specs.Lines.{Took, IsFirst, IsUnasked, is_given, is_write_fault, IsNextLineFault, IsOfNext, IsReached, IsNumbered};
-ghost use Rattle.ar_language.specs.Left.{bytes_read, lines_begun, lines_left, IsAwaited, IsBegunByByte, IsSettled, EndsReading, GoesOn};
+ghost use Rattle.ar_language.specs.Lines.{Took, IsFirst, IsUnasked, is_given, is_write_fault, IsNextLineFault};
+ghost use Rattle.ar_language.specs.Lines.{IsOfNext, IsReached, IsNumbered};
+ghost use Rattle.ar_language.specs.Left.{bytes_read, lines_begun, lines_left, IsAwaited, IsBegunByByte, IsSettled};
+ghost use Rattle.ar_language.specs.Left.{EndsReading, GoesOn};
 
 use crate::{Fault, FaultKind, Lines};
 use std::io::{BufWriter, Read, Write};
@@ -26,9 +28,11 @@ pub fn next_line<R: Read + Drop, W: Write + Drop>(
     ensures buffered { IsSome (position (λ byte. byte == 10) (reader_buffer lines.old.source)) → is_given result ≡ true
         → IsFirst lines.old.is_at_end (bytes_read lines.old) lines.new.line.items (bytes_read lines.new) }
 
-    // No answer is added or lost. If the input was accessed, the buffer of the output is empty, unless the flush failed.
+    // No answer is added or lost. If the input was accessed, the buffer of the output is empty, unless the flush
+    // failed.
     ensures answers { Keeps (writer_contents W.contents out.old) (writer_contents W.contents out.new) }
-    ensures written { is_write_fault result ≡ false → IsUnasked lines.old.source lines.new.source ⊎ (writer_buffer out.new ≡ []) }
+    ensures written { is_write_fault result ≡ false
+        → IsUnasked lines.old.source lines.new.source ⊎ (writer_buffer out.new ≡ []) }
 {
     let is_given = lines.advance()?;
     if !lines.is_awaited() {

@@ -3,9 +3,15 @@ ghost use Rattle.std.specs.Prelude.{◌≡◌, ◌≢◌, ◌⊎◌, true, false
 ghost use Rattle.std.specs.Option.{SomeIff};
 ghost use Rattle.ar_language.specs.Blocks.{read_10_block, read_16_block, write_10_block, write_16_block};
 ghost use Rattle.ar_language.specs.Words.{IsNumber};
-ghost use Rattle.ar_language.specs.Forms.{word, value, IsNumberOf, AreAddress, IsAddress, NamesUnit, HasUnit, HasUnitAndNumber, HasSectors, HasSectorsAndByte, HasCommandBlock, HasRowAddress, HasDisk, Gives, ReadsOrder, ReadsCommand, ReadsArrayOrder, ReadsNamed, ReadsLine, empty_data};
-ghost use Rattle.ar_language.specs.Parts.{AreSpan, IsSpan, NamesSpan, SaysWritten, AreData, IsData, AreBlock, AsksBlockWith};
-ghost use Rattle.ar_language.specs.Forms.{AsksMake, AsksGrow, AsksDrop, AsksTur, AsksInquiry, AsksCapacity, AsksRead, AsksWrite, AsksBlock, AsksLevels, AsksHome, AsksRow, AsksOut, AsksReplace, IsDisk};
+ghost use Rattle.ar_language.specs.Forms.{word, value, IsNumberOf, AreAddress, IsAddress, NamesUnit, HasUnit};
+ghost use Rattle.ar_language.specs.Forms.{HasUnitAndNumber, HasSectors, HasSectorsAndByte, HasCommandBlock};
+ghost use Rattle.ar_language.specs.Forms.{HasRowAddress, HasDisk, Gives, ReadsOrder, ReadsCommand, ReadsArrayOrder};
+ghost use Rattle.ar_language.specs.Forms.{ReadsNamed, ReadsLine, empty_data};
+ghost use Rattle.ar_language.specs.Parts.{AreSpan, IsSpan, NamesSpan, SaysWritten, AreData, IsData, AreBlock};
+ghost use Rattle.ar_language.specs.Parts.{AsksBlockWith};
+ghost use Rattle.ar_language.specs.Forms.{AsksMake, AsksGrow, AsksDrop, AsksTur, AsksInquiry, AsksCapacity, AsksRead};
+ghost use Rattle.ar_language.specs.Forms.{AsksWrite, AsksBlock, AsksLevels, AsksHome, AsksRow, AsksOut, AsksReplace};
+ghost use Rattle.ar_language.specs.Forms.{IsDisk};
 
 use crate::order::{Action, Data, Notation, Order, Question};
 use crate::{FaultKind, blocks, words};
@@ -316,9 +322,11 @@ fn alone(arguments: &[&str], order: Order) -> Option<Order>
 
 // Whether the last argument is `fua`, for FORCE UNIT ACCESS, and the arguments without it.
 fn force_unit_access<'a, 'b>(arguments: &'a [&'b str]) -> (bool, &'a [&'b str])
-    ensures forced { result.0 ≡ true → (length arguments.now ≡ length result.1.now + 1) × (word arguments.now (length result.1.now) ≡ codes "fua") }
+    ensures forced { result.0 ≡ true → (length arguments.now ≡ length result.1.now + 1)
+        × (word arguments.now (length result.1.now) ≡ codes "fua") }
     ensures others { (i : ℕ) → i < length result.1.now → word result.1.now i ≡ word arguments.now i }
-    ensures plain { result.0 ≡ false → (length arguments.now ≡ length result.1.now) × (word arguments.now (length arguments.now - 1) ≢ codes "fua") }
+    ensures plain { result.0 ≡ false → (length arguments.now ≡ length result.1.now)
+        × (word arguments.now (length arguments.now - 1) ≢ codes "fua") }
 {
     match arguments {
         [others @ .., "fua"] => (true, others),
@@ -352,7 +360,8 @@ fn reading(addr: Addr, cdb: [u8; 16]) -> Order
 
 // A command that writes the sectors of `span`, each byte `byte`.
 fn writing(span: Span, cdb: [u8; 16], byte: u8) -> Order
-    ensures { result ≡ Order.Act (Action.Command span.addr cdb (record { len = span.count * 512; byte = byte }) Notation.Runs) }
+    ensures { result
+        ≡ Order.Act (Action.Command span.addr cdb (record { len = span.count * 512; byte = byte }) Notation.Runs) }
 {
     Order::Act(Action::Command {
         addr: span.addr,
@@ -377,7 +386,8 @@ fn unit(arguments: &[&str]) -> Option<Addr>
 
 /// Parses three words: a host (0 to 3), a LUN (0 to 255) and a number below 2^32.
 pub fn unit_and_number(arguments: &[&str]) -> Option<(Addr, u32)>
-    ensures { Gives (HasUnitAndNumber 32 arguments.now) (λ both. NamesUnit arguments.now both.0 × (both.1 ≡ value (word arguments.now 2))) result }
+    ensures { Gives (HasUnitAndNumber 32 arguments.now) (λ both. NamesUnit arguments.now both.0
+        × (both.1 ≡ value (word arguments.now 2))) result }
 {
     let [host, lun, number] = arguments else {
         return None;

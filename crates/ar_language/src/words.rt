@@ -1,6 +1,7 @@
 // Splits a line at its spaces and parses the words, without allocating. An empty word is an error, so that spacing is
 // unique.
-ghost use Rattle.std.specs.Prelude.{◌≡◌, ◌∷◌, [], ◌++◌, ◌-◌, ◌↔◌, ℕ, List, length, replicate, true, false, IsSome, IfSome, IfNone, OnSome, Ok, map, take, min, ◌==◌};
+ghost use Rattle.std.specs.Prelude.{◌≡◌, ◌∷◌, [], ◌++◌, ◌-◌, ◌↔◌, ℕ, List, length, replicate, true, false, IsSome};
+ghost use Rattle.std.specs.Prelude.{IfSome, IfNone, OnSome, Ok, map, take, min, ◌==◌};
 ghost use Rattle.std.specs.List.{list_all, list_any, position_or_len, slice_split};
 ghost use Rattle.std.specs.Char.{is_ascii_digit};
 ghost use Rattle.std.specs.Option.{SomeIff};
@@ -17,7 +18,8 @@ pub fn first_words<'a>(line: &'a str, words: &mut [&'a str; MOST_WORDS]) -> Opti
     ensures none { IfNone result (list_any (λ word. length word == 0) (slice_split (λ byte. byte == 32) line.now) ≡ true) }
     ensures some { OnSome result (list_any (λ word. length word == 0) (slice_split (λ byte. byte == 32) line.now) ≡ false) }
     ensures count { IfSome result (λ count. count ≡ min 8 (length (slice_split (λ byte. byte == 32) line.now))) }
-    ensures words { IfSome result (λ count. take count (map (λ word. word.now) words.new) ≡ take 8 (slice_split (λ byte. byte == 32) line.now)) }
+    ensures words { IfSome result (λ count. take count (map (λ word. word.now) words.new)
+        ≡ take 8 (slice_split (λ byte. byte == 32) line.now)) }
 {
     let mut count = 0;
     let mut rest = line;
@@ -82,7 +84,8 @@ pub fn byte(word: &str) -> Option<u8>
 /// Parses a command block: 1 to 16 bytes as hexadecimal digits, padded with zeros to 16 bytes.
 pub fn block(word: &str) -> Option<[u8; 16]>
     ensures valid { IsSome result ↔ IsBlockWord word.now }
-    ensures value { IfSome result (λ cdb. (bytes : List ℕ) × (decode_of word.now ≡ Ok bytes) × (cdb ≡ bytes ++ replicate (16 - length bytes) 0)) }
+    ensures value { IfSome result (λ cdb. (bytes : List ℕ) × (decode_of word.now ≡ Ok bytes)
+        × (cdb ≡ bytes ++ replicate (16 - length bytes) 0)) }
 {
     if word.is_empty() || word.len() > 32 {
         return None;

@@ -1,5 +1,6 @@
 -- What an order and a line leave, once what was answered is told.
-use Rattle.std.proofs.Common.{◌≡◌, ◌≢◌, ◌∙◌, inl, inr, ℕ, List, sym, subst, refl, ap, IsErr, Option, Some, Result, Ok, Err, IfErr, OnOk}
+use Rattle.std.proofs.Common.{◌≡◌, ◌≢◌, ◌∙◌, inl, inr, ℕ, List, sym, subst, refl, ap, IsErr, Option, Some, Result, Ok}
+use Rattle.std.proofs.Common.{Err, IfErr, OnOk}
 use Rattle.ar_volume.specs.Image.{ArrayState}
 use Rattle.ar_language.specs.declared.fault.FaultKind.{FaultKind}
 use Rattle.ar_language.specs.declared.fault.FaultKind.TheVariants.{NoMemory, WriteFault}
@@ -12,27 +13,32 @@ use Rattle.ar_script.specs.Answers.{AnswersLine, AppendsAnswer}
 use Rattle.ar_script.specs.Orders.{Acts, IsOrderFault, Leaves, MeetsParsed}
 
 -- an action that was done stays done where its answer could not be written
-pub acted : (action : Action) (old new : ArrayState) (r : Result (Unit {0}) FaultKind) → IfErr r (λ kind. kind ≡ WriteFault)
+pub acted : (action : Action) (old new : ArrayState) (r : Result (Unit {0}) FaultKind)
+    → IfErr r (λ kind. kind ≡ WriteFault)
     → Acts action old new → Leaves (Act action) old r new
 acted action old new (Ok done) h acts = acts
 acted action old new (Err kind) h acts =
     let P : FaultKind → Type 0 = λ k. Leaves (Act action) old (Err k) new in subst P (sym h) acts
 
 -- a line that can't be read leaves the array as it was
-pub unread : (s : ArrayState) (read : Result (Option Order) FaultKind) (r : Result (Unit {0}) FaultKind) (kind : FaultKind)
+pub unread : (s : ArrayState) (read : Result (Option Order) FaultKind) (r : Result (Unit {0}) FaultKind)
+    (kind : FaultKind)
     → read ≡ Err kind → r ≡ Err kind → MeetsParsed read s r s
 unread s read r kind was is =
     let P : Result (Option Order) FaultKind → Type 0 = λ x. MeetsParsed x s r s in subst P (sym was) (is, refl)
 
 -- a line that asks for something was answered, unless its answer was lost
-pub answered_line : (line : List ℕ) (order : Order) (r : Result (Unit {0}) FaultKind) (old new : ArrayState) (before after : Option (List ℕ)) → IsLine line
-    → ReadsLine line (Ok (Some order)) → Leaves order old r new → OnOk r (AppendsAnswer order old new before after) → OnOk r (AnswersLine line old new before after)
+pub answered_line : (line : List ℕ) (order : Order) (r : Result (Unit {0}) FaultKind) (old new : ArrayState)
+    (before after : Option (List ℕ)) → IsLine line
+    → ReadsLine line (Ok (Some order)) → Leaves order old r new → OnOk r (AppendsAnswer order old new before after)
+    → OnOk r (AnswersLine line old new before after)
 answered_line line order (Ok done) old new before after sound reads leaves answers =
     record { sound = sound; read = Ok (Some order); reads = reads; answered = (leaves, answers) }
 answered_line line order (Err kind) old new before after sound reads leaves answers = tt
 
 -- nothing was written for an order that has a fault, but for a write fault
-pub kept_order : {A : Type 0} (order : Order) (r : Result (Unit {0}) FaultKind) (old new : A) → IfErr r (IsOrderFault order) → (r ≡ Err NoMemory → new ≡ old)
+pub kept_order : {A : Type 0} (order : Order) (r : Result (Unit {0}) FaultKind) (old new : A)
+    → IfErr r (IsOrderFault order) → (r ≡ Err NoMemory → new ≡ old)
     → IsErr r → r ≢ Err WriteFault → new ≡ old
 kept_order order (Ok done) old new lost memory is quiet = absurd (cc)
 kept_order order (Err kind) old new (inl write) memory is quiet = absurd (quiet (ap Err write))

@@ -1,5 +1,6 @@
 -- Texts that are appended one after another, and words that are.
-use Rattle.std.proofs.Common.{◌≡◌, ◌∙◌, ℕ, List, [], ◌∷◌, ◌++◌, Option, None, Some, length, append_assoc, append-nil, refl, sym, ap}
+use Rattle.std.proofs.Common.{◌≡◌, ◌∙◌, ℕ, List, [], ◌∷◌, ◌++◌, Option, None, Some, length, append_assoc, append-nil}
+use Rattle.std.proofs.Common.{refl, sym, ap}
 use Rattle.std.specs.Io.KnownBytes.{append_known, Appends, Keeps}
 pub use Rattle.ar_picture.proofs.Appending.{appends_as, appends_none, appends_then, ends_with}
 use Rattle.ar_script.specs.Texts.{gap, words}
@@ -11,10 +12,12 @@ keeps_same (Some xs) = refl
 -- an empty buffer
 pub unbuffered : (known : Option (List ℕ)) (buffer : List ℕ) → buffer ≡ [] → append_known known buffer ≡ known
 unbuffered None buffer none = refl
-unbuffered (Some xs) buffer none = ap (λ (b : List ℕ). Some (xs ++ b)) none ∙ ap (λ (l : List ℕ). Some l) (append-nil xs)
+unbuffered (Some xs) buffer none =
+    ap (λ (b : List ℕ). Some (xs ++ b)) none ∙ ap (λ (l : List ℕ). Some l) (append-nil xs)
 
 -- a text, and then nothing
-pub appends_kept : (old mid new : Option (List ℕ)) (xs : List ℕ) → Appends old mid xs → Keeps mid new → Appends old new xs
+pub appends_kept : (old mid new : Option (List ℕ)) (xs : List ℕ) → Appends old mid xs → Keeps mid new
+    → Appends old new xs
 appends_kept None mid new xs first kept = tt
 appends_kept (Some a) None new xs first kept = absurd first
 appends_kept (Some a) (Some b) None xs first kept = absurd kept
@@ -24,7 +27,9 @@ appends_kept (Some a) (Some b) (Some c) xs first kept = kept ∙ first
 words-more : (ws : List (List ℕ)) (w : List ℕ) → words ws ++ (gap (length ws) ++ w) ≡ words (ws ++ w ∷ [])
 words-more [] w = refl
 words-more (v ∷ []) w = refl
-words-more (v ∷ u ∷ ws) w = append_assoc v (32 ∷ words (u ∷ ws)) (32 ∷ w) ∙ ap (λ (rest : List ℕ). v ++ 32 ∷ rest) (words-more (u ∷ ws) w)
+words-more (v ∷ u ∷ ws) w =
+    append_assoc v (32 ∷ words (u ∷ ws)) (32 ∷ w) ∙ ap (λ (rest : List ℕ). v ++ 32 ∷ rest) (words-more (u ∷ ws) w)
 
-pub words-at : (ws : List (List ℕ)) (w : List ℕ) (place : ℕ) → length ws ≡ place → words ws ++ (gap place ++ w) ≡ words (ws ++ w ∷ [])
+pub words-at : (ws : List (List ℕ)) (w : List ℕ) (place : ℕ) → length ws ≡ place
+    → words ws ++ (gap place ++ w) ≡ words (ws ++ w ∷ [])
 words-at ws w place count = ap (λ n. words ws ++ (gap n ++ w)) (sym count) ∙ words-more ws w

@@ -13,7 +13,8 @@ formed_geometry : (ms : List Members) (s new : StoreState) → IsFormed s ms new
 formed_geometry [] s new h = ap (λ (x : StoreState). x.disks.geometry) h.1
 formed_geometry (m ∷ ms) s new h = formed_geometry ms (with_group s m) new h.1
 
-pub started_geometry : (n : ℕ) (disk : DiskState) (capacity : ℕ) (s : ArrayState) → start_fault (replicate n disk) ≡ None
+pub started_geometry : (n : ℕ) (disk : DiskState) (capacity : ℕ) (s : ArrayState)
+    → start_fault (replicate n disk) ≡ None
     → IsStarted (replicate n disk) capacity s → geometry_of s ≡ disk.geometry
 started_geometry zero disk capacity s none h = cc none
 started_geometry (suc n) disk capacity s none h = formed_geometry (members_list s.store.book) _ s.store h.formed.formed

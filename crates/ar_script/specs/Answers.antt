@@ -30,7 +30,8 @@ IsAnswerTo (Block disk extent row) old new text =
 
 -- the text that answers an order: an action's is that of its outcome
 abbrev pub IsAnswer : Order → ArrayState → ArrayState → List ℕ → Type 0
-IsAnswer (Act action) old new text = (acts : Acts action old new) × (text ≡ outcome_text acts.outcome (notation_in action))
+IsAnswer (Act action) old new text =
+    (acts : Acts action old new) × (text ≡ outcome_text acts.outcome (notation_in action))
 IsAnswer (Ask question) old new text = IsAnswerTo question old new text
 
 -- an order's answer was appended
@@ -40,9 +41,11 @@ pub record AppendsAnswer (order : Order) (old new : ArrayState) (before after : 
   pub appends : Appends before after text
 
 -- a line without a fault was answered, by its parse: not at all if it asks for nothing
-abbrev pub IsAnsweredBy : Result (Option Order) FaultKind → ArrayState → ArrayState → Option (List ℕ) → Option (List ℕ) → Type 0
+abbrev pub IsAnsweredBy : Result (Option Order) FaultKind → ArrayState → ArrayState → Option (List ℕ) → Option (List ℕ)
+    → Type 0
 IsAnsweredBy (Ok None) old new before after = (new ≡ old) × (after ≡ before)
-IsAnsweredBy (Ok (Some order)) old new before after = Leaves order old (Ok tt) new × AppendsAnswer order old new before after
+IsAnsweredBy (Ok (Some order)) old new before after =
+    Leaves order old (Ok tt) new × AppendsAnswer order old new before after
 IsAnsweredBy (Err kind) old new before after = ⊥
 
 -- the answer to a line, whose bytes have no fault, was appended

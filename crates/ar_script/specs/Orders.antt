@@ -3,7 +3,8 @@ use Rattle.std.specs.Prelude.{◌≡◌, ◌⊎◌, ◌<◌, ℕ, false, List, O
 use Rattle.ar_disks.specs.declared.address.Addr.{Addr}
 use Rattle.ar_disks.specs.declared.address.Place.{Place}
 use Rattle.ar_core.specs.Events.{Event, Outcome}
-use Rattle.ar_core.specs.declared.event.EventOf.TheVariants.{Make, Grow, Remove, Cmd, Flush, Demote, Clean, Balance, AddDisk, DiskOut, Replace, Rebuild}
+use Rattle.ar_core.specs.declared.event.EventOf.TheVariants.{Make, Grow, Remove, Cmd, Flush, Demote, Clean, Balance}
+use Rattle.ar_core.specs.declared.event.EventOf.TheVariants.{AddDisk, DiskOut, Replace, Rebuild}
 use Rattle.ar_core.specs.declared.views.Shown.{Shown}
 use Rattle.ar_core.specs.Views.{Shows}
 use Rattle.ar_volume.specs.Image.{ArrayState, is_broken, image_at}
@@ -91,13 +92,15 @@ abbrev pub IsOrderFault : Order → FaultKind → Type 0
 IsOrderFault order kind = (kind ≡ WriteFault) ⊎ ((kind ≡ NoMemory) × TakesMemory order)
 
 -- the effect of a line, by its parse: none if the line asks for nothing or has a fault
-abbrev pub MeetsParsed : Result (Option Order) FaultKind → ArrayState → Result (Unit {0}) FaultKind → ArrayState → Type 0
+abbrev pub MeetsParsed : Result (Option Order) FaultKind → ArrayState → Result (Unit {0}) FaultKind → ArrayState
+    → Type 0
 MeetsParsed (Ok None) old result new = (result ≡ Ok tt) × (new ≡ old)
 MeetsParsed (Ok (Some order)) old result new = Leaves order old result new × IfErr result (IsOrderFault order)
 MeetsParsed (Err kind) old result new = (result ≡ Err kind) × (new ≡ old)
 
 -- the effect of a line on an array, whose bytes have no fault
-pub record MeetsLine (line : List ℕ) (old : ArrayState) (result : Result (Unit {0}) FaultKind) (new : ArrayState) : Type 0 where
+pub record MeetsLine (line : List ℕ) (old : ArrayState) (result : Result (Unit {0}) FaultKind) (new : ArrayState)
+    : Type 0 where
   pub sound : IsLine line
   pub read : Result (Option Order) FaultKind
   pub reads : ReadsLine line read

@@ -1,5 +1,6 @@
 -- An array as its pictures show it.
-use Rattle.std.specs.Prelude.{◌≡◌, ◌≢◌, ℕ, ◌+◌, ◌*◌, ◌/◌, ◌%◌, ◌<◌, Bool, false, ◌==◌, if◌then◌else◌, List, [], length, map, count_by, slice_index, slice_index_or, Option, Some, None}
+use Rattle.std.specs.Prelude.{◌≡◌, ◌≢◌, ℕ, ◌+◌, ◌*◌, ◌/◌, ◌%◌, ◌<◌, Bool, false, ◌==◌, if◌then◌else◌, List, [], length}
+use Rattle.std.specs.Prelude.{map, count_by, slice_index, slice_index_or, Option, Some, None}
 use Rattle.std.specs.List.{All, filter_map, flat_map, range_with_len}
 use Rattle.std.proofs.Common.{mod-lt, lit<}
 use Rattle.ar_disks.specs.declared.address.Addr.{Addr}
@@ -39,7 +40,8 @@ health_shown Broken = states.Broken
 
 -- a group, as pictures have it
 abbrev pub group_shown : GroupView → Group
-group_shown view = record { class = class_shown view.class; members = view.members; blocks = view.blocks; slots = view.slots }
+group_shown view =
+    record { class = class_shown view.class; members = view.members; blocks = view.blocks; slots = view.slots }
 
 -- the groups of the tables, as pictures have them
 abbrev pub groups_in : Tables → List Group
@@ -51,7 +53,8 @@ address_index addr = 8 * addr.host.number + addr.lun
 
 -- the address with a place
 abbrev pub addr_at : ℕ → Addr
-addr_at place = record { host = record { number = place / 8 % 4; in_range = mod-lt (place / 8) (lit< tt) }; lun = place % 8 }
+addr_at place =
+    record { host = record { number = place / 8 % 4; in_range = mod-lt (place / 8) (lit< tt) }; lun = place % 8 }
 
 -- the unit at an address, as pictures have it, if it exists: the number of its blocks, and of those that have a home
 abbrev pub unit_at : Tables → Addr → Option PictureUnit
@@ -93,13 +96,15 @@ pub record AddsOne (group place : ℕ) (old new : List Held) : Type 0 where
 -- stay
 pub record AddsHomes (homes : List (Option Slot)) (place : ℕ) (old new : List Held) : Type 0 where
   pub groups : length new ≡ length old
-  pub counted : (group : ℕ) → group < length old → held_at new group place ≡ held_at old group place + count_by (is_in group) homes
+  pub counted : (group : ℕ) → group < length old → held_at new group place
+      ≡ held_at old group place + count_by (is_in group) homes
   pub other_places : (group at : ℕ) → at ≢ place → held_at new group at ≡ held_at old group at
 
 -- for each group, the number of blocks of each unit that it holds is counted
 pub record HoldsBlocks (t : Tables) (held : List Held) : Type 0 where
   pub groups : length held ≡ length t.groups
-  pub blocks : (group : ℕ) (addr : Addr) → group < length t.groups → addr.lun < 8 → held_at held group (address_index addr) ≡ blocks_in t group addr
+  pub blocks : (group : ℕ) (addr : Addr) → group < length t.groups → addr.lun < 8
+      → held_at held group (address_index addr) ≡ blocks_in t group addr
 
 -- The picture has the array's disks, their health, and its groups: their classes, their extents, and how many blocks
 -- each holds. It has the units, in order of host and LUN, each with the number of its blocks and of those that have a

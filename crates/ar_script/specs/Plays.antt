@@ -1,5 +1,6 @@
 -- The run of a script on an array, line by line.
-use Rattle.std.specs.Prelude.{◌≡◌, ◌⊎◌, ⊤, ℕ, ◌+◌, ◌<◌, ◌≤◌, max, false, List, [], ◌∷◌, ◌++◌, length, take, Option, Some, None, Result, Ok, Err, OnOk, IfErr}
+use Rattle.std.specs.Prelude.{◌≡◌, ◌⊎◌, ⊤, ℕ, ◌+◌, ◌<◌, ◌≤◌, max, false, List, [], ◌∷◌, ◌++◌, length, take, Option}
+use Rattle.std.specs.Prelude.{Some, None, Result, Ok, Err, OnOk, IfErr}
 use Rattle.std.specs.Io.KnownBytes.{Appends}
 use Rattle.ar_disks.specs.Disk.{DiskState}
 use Rattle.ar_volume.specs.Image.{ArrayState, geometry_of}
@@ -25,12 +26,14 @@ use Rattle.ar_script.specs.Texts.{outcome_text}
 -- the order is executed in this step of a run, to this state, and answered by this text: an action as its event, a
 -- query as a look at what it asks for alone
 abbrev pub IsTurn : Order → ArrayState → Turn → ArrayState → List ℕ → Type 0
-IsTurn (Act action) old (Did event outcome) new text = (event ≡ event_in old action) × (text ≡ outcome_text outcome (notation_in action))
+IsTurn (Act action) old (Did event outcome) new text =
+    (event ≡ event_in old action) × (text ≡ outcome_text outcome (notation_in action))
 IsTurn (Ask question) old Looked new text = Looks question old new × IsAnswerTo question old new text
 IsTurn order old turn new text = ⊥
 
 -- the line has no fault and asks for something, which is executed in this step and answered by this text
-pub record ExecutesLine (line : List ℕ) (old : ArrayState) (turn : Turn) (new : ArrayState) (text : List ℕ) : Type 0 where
+pub record ExecutesLine (line : List ℕ) (old : ArrayState) (turn : Turn) (new : ArrayState) (text : List ℕ)
+    : Type 0 where
   pub sound : IsLine line
   pub order : Order
   pub reads : ReadsLine line (Ok (Some order))
@@ -53,7 +56,8 @@ AreMet [] old [] [] text = text ≡ []
 AreMet (line ∷ lines) old [] [] text = HasNoOrder line × AreMet lines old [] [] text
 AreMet (line ∷ lines) old (turn ∷ turns) (new ∷ states) text =
     (HasNoOrder line × AreMet lines old (turn ∷ turns) (new ∷ states) text)
-    ⊎ ((answer : List ℕ) × (rest : List ℕ) × (text ≡ answer ++ rest) × ExecutesLine line old turn new answer × AreMet lines new turns states rest)
+    ⊎ ((answer : List ℕ) × (rest : List ℕ) × (text ≡ answer ++ rest) × ExecutesLine line old turn new answer
+    × AreMet lines new turns states rest)
 AreMet lines old turns states text = ⊥
 
 -- The array executed these lines, one after another, from its old state to its new one, and this text is that of their
@@ -92,7 +96,8 @@ IsExternalFault line n kind = IsOfStream kind ⊎ ((kind ≡ NoMemory) × ((n �
 abbrev pub IsSo : Option (List (List ℕ)) → ℕ → FaultKind → Type 0
 IsSo None n kind = ⊤
 IsSo (Some script) n kind =
-    IsExternalFault (line_at script n) n kind ⊎ (line_fault (line_at script n) ≡ Some kind) ⊎ SaysWrong (line_at script n) kind
+    IsExternalFault (line_at script n) n kind ⊎ (line_fault (line_at script n) ≡ Some kind)
+    ⊎ SaysWrong (line_at script n) kind
     ⊎ ((kind ≡ TooManyLines) × (1000000 < length script))
 
 -- the line's order is a query that allocates
@@ -119,7 +124,8 @@ IsUnanswered line kind = ((kind ≡ WriteFault) × AsksSomething line) ⊎ ((kin
 abbrev pub IsToldAt : {R : Type 0} {reads : Ghosts R} → Lines R reads → Fault → Type 0
 IsToldAt lines Start = ⊥
 IsToldAt lines (Line n kind) =
-    EndsReading lines (Line n kind) ⊎ ((n ≡ lines.given) × (IsUnanswered lines.line.items kind ⊎ SaysWrong lines.line.items kind))
+    EndsReading lines (Line n kind)
+    ⊎ ((n ≡ lines.given) × (IsUnanswered lines.line.items kind ⊎ SaysWrong lines.line.items kind))
 
 -- the same for the end of a run, which may also be a write fault
 abbrev pub IsToldOf : {R : Type 0} {reads : Ghosts R} → Lines R reads → Fault → Type 0
@@ -141,7 +147,8 @@ IsLineThere (Some lines) (Line n kind) = (kind ≡ ReadFault) ⊎ (kind ≡ TooM
 
 -- The array executed the first lines of a script, each once and in order: all of them if the script ended without a
 -- fault.
-pub record PlaysScript (script : Option (List (List ℕ))) (result : Result (Unit {0}) Fault) (old new : ArrayState) : Type 0 where
+pub record PlaysScript (script : Option (List (List ℕ))) (result : Result (Unit {0}) Fault) (old new : ArrayState)
+    : Type 0 where
   pub lines : List (List ℕ)
   pub text : List ℕ
   pub plays : Plays lines old new text
@@ -152,7 +159,8 @@ pub record PlaysScript (script : Option (List (List ℕ))) (result : Result (Uni
   pub told : IfErr result (IsToldAfter script lines)
 
 -- the array executed all lines of a script, and the text of their answers was appended
-pub record WritesScript (script : Option (List (List ℕ))) (old new : ArrayState) (before after : Option (List ℕ)) : Type 0 where
+pub record WritesScript (script : Option (List (List ℕ))) (old new : ArrayState) (before after : Option (List ℕ))
+    : Type 0 where
   pub lines : List (List ℕ)
   pub text : List ℕ
   pub plays : Plays lines old new text
@@ -165,7 +173,8 @@ IsAtNext lines Start = ⊥
 IsAtNext lines (Line n kind) = n ≡ length lines + 1
 
 -- the array executed the lines of a script before a fault and nothing else, and the text of their answers was appended
-pub record WritesBefore (script : Option (List (List ℕ))) (fault : Fault) (old new : ArrayState) (before after : Option (List ℕ)) : Type 0 where
+pub record WritesBefore (script : Option (List (List ℕ))) (fault : Fault) (old new : ArrayState)
+    (before after : Option (List ℕ)) : Type 0 where
   pub lines : List (List ℕ)
   pub text : List ℕ
   pub plays : Plays lines old new text
@@ -174,9 +183,11 @@ pub record WritesBefore (script : Option (List (List ℕ))) (fault : Fault) (old
   pub appends : Appends before after text
 
 -- what was appended for a script: the answers to all lines or, at a fault other than a write fault, to those before it
-abbrev pub AnswersScript : Option (List (List ℕ)) → Result (Unit {0}) Fault → ArrayState → ArrayState → Option (List ℕ) → Option (List ℕ) → Type 0
+abbrev pub AnswersScript : Option (List (List ℕ)) → Result (Unit {0}) Fault → ArrayState → ArrayState → Option (List ℕ)
+    → Option (List ℕ) → Type 0
 AnswersScript script (Ok done) old new before after = WritesScript script old new before after
-AnswersScript script (Err fault) old new before after = is_write_fault {T = Unit {0}} (Err fault) ≡ false → WritesBefore script fault old new before after
+AnswersScript script (Err fault) old new before after =
+    is_write_fault {T = Unit {0}} (Err fault) ≡ false → WritesBefore script fault old new before after
 
 -- `begun` lines were taken from a script, and the array executed each; `left` are left
 pub record PlaysAll (script left : Option (List (List ℕ))) (old new : ArrayState) (begun : ℕ) : Type 0 where
@@ -187,20 +198,23 @@ pub record PlaysAll (script left : Option (List (List ℕ))) (old new : ArraySta
   pub took : Took script left lines
 
 -- `begun` lines were begun, and the array executed each, but for the last if a fault came before that.
-pub record PlaysTo (script : Option (List (List ℕ))) (result : Result (Unit {0}) Fault) (old new : ArrayState) (begun : ℕ) : Type 0 where
+pub record PlaysTo (script : Option (List (List ℕ))) (result : Result (Unit {0}) Fault) (old new : ArrayState)
+    (begun : ℕ) : Type 0 where
   pub plays : PlaysScript script result old new
   pub few : length plays.lines ≤ begun
   pub most : begun ≤ length plays.lines + 1
 
 -- an array that was started on these disks executed the script
-pub record HasPlayed (disks : List DiskState) (cache : ℕ) (script : Option (List (List ℕ))) (result : Result (Unit {0}) Fault) : Type 0 where
+pub record HasPlayed (disks : List DiskState) (cache : ℕ) (script : Option (List (List ℕ)))
+    (result : Result (Unit {0}) Fault) : Type 0 where
   pub first : ArrayState
   pub last : ArrayState
   pub started : IsStarted disks cache first
   pub plays : PlaysScript script result first last
 
 -- an array that was started on these disks executed the script, and its answers were appended
-pub record HasAnswered (disks : List DiskState) (cache : ℕ) (script : Option (List (List ℕ))) (result : Result (Unit {0}) Fault) (before after : Option (List ℕ)) : Type 0 where
+pub record HasAnswered (disks : List DiskState) (cache : ℕ) (script : Option (List (List ℕ)))
+    (result : Result (Unit {0}) Fault) (before after : Option (List ℕ)) : Type 0 where
   pub first : ArrayState
   pub last : ArrayState
   pub started : IsStarted disks cache first

@@ -1,5 +1,6 @@
 -- The text of each answer, as the script's reference lists them: lines of words.
-use Rattle.std.specs.Prelude.{ℕ, ◌/◌, ◌%◌, zero, suc, ◌==◌, true, if◌then◌else◌, List, [], ◌∷◌, ◌++◌, Option, Some, None, Result, Ok, Err, map, codes, bit_and, slice_index}
+use Rattle.std.specs.Prelude.{ℕ, ◌/◌, ◌%◌, zero, suc, ◌==◌, true, if◌then◌else◌, List, [], ◌∷◌, ◌++◌, Option, Some}
+use Rattle.std.specs.Prelude.{None, Result, Ok, Err, map, codes, bit_and, slice_index}
 use Rattle.std.specs.Fmt.{decimal, digit_glyph}
 use Rattle.std.specs.List.{join_with_byte}
 use Rattle.ar_disks.specs.declared.address.Addr.{Addr}
@@ -85,7 +86,8 @@ data_words notations.Runs bytes = map run_text (runs_of bytes)
 -- sense data, by their sense key (the low four bits of byte 2), additional sense code and qualifier
 abbrev pub sense_text : List ℕ → List ℕ
 sense_text sense =
-    hex_byte (bit_and (slice_index sense 2) 15) ++ codes "/" ++ hex_byte (slice_index sense 12) ++ codes "/" ++ hex_byte (slice_index sense 13)
+    hex_byte (bit_and (slice_index sense 2) 15) ++ codes "/" ++ hex_byte (slice_index sense 12) ++ codes "/"
+    ++ hex_byte (slice_index sense 13)
 
 -- a status, with its sense data or the words of its payload
 abbrev pub status_text : Status → Option (List ℕ) → List (List ℕ) → List ℕ
@@ -115,7 +117,8 @@ unit_flush_text unit_flushes.Broken = line (codes "broken" ∷ [])
 
 -- the block that was moved, and the slot that it moved to
 abbrev pub move_text : Move → List ℕ
-move_text (moves.Moved key to) = line (codes "moved" ∷ key_words key (codes "to" ∷ decimal to.group ∷ decimal to.slot ∷ []))
+move_text (moves.Moved key to) =
+    line (codes "moved" ∷ key_words key (codes "to" ∷ decimal to.group ∷ decimal to.slot ∷ []))
 move_text moves.Idle = line (codes "idle" ∷ [])
 move_text moves.Broken = line (codes "broken" ∷ [])
 

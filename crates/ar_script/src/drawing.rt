@@ -9,7 +9,8 @@ ghost use Rattle.ar_language.specs.declared.order.Question.TheVariants.{Picture 
 ghost use Rattle.ar_picture.specs.Writing.{AddsBytes, AddsSome};
 ghost use Rattle.ar_script.specs.Answers.{AppendsAnswer};
 ghost use Rattle.ar_script.specs.Orders.{IsOrderFault};
-ghost use Rattle.ar_script.specs.Pictures.{IsPicture, health_shown, class_shown, group_shown, groups_in, unit_at, units_in, addr_at, held_at, AddsOne, AddsHomes, HoldsBlocks};
+ghost use Rattle.ar_script.specs.Pictures.{IsPicture, health_shown, class_shown, group_shown, groups_in, unit_at};
+ghost use Rattle.ar_script.specs.Pictures.{units_in, addr_at, held_at, AddsOne, AddsHomes, HoldsBlocks};
 
 use ar_core::{Array, Class, GroupView, Health, HomeOf};
 use ar_disks::{Addr, Disk, Host};

@@ -1,16 +1,19 @@
 // Runs a script, from its first line to its end or its first fault. The output is flushed before more input is
 // accessed.
-ghost use Rattle.std.specs.Prelude.{◌≡◌, ◌≢◌, ◌≤◌, ◌⊎◌, max, true, false, [], None, Some, Err, IfSome, IfErr, IsErr, OnOk};
+ghost use Rattle.std.specs.Prelude.{◌≡◌, ◌≢◌, ◌≤◌, ◌⊎◌, max, true, false, [], None, Some, Err, IfSome, IfErr, IsErr};
+ghost use Rattle.std.specs.Prelude.{OnOk};
 ghost use Rattle.std.specs.Io.Buffered.{writer_buffer, writer_contents};
 ghost use Rattle.std.specs.Io.KnownBytes.{Keeps};
 ghost use Rattle.ar_extents.specs.Changes.{start_fault};
 ghost use Rattle.ar_language.specs.Forms.{is_silent};
 ghost use Rattle.ar_language.specs.Left.{lines_left, lines_begun, IsFresh};
-ghost use Rattle.ar_language.specs.Lines.{lines_of, is_write_fault as tells_write_fault, AreThere, IsNumbered, IsReached};
+ghost use Rattle.ar_language.specs.Lines.{lines_of, is_write_fault as tells_write_fault, AreThere, IsNumbered};
+ghost use Rattle.ar_language.specs.Lines.{IsReached};
 ghost use Rattle.ar_script.specs.Ends.{Ends};
 ghost use Rattle.ar_script.specs.Answers.{AnswersLine};
 ghost use Rattle.ar_script.specs.Orders.{MeetsLine};
-ghost use Rattle.ar_script.specs.Plays.{SaysWrong, IsUnanswered, IsLineThere, IsToldAt, IsToldOf, PlaysScript, PlaysTo, AnswersScript, HasPlayed, HasAnswered};
+ghost use Rattle.ar_script.specs.Plays.{SaysWrong, IsUnanswered, IsLineThere, IsToldAt, IsToldOf, PlaysScript, PlaysTo};
+ghost use Rattle.ar_script.specs.Plays.{AnswersScript, HasPlayed, HasAnswered};
 ghost use Rattle.ar_script.specs.Setups.{disks_of};
 
 use crate::runner::Runner;
@@ -57,7 +60,8 @@ pub fn run_script<R: Read + Drop, W: Write + Drop>(
     // a write fault, to those before it.
     ensures answers { result.end ≢ Err Fault.Start → IfSome result.writer (λ written.
         HasAnswered (disks_of setup) setup.cache (lines_of (R.remaining reader)) result.end (W.contents writer) (W.contents written)) }
-    ensures played { result.end ≢ Err Fault.Start → HasPlayed (disks_of setup) setup.cache (lines_of (R.remaining reader)) result.end }
+    ensures played { result.end ≢ Err Fault.Start
+        → HasPlayed (disks_of setup) setup.cache (lines_of (R.remaining reader)) result.end }
     ensures begun { result.end ≢ Err Fault.Start → (setup.cache ≤ 65536) × (start_fault (disks_of setup) ≡ None) }
     ensures unstarted { result.end ≡ Err Fault.Start → result.writer ≡ Some writer }
     ensures lost { result.writer ≡ None → result.end ≡ Err (Fault.Line 1 FaultKind.NoMemory) }
@@ -85,7 +89,8 @@ pub fn run_on<R: Read + Drop, W: Write + Drop>(
     ensures answers { IfSome result.writer (λ written.
         AnswersScript (lines_of (R.remaining reader)) result.end runner.old runner.new (W.contents writer) (W.contents written)) }
     ensures plays { PlaysScript (lines_of (R.remaining reader)) result.end runner.old runner.new }
-    ensures lost { result.writer ≡ None → (result.end ≡ Err (Fault.Line 1 FaultKind.NoMemory)) × (runner.new ≡ runner.old) }
+    ensures lost { result.writer ≡ None → (result.end ≡ Err (Fault.Line 1 FaultKind.NoMemory))
+        × (runner.new ≡ runner.old) }
 
     ensures numbered { IfErr result.end IsNumbered }
     ensures there { IfErr result.end (IsLineThere (lines_of (R.remaining reader))) }
@@ -99,7 +104,8 @@ pub fn run_on<R: Read + Drop, W: Write + Drop>(
     write_answers(alloc, runner, &mut lines, writer)
 }
 
-// Executes all lines with a buffer for the output, which is empty afterwards unless a write failed, and drops the buffer.
+// Executes all lines with a buffer for the output, which is empty afterwards unless a write failed, and drops the
+// buffer.
 fn write_answers<R: Read + Drop, W: Write + Drop>(
     alloc: Global,
     runner: &mut Runner,
@@ -110,7 +116,8 @@ fn write_answers<R: Read + Drop, W: Write + Drop>(
     ensures answers { IfSome result.writer (λ written.
         AnswersScript (lines_left lines.old) result.end runner.old runner.new (W.contents writer) (W.contents written)) }
     ensures plays { PlaysScript (lines_left lines.old) result.end runner.old runner.new }
-    ensures lost { result.writer ≡ None → (result.end ≡ Err (Fault.Line 1 FaultKind.NoMemory)) × (runner.new ≡ runner.old) }
+    ensures lost { result.writer ≡ None → (result.end ≡ Err (Fault.Line 1 FaultKind.NoMemory))
+        × (runner.new ≡ runner.old) }
 
     ensures numbered { IfErr result.end IsNumbered }
     ensures there { IfErr result.end (IsLineThere (lines_left lines.old)) }
@@ -151,7 +158,8 @@ fn answer_all<R: Read + Drop, W: Write + Drop>(
     // Unless a write fault is reported, all answers are written, in order, behind what the writer had: to all lines, or
     // to those before the fault.
     ensures written { tells_write_fault result ≡ false → writer_buffer out.new ≡ [] }
-    ensures grows { AnswersScript (lines_left lines.old) result runner.old runner.new (writer_contents W.contents out.old) (writer_contents W.contents out.new) }
+    ensures grows { AnswersScript (lines_left lines.old) result runner.old runner.new (writer_contents W.contents out.old)
+        (writer_contents W.contents out.new) }
 {
     let done = run_lines(alloc, runner, lines, out);
     finish(out, lines.number(), done)
@@ -184,7 +192,8 @@ fn run_lines<R: Read + Drop, W: Write + Drop>(
     ensures told { IfErr result (IsToldAt lines.new) }
     ensures numbered { IfErr result IsNumbered }
     // Each answer is appended to those before it: to all lines, or to those before a fault that isn't a write fault.
-    ensures grows { AnswersScript (lines_left lines.old) result runner.old runner.new (writer_contents W.contents out.old) (writer_contents W.contents out.new) }
+    ensures grows { AnswersScript (lines_left lines.old) result runner.old runner.new (writer_contents W.contents out.old)
+        (writer_contents W.contents out.new) }
 {
     for _ in 0..u32::MAX {
         if !next_line(lines, out)? {
@@ -208,7 +217,8 @@ fn answer_line<R: Read + Drop, W: Write + Drop>(
     ensures told { IfErr result (λ kind. IsUnanswered lines.now.line.items kind ⊎ SaysWrong lines.now.line.items kind) }
     ensures few { IfErr result (λ kind. kind ≢ FaultKind.TooManyLines) }
     ensures adds { OnOk result
-        (AnswersLine lines.now.line.items runner.old runner.new (writer_contents W.contents out.old) (writer_contents W.contents out.new)) }
+        (AnswersLine lines.now.line.items runner.old runner.new (writer_contents W.contents out.old)
+        (writer_contents W.contents out.new)) }
     // A line that asks for nothing writes nothing, and neither does one with a fault, but for a write fault.
     ensures silent { is_silent lines.now.line.items ≡ true → out.new ≡ out.old }
     ensures kept { IsErr result → result ≢ Err FaultKind.WriteFault → out.new ≡ out.old }

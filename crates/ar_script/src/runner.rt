@@ -154,8 +154,10 @@ impl Runner {
         ensures lost { IfErr result (IsOrderFault (Order.Ask question)) }
         ensures memory { result ≡ Err FaultKind.NoMemory → out.new ≡ out.old }
         ensures grows { result ≢ Err FaultKind.WriteFault → AddsBytes (W.contents out.old) (W.contents out.new) }
-        ensures adds { OnOk result (HasAnswer (Order.Ask question) → AddsSome (W.contents out.old) (W.contents out.new)) }
-        ensures answers { OnOk result (AppendsAnswer (Order.Ask question) self.old self.new (W.contents out.old) (W.contents out.new)) }
+        ensures adds { OnOk result (HasAnswer (Order.Ask question)
+            → AddsSome (W.contents out.old) (W.contents out.new)) }
+        ensures answers { OnOk result
+            (AppendsAnswer (Order.Ask question) self.old self.new (W.contents out.old) (W.contents out.new)) }
         ensures looks { Looks question self.old self.new }
     {
         match question {

@@ -4,7 +4,10 @@ ghost use Rattle.std.specs.Fmt.{digit_glyph};
 ghost use Rattle.std.specs.Io.KnownBytes.{Appends};
 ghost use Rattle.ar_book.specs.Tables.{has_unit};
 ghost use Rattle.ar_picture.specs.Writing.{AddsSome};
-ghost use Rattle.ar_script.specs.Texts.{balance_text, class_name, data_words, done_text, flush_text, gap, group_text, groups_text, health_text, hex_byte, home_text, level_mark, levels_text, line, marks_text, move_text, outcome_text, rebuild_text, reply_text, row_text, run_text, runs_of, sense_text, taken_text, unit_flush_text, words};
+ghost use Rattle.ar_script.specs.Texts.{balance_text, class_name, data_words, done_text, flush_text, gap, group_text};
+ghost use Rattle.ar_script.specs.Texts.{groups_text, health_text, hex_byte, home_text, level_mark, levels_text, line};
+ghost use Rattle.ar_script.specs.Texts.{marks_text, move_text, outcome_text, rebuild_text, reply_text, row_text};
+ghost use Rattle.ar_script.specs.Texts.{run_text, runs_of, sense_text, taken_text, unit_flush_text, words};
 
 use crate::runs::run_len;
 use ar_core::{
@@ -75,7 +78,8 @@ fn write_reply<W: Write>(out: &mut W, reply: &Reply, notation: Notation) -> io::
 
 // Writes `check` and what the sense data say.
 fn write_check<W: Write>(out: &mut W, sense: &[u8; 18]) -> io::Result<()>
-    ensures text { OnOk result (Appends (W.contents out.old) (W.contents out.new) (line (codes "check" ∷ sense_text sense.now ∷ []))) }
+    ensures text { OnOk result
+        (Appends (W.contents out.old) (W.contents out.new) (line (codes "check" ∷ sense_text sense.now ∷ []))) }
 {
     out.write_all(b"check ")?;
     out.write_all(&sense_text(sense))?;
@@ -103,7 +107,8 @@ fn sense_text(sense: &[u8; 18]) -> [u8; 8]
 
 // Writes `good` and the bytes of the reply.
 fn write_good<W: Write>(out: &mut W, bytes: &[u8], notation: Notation) -> io::Result<()>
-    ensures text { OnOk result (Appends (W.contents out.old) (W.contents out.new) (line (codes "good" ∷ data_words notation bytes.now))) }
+    ensures text { OnOk result
+        (Appends (W.contents out.old) (W.contents out.new) (line (codes "good" ∷ data_words notation bytes.now))) }
 {
     if bytes.is_empty() {
         return out.write_all(b"good\n");
@@ -272,8 +277,8 @@ fn class_name(class: Class) -> &'static str
     }
 }
 
-/// Writes the health of an array, as a line: `whole` (all disks present), `out` with the missing disk, `rebuilding` with
-/// the replaced one, or `broken` (failed: two disks missing at once).
+/// Writes the health of an array, as a line: `whole` (all disks present), `out` with the missing disk, `rebuilding`
+/// with the replaced one, or `broken` (failed: two disks missing at once).
 pub fn write_health<W: Write>(out: &mut W, health: Health) -> io::Result<()>
     ensures text { OnOk result (Appends (W.contents out.old) (W.contents out.new) (health_text health)) }
     ensures adds { OnOk result (AddsSome (W.contents out.old) (W.contents out.new)) }

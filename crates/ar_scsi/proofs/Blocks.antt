@@ -1,13 +1,23 @@
 -- The function and the relations on command blocks agree.
-use Rattle.std.proofs.Common.{◌≡◌, ◌≢◌, ◌<◌, ◌≤◌, ◌↔◌, ◌⊎◌, ◌∙◌, ℕ, Bool, true, false, cond, eqb, ◌&&◌, List, Result, Ok, Err, refl, sym, subst, inl, inr}
+use Rattle.std.proofs.Common.{◌≡◌, ◌≢◌, ◌<◌, ◌≤◌, ◌↔◌, ◌⊎◌, ◌∙◌, ℕ, Bool, true, false, cond, eqb, ◌&&◌, List, Result}
+use Rattle.std.proofs.Common.{Ok, Err, refl, sym, subst, inl, inr}
 use Rattle.std.specs.Prelude.{MatchResult}
-use Rattle.std.proofs.lemmas.Bool.{true≢false, cases_eq, eq-eqb, cond-true, eqb-true, eqb-false, leb-true, leb-false, ne_eqb, le-leb, lt-leb, cond-false, cond_both, and_parts, and_cases, and_left, and_right}
+use Rattle.std.proofs.lemmas.Bool.{true≢false, cases_eq, eq-eqb, cond-true, eqb-true, eqb-false, leb-true, leb-false}
+use Rattle.std.proofs.lemmas.Bool.{ne_eqb, le-leb, lt-leb, cond-false, cond_both, and_parts, and_cases, and_left}
+use Rattle.std.proofs.lemmas.Bool.{and_right}
 use Rattle.ar_scsi.specs.declared.command.Command.{Command}
 use Rattle.ar_scsi.specs.declared.command.Command.TheVariants.{TestReady, Inquiry, Capacity}
 use Rattle.ar_scsi.specs.declared.sense.Sense.{Sense}
-use Rattle.ar_scsi.specs.Block.{Says, Faults, MeansOneThing, test_unit_ready, inquiry, read_capacity_10, read_capacity_10_pmi, read_10, write_10, read_16, write_16, unknown_code, test_unit_ready_naca, inquiry_naca, inquiry_evpd, inquiry_page_code, read_capacity_10_naca, read_capacity_10_address, read_10_naca, read_10_protect, write_10_naca, write_10_protect, read_16_naca, read_16_protect, read_16_length, write_16_naca, write_16_protect, write_16_length}
-use Rattle.ar_scsi.specs.Field.{operation_code, naca, allocation_length, pmi, protect, logical_block_address_10, transfer_length_16}
-use Rattle.ar_scsi.specs.Reading.{reading, ReadingAgrees, where_valid, test_unit_ready_valid, inquiry_valid, read_capacity_10_valid, transfer_10_valid, transfer_16_valid}
+use Rattle.ar_scsi.specs.Block.{Says, Faults, MeansOneThing, test_unit_ready, inquiry, read_capacity_10}
+use Rattle.ar_scsi.specs.Block.{read_capacity_10_pmi, read_10, write_10, read_16, write_16, unknown_code}
+use Rattle.ar_scsi.specs.Block.{test_unit_ready_naca, inquiry_naca, inquiry_evpd, inquiry_page_code}
+use Rattle.ar_scsi.specs.Block.{read_capacity_10_naca, read_capacity_10_address, read_10_naca, read_10_protect}
+use Rattle.ar_scsi.specs.Block.{write_10_naca, write_10_protect, read_16_naca, read_16_protect, read_16_length}
+use Rattle.ar_scsi.specs.Block.{write_16_naca, write_16_protect, write_16_length}
+use Rattle.ar_scsi.specs.Field.{operation_code, naca, allocation_length, pmi, protect, logical_block_address_10}
+use Rattle.ar_scsi.specs.Field.{transfer_length_16}
+use Rattle.ar_scsi.specs.Reading.{reading, ReadingAgrees, where_valid, test_unit_ready_valid, inquiry_valid}
+use Rattle.ar_scsi.specs.Reading.{read_capacity_10_valid, transfer_10_valid, transfer_16_valid}
 use Rattle.ar_scsi.specs.Sense.{invalid_field_in_cdb}
 
 -- a block that says a command reads as it
@@ -19,8 +29,10 @@ reading-says cdb _ (read_capacity_10 code naca_0 pmi_0 address_0) = rw (code, na
 reading-says cdb _ (read_capacity_10_pmi code naca_0 pmi_1) = let set = ne_eqb _ _ pmi_1 in rw (code, naca_0, set) refl
 reading-says cdb _ (read_10 code naca_0 protect_0) = rw (code, naca_0, protect_0) refl
 reading-says cdb _ (write_10 code naca_0 protect_0) = rw (code, naca_0, protect_0) refl
-reading-says cdb _ (read_16 code naca_0 protect_0 short) = let fits = le-leb _ _ short in rw (code, naca_0, protect_0, fits) refl
-reading-says cdb _ (write_16 code naca_0 protect_0 short) = let fits = le-leb _ _ short in rw (code, naca_0, protect_0, fits) refl
+reading-says cdb _ (read_16 code naca_0 protect_0 short) = let fits =
+    le-leb _ _ short in rw (code, naca_0, protect_0, fits) refl
+reading-says cdb _ (write_16 code naca_0 protect_0 short) = let fits =
+    le-leb _ _ short in rw (code, naca_0, protect_0, fits) refl
 
 -- a block that is refused reads as its fault
 pub reading-faults : (cdb : List ℕ) (s : Sense) → Faults cdb s → reading cdb ≡ Err s
@@ -36,20 +48,27 @@ reading-faults cdb _ (unknown_code code) =
     rw (a, b, c, d, e, f, g) refl
 reading-faults cdb _ (test_unit_ready_naca code set) = rw code (cond-false _ _ _ (ne_eqb _ _ set))
 reading-faults cdb _ (inquiry_naca code set) = rw code (cond-false _ _ _ (and_left _ _ (ne_eqb _ _ set)))
-reading-faults cdb _ (inquiry_evpd code set) = rw code (cond-false _ _ _ (and_right _ _ (and_left _ _ (ne_eqb _ _ set))))
-reading-faults cdb _ (inquiry_page_code code set) = rw code (cond-false _ _ _ (and_right _ _ (and_right _ _ (ne_eqb _ _ set))))
+reading-faults cdb _ (inquiry_evpd code set) =
+    rw code (cond-false _ _ _ (and_right _ _ (and_left _ _ (ne_eqb _ _ set))))
+reading-faults cdb _ (inquiry_page_code code set) =
+    rw code (cond-false _ _ _ (and_right _ _ (and_right _ _ (ne_eqb _ _ set))))
 reading-faults cdb _ (read_capacity_10_naca code set) = rw code (cond-false _ _ _ (and_left _ _ (ne_eqb _ _ set)))
-reading-faults cdb _ (read_capacity_10_address code pmi_0 set) = rw (code, pmi_0) (cond-false _ _ _ (and_right _ _ (ne_eqb _ _ set)))
+reading-faults cdb _ (read_capacity_10_address code pmi_0 set) =
+    rw (code, pmi_0) (cond-false _ _ _ (and_right _ _ (ne_eqb _ _ set)))
 reading-faults cdb _ (read_10_naca code set) = rw code (cond-false _ _ _ (and_left _ _ (ne_eqb _ _ set)))
 reading-faults cdb _ (read_10_protect code set) = rw code (cond-false _ _ _ (and_right _ _ (ne_eqb _ _ set)))
 reading-faults cdb _ (write_10_naca code set) = rw code (cond-false _ _ _ (and_left _ _ (ne_eqb _ _ set)))
 reading-faults cdb _ (write_10_protect code set) = rw code (cond-false _ _ _ (and_right _ _ (ne_eqb _ _ set)))
 reading-faults cdb _ (read_16_naca code set) = rw code (cond-false _ _ _ (and_left _ _ (ne_eqb _ _ set)))
-reading-faults cdb _ (read_16_protect code set) = rw code (cond-false _ _ _ (and_right _ _ (and_left _ _ (ne_eqb _ _ set))))
-reading-faults cdb _ (read_16_length code long) = rw code (cond-false _ _ _ (and_right _ _ (and_right _ _ (lt-leb _ _ long))))
+reading-faults cdb _ (read_16_protect code set) =
+    rw code (cond-false _ _ _ (and_right _ _ (and_left _ _ (ne_eqb _ _ set))))
+reading-faults cdb _ (read_16_length code long) =
+    rw code (cond-false _ _ _ (and_right _ _ (and_right _ _ (lt-leb _ _ long))))
 reading-faults cdb _ (write_16_naca code set) = rw code (cond-false _ _ _ (and_left _ _ (ne_eqb _ _ set)))
-reading-faults cdb _ (write_16_protect code set) = rw code (cond-false _ _ _ (and_right _ _ (and_left _ _ (ne_eqb _ _ set))))
-reading-faults cdb _ (write_16_length code long) = rw code (cond-false _ _ _ (and_right _ _ (and_right _ _ (lt-leb _ _ long))))
+reading-faults cdb _ (write_16_protect code set) =
+    rw code (cond-false _ _ _ (and_right _ _ (and_left _ _ (ne_eqb _ _ set))))
+reading-faults cdb _ (write_16_length code long) =
+    rw code (cond-false _ _ _ (and_right _ _ (and_right _ _ (lt-leb _ _ long))))
 
 -- what the reading of a block stands for
 abbrev Stands : List ℕ → Result Command Sense → Type 0
@@ -72,18 +91,22 @@ by_code cdb a n x y f g = cond_both (eqb a n) x y (Stands cdb) (λ e. f (eqb-tru
 either_fails : {X : Type 0} (x y : Bool) → (x && y) ≡ false → (x ≡ false → X) → (y ≡ false → X) → X
 either_fails x y h f g = elim (and_cases x y h) [ inl e ↦ f e | inr e ↦ g e ]
 
-test_unit_ready_stands : (cdb : List ℕ) → operation_code cdb ≡ 0x00 → Stands cdb (where_valid (test_unit_ready_valid cdb) TestReady)
+test_unit_ready_stands : (cdb : List ℕ) → operation_code cdb ≡ 0x00
+    → Stands cdb (where_valid (test_unit_ready_valid cdb) TestReady)
 test_unit_ready_stands cdb code =
-    valid_stands cdb (test_unit_ready_valid cdb) TestReady (λ e. test_unit_ready code (eqb-true _ _ e)) (λ e. test_unit_ready_naca code (eqb-false _ _ e))
+    valid_stands cdb (test_unit_ready_valid cdb) TestReady (λ e. test_unit_ready code (eqb-true _ _ e))
+    (λ e. test_unit_ready_naca code (eqb-false _ _ e))
 
 inquiry_stands :
-    (cdb : List ℕ) → operation_code cdb ≡ 0x12 → Stands cdb (where_valid (inquiry_valid cdb) (Inquiry (allocation_length cdb)))
+    (cdb : List ℕ) → operation_code cdb ≡ 0x12
+    → Stands cdb (where_valid (inquiry_valid cdb) (Inquiry (allocation_length cdb)))
 inquiry_stands cdb code =
     valid_stands cdb (inquiry_valid cdb) (Inquiry (allocation_length cdb))
     (λ e. let p = and_parts _ _ e in let q = and_parts _ _ p.1 in
     inquiry code (eqb-true _ _ p.0) (eqb-true _ _ q.0) (eqb-true _ _ q.1))
     (λ e. either_fails _ _ e (λ f. inquiry_naca code (eqb-false _ _ f))
-    (λ g. either_fails _ _ g (λ f. inquiry_evpd code (eqb-false _ _ f)) (λ f. inquiry_page_code code (eqb-false _ _ f))))
+    (λ g. either_fails _ _ g (λ f. inquiry_evpd code (eqb-false _ _ f))
+    (λ f. inquiry_page_code code (eqb-false _ _ f))))
 
 -- what the address test of READ CAPACITY says
 address_says :
@@ -102,11 +125,13 @@ address_faults cdb code (inl pmi_0) e =
     read_capacity_10_address code pmi_0 (eqb-false _ _ (sym (cond-true _ _ _ (eq-eqb _ _ pmi_0)) ∙ e))
 address_faults cdb code (inr pmi_1) e = absurd (true≢false (sym (cond-false _ _ _ (ne_eqb _ _ pmi_1)) ∙ e))
 
-read_capacity_10_stands : (cdb : List ℕ) → operation_code cdb ≡ 0x25 → Stands cdb (where_valid (read_capacity_10_valid cdb) Capacity)
+read_capacity_10_stands : (cdb : List ℕ) → operation_code cdb ≡ 0x25
+    → Stands cdb (where_valid (read_capacity_10_valid cdb) Capacity)
 read_capacity_10_stands cdb code =
     valid_stands cdb (read_capacity_10_valid cdb) Capacity
     (λ e. let p = and_parts _ _ e in address_says cdb (eqb-true _ _ p.0) code (cases_eq _ _) p.1)
-    (λ e. either_fails _ _ e (λ f. read_capacity_10_naca code (eqb-false _ _ f)) (λ f. address_faults cdb code (cases_eq _ _) f))
+    (λ e. either_fails _ _ e (λ f. read_capacity_10_naca code (eqb-false _ _ f))
+    (λ f. address_faults cdb code (cases_eq _ _) f))
 
 -- a READ or WRITE of ten bytes, with its rules
 transfer_10_stands :
@@ -139,12 +164,16 @@ reading_stands cdb =
     by_code cdb (operation_code cdb) 0x00 _ _ (test_unit_ready_stands cdb) (λ a.
     by_code cdb (operation_code cdb) 0x12 _ _ (inquiry_stands cdb) (λ b.
     by_code cdb (operation_code cdb) 0x25 _ _ (read_capacity_10_stands cdb) (λ c.
-    by_code cdb (operation_code cdb) 0x28 _ _ (λ code. transfer_10_stands cdb _ (read_10 code) (read_10_naca code) (read_10_protect code)) (λ d.
-    by_code cdb (operation_code cdb) 0x2A _ _ (λ code. transfer_10_stands cdb _ (write_10 code) (write_10_naca code) (write_10_protect code)) (λ e.
+    by_code cdb (operation_code cdb) 0x28 _ _
+    (λ code. transfer_10_stands cdb _ (read_10 code) (read_10_naca code) (read_10_protect code)) (λ d.
+    by_code cdb (operation_code cdb) 0x2A _ _
+    (λ code. transfer_10_stands cdb _ (write_10 code) (write_10_naca code) (write_10_protect code)) (λ e.
     by_code cdb (operation_code cdb) 0x88 _ _
-    (λ code. transfer_16_stands cdb _ (read_16 code) (read_16_naca code) (read_16_protect code) (read_16_length code)) (λ f.
+    (λ code. transfer_16_stands cdb _ (read_16 code) (read_16_naca code) (read_16_protect code) (read_16_length code))
+    (λ f.
     by_code cdb (operation_code cdb) 0x8A _ _
-    (λ code. transfer_16_stands cdb _ (write_16 code) (write_16_naca code) (write_16_protect code) (write_16_length code)) (λ g.
+    (λ code. transfer_16_stands cdb _ (write_16 code) (write_16_naca code) (write_16_protect code)
+    (write_16_length code)) (λ g.
     unknown_code (record {
       not_test_unit_ready = a;
       not_inquiry = b;
@@ -169,7 +198,8 @@ reading_agrees cdb = record {
 }
 
 -- something stands, whatever the reading is
-something : (cdb : List ℕ) (r : Result Command Sense) → Stands cdb r → ((c : Command) × Says cdb c) ⊎ ((s : Sense) × Faults cdb s)
+something : (cdb : List ℕ) (r : Result Command Sense) → Stands cdb r
+    → ((c : Command) × Says cdb c) ⊎ ((s : Sense) × Faults cdb s)
 something cdb (Ok c) says = inl (c, says)
 something cdb (Err s) faults = inr (s, faults)
 
@@ -185,5 +215,6 @@ means_one_thing cdb = record {
 pub result_says : (cdb : List ℕ) (r : Result Command Sense) → r ≡ reading cdb → (c : Command) → (r ≡ Ok c) ↔ Says cdb c
 result_says cdb r e c = (λ f. says-reading cdb c (sym e ∙ f), λ says. e ∙ reading-says cdb c says)
 
-pub result_faults : (cdb : List ℕ) (r : Result Command Sense) → r ≡ reading cdb → (s : Sense) → (r ≡ Err s) ↔ Faults cdb s
+pub result_faults : (cdb : List ℕ) (r : Result Command Sense) → r ≡ reading cdb → (s : Sense)
+    → (r ≡ Err s) ↔ Faults cdb s
 result_faults cdb r e s = (λ f. faults-reading cdb s (sym e ∙ f), λ faults. e ∙ reading-faults cdb s faults)

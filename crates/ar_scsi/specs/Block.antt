@@ -4,7 +4,9 @@ use Rattle.std.specs.Prelude.{◌≡◌, ◌≢◌, ◌<◌, ◌≤◌, ◌⊎�
 use Rattle.ar_scsi.specs.declared.command.Command.{Command}
 use Rattle.ar_scsi.specs.declared.command.Command.TheVariants.{TestReady, Inquiry, Capacity, Read, Write}
 use Rattle.ar_scsi.specs.declared.sense.Sense.{Sense}
-use Rattle.ar_scsi.specs.Field.{operation_code, naca, evpd, page_code, allocation_length, pmi, protect, fua, logical_block_address_10, transfer_length_10, logical_block_address_16, transfer_length_16}
+use Rattle.ar_scsi.specs.Field.{operation_code, naca, evpd, page_code, allocation_length, pmi, protect, fua}
+use Rattle.ar_scsi.specs.Field.{logical_block_address_10, transfer_length_10, logical_block_address_16}
+use Rattle.ar_scsi.specs.Field.{transfer_length_16}
 use Rattle.ar_scsi.specs.Sense.{invalid_command_operation_code, invalid_field_in_cdb}
 
 -- the CDB requests this command

@@ -1,10 +1,13 @@
 -- The decoding as a function, for definitions that build on a CDB's command.
-use Rattle.std.specs.Prelude.{◌≡◌, ◌↔◌, ℕ, Bool, ◌==◌, ◌&&◌, true, nat_le, if◌then◌else◌, List, Option, Some, None, Result, Ok, Err}
+use Rattle.std.specs.Prelude.{◌≡◌, ◌↔◌, ℕ, Bool, ◌==◌, ◌&&◌, true, nat_le, if◌then◌else◌, List, Option, Some, None}
+use Rattle.std.specs.Prelude.{Result, Ok, Err}
 use Rattle.ar_scsi.specs.declared.command.Command.{Command}
 use Rattle.ar_scsi.specs.declared.command.Command.TheVariants.{TestReady, Inquiry, Capacity, Read, Write}
 use Rattle.ar_scsi.specs.declared.sense.Sense.{Sense}
 use Rattle.ar_scsi.specs.Block.{Says, Faults}
-use Rattle.ar_scsi.specs.Field.{operation_code, naca, evpd, page_code, allocation_length, pmi, protect, fua, logical_block_address_10, transfer_length_10, logical_block_address_16, transfer_length_16}
+use Rattle.ar_scsi.specs.Field.{operation_code, naca, evpd, page_code, allocation_length, pmi, protect, fua}
+use Rattle.ar_scsi.specs.Field.{logical_block_address_10, transfer_length_10, logical_block_address_16}
+use Rattle.ar_scsi.specs.Field.{transfer_length_16}
 use Rattle.ar_scsi.specs.Sense.{invalid_command_operation_code, invalid_field_in_cdb}
 
 -- the command if the fields are valid
@@ -41,10 +44,14 @@ reading cdb =
     if operation_code cdb == 0x00 then where_valid (test_unit_ready_valid cdb) TestReady
     else (if operation_code cdb == 0x12 then where_valid (inquiry_valid cdb) (Inquiry (allocation_length cdb))
     else (if operation_code cdb == 0x25 then where_valid (read_capacity_10_valid cdb) Capacity
-    else (if operation_code cdb == 0x28 then where_valid (transfer_10_valid cdb) (Read (logical_block_address_10 cdb) (transfer_length_10 cdb))
-    else (if operation_code cdb == 0x2A then where_valid (transfer_10_valid cdb) (Write (logical_block_address_10 cdb) (transfer_length_10 cdb) (fua cdb == 1))
-    else (if operation_code cdb == 0x88 then where_valid (transfer_16_valid cdb) (Read (logical_block_address_16 cdb) (transfer_length_16 cdb))
-    else (if operation_code cdb == 0x8A then where_valid (transfer_16_valid cdb) (Write (logical_block_address_16 cdb) (transfer_length_16 cdb) (fua cdb == 1))
+    else (if operation_code cdb == 0x28 then where_valid (transfer_10_valid cdb)
+    (Read (logical_block_address_10 cdb) (transfer_length_10 cdb))
+    else (if operation_code cdb == 0x2A then where_valid (transfer_10_valid cdb)
+    (Write (logical_block_address_10 cdb) (transfer_length_10 cdb) (fua cdb == 1))
+    else (if operation_code cdb == 0x88 then where_valid (transfer_16_valid cdb)
+    (Read (logical_block_address_16 cdb) (transfer_length_16 cdb))
+    else (if operation_code cdb == 0x8A then where_valid (transfer_16_valid cdb)
+    (Write (logical_block_address_16 cdb) (transfer_length_16 cdb) (fua cdb == 1))
     else Err invalid_command_operation_code))))))
 
 -- the function and the relations agree

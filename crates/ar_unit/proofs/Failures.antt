@@ -1,5 +1,6 @@
 -- No reply of the table is HARDWARE ERROR, INTERNAL TARGET FAILURE: only an array that has lost its data answers that.
-use Rattle.std.proofs.Common.{◌≡◌, ◌≢◌, ℕ, Bool, true, false, cond, eqb, not, ◌*◌, List, [], length, take, drop, Option, None, Some, Result, Ok, Err, get_or, refl, sym, ap, ◌∙◌}
+use Rattle.std.proofs.Common.{◌≡◌, ◌≢◌, ℕ, Bool, true, false, cond, eqb, not, ◌*◌, List, [], length, take, drop, Option}
+use Rattle.std.proofs.Common.{None, Some, Result, Ok, Err, get_or, refl, sym, ap, ◌∙◌}
 use Rattle.std.proofs.lemmas.Bool.{cond_both}
 use Rattle.ar_scsi.specs.declared.command.Command.{Command}
 use Rattle.ar_scsi.specs.declared.command.Command.TheVariants.{TestReady, Inquiry, Capacity, Read, Write}
@@ -9,7 +10,9 @@ use Rattle.ar_scsi.specs.Data.{inquiry_data}
 use Rattle.ar_scsi.specs.Field.{operation_code, allocation_length}
 use Rattle.ar_scsi.specs.Reading.{reading, where_valid}
 use Rattle.ar_scsi.specs.Reply.{good, check}
-use Rattle.ar_scsi.specs.Sense.{logical_unit_not_supported, capacity_data_has_changed, logical_block_address_out_of_range, internal_target_failure, invalid_field_in_cdb, invalid_command_operation_code, data_phase_error}
+use Rattle.ar_scsi.specs.Sense.{logical_unit_not_supported, capacity_data_has_changed}
+use Rattle.ar_scsi.specs.Sense.{logical_block_address_out_of_range, internal_target_failure, invalid_field_in_cdb}
+use Rattle.ar_scsi.specs.Sense.{invalid_command_operation_code, data_phase_error}
 use Rattle.ar_unit.specs.Sectors.{Sector, joined, written}
 use Rattle.ar_unit.specs.Unit.{UnitState, Absent, Present, Answered, leaving, obeyed, answer, is_past_end}
 
@@ -45,7 +48,8 @@ reading_other cdb =
     cond_both (eqb (operation_code cdb) 0x28) _ _ IsOther (λ _. field_other _ _) (λ _.
     cond_both (eqb (operation_code cdb) 0x2A) _ _ IsOther (λ _. field_other _ _) (λ _.
     cond_both (eqb (operation_code cdb) 0x88) _ _ IsOther (λ _. field_other _ _) (λ _.
-    cond_both (eqb (operation_code cdb) 0x8A) _ _ IsOther (λ _. field_other _ _) (λ _. other_code (check invalid_command_operation_code) refl)))))))
+    cond_both (eqb (operation_code cdb) 0x8A) _ _ IsOther (λ _. field_other _ _)
+    (λ _. other_code (check invalid_command_operation_code) refl)))))))
 
 good_other : (payload : List ℕ) → good payload ≢ check internal_target_failure
 unfolding code_of code_in
@@ -54,26 +58,36 @@ good_other payload = other_code (good payload) refl
 abbrev IsOtherAnswer : Answered → Type 0
 IsOtherAnswer answered = answered.reply ≢ check internal_target_failure
 
-obeyed_other : (sectors : List Sector) (attention : Bool) (r : Result Command Sense) (bytes : List ℕ) → IsOther r → IsOtherAnswer (obeyed sectors attention r bytes)
+obeyed_other : (sectors : List Sector) (attention : Bool) (r : Result Command Sense) (bytes : List ℕ) → IsOther r
+    → IsOtherAnswer (obeyed sectors attention r bytes)
 unfolding obeyed code_of code_in
 obeyed_other sectors attention (Err sense) bytes other = other
 obeyed_other sectors attention (Ok TestReady) bytes other = good_other []
 obeyed_other sectors attention (Ok (Inquiry len)) bytes other = good_other _
 obeyed_other sectors attention (Ok Capacity) bytes other = good_other _
 obeyed_other sectors attention (Ok (Read lba count)) bytes other =
-    cond_both (is_past_end (length sectors) lba count) (check logical_block_address_out_of_range) (good (joined (take count (drop lba sectors))))
-    (λ (reply : Reply). reply ≢ check internal_target_failure) (λ _. other_code (check logical_block_address_out_of_range) refl) (λ _. good_other _)
+    cond_both (is_past_end (length sectors) lba count) (check logical_block_address_out_of_range)
+    (good (joined (take count (drop lba sectors))))
+    (λ (reply : Reply). reply ≢ check internal_target_failure)
+    (λ _. other_code (check logical_block_address_out_of_range) refl) (λ _. good_other _)
 obeyed_other sectors attention (Ok (Write lba count fua)) bytes other =
-    cond_both (is_past_end (length sectors) lba count) _ _ IsOtherAnswer (λ _. other_code (check logical_block_address_out_of_range) refl) (λ _.
-    cond_both (not (eqb (length bytes) (count * 512))) _ _ IsOtherAnswer (λ _. other_code (check data_phase_error) refl) (λ _. good_other []))
+    cond_both (is_past_end (length sectors) lba count) _ _ IsOtherAnswer
+    (λ _. other_code (check logical_block_address_out_of_range) refl) (λ _.
+    cond_both (not (eqb (length bytes) (count * 512))) _ _ IsOtherAnswer (λ _. other_code (check data_phase_error) refl)
+    (λ _. good_other []))
 
 -- no reply of the table is the failure
-pub answer_other : (state : UnitState) (cdb bytes : List ℕ) → (answer state cdb bytes).reply ≢ check internal_target_failure
+pub answer_other : (state : UnitState) (cdb bytes : List ℕ)
+    → (answer state cdb bytes).reply ≢ check internal_target_failure
 unfolding answer code_of code_in
 answer_other Absent cdb bytes =
-    cond_both (eqb (operation_code cdb) 0x12) (good (take (allocation_length cdb) (inquiry_data false))) (check logical_unit_not_supported)
-    (λ (reply : Reply). reply ≢ check internal_target_failure) (λ _. good_other _) (λ _. other_code (check logical_unit_not_supported) refl)
+    cond_both (eqb (operation_code cdb) 0x12) (good (take (allocation_length cdb) (inquiry_data false)))
+    (check logical_unit_not_supported)
+    (λ (reply : Reply). reply ≢ check internal_target_failure) (λ _. good_other _)
+    (λ _. other_code (check logical_unit_not_supported) refl)
 answer_other (Present sectors true) cdb bytes =
-    cond_both (eqb (operation_code cdb) 0x12) (obeyed sectors true (reading cdb) bytes) (leaving (Present sectors false) (check capacity_data_has_changed)) IsOtherAnswer
-    (λ _. obeyed_other sectors true (reading cdb) bytes (reading_other cdb)) (λ _. other_code (check capacity_data_has_changed) refl)
+    cond_both (eqb (operation_code cdb) 0x12) (obeyed sectors true (reading cdb) bytes)
+    (leaving (Present sectors false) (check capacity_data_has_changed)) IsOtherAnswer
+    (λ _. obeyed_other sectors true (reading cdb) bytes (reading_other cdb))
+    (λ _. other_code (check capacity_data_has_changed) refl)
 answer_other (Present sectors false) cdb bytes = obeyed_other sectors false (reading cdb) bytes (reading_other cdb)

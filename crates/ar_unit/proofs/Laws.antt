@@ -1,5 +1,7 @@
 -- Laws of what a unit is.
-use Rattle.std.proofs.Common.{◌≡◌, ◌≢◌, ◌≤◌, ◌+◌, ◌-◌, ◌*◌, ℕ, zero, suc, Bool, true, false, cond, eqb, ◌&&◌, not, List, [], ◌∷◌, ◌++◌, length, take, drop, Result, Ok, Err, refl, sym, ap, ◌∙◌, arith, length-append, length-take, length-drop}
+use Rattle.std.proofs.Common.{◌≡◌, ◌≢◌, ◌≤◌, ◌+◌, ◌-◌, ◌*◌, ℕ, zero, suc, Bool, true, false, cond, eqb, ◌&&◌, not, List}
+use Rattle.std.proofs.Common.{[], ◌∷◌, ◌++◌, length, take, drop, Result, Ok, Err, refl, sym, ap, ◌∙◌, arith}
+use Rattle.std.proofs.Common.{length-append, length-take, length-drop}
 use Rattle.std.specs.Prelude.{All}
 use Rattle.std.proofs.Math.ListN.{length-replicate}
 use Rattle.std.proofs.Math.Nat.{suc-mul}
@@ -14,13 +16,18 @@ use Rattle.ar_scsi.specs.Data.{inquiry_data}
 use Rattle.ar_scsi.specs.Field.{operation_code, allocation_length}
 use Rattle.ar_scsi.specs.Reading.{reading, inquiry_valid}
 use Rattle.ar_scsi.specs.Reply.{good, check}
-use Rattle.ar_scsi.specs.Sense.{logical_unit_not_supported, capacity_data_has_changed, logical_block_address_out_of_range, internal_target_failure, invalid_field_in_cdb, data_phase_error}
-use Rattle.ar_unit.specs.Broken.{Shape, shape_of, shape_after, needs_blocks, is_good, where_broken, broken_obeyed, broken_answer}
+use Rattle.ar_scsi.specs.Sense.{logical_unit_not_supported, capacity_data_has_changed}
+use Rattle.ar_scsi.specs.Sense.{logical_block_address_out_of_range, internal_target_failure, invalid_field_in_cdb}
+use Rattle.ar_scsi.specs.Sense.{data_phase_error}
+use Rattle.ar_unit.specs.Broken.{Shape, shape_of, shape_after, needs_blocks, is_good, where_broken, broken_obeyed}
+use Rattle.ar_unit.specs.Broken.{broken_answer}
 use Rattle.ar_unit.specs.Sectors.{Sector, zero_sector, zero_sectors, joined, cut, written}
-use Rattle.ar_unit.specs.Unit.{UnitState, Absent, Present, Answered, leaving, write_answer, obeyed, answer, is_past_end, IsWhole, TakesNoMemory, UnitEntry, Make, Grow, Remove, Cmd, after, unit_run}
+use Rattle.ar_unit.specs.Unit.{UnitState, Absent, Present, Answered, leaving, write_answer, obeyed, answer, is_past_end}
+use Rattle.ar_unit.specs.Unit.{IsWhole, TakesNoMemory, UnitEntry, Make, Grow, Remove, Cmd, after, unit_run}
 
 -- a run over a list that is put together goes on where its first part ends
-pub unit_run-append : (state : UnitState) (first later : List UnitEntry) → unit_run state (first ++ later) ≡ unit_run (unit_run state first) later
+pub unit_run-append : (state : UnitState) (first later : List UnitEntry)
+    → unit_run state (first ++ later) ≡ unit_run (unit_run state first) later
 unit_run-append state [] later = refl
 unit_run-append state (entry ∷ first) later = unit_run-append (after state entry) first later
 
@@ -40,8 +47,10 @@ module _ (P : Answered → Type 0) (sectors : List Sector) (attention : Bool) wh
   each_obeyed (Ok (Inquiry len)) bytes checks goods writes = goods _
   each_obeyed (Ok Capacity) bytes checks goods writes = goods _
   each_obeyed (Ok (Read lba count)) bytes checks goods writes =
-      cond_both (is_past_end (length sectors) lba count) (check logical_block_address_out_of_range) (good (joined (take count (drop lba sectors))))
-      (λ reply. P (record { reply = reply; state = Present sectors attention })) (λ _. checks logical_block_address_out_of_range) (λ _. goods _)
+      cond_both (is_past_end (length sectors) lba count) (check logical_block_address_out_of_range)
+      (good (joined (take count (drop lba sectors))))
+      (λ reply. P (record { reply = reply; state = Present sectors attention }))
+      (λ _. checks logical_block_address_out_of_range) (λ _. goods _)
   each_obeyed (Ok (Write lba count fua)) bytes checks goods writes =
       cond_both _ _ _ P (λ _. checks logical_block_address_out_of_range) (λ within.
       cond_both _ _ _ P (λ _. checks data_phase_error) (λ sent.
@@ -71,7 +80,8 @@ pub each_absent :
     → P (answer Absent cdb bytes)
 unfolding answer
 each_absent P cdb bytes checks goods =
-    cond_both (eqb (operation_code cdb) 0x12) (good (take (allocation_length cdb) (inquiry_data false))) (check logical_unit_not_supported)
+    cond_both (eqb (operation_code cdb) 0x12) (good (take (allocation_length cdb) (inquiry_data false)))
+    (check logical_unit_not_supported)
     (λ reply. P (record { reply = reply; state = Absent })) (λ _. goods _) (λ _. checks logical_unit_not_supported)
 
 -- nor is a reply from the command block on
@@ -85,11 +95,13 @@ obeyed-not_busy sectors attention r bytes =
 pub answer-not_busy : (state : UnitState) (cdb bytes : List ℕ) → (answer state cdb bytes).reply.status ≢ Busy
 answer-not_busy Absent cdb bytes = each_absent (λ a. a.reply.status ≢ Busy) cdb bytes (λ _ e. cc) (λ _ e. cc)
 answer-not_busy (Present sectors attention) cdb bytes =
-    each_present (λ a. a.reply.status ≢ Busy) sectors attention cdb bytes (λ _ e. cc) (λ _ e. cc) (λ _ _ _ _ e. cc) (λ _ _ e. cc)
+    each_present (λ a. a.reply.status ≢ Busy) sectors attention cdb bytes (λ _ e. cc) (λ _ e. cc) (λ _ _ _ _ e. cc)
+    (λ _ _ e. cc)
 
 -- a command whose reply has bytes leaves the unit as it was
 pub answer-with_bytes :
-    (state : UnitState) (cdb bytes : List ℕ) → (answer state cdb bytes).reply.payload ≢ [] → (answer state cdb bytes).state ≡ state
+    (state : UnitState) (cdb bytes : List ℕ) → (answer state cdb bytes).reply.payload ≢ []
+    → (answer state cdb bytes).state ≡ state
 answer-with_bytes Absent cdb bytes =
     each_absent (λ a. a.reply.payload ≢ [] → a.state ≡ Absent) cdb bytes (λ _ _. refl) (λ _ _. refl)
 answer-with_bytes (Present sectors attention) cdb bytes =
@@ -129,11 +141,13 @@ answer-shape (Present sectors true) cdb bytes =
     (λ lba count within _. same_shape (length-written sectors lba count bytes within) (sym e)))
     (λ e. same_shape refl (sym e))
 answer-shape (Present sectors false) cdb bytes =
-    each_obeyed (λ a. shape_of a.state ≡ of_unit (length sectors) false) sectors false (reading cdb) bytes (λ _. refl) (λ _. refl)
+    each_obeyed (λ a. shape_of a.state ≡ of_unit (length sectors) false) sectors false (reading cdb) bytes (λ _. refl)
+    (λ _. refl)
     (λ lba count within _. same_shape (length-written sectors lba count bytes within) refl)
 
 -- presence, length and mark after an entry
-pub after-shape : (state : UnitState) (entry : UnitEntry) → shape_of (after state entry) ≡ shape_after (shape_of state) entry
+pub after-shape : (state : UnitState) (entry : UnitEntry)
+    → shape_of (after state entry) ≡ shape_after (shape_of state) entry
 after-shape state (Make n) = same_shape (length-replicate n zero_sector) refl
 after-shape Absent (Grow n) = refl
 after-shape (Present sectors attention) (Grow n) =
@@ -142,11 +156,13 @@ after-shape state Remove = refl
 after-shape state (Cmd cdb bytes) = answer-shape state cdb bytes
 
 -- pieces of bytes that are enough have the length
-pub cut-whole : (len n : ℕ) (bytes : List ℕ) → n * len ≤ length bytes → All (λ piece. length piece ≡ len) (cut len n bytes)
+pub cut-whole : (len n : ℕ) (bytes : List ℕ) → n * len ≤ length bytes
+    → All (λ piece. length piece ≡ len) (cut len n bytes)
 cut-whole len zero bytes h = All-nil (λ piece. length piece ≡ len)
 cut-whole len (suc n) bytes h =
     let enough : len + n * len ≤ length bytes = omega (arith, suc-mul n len) in
-    All-cons (λ piece. length piece ≡ len) (take len bytes) (cut len n (drop len bytes)) (simp length-take (omega arith))
+    All-cons (λ piece. length piece ≡ len) (take len bytes) (cut len n (drop len bytes))
+    (simp length-take (omega arith))
     (cut-whole len n (drop len bytes) (simp length-drop (omega arith)))
 
 -- a zero sector has 512 bytes
@@ -171,7 +187,8 @@ after-whole (Present sectors attention) (Cmd cdb bytes) h =
     each_present (λ a. IsWhole a.state) sectors attention cdb bytes (λ _. h) (λ _. h)
     (λ lba count within sent.
     All-append W (take lba sectors ++ cut 512 count bytes) (drop (lba + count) sectors)
-    (All-append W (take lba sectors) (cut 512 count bytes) (All-take W lba sectors h) (cut-whole 512 count bytes (omega arith)))
+    (All-append W (take lba sectors) (cut 512 count bytes) (All-take W lba sectors h)
+    (cut-whole 512 count bytes (omega arith)))
     (All-drop W (lba + count) sectors h))
     (λ _ _. h)
 
@@ -187,8 +204,10 @@ past_or_not true payload r e = refl
 past_or_not false payload r e = rw e refl
 
 sent_or_not :
-    (sectors written : List Sector) (attention : Bool) (past wrong : Bool) (r : Result Command Sense) → needs_blocks r ≡ true
-    → cond past (check logical_block_address_out_of_range) (cond wrong (check data_phase_error) (check internal_target_failure))
+    (sectors written : List Sector) (attention : Bool) (past wrong : Bool) (r : Result Command Sense)
+    → needs_blocks r ≡ true
+    → cond past (check logical_block_address_out_of_range)
+    (cond wrong (check data_phase_error) (check internal_target_failure))
     ≡ in_place r (cond past (leaving (Present sectors attention) (check logical_block_address_out_of_range))
     (cond wrong (leaving (Present sectors attention) (check data_phase_error))
     (record { reply = good []; state = Present written attention }))).reply
@@ -246,7 +265,8 @@ no_bytes cdb reply e = record { checks = λ _. e; ready = λ _. e; writes = λ _
 
 -- nor does GOOD, where the block doesn't read as one of the two commands without bytes
 good_bytes :
-    (cdb payload : List ℕ) → (reading cdb ≡ Ok TestReady → ⊥) → ((lba count : ℕ) (fua : Bool) → reading cdb ≡ Ok (Write lba count fua) → ⊥)
+    (cdb payload : List ℕ) → (reading cdb ≡ Ok TestReady → ⊥)
+    → ((lba count : ℕ) (fua : Bool) → reading cdb ≡ Ok (Write lba count fua) → ⊥)
     → TakesNoMemory cdb (good payload)
 good_bytes cdb payload not_ready not_write = record {
   checks = λ e. cc;
@@ -260,7 +280,8 @@ write_answer-no_bytes :
     → (write_answer sectors attention lba count bytes).reply.payload ≡ []
 write_answer-no_bytes sectors attention lba count bytes =
     cond_both (is_past_end (length sectors) lba count) _ _ (λ (a : Answered). a.reply.payload ≡ []) (λ _. refl)
-    (λ _. cond_both (not (eqb (length bytes) (count * 512))) _ _ (λ (a : Answered). a.reply.payload ≡ []) (λ _. refl) (λ _. refl))
+    (λ _. cond_both (not (eqb (length bytes) (count * 512))) _ _ (λ (a : Answered). a.reply.payload ≡ []) (λ _. refl)
+    (λ _. refl))
 
 obeyed-takes_no_memory :
     (sectors : List Sector) (attention : Bool) (cdb bytes : List ℕ) (r : Result Command Sense) → reading cdb ≡ r
@@ -273,7 +294,8 @@ obeyed-takes_no_memory sectors attention cdb bytes (Ok Capacity) e = good_bytes 
 obeyed-takes_no_memory sectors attention cdb bytes (Ok (Read lba count)) e =
     cond_both (is_past_end (length sectors) lba count) (check logical_block_address_out_of_range)
     (good (joined (take count (drop lba sectors)))) (TakesNoMemory cdb)
-    (λ _. no_bytes cdb (check logical_block_address_out_of_range) refl) (λ _. good_bytes cdb _ (λ f. cc) (λ _ _ _ f. cc))
+    (λ _. no_bytes cdb (check logical_block_address_out_of_range) refl)
+    (λ _. good_bytes cdb _ (λ f. cc) (λ _ _ _ f. cc))
 obeyed-takes_no_memory sectors attention cdb bytes (Ok (Write lba count fua)) e =
     no_bytes cdb _ (write_answer-no_bytes sectors attention lba count bytes)
 
@@ -281,7 +303,8 @@ absent-takes_no_memory :
     (cdb : List ℕ) (b : Bool) (payload : List ℕ) → (b ≡ true → needs_blocks (reading cdb) ≡ false)
     → TakesNoMemory cdb (cond b (good payload) (check logical_unit_not_supported))
 absent-takes_no_memory cdb true payload h =
-    good_bytes cdb payload (λ e. true≢false (sym (ap needs_blocks e) ∙ h refl)) (λ _ _ _ e. true≢false (sym (ap needs_blocks e) ∙ h refl))
+    good_bytes cdb payload (λ e. true≢false (sym (ap needs_blocks e) ∙ h refl))
+    (λ _ _ _ e. true≢false (sym (ap needs_blocks e) ∙ h refl))
 absent-takes_no_memory cdb false payload h = no_bytes cdb _ refl
 
 -- which replies have no bytes
@@ -292,5 +315,7 @@ answer-takes_no_memory Absent cdb bytes =
 answer-takes_no_memory (Present sectors true) cdb bytes =
     cond_both (eqb (operation_code cdb) 0x12) (obeyed sectors true (reading cdb) bytes)
     (leaving (Present sectors false) (check capacity_data_has_changed)) (λ (a : Answered). TakesNoMemory cdb a.reply)
-    (λ _. obeyed-takes_no_memory sectors true cdb bytes (reading cdb) refl) (λ _. no_bytes cdb (check capacity_data_has_changed) refl)
-answer-takes_no_memory (Present sectors false) cdb bytes = obeyed-takes_no_memory sectors false cdb bytes (reading cdb) refl
+    (λ _. obeyed-takes_no_memory sectors true cdb bytes (reading cdb) refl)
+    (λ _. no_bytes cdb (check capacity_data_has_changed) refl)
+answer-takes_no_memory (Present sectors false) cdb bytes =
+    obeyed-takes_no_memory sectors false cdb bytes (reading cdb) refl

@@ -1,5 +1,6 @@
 -- Sectors and their bytes.
-use Rattle.std.proofs.Common.{◌≡◌, ◌<◌, ◌+◌, ◌*◌, ℕ, zero, suc, List, [], ◌∷◌, ◌++◌, length, get_or, take, drop, refl, sym, ap, subst, ◌∙◌, arith, append_assoc, add-one, length-append}
+use Rattle.std.proofs.Common.{◌≡◌, ◌<◌, ◌+◌, ◌*◌, ℕ, zero, suc, List, [], ◌∷◌, ◌++◌, length, get_or, take, drop, refl}
+use Rattle.std.proofs.Common.{sym, ap, subst, ◌∙◌, arith, append_assoc, add-one, length-append}
 use Rattle.std.specs.List.{concat}
 use Rattle.std.proofs.Math.ListN.{set}
 use Rattle.std.proofs.Math.Seq.{set-append_seam, drop-cons}
@@ -21,10 +22,13 @@ length-concat len (x ∷ xs) d h =
 
 -- one more list
 pub concat-more :
-    (xs : List (List ℕ)) (i : ℕ) (d : List ℕ) → i < length xs → concat (take (i + 1) xs) ≡ concat (take i xs) ++ get_or xs i d
+    (xs : List (List ℕ)) (i : ℕ) (d : List ℕ) → i < length xs
+    → concat (take (i + 1) xs) ≡ concat (take i xs) ++ get_or xs i d
 concat-more [] i d h = absurd (omega arith)
 concat-more (x ∷ xs) zero d h = append-nil x
-concat-more (x ∷ xs) (suc i) d h = rw add-one (ap (λ ys. x ++ ys) (rw add-one at (concat-more xs i d (omega arith))) ∙ sym (append_assoc x (concat (take i xs)) (get_or xs i d)))
+concat-more (x ∷ xs) (suc i) d h =
+    rw add-one (ap (λ ys. x ++ ys) (rw add-one at (concat-more xs i d (omega arith)))
+    ∙ sym (append_assoc x (concat (take i xs)) (get_or xs i d)))
 
 -- one more piece
 pub cut-more :
@@ -38,8 +42,10 @@ cut-more len (suc i) bytes =
 
 -- a piece written over the next of the old sectors
 pub overwrite-more :
-    (len i : ℕ) (bytes : List ℕ) (sectors old : List (List ℕ)) (piece d : List ℕ) → sectors ≡ cut len i bytes ++ drop i old
-    → i < length old → piece ≡ take len (drop (len * i) bytes) → set sectors i piece ≡ cut len (i + 1) bytes ++ drop (i + 1) old
+    (len i : ℕ) (bytes : List ℕ) (sectors old : List (List ℕ)) (piece d : List ℕ)
+    → sectors ≡ cut len i bytes ++ drop i old
+    → i < length old → piece ≡ take len (drop (len * i) bytes)
+    → set sectors i piece ≡ cut len (i + 1) bytes ++ drop (i + 1) old
 overwrite-more len i bytes sectors old piece d e h p =
     let front : List (List ℕ) = cut len i bytes in
     let rest : List (List ℕ) = drop (i + 1) old in

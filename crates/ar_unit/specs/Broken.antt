@@ -1,5 +1,6 @@
 -- A unit on a failed array: its data are lost, and what is left of it, its shape, decides every reply.
-use Rattle.std.specs.Prelude.{ℕ, ◌*◌, Bool, true, false, ◌==◌, ◌&&◌, not, if◌then◌else◌, max, List, length, take, Result, Ok, Err}
+use Rattle.std.specs.Prelude.{ℕ, ◌*◌, Bool, true, false, ◌==◌, ◌&&◌, not, if◌then◌else◌, max, List, length, take}
+use Rattle.std.specs.Prelude.{Result, Ok, Err}
 use Rattle.ar_scsi.specs.declared.command.Command.{Command}
 use Rattle.ar_scsi.specs.declared.command.Command.TheVariants.{TestReady, Inquiry, Capacity, Read, Write}
 use Rattle.ar_scsi.specs.declared.reply.Reply.{Reply}
@@ -10,8 +11,10 @@ use Rattle.ar_scsi.specs.Data.{inquiry_data, capacity_data}
 use Rattle.ar_scsi.specs.Field.{operation_code}
 use Rattle.ar_scsi.specs.Reading.{reading}
 use Rattle.ar_scsi.specs.Reply.{good, check}
-use Rattle.ar_scsi.specs.Sense.{internal_target_failure, capacity_data_has_changed, logical_block_address_out_of_range, data_phase_error}
-use Rattle.ar_unit.specs.Unit.{UnitState, Absent, Present, absent_reply, is_past_end, UnitEntry, Make, Grow, Remove, Cmd}
+use Rattle.ar_scsi.specs.Sense.{internal_target_failure, capacity_data_has_changed, logical_block_address_out_of_range}
+use Rattle.ar_scsi.specs.Sense.{data_phase_error}
+use Rattle.ar_unit.specs.Unit.{UnitState, Absent, Present, absent_reply, is_past_end, UnitEntry, Make, Grow, Remove}
+use Rattle.ar_unit.specs.Unit.{Cmd}
 
 -- whether the unit is present, its number of sectors, and whether a UNIT ATTENTION is pending (its mark)
 pub record Shape : Type 0 where
@@ -47,7 +50,8 @@ is_good Busy = false
 
 -- a failed array's reply in place of `reply`: HARDWARE ERROR to a command that needs blocks and would be GOOD
 abbrev pub where_broken : List ℕ → Reply → Reply
-where_broken cdb reply = if is_good reply.status && needs_blocks (reading cdb) then check internal_target_failure else reply
+where_broken cdb reply =
+    if is_good reply.status && needs_blocks (reading cdb) then check internal_target_failure else reply
 
 -- its reply from a present unit with no UNIT ATTENTION to report, by the number of sectors and of data bytes sent
 unfoldable pub broken_obeyed : ℕ → Result Command Sense → ℕ → Reply

@@ -1,5 +1,6 @@
 -- The model of a logical unit: absent, or a plain list of sectors. No disk, no cache and no other unit occurs here.
-use Rattle.std.specs.Prelude.{◌≡◌, ◌≢◌, ℕ, ◌+◌, ◌-◌, ◌*◌, Bool, true, false, ◌==◌, not, nat_lt, if◌then◌else◌, List, [], ◌∷◌, ◌++◌, length, take, drop, All, Result, Ok, Err}
+use Rattle.std.specs.Prelude.{◌≡◌, ◌≢◌, ℕ, ◌+◌, ◌-◌, ◌*◌, Bool, true, false, ◌==◌, not, nat_lt, if◌then◌else◌, List, []}
+use Rattle.std.specs.Prelude.{◌∷◌, ◌++◌, length, take, drop, All, Result, Ok, Err}
 use Rattle.ar_scsi.specs.declared.command.Command.{Command}
 use Rattle.ar_scsi.specs.declared.command.Command.TheVariants.{TestReady, Inquiry, Capacity, Read, Write}
 use Rattle.ar_scsi.specs.declared.reply.Reply.{Reply}
@@ -9,7 +10,8 @@ use Rattle.ar_scsi.specs.Data.{inquiry_data, capacity_data}
 use Rattle.ar_scsi.specs.Field.{operation_code, allocation_length}
 use Rattle.ar_scsi.specs.Reading.{reading}
 use Rattle.ar_scsi.specs.Reply.{good, check, busy}
-use Rattle.ar_scsi.specs.Sense.{logical_unit_not_supported, capacity_data_has_changed, logical_block_address_out_of_range, data_phase_error}
+use Rattle.ar_scsi.specs.Sense.{logical_unit_not_supported, capacity_data_has_changed}
+use Rattle.ar_scsi.specs.Sense.{logical_block_address_out_of_range, data_phase_error}
 use Rattle.ar_unit.specs.Sectors.{Sector, zero_sectors, joined, written}
 
 -- absent; or its sectors, and whether a UNIT ATTENTION is pending since it has grown (SAM-3, Unit attention condition)
@@ -46,7 +48,8 @@ read_reply sectors lba count =
 -- the reply to a WRITE of these bytes, and the unit after it: unchanged by an error
 abbrev pub write_answer : List Sector → Bool → ℕ → ℕ → List ℕ → Answered
 write_answer sectors attention lba count bytes =
-    if is_past_end (length sectors) lba count then leaving (Present sectors attention) (check logical_block_address_out_of_range)
+    if is_past_end (length sectors) lba count then leaving (Present sectors attention)
+    (check logical_block_address_out_of_range)
     else (if not (length bytes == count * 512) then leaving (Present sectors attention) (check data_phase_error)
     else leaving (Present (written sectors lba count bytes) attention) (good []))
 
@@ -55,9 +58,12 @@ write_answer sectors attention lba count bytes =
 unfoldable pub obeyed : List Sector → Bool → Result Command Sense → List ℕ → Answered
 obeyed sectors attention (Err sense) bytes = leaving (Present sectors attention) (check sense)
 obeyed sectors attention (Ok TestReady) bytes = leaving (Present sectors attention) (good [])
-obeyed sectors attention (Ok (Inquiry len)) bytes = leaving (Present sectors attention) (good (take len (inquiry_data true)))
-obeyed sectors attention (Ok Capacity) bytes = leaving (Present sectors attention) (good (capacity_data (length sectors)))
-obeyed sectors attention (Ok (Read lba count)) bytes = leaving (Present sectors attention) (read_reply sectors lba count)
+obeyed sectors attention (Ok (Inquiry len)) bytes =
+    leaving (Present sectors attention) (good (take len (inquiry_data true)))
+obeyed sectors attention (Ok Capacity) bytes =
+    leaving (Present sectors attention) (good (capacity_data (length sectors)))
+obeyed sectors attention (Ok (Read lba count)) bytes =
+    leaving (Present sectors attention) (read_reply sectors lba count)
 obeyed sectors attention (Ok (Write lba count fua)) bytes = write_answer sectors attention lba count bytes
 
 -- The reply to the command block `cdb` with the data `bytes`, and the unit after it. An absent unit comes first, then a

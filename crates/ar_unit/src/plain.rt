@@ -1,12 +1,14 @@
 // The model as a program: a unit is a vector of sectors. A call that is out of memory leaves it unchanged.
-ghost use Rattle.std.specs.Prelude.{◌≡◌, ◌+◌, ◌-◌, ◌++◌, ◌*◌, ◌<◌, ◌≤◌, ◌^◌, Bool, true, if◌then◌else◌, length, OnOk, OnErr, IfOk, vec_len};
+ghost use Rattle.std.specs.Prelude.{◌≡◌, ◌+◌, ◌-◌, ◌++◌, ◌*◌, ◌<◌, ◌≤◌, ◌^◌, Bool, true, if◌then◌else◌, length, OnOk};
+ghost use Rattle.std.specs.Prelude.{OnErr, IfOk, vec_len};
 ghost use Rattle.std.specs.List.{concat};
 ghost use Rattle.ar_scsi.specs.Data as table;
 ghost use Rattle.ar_scsi.specs.Reply as shape;
 ghost use Rattle.ar_unit.specs.Broken.{shape_of};
 ghost use Rattle.ar_unit.specs.Sectors.{cut, zero_sectors};
 ghost use Rattle.ar_unit.specs.Unit as unit;
-ghost use Rattle.ar_unit.specs.Unit.{Absent, Present, Make, Grow, Remove, answer, after, obeyed, leaving, read_reply, write_answer, IsGiven, IsServed};
+ghost use Rattle.ar_unit.specs.Unit.{Absent, Present, Make, Grow, Remove, answer, after, obeyed, leaving, read_reply};
+ghost use Rattle.ar_unit.specs.Unit.{write_answer, IsGiven, IsServed};
 
 use crate::reply::{absent, capacity, inquiry, is_past_end, with_bytes};
 use ar_scsi::{Command, Reply, Sense, decode, is_inquiry};

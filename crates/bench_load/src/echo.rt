@@ -16,7 +16,8 @@ struct Echo {
     reply: Vec<u8>,
 }
 
-/// Answers a run that asks for as many sectors by as many hosts, trial after trial, from the port on at which it listens.
+/// Answers a run that asks for as many sectors by as many hosts, trial after trial, from the port on at which it
+/// listens.
 pub fn serve_echo<R: Threads + Net<Listener = TcpListener, Stream = TcpStream> + Print + Sync>(
     rt: &R,
     alloc: Global,

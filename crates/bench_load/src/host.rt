@@ -34,7 +34,8 @@ struct Talk {
 }
 
 impl Asker {
-    /// Logs a host in, writes all places that it will ask for, so that each block stands there, and connects to the echo.
+    /// Logs a host in, writes all places that it will ask for, so that each block stands there, and connects to the
+    /// echo.
     pub fn open<R: Net<Listener = TcpListener, Stream = TcpStream>>(
         rt: &R,
         alloc: Global,
@@ -53,8 +54,8 @@ impl Asker {
         })
     }
 
-    /// Asks the array and the echo in turn, by the plan, and answers how many requests of each were done. The session has
-    /// ended then.
+    /// Asks the array and the echo in turn, by the plan, and answers how many requests of each were done. The session
+    /// has ended then.
     pub fn run<C: Clock>(self, clock: &C, plan: Plan) -> Result<Figures, Failure> {
         let Asker {
             mut talk,

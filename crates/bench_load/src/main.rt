@@ -1,5 +1,5 @@
-//! Hosts of a served array, which ask it over sockets, request after request. They measure what it takes, and beside it a bare echo,
-//! which is this program, too; or they verify that what they read is what they wrote.
+//! Hosts of a served array, which ask it over sockets, request after request. They measure what it takes, and beside it
+//! a bare echo, which is this program, too; or they verify that what they read is what they wrote.
 #![tactic(auto)]
 
 mod command_line;

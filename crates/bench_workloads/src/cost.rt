@@ -49,9 +49,9 @@ pub struct Round {
 }
 
 impl Round {
-    /// How many operations it has. Of the blocks of two half empty groups cleaning moves those of one into the other. Each of
-    /// four disks has an extent in each group, one of which is free; a rebuild takes an event for each, and so does balancing for
-    /// those of a fifth disk, where they are a multiple of four.
+    /// How many operations it has. Of the blocks of two half empty groups cleaning moves those of one into the other.
+    /// Each of four disks has an extent in each group, one of which is free; a rebuild takes an event for each, and so
+    /// does balancing for those of a fifth disk, where they are a multiple of four.
     pub fn operations(self) -> u32 {
         match self.workload {
             Workload::Clean => self.blocks / 2,
@@ -131,8 +131,8 @@ impl Round {
         }
     }
 
-    // So many writes at the parity level: block and parity are read, the parity is changed, and the data and the parity are
-    // written.
+    // So many writes at the parity level: block and parity are read, the parity is changed, and the data and the parity
+    // are written.
     fn updated(self, times: u32) -> Moves {
         Moves {
             times,
@@ -144,8 +144,9 @@ impl Round {
         }
     }
 
-    // Of three blocks two are written mirrored and one at the parity level, into a hole that a squeeze left. A squeeze moves as
-    // many blocks as a mirrored group has, and leaves half as many holes. It begins by writing zeros to four extents.
+    // Of three blocks two are written mirrored and one at the parity level, into a hole that a squeeze left. A squeeze
+    // moves as many blocks as a mirrored group has, and leaves half as many holes. It begins by writing zeros to four
+    // extents.
     fn fill(self) -> [Moves; 4] {
         let third = self.blocks / 3;
         [
@@ -168,8 +169,8 @@ impl Round {
         ]
     }
 
-    // Of four extents of the added disk three take the rows of another one, and the fourth is in a new group with the three that
-    // these leave. With eight extents a disk or more the free group keeps its own.
+    // Of four extents of the added disk three take the rows of another one, and the fourth is in a new group with the
+    // three that these leave. With eight extents a disk or more the free group keeps its own.
     fn balanced(self) -> [Moves; 4] {
         let shifted = self.operations() / 4 * 3;
         alone(Moves {

@@ -9,7 +9,8 @@ use rand_xoshiro::Xoshiro256PlusPlus;
 use std::alloc::{AllocError, Global};
 use std::marker::Model;
 
-/// How many different blocks of data there are: a prime, so that blocks which differ by whole extents differ in their data.
+/// How many different blocks of data there are: a prime, so that blocks which differ by whole extents differ in their
+/// data.
 const VARIETY: u32 = 17;
 
 /// Blocks of data, and sectors, which writes bring in turn.

@@ -1,5 +1,5 @@
-//! The workloads of the benchmark: what each does to an array, what the scheme has to copy and to add for it, and a bare loop
-//! that makes the same copies and sums without an array.
+//! The workloads of the benchmark: what each does to an array, what the scheme has to copy and to add for it, and a
+//! bare loop that makes the same copies and sums without an array.
 #![tactic(auto)]
 
 mod bare;

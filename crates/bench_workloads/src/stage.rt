@@ -51,7 +51,8 @@ pub struct Stage {
     size: Size,
     // The unit whose blocks are read and written.
     unit: Addr,
-    // Another, which uses the rest of the room while the blocks of the first one go to the parity level, or slots between them.
+    // Another, which uses the rest of the room while the blocks of the first one go to the parity level, or slots
+    // between them.
     ballast: Addr,
     // How often the blocks were gone over since the unit was made ready. Each time other data are written.
     passes: u32,
@@ -125,7 +126,8 @@ impl Stage {
         })
     }
 
-    /// Lets the array go. Where one goes at the end of a function instead, the proof of that function takes half a minute.
+    /// Lets the array go. Where one goes at the end of a function instead, the proof of that function takes half a
+    /// minute.
     pub fn close(self) {
         let Stage { array, .. } = self;
         drop(array);
@@ -238,8 +240,8 @@ impl Stage {
         }
     }
 
-    /// Checks that the operations of a round left the unit as they have to: nothing is cached, written blocks are promoted, and
-    /// events in the background have no block left to move.
+    /// Checks that the operations of a round left the unit as they have to: nothing is cached, written blocks are
+    /// promoted, and events in the background have no block left to move.
     pub fn check(&mut self, alloc: Global) -> Result<(), WorkloadFault> {
         if self.moves_more(alloc) {
             return Err(self.unmoved());

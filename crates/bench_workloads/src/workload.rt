@@ -117,8 +117,8 @@ impl Plan {
         }
     }
 
-    /// And after them: first writes that use all the room end at the parity level, written blocks are promoted where there are
-    /// free groups, and demoted blocks have left the mirrored level.
+    /// And after them: first writes that use all the room end at the parity level, written blocks are promoted where
+    /// there are free groups, and demoted blocks have left the mirrored level.
     pub fn level_after(self) -> LevelOf {
         match (self.stands, self.access) {
             (Stands::Nowhere, _) => LevelOf::Parity,

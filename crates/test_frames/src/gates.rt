@@ -1,5 +1,5 @@
-// What a gate is told of a session's commands, and how far each of them has come by then. No clause says that it is told
-// only once each time.
+// What a gate is told of a session's commands, and how far each of them has come by then. No clause says that it is
+// told only once each time.
 ghost use Rattle.std.specs.Prelude.{◌≡◌, false, None};
 
 use crate::sessions::{ABSENT, joined};

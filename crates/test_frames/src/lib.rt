@@ -1,5 +1,5 @@
-//! Tests of sessions and of the client over memory, over streams that fail, and over a port that is no array. What is expected
-//! stands in the tables of the wire format.
+//! Tests of sessions and of the client over memory, over streams that fail, and over a port that is no array. What is
+//! expected stands in the tables of the wire format.
 #![tactic(auto)]
 
 #[cfg(test)]

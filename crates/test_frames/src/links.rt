@@ -129,7 +129,8 @@ fn moves(rt: &impl Abort, interruptions: u32, most: usize) {
     );
 }
 
-// An error other than an interruption is a fault at once, though the next call would do. Faults of reads are none of writes.
+// An error other than an interruption is a fault at once, though the next call would do. Faults of reads are none of
+// writes.
 #[test]
 fn other_errors(rt: HostRuntime) {
     for kind in [

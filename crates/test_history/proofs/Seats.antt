@@ -9,4 +9,5 @@ use Rattle.ar_history.specs.Seat.{SeatState}
 -- they stay so where one is replaced by another of the same host
 pub order_kept : (seats : List SeatState) (i : ℕ) (new old : SeatState) → new.host ≡ (get_or seats i old).host
     → map (λ (s : SeatState). s.host.number) (set seats i new) ≡ map (λ (s : SeatState). s.host.number) seats
-order_kept seats i new old same = map-set_same (λ (s : SeatState). s.host.number) seats i new old (ap (λ (h : Host). h.number) same)
+order_kept seats i new old same =
+    map-set_same (λ (s : SeatState). s.host.number) seats i new old (ap (λ (h : Host). h.number) same)

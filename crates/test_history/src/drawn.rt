@@ -1,5 +1,5 @@
-// A drawn run: commands of four hosts, with units created, grown and deleted, and maintenance, between them. Each is answered
-// as plain lists say, which share no code with the array, and the audit tells what was counted.
+// A drawn run: commands of four hosts, with units created, grown and deleted, and maintenance, between them. Each is
+// answered as plain lists say, which share no code with the array, and the audit tells what was counted.
 ghost use Rattle.std.specs.Prelude.{◌<◌, ◌^◌};
 
 use crate::calls::closes;
@@ -102,7 +102,8 @@ fn ask_next<L: Ledger, R: Abort + AllocGlobal>(
     drop(wanted);
 }
 
-// A creation, a resize or a removal, which is an entry of the history where it is done, or work in the background, which is none.
+// A creation, a resize or a removal, which is an entry of the history where it is done, or work in the background,
+// which is none.
 fn step<L: Ledger>(
     rt: &impl Abort,
     ask: Ask,

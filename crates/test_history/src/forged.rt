@@ -26,7 +26,8 @@ enum Forgery {
 /// What is done to one line, by its number, or nothing.
 type Forged = Option<(Forgery, usize)>;
 
-/// What is done to host 1's transcript of three commands, and where it differs then from the host's part of the history.
+/// What is done to host 1's transcript of three commands, and where it differs then from the host's part of the
+/// history.
 const FORGERIES: [(Forged, Option<u64>); 12] = [
     (None, None),
     (Some((Forgery::Reply, 0)), Some(0)),
@@ -43,8 +44,8 @@ const FORGERIES: [(Forged, Option<u64>); 12] = [
     (Some((Forgery::Doubled, 2)), Some(3)),
 ];
 
-/// Whose transcript is compared with whose part of the history, and where they differ: another host's, or one of a host that did
-/// nothing.
+/// Whose transcript is compared with whose part of the history, and where they differ: another host's, or one of a host
+/// that did nothing.
 const OTHERS: [(u8, u8, Option<u64>); 4] = [
     (1, 2, Some(0)),
     (1, 3, Some(0)),

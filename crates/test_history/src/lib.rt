@@ -1,5 +1,5 @@
-//! Tests of the kept array: worked examples by way of hosts' seats, transcripts that were tampered with, memory that is refused,
-//! and a drawn run of four hosts beside plain units.
+//! Tests of the kept array: worked examples by way of hosts' seats, transcripts that were tampered with, memory that is
+//! refused, and a drawn run of four hosts beside plain units.
 #![tactic(auto)]
 
 #[cfg(test)]

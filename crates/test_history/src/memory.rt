@@ -1,5 +1,5 @@
-// Memory that is refused. Here none is left at all; single allocations are refused in turn by the gate (`.ci/scarce`), and the
-// last test goes on after any one of them.
+// Memory that is refused. Here none is left at all; single allocations are refused in turn by the gate (`.ci/scarce`),
+// and the last test goes on after any one of them.
 use crate::calls::closes;
 use crate::rig::{Play, Rig, plays};
 use ar_core::{Refusal, UnitRefusal};

@@ -1,5 +1,5 @@
-// A drawn run over sessions, one a host and one after another: what stands between two frames is done when the next is read. Each
-// reply is, byte by byte, that of plain lists, which share no code with the array.
+// A drawn run over sessions, one a host and one after another: what stands between two frames is done when the next is
+// read. Each reply is, byte by byte, that of plain lists, which share no code with the array.
 ghost use Rattle.std.specs.Prelude.{None};
 
 use crate::frames::{LOGINS, put_reply, put_request};

@@ -1,5 +1,6 @@
-//! Tests of sessions on a kept array: one after another over memory, at once behind a gate, and over sockets of this machine
-//! with work in the background beside them. What is expected stands in the tables of the wire format and of the commands.
+//! Tests of sessions on a kept array: one after another over memory, at once behind a gate, and over sockets of this
+//! machine with work in the background beside them. What is expected stands in the tables of the wire format and of the
+//! commands.
 #![tactic(auto)]
 
 #[cfg(test)]

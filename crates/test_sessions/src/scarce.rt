@@ -1,5 +1,5 @@
-// Connections, of which one may find no thread, or the work in the background none. The gate refuses each allocation in turn, and
-// so each thread, by `.ci/scarce`; with ample memory all of them start.
+// Connections, of which one may find no thread, or the work in the background none. The gate refuses each allocation in
+// turn, and so each thread, by `.ci/scarce`; with ample memory all of them start.
 ghost use Rattle.std.specs.Prelude.{true, ⊤};
 
 use crate::rig::{Play, Rig, plays};

@@ -116,7 +116,8 @@ fn visit<R: Threads + Abort + Net<Listener = TcpListener, Stream = TcpStream> + 
     }
 }
 
-// A session of a host: so many writes, each read back, or else one TEST UNIT READY. It leaves once the server has let it go.
+// A session of a host: so many writes, each read back, or else one TEST UNIT READY. It leaves once the server has let
+// it go.
 fn talk<R: Abort + Net<Listener = TcpListener, Stream = TcpStream>>(
     rt: &R,
     alloc: Global,

@@ -166,8 +166,8 @@ fn no_more_is_moved(rt: HostRuntime) {
     }
 }
 
-// The eight extents of an added disk are used: six by groups whose extents move there, and two by groups that are formed. Seven
-// groups of six blocks were full.
+// The eight extents of an added disk are used: six by groups whose extents move there, and two by groups that are
+// formed. Seven groups of six blocks were full.
 #[test]
 fn an_added_disk_is_used(rt: HostRuntime) {
     let trial = Trial {

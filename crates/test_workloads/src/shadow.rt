@@ -1,4 +1,5 @@
-// What a host that verifies finds where its unit does not hold what it wrote: a case that it overlooked would hide every such error.
+// What a host that verifies finds where its unit does not hold what it wrote: a case that it overlooked would hide
+// every such error.
 use bench_verify::{Mismatch, Origin, SECTOR_LEN, Shadow, Span};
 use std::alloc::{AllocError, Global};
 use std::process::Abort;

@@ -1,4 +1,5 @@
-// The benchmark's workloads: what the scheme has to copy and to add, worked by hand, the bare loop, and the lines of the report.
+// The benchmark's workloads: what the scheme has to copy and to add, worked by hand, the bare loop, and the lines of
+// the report.
 use ar_disks::Geometry;
 use bench_workloads::{Bare, Figures, Machine, Moves, Round, Workload, WorkloadFault};
 use rand_core::SeedableRng;
@@ -21,8 +22,8 @@ fn has_moves(rt: &impl Abort, round: Round, wanted: [Moves; 4]) {
     assert!(rt; round.moves() == wanted, "the moves of {name}");
 }
 
-// Four groups of small extents hold 18 blocks in three of them. The first 12 stand mirrored. Three squeezes, each of 8 rows
-// of zeros and 4 blocks that are moved, leave two holes each for the others.
+// Four groups of small extents hold 18 blocks in three of them. The first 12 stand mirrored. Three squeezes, each of 8
+// rows of zeros and 4 blocks that are moved, leave two holes each for the others.
 #[test]
 fn a_fill_with_its_squeezes(rt: HostRuntime) {
     let direct = Moves {
@@ -59,8 +60,8 @@ fn a_fill_with_its_squeezes(rt: HostRuntime) {
     );
 }
 
-// Eight blocks fill two mirrored groups of small extents. A group with parity has six slots, so that two are opened, each by
-// eight rows of zeros. A block is read, then the zeros in its slot and their parity, and both are written anew.
+// Eight blocks fill two mirrored groups of small extents. A group with parity has six slots, so that two are opened,
+// each by eight rows of zeros. A block is read, then the zeros in its slot and their parity, and both are written anew.
 #[test]
 fn demotions_with_the_groups_that_they_open(rt: HostRuntime) {
     let zeroed = Moves {
@@ -83,7 +84,8 @@ fn demotions_with_the_groups_that_they_open(rt: HostRuntime) {
     );
 }
 
-// Forty-two blocks fill seven groups, and an eighth is free. Six of them leave an extent of two rows for the added disk's.
+// Forty-two blocks fill seven groups, and an eighth is free. Six of them leave an extent of two rows for the added
+// disk's.
 #[test]
 fn balancing_copies_rows(rt: HostRuntime) {
     let copied = Moves {
@@ -118,8 +120,8 @@ fn a_rebuild_adds_rows(rt: HostRuntime) {
     );
 }
 
-// Eight blocks stand in four mirrored groups, two in each. Those of the first go to the second, and those of the third to the
-// fourth: each is read once and written twice, at other places.
+// Eight blocks stand in four mirrored groups, two in each. Those of the first go to the second, and those of the third
+// to the fourth: each is read once and written twice, at other places.
 #[test]
 fn cleaning_empties_every_second_group(rt: HostRuntime) {
     let moved = Moves {

@@ -3,4 +3,6 @@ use Rattle.ar_language.proofs.BlockLemmas.{says_write_16}
 use Rattle.ar_language.proofs.blocks.write_16.Goals as goal
 
 pub returns-clause-says : goal.returns-clause-says
-returns-clause-says c = rw (c.transfer_16.ensures, c.flags.ensures) (says_write_16 c.args.lba c.args.count c.args.fua (omega arith) (omega arith))
+returns-clause-says c =
+    rw (c.transfer_16.ensures, c.flags.ensures)
+    (says_write_16 c.args.lba c.args.count c.args.fua (omega arith) (omega arith))

@@ -8,4 +8,5 @@ returns-clause-parts c =
     let bytes = c.args.bytes.now in
     let len = c.printable_len-len.result in
     let found = c.get.ensures.lookup in
-    subst (IsPart bytes (take len bytes)) (sym c.copied.ensures) (parted bytes len c.get.result c.printable_len-len.ensures found.0 found.1)
+    subst (IsPart bytes (take len bytes)) (sym c.copied.ensures)
+    (parted bytes len c.get.result c.printable_len-len.ensures found.0 found.1)

@@ -9,6 +9,8 @@ use Rattle.ar_language.proofs.lines.printable_len.Goals as goal
 pub returns : goal.returns
 returns c =
     let bytes = c.args.bytes.now in
-    let found = position_from_yields_List is_hidden _ _ _ c.position.ensures.ran (YieldsList-from_slice bytes c.iter.ensures.rest) (λ x r q k. search (rules, tests)) in
-    c.unwrap_or.ensures ∙ ap (λ o. unwrap_or o (length bytes)) found ∙ found_or (position_or_len is_hidden bytes) (length bytes) (hidden_within bytes)
+    let found = position_from_yields_List is_hidden _ _ _ c.position.ensures.ran
+    (YieldsList-from_slice bytes c.iter.ensures.rest) (λ x r q k. search (rules, tests)) in
+    c.unwrap_or.ensures ∙ ap (λ o. unwrap_or o (length bytes)) found
+    ∙ found_or (position_or_len is_hidden bytes) (length bytes) (hidden_within bytes)
     ∙ shown_front bytes

@@ -14,18 +14,22 @@ returns-in_err-is_given-clause-goes_on g c =
     let result = c.from_residual-in_err-is_given.result in
     let none : is_given c.advance.result ≡ false = search rules in
     let told : result ≡ Err fault = search rules in
-    let kept = took_later (lines_left old) (lines_left c.loop.lines) (lines_left mid) [] c.loop.invariant.kept c.wait.ensures.kept in
+    let kept = took_later (lines_left old) (lines_left c.loop.lines) (lines_left mid) [] c.loop.invariant.kept
+    c.wait.ensures.kept in
     goes_later old mid new result kept (c.wait.ensures.same.2 ∙ c.loop.invariant.count)
-    (goes_refused mid new fault result told c.advance.ensures.unasked c.advance.ensures.counts.ended (c.advance.ensures.counts.kept none) (search rules) c.in_err-is_given.ensures.refused)
+    (goes_refused mid new fault result told c.advance.ensures.unasked c.advance.ensures.counts.ended
+    (c.advance.ensures.counts.kept none) (search rules) c.in_err-is_given.ensures.refused)
 
 pub returns-then-not-is_awaited-clause-goes_on : goal.returns-then-not-is_awaited-clause-goes_on
 returns-then-not-is_awaited-clause-goes_on g c =
     let old = c.args.lines.now in
     let mid = c.wait.new.lines in
     let new = c.advance.new.self in
-    let kept = took_later (lines_left old) (lines_left c.loop.lines) (lines_left mid) [] c.loop.invariant.kept c.wait.ensures.kept in
+    let kept = took_later (lines_left old) (lines_left c.loop.lines) (lines_left mid) [] c.loop.invariant.kept
+    c.wait.ensures.kept in
     goes_later old mid new _ kept (c.wait.ensures.same.2 ∙ c.loop.invariant.count)
-    (goes_told mid new _ c.advance.ensures.unasked c.advance.ensures.counts.ended (search rules) (search rules) (search rules) (search rules) (search rules) (search rules) (search rules))
+    (goes_told mid new _ c.advance.ensures.unasked c.advance.ensures.counts.ended (search rules) (search rules)
+    (search rules) (search rules) (search rules) (search rules) (search rules))
 
 pub loop-preserved : goal.loop-preserved
 loop-preserved g c =
@@ -34,13 +38,17 @@ loop-preserved g c =
     let new = c.advance.new.self in
     let lacking : is_lacking c.advance.result ≡ true = search rules in
     let none : is_given c.advance.result ≡ false = search rules in
-    let kept = took_later (lines_left old) (lines_left c.loop.lines) (lines_left mid) [] c.loop.invariant.kept c.wait.ensures.kept in
+    let kept = took_later (lines_left old) (lines_left c.loop.lines) (lines_left mid) [] c.loop.invariant.kept
+    c.wait.ensures.kept in
     record {
       awaited = search rules;
       answers = search rules;
-      kept = took_later (lines_left old) (lines_left mid) (lines_left new) [] kept (kept_lines mid new c.advance.ensures.unasked c.advance.ensures.counts.ended (c.advance.ensures.counts.kept none));
+      kept = took_later (lines_left old) (lines_left mid) (lines_left new) [] kept
+          (kept_lines mid new c.advance.ensures.unasked c.advance.ensures.counts.ended
+          (c.advance.ensures.counts.kept none));
       begun = search rules;
       count = search rules;
-      grown = grows (front_of mid.is_begun mid.line.items) (reader_buffer mid.source) _ (reader_buffer new.source) c.loop.counter (search rules) (search rules)
+      grown = grows (front_of mid.is_begun mid.line.items) (reader_buffer mid.source) _ (reader_buffer new.source)
+          c.loop.counter (search rules) (search rules)
           (c.advance.ensures.counts.kept none) (c.advance.ensures.counts.drained lacking);
     }

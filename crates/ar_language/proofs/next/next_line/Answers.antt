@@ -12,12 +12,14 @@ returns-in_err-is_given-clause-goes_on g c =
     let fault = c.in_err-is_given.field-0.0 in
     let none : is_given c.advance.result ≡ false = search rules in
     let told : c.from_residual.result ≡ Err fault = search rules in
-    goes_refused old new fault c.from_residual.result told c.advance.ensures.unasked c.advance.ensures.counts.ended (c.advance.ensures.counts.kept none) (search rules)
+    goes_refused old new fault c.from_residual.result told c.advance.ensures.unasked c.advance.ensures.counts.ended
+    (c.advance.ensures.counts.kept none) (search rules)
     c.in_err-is_given.ensures.refused
 
 pub returns-then-not-is_awaited-clause-goes_on : goal.returns-then-not-is_awaited-clause-goes_on
 returns-then-not-is_awaited-clause-goes_on g c =
-    goes_told c.args.lines.now c.advance.new.self _ c.advance.ensures.unasked c.advance.ensures.counts.ended (search rules) (search rules) (search rules) (search rules) (search rules)
+    goes_told c.args.lines.now c.advance.new.self _ c.advance.ensures.unasked c.advance.ensures.counts.ended
+    (search rules) (search rules) (search rules) (search rules) (search rules)
     (search rules) (search rules)
 
 pub returns-clause-goes_on : goal.returns-clause-goes_on
@@ -25,7 +27,8 @@ returns-clause-goes_on g c =
     let old = c.args.lines.now in
     let mid = c.advance.new.self in
     goes_later old mid c.await_line.new.lines c.await_line.result
-    (kept_lines old mid c.advance.ensures.unasked c.advance.ensures.counts.ended (search rules)) (search rules) c.await_line.ensures.goes_on
+    (kept_lines old mid c.advance.ensures.unasked c.advance.ensures.counts.ended (search rules)) (search rules)
+    c.await_line.ensures.goes_on
 
 pub returns-clause-buffered : goal.returns-clause-buffered
 returns-clause-buffered g c =
@@ -34,4 +37,6 @@ returns-clause-buffered g c =
 
 pub returns-clause-settled : goal.returns-clause-settled
 returns-clause-settled g c =
-    λ settled. absurd (not_settled c.args.lines.now c.advance.new.self (search rules) (search rules) (search rules) (search rules) (search rules) settled)
+    λ settled. absurd
+    (not_settled c.args.lines.now c.advance.new.self (search rules) (search rules) (search rules) (search rules)
+    (search rules) settled)

@@ -6,7 +6,10 @@ use Rattle.ar_language.proofs.parse.order_of.Goals as goal
 pub returns-clause-reads : goal.returns-clause-reads
 returns-clause-reads c =
     elim c.match-name.branch [
-      | in-make w ↦ named ReadsOrder _ _ _ _ w.in-make.is (answered _ _ _ _ _ w.make-order.ensures w.order-is c.ok_or.ensures.value)
-      | in-grow w ↦ named ReadsOrder _ _ _ _ w.in-grow.is (answered _ _ _ _ _ w.grow-order.ensures w.order-is c.ok_or.ensures.value)
-      | in-drop w ↦ named ReadsOrder _ _ _ _ w.in-drop.is (answered _ _ _ _ _ w.remove-order.ensures w.order-is c.ok_or.ensures.value)
+      | in-make w ↦ named ReadsOrder _ _ _ _ w.in-make.is
+          (answered _ _ _ _ _ w.make-order.ensures w.order-is c.ok_or.ensures.value)
+      | in-grow w ↦ named ReadsOrder _ _ _ _ w.in-grow.is
+          (answered _ _ _ _ _ w.grow-order.ensures w.order-is c.ok_or.ensures.value)
+      | in-drop w ↦ named ReadsOrder _ _ _ _ w.in-drop.is
+          (answered _ _ _ _ _ w.remove-order.ensures w.order-is c.ok_or.ensures.value)
     ]

@@ -24,6 +24,7 @@ loop-byte-preserved c =
     let i = c.loop-byte.byte-index in
     let digit : digit_value (get_or bytes i 0) ≡ c.from.result = grind (arith, nat_tests) in
     record {
-      digits = list_all_more is_ascii_digit bytes i 0 c.loop-byte-test.true ∙ both _ _ c.loop-byte.invariant.digits (sym c.if-not-is_ascii_digit.ensures.value);
+      digits = list_all_more is_ascii_digit bytes i 0 c.loop-byte-test.true
+          ∙ both _ _ c.loop-byte.invariant.digits (sym c.if-not-is_ascii_digit.ensures.value);
       value = omega (arith, digits_value_more 10 bytes i c.loop-byte-test.true, c.loop-byte.invariant.value, digit);
     }

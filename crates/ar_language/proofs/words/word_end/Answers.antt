@@ -8,6 +8,8 @@ use Rattle.ar_language.proofs.words.word_end.Goals as goal
 pub returns : goal.returns
 returns c =
     let bytes = c.as_bytes-bytes.result.now in
-    let found = position_from_yields_List is_space _ _ _ c.position.ensures.ran (YieldsList-from_slice bytes c.iter.ensures.rest) (λ x r q k. search (rules, tests)) in
-    c.unwrap_or.ensures ∙ ap (λ o. unwrap_or o (length bytes)) found ∙ found_or (position_or_len is_space bytes) (length bytes) (no_further bytes)
+    let found = position_from_yields_List is_space _ _ _ c.position.ensures.ran
+    (YieldsList-from_slice bytes c.iter.ensures.rest) (λ x r q k. search (rules, tests)) in
+    c.unwrap_or.ensures ∙ ap (λ o. unwrap_or o (length bytes)) found
+    ∙ found_or (position_or_len is_space bytes) (length bytes) (no_further bytes)
     ∙ ap (position_or_len is_space) c.as_bytes-bytes.ensures.value

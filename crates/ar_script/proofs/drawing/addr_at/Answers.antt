@@ -9,4 +9,5 @@ returns c =
     let place = c.args.place in
     let addr : Addr = record { host = c.in-Some.host; lun = place % 8 } in
     let number = c.in-Some.ensures.number in
-    make_addr addr (addr_at place) (same_host c.in-Some.host (addr_at place).host (number ∙ sym (mod-eq_of_lt (omega arith)))) refl
+    make_addr addr (addr_at place)
+    (same_host c.in-Some.host (addr_at place).host (number ∙ sym (mod-eq_of_lt (omega arith)))) refl

@@ -15,7 +15,8 @@ returns-then-group-len c =
     c.index_mut.ensures.value ∙ get_or_default held group c.index_mut.result.now no_held there in
     let was : (at : ℕ) → get_or c.index_mut.result.now.blocks at 0 ≡ held_at held group at =
     λ at. ap (λ (h : Held). get_or h.blocks at 0) same in
-    let one : get_or c.add.new.self.blocks place 0 ≡ get_or c.index_mut.result.now.blocks place 0 + 1 = c.add.ensures.one in
+    let one : get_or c.add.new.self.blocks place 0 ≡ get_or c.index_mut.result.now.blocks place 0 + 1 =
+    c.add.ensures.one in
     added held group place c.add.new.self there
     (one ∙ ap (λ (n : ℕ). n + 1) (was place))
     (λ other ne. c.add.ensures.others other ne ∙ was other)

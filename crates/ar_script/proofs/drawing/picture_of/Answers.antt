@@ -5,5 +5,6 @@ use Rattle.ar_script.proofs.drawing.picture_of.Goals as goal
 
 pub units_of-requires-clause-fresh : goal.units_of-requires-clause-fresh
 units_of-requires-clause-fresh g c = λ group place.
-    let are : c.in_ok-held.held.items ≡ replicate c.len.result nothing = c.in_ok-held.ensures.items_if_clones_equal (search rules) in
+    let are : c.in_ok-held.held.items ≡ replicate c.len.result nothing =
+    c.in_ok-held.ensures.items_if_clones_equal (search rules) in
     subst (λ held. held_at held group place ≡ 0) (sym are) (fresh_of c.len.result group place)

@@ -21,7 +21,8 @@ returns-clause-answers g c =
     let shows : IsPicture array picture = IfOk-at_ok _ made c.picture_of.ensures in
     let folds = c.in_ok-folds.folds in
     let found = ok_before c.folds.result c.map_err-2.result folds _ c.map_err-2.ensures.cases c.in_ok-folds.was in
-    let once : flat_map extents_of folds.items ≡ range_with_len 0 picture.extents = IfOk-at_ok _ found c.folds.ensures.once in
+    let once : flat_map extents_of folds.items ≡ range_with_len 0 picture.extents =
+    IfOk-at_ok _ found c.folds.ensures.once in
     let folded : All (IsFold picture) folds.items = IfOk-at_ok _ found c.folds.ensures.folded in
     let result = c.map_err-3.result in
     let drawn : OnOk result (Appends before after (map_text picture c.deref.result.now)) = search rules in

@@ -6,16 +6,23 @@ use Rattle.ar_script.proofs.run.answer_all.Goals as goal
 
 pub returns-clause-plays : goal.returns-clause-plays
 returns-clause-plays g c =
-    plays_finished (lines_left c.args.lines.now) c.args.runner.now c.run_lines-done.new.runner c.number.result c.run_lines-done.result c.finish.result (search rules) c.finish.ensures.ends
+    plays_finished (lines_left c.args.lines.now) c.args.runner.now c.run_lines-done.new.runner c.number.result
+    c.run_lines-done.result c.finish.result (search rules) c.finish.ensures.ends
 
 pub returns-clause-there : goal.returns-clause-there
-returns-clause-there g c = there_ended (lines_left c.args.lines.now) c.number.result c.run_lines-done.result c.finish.result (search rules) (search rules) c.finish.ensures.ends
+returns-clause-there g c =
+    there_ended (lines_left c.args.lines.now) c.number.result c.run_lines-done.result c.finish.result (search rules)
+    (search rules) c.finish.ensures.ends
 
 pub returns-clause-told : goal.returns-clause-told
-returns-clause-told g c = told_ended c.run_lines-done.new.lines c.number.result c.run_lines-done.result c.finish.result c.run_lines-done.ensures.told c.finish.ensures.ends
+returns-clause-told g c =
+    told_ended c.run_lines-done.new.lines c.number.result c.run_lines-done.result c.finish.result
+    c.run_lines-done.ensures.told c.finish.ensures.ends
 
 pub returns-clause-grows : goal.returns-clause-grows
 returns-clause-grows g c =
-    answered_finished (lines_left c.args.lines.now) c.args.runner.now c.run_lines-done.new.runner c.number.result c.run_lines-done.result c.finish.result
-    (writer_contents g.W.Write.contents c.args.out.now) (writer_contents g.W.Write.contents c.run_lines-done.new.out) (writer_contents g.W.Write.contents c.finish.new.out)
+    answered_finished (lines_left c.args.lines.now) c.args.runner.now c.run_lines-done.new.runner c.number.result
+    c.run_lines-done.result c.finish.result
+    (writer_contents g.W.Write.contents c.args.out.now) (writer_contents g.W.Write.contents c.run_lines-done.new.out)
+    (writer_contents g.W.Write.contents c.finish.new.out)
     c.run_lines-done.ensures.grows c.finish.ensures.ends c.finish.ensures.given

@@ -8,5 +8,6 @@ use Rattle.ar_script.proofs.run.run_lines.Given as goal
 abbrev pub invariant-loop : goal.invariant-loop
 invariant-loop g l =
     (l.counter ≤ l.lines.given)
-    × WritesAll (lines_left l.initial.lines) (lines_left l.lines) l.fn.runner l.runner l.lines.given (writer_contents g.W.Write.contents l.fn.out) (writer_contents g.W.Write.contents l.out)
+    × WritesAll (lines_left l.initial.lines) (lines_left l.lines) l.fn.runner l.runner l.lines.given
+    (writer_contents g.W.Write.contents l.fn.out) (writer_contents g.W.Write.contents l.out)
     × IsBegunByByte l.lines

@@ -19,5 +19,7 @@ loop-place-preserved g c =
     let text = words (map hex_byte (take place bytes)) in
     let pair = hex_byte (get_or bytes place 0) in
     let byte : Appends gapped new pair = search rules in
-    appends_as old new (text ++ (gap place ++ pair)) (words (map hex_byte (take (place + 1) bytes))) (bytes-more bytes place (search rules))
-    (appends_then old before new text (gap place ++ pair) c.loop-place.invariant (appends_then before gapped new (gap place) pair c.in_ok-write_gap.ensures.text byte))
+    appends_as old new (text ++ (gap place ++ pair)) (words (map hex_byte (take (place + 1) bytes)))
+    (bytes-more bytes place (search rules))
+    (appends_then old before new text (gap place ++ pair) c.loop-place.invariant
+    (appends_then before gapped new (gap place) pair c.in_ok-write_gap.ensures.text byte))

@@ -5,4 +5,5 @@ use Rattle.ar_script.specs.Texts.{hex_byte, words}
 use Rattle.ar_script.proofs.text.write_bytes.Given as goal
 
 abbrev pub invariant-loop-place : goal.invariant-loop-place
-invariant-loop-place g l = Appends (g.W.Write.contents l.fn.out) (g.W.Write.contents l.out) (words (map hex_byte (take l.place l.bytes)))
+invariant-loop-place g l =
+    Appends (g.W.Write.contents l.fn.out) (g.W.Write.contents l.out) (words (map hex_byte (take l.place l.bytes)))

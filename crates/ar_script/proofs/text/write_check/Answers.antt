@@ -14,6 +14,8 @@ returns g c =
     let said : Appends begun filled shown =
     appends_as begun filled c.sense_text.result shown c.sense_text.ensures c.in_ok-write_all-2.ensures.bytes in
     record {
-      text = ends_with c.write_all-3.result old filled new (codes "check " ++ shown) (10 ∷ []) (line (codes "check" ∷ shown ∷ [])) refl
-          (appends_then old begun filled (codes "check ") shown c.in_ok-write_all.ensures.bytes said) c.write_all-3.ensures.bytes;
+      text = ends_with c.write_all-3.result old filled new (codes "check " ++ shown) (10 ∷ [])
+          (line (codes "check" ∷ shown ∷ [])) refl
+          (appends_then old begun filled (codes "check ") shown c.in_ok-write_all.ensures.bytes said)
+          c.write_all-3.ensures.bytes;
     }

@@ -18,6 +18,8 @@ returns g c =
     let good : Appends old begun (codes "good ") = c.in_ok-write_all.ensures.bytes in
     let ended : OnOk c.write_all-3.result (Appends filled new (10 ∷ [])) = c.write_all-3.ensures.bytes in
     record {
-      text = ends_with c.write_all-3.result old filled new (codes "good " ++ shown) (10 ∷ []) (line (codes "good" ∷ data_words notation bytes))
-          (good_data notation bytes some) (appends_then old begun filled (codes "good ") shown good c.in_ok-write_data.ensures.text) ended;
+      text = ends_with c.write_all-3.result old filled new (codes "good " ++ shown) (10 ∷ [])
+          (line (codes "good" ∷ data_words notation bytes))
+          (good_data notation bytes some)
+          (appends_then old begun filled (codes "good ") shown good c.in_ok-write_data.ensures.text) ended;
     }

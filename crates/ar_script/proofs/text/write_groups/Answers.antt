@@ -19,5 +19,6 @@ loop-number-preserved g c =
     let none : GroupUse = record { class = Free; blocks = 0 } in
     let text = groups_text 0 (take number groups) in
     let more = group_text number (get_or groups number none) in
-    appends_as old new (text ++ more) (groups_text 0 (take (number + 1) groups)) (groups-more groups number none (search rules))
+    appends_as old new (text ++ more) (groups_text 0 (take (number + 1) groups))
+    (groups-more groups number none (search rules))
     (appends_then old before new text more c.loop-number.invariant c.in_ok-write_group.ensures.text)

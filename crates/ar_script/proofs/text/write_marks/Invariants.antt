@@ -9,4 +9,6 @@ abbrev pub invariant-loop-rb : goal.invariant-loop-rb
 invariant-loop-rb g l =
     let book = l.array.store.book in
     let homes = (unit_in book.units l.addr).homes in
-    (l.rb ≤ length homes) × Appends (g.W.Write.contents l.fn.out) (g.W.Write.contents l.out) (map (λ home. level_char (level_in book.groups home)) (take l.rb homes))
+    (l.rb ≤ length homes)
+    × Appends (g.W.Write.contents l.fn.out) (g.W.Write.contents l.out)
+    (map (λ home. level_char (level_in book.groups home)) (take l.rb homes))

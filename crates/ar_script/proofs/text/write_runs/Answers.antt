@@ -13,7 +13,11 @@ loop-place-preserved g c =
     let place = c.loop-place.place in
     let count = c.run_len-count.result in
     let is = c.run_len-count.ensures in
-    let gapped : Appends (contents c.loop-place.out) (contents c.write_gap.new.out) (gap place) = c.in_ok-write_gap.ensures.text in
-    let run : Appends (contents c.write_gap.new.out) (contents c.write_run.new.out) (run_text (count, get_or rest 0 0)) = c.in_ok-write_run.ensures.text in
-    written_more bytes rest _ place count _ _ _ c.loop-place.invariant is.some is.few is.equal is.longest (behind rest count)
-    (appends_then (contents c.loop-place.out) (contents c.write_gap.new.out) (contents c.write_run.new.out) (gap place) (run_text (count, get_or rest 0 0)) gapped run)
+    let gapped : Appends (contents c.loop-place.out) (contents c.write_gap.new.out) (gap place) =
+    c.in_ok-write_gap.ensures.text in
+    let run : Appends (contents c.write_gap.new.out) (contents c.write_run.new.out)
+    (run_text (count, get_or rest 0 0)) = c.in_ok-write_run.ensures.text in
+    written_more bytes rest _ place count _ _ _ c.loop-place.invariant is.some is.few is.equal is.longest
+    (behind rest count)
+    (appends_then (contents c.loop-place.out) (contents c.write_gap.new.out) (contents c.write_run.new.out) (gap place)
+    (run_text (count, get_or rest 0 0)) gapped run)

@@ -18,7 +18,8 @@ returns-in_ok-outcome-in-Act-clause-leaves g c =
     let result = c.map_err-in-Act.result in
     let outcome = c.in_ok-outcome-in-Act.outcome in
     let done = ok_before c.act.result c.map_err.result outcome _ c.map_err.ensures.cases c.in_ok-outcome-in-Act.was in
-    let acts : Acts c.in-Act.action old new = record { outcome = outcome; steps = IfOk-at_ok _ done c.act.ensures.done } in
+    let acts : Acts c.in-Act.action old new =
+    record { outcome = outcome; steps = IfOk-at_ok _ done c.act.ensures.done } in
     let unwritten : IfErr result (λ kind. kind ≡ WriteFault) = search rules in
     let P : Order → Type 0 = λ order. Leaves order old result new in
     subst P (sym c.in-Act.is) (acted c.in-Act.action old new result unwritten acts)

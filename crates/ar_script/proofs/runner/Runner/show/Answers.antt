@@ -36,6 +36,7 @@ returns-in-Block-clause-answers g c =
     (record {
       text = row_text shown bytes;
       is = (reads, refl);
-      appends = appends_as before after (row_text shown c.bytes.result.now) (row_text shown bytes) (ap (row_text shown) same) appends;
+      appends = appends_as before after (row_text shown c.bytes.result.now) (row_text shown bytes)
+          (ap (row_text shown) same) appends;
     }))
     said

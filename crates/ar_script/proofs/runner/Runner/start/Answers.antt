@@ -12,5 +12,6 @@ invariant_of-result c =
     let setup = c.args.setup in
     let made = ok_before c.new.result c.map_err.result c.in_ok-row.row _ c.map_err.ensures.cases c.in_ok-row.was in
     let geometry =
-    started_geometry setup.disks (new_disk setup.geometry setup.extents) setup.cache c.in_ok-array.array c.in_ok-array.ensures.taken c.in_ok-array.ensures.started in
+    started_geometry setup.disks (new_disk setup.geometry setup.extents) setup.cache c.in_ok-array.array
+    c.in_ok-array.ensures.taken c.in_ok-array.ensures.started in
     IfOk-at_ok _ made c.new.ensures.len ∙ ap block_len_of (sym geometry)
