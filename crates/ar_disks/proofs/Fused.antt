@@ -11,14 +11,18 @@ pub block_at-fused : (disk : DiskState) (gone : Bool) (faults e r : ℕ) → blo
 unfolding block_at
 block_at-fused disk gone faults e r = refl
 
+block_at-blown : (old : FuseState) (e r : ℕ) → block_at (blown old).disk e r ≡ block_at old.disk e r
+unfolding block_at
+block_at-blown old e r = refl
+
 blown_answers : (old : FuseState) → AccessesDisk old.disk (blown old).disk false
-blown_answers old = record { geometry = refl; extents = refl; gone = refl; stays_gone = λ _. refl; faults = refl }
+blown_answers old = record { geometry = refl; extents = refl; gone = refl; stays_gone = λ _. refl; faults = refl; accesses = refl }
 
 -- a read that the fuse doesn't pass
 pub blown_reads : (old : FuseState) (answer : Bool) (e r : ℕ) (into : List ℕ) → answer ≡ false → Reads old.disk (blown old).disk e r answer into
 blown_reads old false e r into h = record {
   answers = blown_answers old;
-  blocks = λ f s. block_at-fused old.disk _ _ f s;
+  blocks = λ f s. block_at-blown old f s;
   content = λ done. absurd (cc);
 }
 blown_reads old true e r into h = absurd (cc)
@@ -28,14 +32,14 @@ pub blown_writes : (old : FuseState) (answer : Bool) (e r : ℕ) (from : List �
 blown_writes old false e r from h = record {
   answers = blown_answers old;
   written = λ done. absurd (cc);
-  same_extent = λ s ne. block_at-fused old.disk _ _ e s;
-  other_extents = λ f s ne. block_at-fused old.disk _ _ f s;
+  same_extent = λ s ne. block_at-blown old e s;
+  other_extents = λ f s ne. block_at-blown old f s;
 }
 blown_writes old true e r from h = absurd (cc)
 
 passed_answers : (old new : DiskState) (faults : ℕ) → AccessesDisk old new true → AccessesDisk (fused old false faults) (fused new false faults) true
 passed_answers old new faults a =
-    record { geometry = a.geometry; extents = a.extents; gone = refl; stays_gone = λ gone. gone; faults = refl }
+    record { geometry = a.geometry; extents = a.extents; gone = refl; stays_gone = λ gone. gone; faults = refl; accesses = a.accesses }
 
 -- a read that the fuse passes
 pub passed_reads : (old new : DiskState) (gone : Bool) (faults e r : ℕ) (answer : Bool) (into : List ℕ) → gone ≡ false → IsTrue answer

@@ -1,4 +1,5 @@
 pub mod Addresses
+pub mod Empty
 pub mod Fused
 pub mod Places
 pub mod Sectors

@@ -10,6 +10,7 @@ use Rattle.ar_disks.specs.declared.geometry.Geometry.{Geometry}
 use Rattle.ar_disks.specs.declared.geometry.Geometry.TheVariants.{Paper, Small}
 use Rattle.ar_disks.specs.Geometry.{rows_of, block_len_of, extent_len_of}
 use Rattle.ar_disks.specs.Disk.{DiskState, HasPlace, offset_of, block_at, Writes}
+use Rattle.ar_disks.specs.Memory.{accessed}
 
 -- a place lies within the disk's bytes
 pub offset_of-fits : (g : Geometry) (n e r : ℕ) → e < n → r < rows_of g → offset_of g e r + block_len_of g ≤ n * extent_len_of g
@@ -59,14 +60,19 @@ pub block_at_row : (disk : DiskState) (e r : ℕ) → r < rows_of disk.geometry
 unfolding block_at
 block_at_row disk e r lt = grind (arith, nat_tests)
 
+-- a disk has the same blocks after any number of accesses
+pub block_at-accessed : (disk : DiskState) (accesses e r : ℕ) → block_at (accessed disk accesses) e r ≡ block_at disk e r
+unfolding block_at
+block_at-accessed disk accesses e r = refl
+
 -- nothing at a row past the last
 pub block_at_past : (disk : DiskState) (e r : ℕ) → rows_of disk.geometry ≤ r → block_at disk e r ≡ []
 unfolding block_at
 block_at_past disk e r le = grind (arith, nat_tests)
 
--- the disk with a block written over the bytes of a place
+-- the disk after one access more, with a block written over the bytes of a place
 abbrev pub with_block : DiskState → ℕ → ℕ → List ℕ → DiskState
-with_block disk e r block = record disk { bytes = overwritten disk.bytes (offset_of disk.geometry e r) block }
+with_block disk e r block = record disk { bytes = overwritten disk.bytes (offset_of disk.geometry e r) block; accesses = disk.accesses + 1 }
 
 block_at-with_block_other : (old : DiskState) (e r f s : ℕ) (block : List ℕ)
     → offset_of old.geometry e r + block_len_of old.geometry ≤ length old.bytes → length block ≡ block_len_of old.geometry
@@ -90,7 +96,7 @@ writes_place old e r block place whole len there =
     let fits : offset_of g e r + block_len_of g ≤ length old.bytes =
     rw whole (offset_of-fits g old.extents e r place.extent_exists place.row_exists) in
     record {
-      answers = record { geometry = refl; extents = refl; gone = there; stays_gone = λ gone. gone; faults = refl };
+      answers = record { geometry = refl; extents = refl; gone = there; stays_gone = λ gone. gone; faults = refl; accesses = refl };
       written = λ _.
           block_at_row (with_block old e r block) e r place.row_exists
           ∙ between-overwritten_same old.bytes block (offset_of g e r) (block_len_of g) (sym len) fits;

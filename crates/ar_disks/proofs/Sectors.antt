@@ -6,7 +6,7 @@ use Rattle.ar_disks.specs.declared.geometry.Geometry.{Geometry}
 use Rattle.ar_disks.specs.declared.geometry.Geometry.TheVariants.{Paper, Small}
 use Rattle.ar_disks.specs.Geometry.{sectors_of, block_len_of}
 use Rattle.ar_disks.specs.Block.{sectors_at, with_sectors}
-use Rattle.ar_disks.proofs.Places.{overwritten, between-overwritten_apart}
+use Rattle.ar_disks.proofs.Places.{between-overwritten_apart}
 
 pub block_len-sectors : (g : Geometry) → block_len_of g ≡ 512 * sectors_of g
 block_len-sectors Paper = refl

@@ -3,13 +3,15 @@ use Rattle.std.specs.Prelude.{◌≡◌, ◌≢◌, ℕ, ◌+◌, ◌*◌, ◌<�
 use Rattle.ar_disks.specs.declared.geometry.Geometry.{Geometry}
 use Rattle.ar_disks.specs.Geometry.{rows_of, block_len_of}
 
--- the disk's contents, extent by extent and row by row in each; whether it has failed (`gone`); its fault count
+-- the disk's contents, extent by extent and row by row in each; whether it has failed (`gone`); its fault count; and the
+-- number of its reads and writes, whatever they returned
 pub record DiskState : Type 0 where
   pub geometry : Geometry
   pub extents : ℕ
   pub bytes : List ℕ
   pub gone : Bool
   pub faults : ℕ
+  pub accesses : ℕ
 
 -- the offset in the bytes of a row of an extent
 abbrev pub offset_of : Geometry → ℕ → ℕ → ℕ
@@ -32,13 +34,14 @@ abbrev pub counted : ℕ → ℕ
 counted faults = min (faults + 1) (2 ^ 64 - 1)
 
 -- What each access does, whatever it returns: the disk keeps its shape, the access returns false exactly where the
--- disk has failed after it, a failed disk stays failed, and only a false return counts a fault.
+-- disk has failed after it, a failed disk stays failed, only a false return counts a fault, and it is one access.
 pub record AccessesDisk (old new : DiskState) (answer : Bool) : Type 0 where
   pub geometry : new.geometry ≡ old.geometry
   pub extents : new.extents ≡ old.extents
   pub gone : new.gone ≡ not answer
   pub stays_gone : IsTrue old.gone → IsTrue new.gone
   pub faults : new.faults ≡ (if answer then old.faults else counted old.faults)
+  pub accesses : new.accesses ≡ old.accesses + 1
 
 -- a read: no block changes, and where it returns true `into` is the block
 pub record Reads (old new : DiskState) (extent row : ℕ) (answer : Bool) (into : List ℕ) : Type 0 where

@@ -1,4 +1,5 @@
-// The interface of a disk. A write changes its own place alone and a read changes none, whatever they return.
+// The interface of a disk. A write changes its own place alone and a read changes none, whatever they return, and each
+// is one access.
 ghost use Rattle.std.specs.Prelude.{◌≡◌, length};
 ghost use Rattle.ar_disks.specs.Geometry.{block_len_of};
 ghost use Rattle.ar_disks.specs.Disk.{DiskState, HasPlace, Reads, Writes};
@@ -10,7 +11,7 @@ use crate::{Block, Geometry};
 /// A faulting access fails the disk (`gone`) for good. Until then a read returns what was last written at the place,
 /// or the disk's first contents.
 pub trait Disk {
-    /// The disk's contents, whether it has failed, and its fault count.
+    /// The disk's contents, whether it has failed, its fault count, and the number of its reads and writes.
     ghost state: { Self → DiskState };
 
     /// The geometry, which no access changes.

@@ -61,6 +61,7 @@ impl FuseDisk {
             self.left -= 1;
             return true;
         }
+        self.disk.count_access();
         self.gone = true;
         self.faults = self.faults.saturating_add(1);
         false

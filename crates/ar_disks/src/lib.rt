@@ -2,6 +2,7 @@
 //! failed disk stays failed.
 #![tactic(auto)]
 
+mod accesses;
 mod address;
 mod block;
 mod bytes;
@@ -13,6 +14,7 @@ mod laws;
 mod memory;
 mod scratch;
 
+pub use accesses::AccessCount;
 pub use address::{Addr, Host, Key, Members, Place};
 pub use block::Block;
 pub use completion::Completion;

@@ -7,7 +7,7 @@ ghost use Rattle.ar_disks.specs.Geometry.{extent_len_of, block_len_of};
 ghost use Rattle.ar_disks.specs.Disk.{HasPlace, Reads, Writes, offset_of};
 
 use crate::bytes::overwrite;
-use crate::{Block, Disk, Geometry};
+use crate::{AccessCount, Block, Disk, Geometry};
 use std::alloc::{AllocError, Global};
 use std::marker::Model;
 
@@ -17,23 +17,24 @@ pub struct MemDisk {
     geometry: Geometry,
     extents: u16,
     bytes: Vec<u8>,
+    accesses: AccessCount,
 }
 
 impl Model for MemDisk {
     ghost use Rattle.std.specs.Prelude.{◌≡◌, ◌*◌, length};
     ghost use Rattle.ar_disks.specs.Geometry.{extent_len_of};
     ghost use Rattle.ar_disks.specs.Disk.{DiskState};
-    ghost use Rattle.ar_disks.specs.Memory.{sound_disk};
+    ghost use Rattle.ar_disks.specs.Memory.{sound_disk, accessed};
 
     ghost Value = { DiskState };
 
-    ghost view = { λ d. sound_disk d.geometry d.extents d.bytes.items };
+    ghost view = { λ d. accessed (sound_disk d.geometry d.extents d.bytes.items) d.accesses.count };
 
     ghost invariant = { λ d. length d.bytes.items ≡ d.extents * extent_len_of d.geometry };
 }
 
 impl MemDisk {
-    ghost use Rattle.ar_disks.specs.Memory.{sound_disk};
+    ghost use Rattle.ar_disks.specs.Memory.{sound_disk, accessed};
 
     /// A disk whose first contents are `bytes`, extent by extent.
     pub fn new(geometry: Geometry, extents: u16, bytes: Vec<u8>) -> MemDisk
@@ -44,6 +45,7 @@ impl MemDisk {
             geometry,
             extents,
             bytes,
+            accesses: AccessCount::new(),
         }
     }
 
@@ -58,6 +60,13 @@ impl MemDisk {
     {
         let bytes = vec![in alloc; byte; disk_len(geometry, extents)]?;
         Ok(MemDisk::new(geometry, extents, bytes))
+    }
+
+    /// Counts an access that isn't made: one that a disk over this one refuses.
+    pub fn count_access(&mut self)
+        ensures { self.new ≡ accessed self.old (self.old.accesses + 1) }
+    {
+        self.accesses.tick();
     }
 }
 
@@ -80,6 +89,7 @@ impl Disk for MemDisk {
         // It never faults.
         ensures sound { IsTrue result }
     {
+        self.accesses.tick();
         let from = offset(self.geometry, ext, row);
         into.copy_from_slice(&self.bytes[from..from + self.geometry.block_len()]);
         true
@@ -92,6 +102,7 @@ impl Disk for MemDisk {
         // It never faults.
         ensures sound { IsTrue result }
     {
+        self.accesses.tick();
         let to = offset(self.geometry, ext, row);
         overwrite(&mut self.bytes, to, from);
         true
