@@ -8,6 +8,7 @@ use Rattle.ar_extents.specs.declared.health.Health.TheVariants.{Whole, Out, Rebu
 use Rattle.ar_extents.specs.Health.{is_lost, is_out, IsDown, after_fault, HealthFits, rebuilt_disk, next_extent}
 use Rattle.ar_extents.specs.Set.{SetState, IsValidSet, HasShape, HasExtent, disk_in, faults_of, content, IsSound, IsLost}
 use Rattle.ar_extents.specs.Follows.{Follows, Faulted, TwoHit, Keeps, KeepsBut, Anywhere, IsPlace, HasNoUsed, LeavesDisks, WorksOn}
+use Rattle.ar_extents.specs.declared.log.RowAccess.{RowAccess}
 use Rattle.ar_extents.specs.declared.answers.Got.{Got}
 use Rattle.ar_extents.specs.declared.answers.Put.{Put}
 use Rattle.ar_extents.specs.Access.{OthersStay, Touches, Accesses, IsRead, IsWritten, next_place, is_read, is_written, lost_got, lost_put}
@@ -17,17 +18,17 @@ use Rattle.ar_extents.proofs.GroupLemmas.{place_is, same_place}
 use Rattle.ar_extents.proofs.Faults.{is_out-sound, is_out-after_fault, sound_before, other_in_use, in_use_before, out_fault, rebuilding_fault, down_disk, broken_fault}
 
 -- the set once one of its disks has answered
-abbrev pub answered_set : SetState → List DiskState → ℕ → Bool → SetState
-answered_set s disks d answered = record s { disks = disks; health = cond answered s.health (after_fault s.health d) }
+abbrev pub answered_set : SetState → List DiskState → List RowAccess → ℕ → Bool → SetState
+answered_set s disks log d answered = record s { disks = disks; health = cond answered s.health (after_fault s.health d); log = log }
 
 counted_faults : (before after : ℕ) (answered : Bool) → before < 2 ^ 64 - 1 → after ≡ cond answered before (counted before)
     → after ≡ cond answered before (before + 1)
 counted_faults before after true few is = is
 counted_faults before after false few is = is ∙ (omega arith)
 
-pub touches : (s : SetState) (disks : List DiskState) (d : ℕ) (answered : Bool) → IsValidSet s → d < length s.disks → is_out s.health d ≡ false
-    → AccessesDisk (disk_in s.disks d) (disk_in disks d) answered → OthersStay s.disks disks d → Touches s (answered_set s disks d answered) d answered
-touches s disks d answered kept exists used answers others = record {
+pub touches : (s : SetState) (disks : List DiskState) (log : List RowAccess) (d : ℕ) (answered : Bool) → IsValidSet s → d < length s.disks → is_out s.health d ≡ false
+    → AccessesDisk (disk_in s.disks d) (disk_in disks d) answered → OthersStay s.disks disks d → Touches s (answered_set s disks log d answered) d answered
+touches s disks log d answered kept exists used answers others = record {
   geometry = refl;
   extents = refl;
   others = others;
@@ -275,55 +276,55 @@ works_written a b place row answered access keeps = record {
 
 -- The answers of a read, told of the state `self` that the call began with: `old` is what its fields show.
 
-pub read_answer : (old self : SetState) (disks : List DiskState) (place : Place) (row : ℕ) (into : List ℕ) → old ≡ self → IsSound old place
+pub read_answer : (old self : SetState) (disks : List DiskState) (log : List RowAccess) (place : Place) (row : ℕ) (into : List ℕ) → old ≡ self → IsSound old place
     → Reads (disk_in old.disks place.disk) (disk_in disks place.disk) place.extent row true into
-    → IsRead self (answered_set old disks place.disk true) place row into
+    → IsRead self (answered_set old disks log place.disk true) place row into
 unfolding content
-read_answer old self disks place row into same sound reads =
-    subst (λ (s : SetState). IsRead s (answered_set old disks place.disk true) place row into) same
+read_answer old self disks log place row into same sound reads =
+    subst (λ (s : SetState). IsRead s (answered_set old disks log place.disk true) place row into) same
     (record { bytes_are = reads.content refl; was_sound = sound; sound = sound })
 
-pub read_keeps : (old self : SetState) (disks : List DiskState) (h : Health) (place : Place) (row : ℕ) (answered : Bool) (into : List ℕ) → old ≡ self
+pub read_keeps : (old self : SetState) (disks : List DiskState) (h : Health) (log : List RowAccess) (place : Place) (row : ℕ) (answered : Bool) (into : List ℕ) → old ≡ self
     → OthersStay old.disks disks place.disk → Reads (disk_in old.disks place.disk) (disk_in disks place.disk) place.extent row answered into
-    → Keeps Anywhere self (record old { disks = disks; health = h })
-read_keeps old self disks h place row answered into same others reads =
-    let new : SetState = record old { disks = disks; health = h } in
+    → Keeps Anywhere self (record old { disks = disks; health = h; log = log })
+read_keeps old self disks h log place row answered into same others reads =
+    let new : SetState = record old { disks = disks; health = h; log = log } in
     subst (λ (s : SetState). Keeps Anywhere s new) same (keeps_read old new place.disk place.extent row answered into others reads)
 
-pub write_answer : (old self : SetState) (disks : List DiskState) (place : Place) (row : ℕ) (from : List ℕ) → old ≡ self → IsSound old place
+pub write_answer : (old self : SetState) (disks : List DiskState) (log : List RowAccess) (place : Place) (row : ℕ) (from : List ℕ) → old ≡ self → IsSound old place
     → Writes (disk_in old.disks place.disk) (disk_in disks place.disk) place.extent row true from
-    → IsWritten self (answered_set old disks place.disk true) place row from
+    → IsWritten self (answered_set old disks log place.disk true) place row from
 unfolding content
-write_answer old self disks place row from same sound writes =
-    subst (λ (s : SetState). IsWritten s (answered_set old disks place.disk true) place row from) same
+write_answer old self disks log place row from same sound writes =
+    subst (λ (s : SetState). IsWritten s (answered_set old disks log place.disk true) place row from) same
     (record { content_is = writes.written refl; was_sound = sound; sound = sound })
 
-pub write_keeps : (old self : SetState) (disks : List DiskState) (h : Health) (place : Place) (row : ℕ) (answered : Bool) (from : List ℕ) → old ≡ self
+pub write_keeps : (old self : SetState) (disks : List DiskState) (h : Health) (log : List RowAccess) (place : Place) (row : ℕ) (answered : Bool) (from : List ℕ) → old ≡ self
     → OthersStay old.disks disks place.disk → Writes (disk_in old.disks place.disk) (disk_in disks place.disk) place.extent row answered from
-    → KeepsBut place row self (record old { disks = disks; health = h })
-write_keeps old self disks h place row answered from same others writes =
-    let new : SetState = record old { disks = disks; health = h } in
+    → KeepsBut place row self (record old { disks = disks; health = h; log = log })
+write_keeps old self disks h log place row answered from same others writes =
+    let new : SetState = record old { disks = disks; health = h; log = log } in
     subst (λ (s : SetState). KeepsBut place row s new) same (keeps_written old new place row answered from others writes)
 
 -- the disk faulted
-pub fault_access : (old self : SetState) (disks : List DiskState) (h : Health) (place : Place) → old ≡ self → IsValidSet old → HasExtent self place → IsSound old place
+pub fault_access : (old self : SetState) (disks : List DiskState) (h : Health) (log : List RowAccess) (place : Place) → old ≡ self → IsValidSet old → HasExtent self place → IsSound old place
     → h ≡ after_fault old.health place.disk → AccessesDisk (disk_in old.disks place.disk) (disk_in disks place.disk) false → OthersStay old.disks disks place.disk
-    → Accesses self (record old { disks = disks; health = h }) place false
-fault_access old self disks h place same kept exists sound is answers others =
-    let new : SetState = record old { disks = disks; health = h } in
+    → Accesses self (record old { disks = disks; health = h; log = log }) place false
+fault_access old self disks h log place same kept exists sound is answers others =
+    let new : SetState = record old { disks = disks; health = h; log = log } in
     let used = is_out-sound old.health place.disk place.extent sound in
     let here = (subst (λ (s : SetState). HasExtent s place) (sym same) exists).disk in
-    let touched = touches old disks place.disk false kept here used answers others in
+    let touched = touches old disks log place.disk false kept here used answers others in
     subst (λ (s : SetState). Accesses s new place false) same
-    (accesses_sound old new place false sound (subst (λ (x : Health). Touches old (record old { disks = disks; health = x }) place.disk false) (sym is) touched))
+    (accesses_sound old new place false sound (subst (λ (x : Health). Touches old (record old { disks = disks; health = x; log = log }) place.disk false) (sym is) touched))
 
-is_read-lost : (h : Health) → is_read (lost_got h) ≡ false
+pub is_read-lost : (h : Health) → is_read (lost_got h) ≡ false
 is_read-lost Whole = refl
 is_read-lost (Out x) = refl
 is_read-lost (Rebuilding x done) = refl
 is_read-lost Broken = refl
 
-is_written-lost : (h : Health) → is_written (lost_put h) ≡ false
+pub is_written-lost : (h : Health) → is_written (lost_put h) ≡ false
 is_written-lost Whole = refl
 is_written-lost (Out x) = refl
 is_written-lost (Rebuilding x done) = refl
@@ -337,26 +338,26 @@ pub put_access : (self new : SetState) (place : Place) (h : Health) (answer : Pu
 put_access self new place h answer is access = subst (λ (b : Bool). Accesses self new place b) (sym (ap is_written is ∙ is_written-lost h)) access
 
 -- the place that is rebuilt next, where the disk and its mark are known
-next_place_is : (old self : SetState) (place : Place) → old ≡ self → old.health ≡ Rebuilding place.disk place.extent → next_place self ≡ place
+pub next_place_is : (old self : SetState) (place : Place) → old ≡ self → old.health ≡ Rebuilding place.disk place.extent → next_place self ≡ place
 next_place_is old self place same is =
     let there : Health → Place = λ h. record { disk = rebuilt_disk h; extent = next_extent h } in
     ap next_place (sym same) ∙ ap there is
 
-pub new_answer : (old self : SetState) (disks : List DiskState) (place : Place) (row : ℕ) (from : List ℕ) → old ≡ self → old.health ≡ Rebuilding place.disk place.extent
+pub new_answer : (old self : SetState) (disks : List DiskState) (log : List RowAccess) (place : Place) (row : ℕ) (from : List ℕ) → old ≡ self → old.health ≡ Rebuilding place.disk place.extent
     → Writes (disk_in old.disks place.disk) (disk_in disks place.disk) place.extent row true from
-    → (content (record old { disks = disks }) (next_place self) row ≡ from) × (old.health ≡ self.health)
+    → (content (record old { disks = disks; log = log }) (next_place self) row ≡ from) × (old.health ≡ self.health)
 unfolding content
-new_answer old self disks place row from same is writes =
-    let new : SetState = record old { disks = disks } in (
+new_answer old self disks log place row from same is writes =
+    let new : SetState = record old { disks = disks; log = log } in (
       subst (λ (p : Place). content new p row ≡ from) (sym (next_place_is old self place same is)) (writes.written refl),
       ap (λ (s : SetState). s.health) same,
     )
 
-pub new_keeps : (old self : SetState) (disks : List DiskState) (h : Health) (place : Place) (row : ℕ) (answered : Bool) (from : List ℕ) → old ≡ self
+pub new_keeps : (old self : SetState) (disks : List DiskState) (h : Health) (log : List RowAccess) (place : Place) (row : ℕ) (answered : Bool) (from : List ℕ) → old ≡ self
     → old.health ≡ Rebuilding place.disk place.extent
     → OthersStay old.disks disks place.disk → Writes (disk_in old.disks place.disk) (disk_in disks place.disk) place.extent row answered from
-    → KeepsBut (next_place self) row self (record old { disks = disks; health = h })
-new_keeps old self disks h place row answered from same is others writes =
-    let new : SetState = record old { disks = disks; health = h } in
+    → KeepsBut (next_place self) row self (record old { disks = disks; health = h; log = log })
+new_keeps old self disks h log place row answered from same is others writes =
+    let new : SetState = record old { disks = disks; health = h; log = log } in
     subst (λ (p : Place). KeepsBut p row self new) (sym (next_place_is old self place same is))
-    (write_keeps old self disks h place row answered from same others writes)
+    (write_keeps old self disks h log place row answered from same others writes)

@@ -4,6 +4,8 @@ pub mod Follows
 pub mod LooseLemmas
 pub mod Losses
 pub mod Access
+pub mod Accounts
+pub mod Plans
 pub mod Changes
 pub mod GroupLemmas
 pub mod Outcomes

@@ -43,7 +43,7 @@ start_fault disks =
     if nat_lt (length disks) 4 || nat_lt 12 (length disks) then Some BadCount
     else (if are_alike disks then None else Some BadSize)
 
--- a healthy set of these disks, with every extent unassigned
+-- a healthy set of these disks, with every extent unassigned and no access made
 abbrev pub started : List DiskState → SetState
 started disks = record {
   geometry = (disk_in disks 0).geometry;
@@ -51,6 +51,7 @@ started disks = record {
   disks = disks;
   health = Whole;
   loose = replicate (length disks) (replicate (disk_in disks 0).extents true);
+  log = [];
 }
 
 -- why the disk isn't added, if it isn't

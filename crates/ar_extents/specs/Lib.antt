@@ -2,6 +2,8 @@ pub mod Health
 pub mod Set
 pub mod Follows
 pub mod Access
+pub mod Log
+pub mod Plans
 pub mod Loose
 pub mod Changes
 pub mod Groups

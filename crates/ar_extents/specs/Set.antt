@@ -4,20 +4,23 @@ use Rattle.ar_disks.specs.declared.geometry.Geometry.{Geometry}
 use Rattle.ar_disks.specs.declared.geometry.Geometry.TheVariants.{Small}
 use Rattle.ar_disks.specs.declared.address.Place.{Place}
 use Rattle.ar_disks.specs.Disk.{DiskState, block_at}
+use Rattle.ar_extents.specs.declared.log.RowAccess.{RowAccess}
 use Rattle.ar_extents.specs.declared.health.Health.{Health}
 use Rattle.ar_extents.specs.Health.{is_lost, is_missing, is_out, HealthFits}
 
--- the state of a set: its shape, its disks, their health, and for each disk which extents are unassigned (`loose`)
+-- the state of a set: its shape, its disks, their health, for each disk which extents are unassigned (`loose`), and its
+-- accesses since it was started, the newest last
 pub record SetState : Type 0 where
   pub geometry : Geometry
   pub extents : ℕ
   pub disks : List DiskState
   pub health : Health
   pub loose : List (List Bool)
+  pub log : List RowAccess
 
 -- the value that `disk_in` has for a disk that doesn't exist
 abbrev pub no_disk : DiskState
-no_disk = record { geometry = Small; extents = 0; bytes = []; gone = true; faults = 0 }
+no_disk = record { geometry = Small; extents = 0; bytes = []; gone = true; faults = 0; accesses = 0 }
 
 -- disk `d` of a list
 abbrev pub disk_in : List DiskState → ℕ → DiskState

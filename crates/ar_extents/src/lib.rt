@@ -4,6 +4,7 @@
 
 mod answers;
 mod health;
+mod log;
 mod marks;
 mod outcome;
 mod refusal;
@@ -12,6 +13,7 @@ mod shape;
 
 pub use answers::{Got, Put, PutNew};
 pub use health::Health;
+pub use log::{AccessKind, RowAccess};
 pub use outcome::RowOutcome;
 pub use refusal::{DiskRefusal, StartFault};
 pub use set::{DiskSet, fault_of};

@@ -3,6 +3,7 @@
 ghost use Rattle.std.specs.Prelude.{◌≡◌, ◌≤◌, length};
 
 use crate::Health;
+use crate::log::AccessLog;
 use crate::marks::Marks;
 use ar_disks::{Disk, Geometry, Place};
 use std::marker::Model;
@@ -14,7 +15,8 @@ mod start;
 
 pub use start::fault_of;
 
-/// Disks of one shape, with their health and the flags of their unassigned (`loose`) extents.
+/// Disks of one shape, with their health, the flags of their unassigned (`loose`) extents and, for contracts alone, a log
+/// of all accesses.
 #[derive(Drop)]
 pub struct DiskSet<D: Disk> {
     geometry: Geometry,
@@ -22,6 +24,7 @@ pub struct DiskSet<D: Disk> {
     disks: Vec<D>,
     health: Health,
     loose: Vec<Marks>,
+    log: AccessLog,
 }
 
 impl<D: Disk> Model for DiskSet<D> {
@@ -30,9 +33,9 @@ impl<D: Disk> Model for DiskSet<D> {
 
     ghost Value = { SetState };
 
-    ghost view = { λ s. record { geometry = s.geometry; extents = s.extents; disks = map D.state s.disks.items; health = s.health; loose = s.loose.items } };
+    ghost view = { λ s. record { geometry = s.geometry; extents = s.extents; disks = map D.state s.disks.items; health = s.health; loose = s.loose.items; log = s.log.accesses } };
 
-    ghost invariant = { λ s. IsValidSet (record { geometry = s.geometry; extents = s.extents; disks = map D.state s.disks.items; health = s.health; loose = s.loose.items }) };
+    ghost invariant = { λ s. IsValidSet (record { geometry = s.geometry; extents = s.extents; disks = map D.state s.disks.items; health = s.health; loose = s.loose.items; log = s.log.accesses }) };
 }
 
 impl<D: Disk> DiskSet<D> {

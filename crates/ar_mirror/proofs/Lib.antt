@@ -2,4 +2,5 @@ pub mod SlotLemmas
 pub mod Holding
 pub mod Frames
 pub mod Rebuilding
+pub mod Plans
 pub mod Standing

@@ -1,4 +1,5 @@
 pub mod Slots
+pub mod Plans
 pub mod Holds
 pub mod Calls
 -- definitions of lower crates that clauses of this crate use

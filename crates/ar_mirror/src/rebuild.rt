@@ -8,6 +8,8 @@ ghost use Rattle.ar_extents.specs.Access.{next_place};
 ghost use Rattle.ar_extents.specs.Set.{HasExtent, faults_of};
 ghost use Rattle.ar_extents.specs.Groups.{IsGroup};
 ghost use Rattle.ar_mirror.specs.Slots.{partner_of};
+ghost use Rattle.ar_extents.specs.Plans.{CarriesOut};
+ghost use Rattle.ar_mirror.specs.Plans.{copy_row};
 ghost use Rattle.ar_mirror.specs.Calls.{Rebuilds, AllSlotsHold};
 
 use crate::pair::partner;
@@ -33,6 +35,8 @@ pub fn rebuild_row<D: Disk>(
     requires scratch { scratch.old.geometry ≡ set.old.geometry }
 
     ensures answer { Rebuilds set.old set.new (member members.now (partner_of position)) row result }
+    // Exactly these accesses are made.
+    ensures plan { CarriesOut (copy_row (member members.now (partner_of position)) (next_place set.old) row) set.old set.new }
     ensures keeps { KeepsBut (next_place set.old) row set.old set.new }
     ensures unwritten { result ≡ RowOutcome.Broken → Keeps Anywhere set.old set.new }
     ensures spared { result ≡ RowOutcome.Broken
@@ -58,6 +62,7 @@ fn copy_row<D: Disk>(set: &mut DiskSet<D>, from: Place, row: u16, block: &mut Bl
     requires whole { length block.old ≡ block_len_of set.old.geometry }
 
     ensures answer { Rebuilds set.old set.new from row result }
+    ensures plan { CarriesOut (copy_row from (next_place set.old) row) set.old set.new }
     ensures keeps { KeepsBut (next_place set.old) row set.old set.new }
     ensures unwritten { result ≡ RowOutcome.Broken → Keeps Anywhere set.old set.new }
     ensures spared { result ≡ RowOutcome.Broken

@@ -6,6 +6,8 @@ ghost use Rattle.ar_extents.specs.Follows.{Keeps, Anywhere, IsPlace, WorksOn, Wo
 ghost use Rattle.ar_extents.specs.Set.{IsSound};
 ghost use Rattle.ar_extents.specs.Groups.{IsGroup, outcome_of};
 ghost use Rattle.ar_mirror.specs.Slots.{mirror_slots_of, one_of, other_of};
+ghost use Rattle.ar_extents.specs.Plans.{CarriesOut};
+ghost use Rattle.ar_mirror.specs.Plans.{mirror_read, mirror_write};
 ghost use Rattle.ar_mirror.specs.Holds.{Holds};
 ghost use Rattle.ar_mirror.specs.Calls.{ReadsSlot, IsInPair, KeepsButSlot, OtherMirrorSlotsHold, OtherGroupsHold};
 
@@ -29,6 +31,8 @@ pub fn get<D: Disk>(
     ensures outcome { result ≡ outcome_of set.new.health }
     ensures gives { ReadsSlot set.old set.new members.now slot into.new result }
 
+    // Exactly these accesses are made.
+    ensures plan { CarriesOut (mirror_read set.old.geometry members.now slot) set.old set.new }
     ensures keeps { Keeps Anywhere set.old set.new }
     ensures works { WorksOn (IsInPair set.old.geometry members.now slot) set.old set.new }
     // While the first member is usable, the other isn't accessed.
@@ -62,6 +66,8 @@ pub fn put<D: Disk>(set: &mut DiskSet<D>, members: &Members, slot: u16, from: &[
     ensures slots { OtherMirrorSlotsHold members.now slot set.old set.new }
     ensures groups { OtherGroupsHold members.now set.old set.new }
 
+    // Exactly these accesses are made.
+    ensures plan { CarriesOut (mirror_write set.old.geometry members.now slot) set.old set.new }
     ensures keeps { KeepsButSlot members.now slot set.old set.new }
     ensures works { WorksOn (IsInPair set.old.geometry members.now slot) set.old set.new }
     // The first member is written before the other.

@@ -1,14 +1,16 @@
 // Row accesses. A lost extent isn't accessed, a read changes no row, and a write changes its own row alone.
-ghost use Rattle.std.specs.Prelude.{◌≡◌, ◌<◌, map, length, vec_len};
+ghost use Rattle.std.specs.Prelude.{◌≡◌, ◌<◌, ◌∷◌, ◌++◌, [], map, length, vec_len};
 ghost use Rattle.ar_disks.specs.Geometry.{rows_of, block_len_of};
 ghost use Rattle.ar_disks.specs.Disk.{HasPlace, Reads, Writes};
 ghost use Rattle.ar_extents.specs.Set.{disk_in, HasExtent};
 ghost use Rattle.ar_extents.specs.Health.{IsRebuilding, rebuilt_disk};
+ghost use Rattle.ar_extents.specs.Plans.{Attempts, read_at, write_at, rebuild_at, access_of};
 ghost use Rattle.ar_extents.specs.Follows.{Follows, Keeps, KeepsBut, Anywhere};
 ghost use Rattle.ar_extents.specs.Access.{OthersStay, Touches, Accesses, Gets, PutsRow, PutsNew, is_read, is_written, is_new_written, next_place};
 
 use super::DiskSet;
-use crate::{Got, Health, Put, PutNew};
+use crate::log::AccessLog;
+use crate::{AccessKind, Got, Health, Put, PutNew, RowAccess};
 use ar_disks::{Block, Disk, Place};
 
 impl<D: Disk> DiskSet<D> {
@@ -21,12 +23,13 @@ impl<D: Disk> DiskSet<D> {
         ensures answer { Gets self.old self.new place row into.new result }
         ensures access { Accesses self.old self.new place (is_read result) }
         ensures keeps { Keeps Anywhere self.old self.new }
+        ensures made { Attempts (read_at place row) (is_read result) self.old self.new }
         ensures len { length into.new ≡ length into.old }
     {
         if self.health.is_lost(place) {
             return Got::lost(self.health);
         }
-        if read_disk(&mut self.disks, place, row, into) {
+        if read_disk(&mut self.disks, &mut self.log, place, row, into) {
             return Got::Read;
         }
         self.health = self.health.after_fault(place.disk);
@@ -42,11 +45,19 @@ impl<D: Disk> DiskSet<D> {
         ensures answer { PutsRow self.old self.new place row from.now result }
         ensures access { Accesses self.old self.new place (is_written result) }
         ensures keeps { KeepsBut place row self.old self.new }
+        ensures made { Attempts (write_at place row) (is_written result) self.old self.new }
     {
         if self.health.is_lost(place) {
             return Put::lost(self.health);
         }
-        if write_disk(&mut self.disks, place, row, from) {
+        if write_disk(
+            &mut self.disks,
+            &mut self.log,
+            place,
+            row,
+            AccessKind::Write,
+            from,
+        ) {
             return Put::Written;
         }
         self.health = self.health.after_fault(place.disk);
@@ -62,12 +73,20 @@ impl<D: Disk> DiskSet<D> {
         ensures answer { PutsNew self.old self.new row from.now result }
         ensures touches { Touches self.old self.new (rebuilt_disk self.old.health) (is_new_written result) }
         ensures keeps { KeepsBut (next_place self.old) row self.old self.new }
+        ensures made { Attempts (rebuild_at (next_place self.old) row) (is_new_written result) self.old self.new }
         ensures follows { Follows self.old self.new }
     {
         let Health::Rebuilding(disk, extent) = self.health else {
             unreachable!()
         };
-        if write_disk(&mut self.disks, Place { disk, extent }, row, from) {
+        if write_disk(
+            &mut self.disks,
+            &mut self.log,
+            Place { disk, extent },
+            row,
+            AccessKind::Rebuild,
+            from,
+        ) {
             return PutNew::Written;
         }
         self.health = self.health.after_fault(disk);
@@ -75,29 +94,59 @@ impl<D: Disk> DiskSet<D> {
     }
 }
 
-// Reads a row of one disk; the others stay.
-fn read_disk<D: Disk>(disks: &mut Vec<D>, place: Place, row: u16, into: &mut Block) -> bool
+// Reads a row of one disk, and logs the access; the other disks stay.
+fn read_disk<D: Disk>(
+    disks: &mut Vec<D>,
+    log: &mut AccessLog,
+    place: Place,
+    row: u16,
+    into: &mut Block,
+) -> bool
     requires exists { place.disk < vec_len disks.old }
     requires place { HasPlace (disk_in (map D.state disks.old.items) place.disk) place.extent row }
     requires whole { length into.old ≡ block_len_of (disk_in (map D.state disks.old.items) place.disk).geometry }
     ensures read { Reads (disk_in (map D.state disks.old.items) place.disk)
         (disk_in (map D.state disks.new.items) place.disk) place.extent row result into.new }
     ensures others { OthersStay (map D.state disks.old.items) (map D.state disks.new.items) place.disk }
+    ensures logged { log.new.accesses ≡ log.old.accesses ++ access_of (read_at place row) result ∷ [] }
     ensures len { length into.new ≡ length into.old }
 {
     let disk = &mut disks[place.disk as usize];
-    disk.read(place.extent, row, into)
+    let answered = disk.read(place.extent, row, into);
+    log.push(&RowAccess {
+        place,
+        row,
+        kind: AccessKind::Read,
+        answered,
+    });
+    answered
 }
 
-// Writes a row of one disk; the others stay.
-fn write_disk<D: Disk>(disks: &mut Vec<D>, place: Place, row: u16, from: &[u8]) -> bool
+// Writes a row of one disk, and logs the access as one of this kind; the other disks stay.
+fn write_disk<D: Disk>(
+    disks: &mut Vec<D>,
+    log: &mut AccessLog,
+    place: Place,
+    row: u16,
+    kind: AccessKind,
+    from: &[u8],
+) -> bool
     requires exists { place.disk < vec_len disks.old }
     requires place { HasPlace (disk_in (map D.state disks.old.items) place.disk) place.extent row }
     requires whole { length from.now ≡ block_len_of (disk_in (map D.state disks.old.items) place.disk).geometry }
     ensures written { Writes (disk_in (map D.state disks.old.items) place.disk)
         (disk_in (map D.state disks.new.items) place.disk) place.extent row result from.now }
     ensures others { OthersStay (map D.state disks.old.items) (map D.state disks.new.items) place.disk }
+    ensures logged { log.new.accesses ≡ log.old.accesses
+        ++ access_of (record { place = place; row = row; kind = kind }) result ∷ [] }
 {
     let disk = &mut disks[place.disk as usize];
-    disk.write(place.extent, row, from)
+    let answered = disk.write(place.extent, row, from);
+    log.push(&RowAccess {
+        place,
+        row,
+        kind,
+        answered,
+    });
+    answered
 }

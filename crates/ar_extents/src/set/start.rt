@@ -6,6 +6,7 @@ ghost use Rattle.ar_extents.specs.Changes.{start_fault, started, are_alike, has_
 ghost use Rattle.std.specs.List.{list_all};
 
 use super::DiskSet;
+use crate::log::AccessLog;
 use crate::marks::Marks;
 use crate::shape::has_shape;
 use crate::{Health, StartFault};
@@ -35,6 +36,7 @@ impl<D: Disk> DiskSet<D> {
             disks,
             health: Health::Whole,
             loose,
+            log: AccessLog::new(),
         })
     }
 }

@@ -1,0 +1,78 @@
+-- Plans of accesses: which accesses a call makes, in which order, and how it goes on where a disk faults.
+use Rattle.std.specs.Prelude.{◌≡◌, ℕ, Bool, true, false, List, [], ◌∷◌, if◌then◌else◌}
+use Rattle.ar_disks.specs.declared.address.Place.{Place}
+use Rattle.ar_extents.specs.declared.health.Health.{Health}
+use Rattle.ar_extents.specs.declared.health.Health.TheVariants.{Whole, Out, Rebuilding, Broken}
+use Rattle.ar_extents.specs.declared.log.RowAccess.{RowAccess}
+use Rattle.ar_extents.specs.declared.log.AccessKind.{AccessKind}
+use Rattle.ar_extents.specs.declared.log.AccessKind.TheVariants.{Read, Write, Rebuild}
+use Rattle.ar_extents.specs.Health.{is_lost, after_fault}
+use Rattle.ar_extents.specs.Set.{SetState}
+use Rattle.ar_extents.specs.Log.{AccountsFor}
+
+-- an access to try
+pub record Attempt : Type 0 where
+  pub place : Place
+  pub row : ℕ
+  pub kind : AccessKind
+
+-- the attempts to read a row, to write it, and to write it on the disk that is being rebuilt
+abbrev pub read_at : Place → ℕ → Attempt
+read_at p r = record { place = p; row = r; kind = Read }
+
+abbrev pub write_at : Place → ℕ → Attempt
+write_at p r = record { place = p; row = r; kind = Write }
+
+abbrev pub rebuild_at : Place → ℕ → Attempt
+rebuild_at p r = record { place = p; row = r; kind = Rebuild }
+
+-- no disk is being rebuilt
+abbrev pub rebuilds_none : Health → Bool
+rebuilds_none Whole = true
+rebuilds_none (Out x) = true
+rebuilds_none (Rebuilding x done) = false
+rebuilds_none Broken = true
+
+-- An attempt costs no access where its extent is lost; a write to the extent that is rebuilt next, where none is.
+abbrev pub is_skipped : Health → AccessKind → Place → Bool
+is_skipped h Read p = is_lost h p.disk p.extent
+is_skipped h Write p = is_lost h p.disk p.extent
+is_skipped h Rebuild p = rebuilds_none h
+
+abbrev pub skips : Health → Attempt → Bool
+skips h t = is_skipped h t.kind t.place
+
+-- the access that an attempt comes to
+abbrev pub access_of : Attempt → Bool → RowAccess
+access_of t answered = record { place = t.place; row = t.row; kind = t.kind; answered = answered }
+
+-- the accesses of one attempt: none where it is skipped, else one
+abbrev pub accesses_for : Attempt → Bool → Health → List RowAccess
+accesses_for t answered h = if skips h t then [] else access_of t answered ∷ []
+
+-- One attempt was made: exactly one access, which returned `answered`, or none where the attempt is skipped; that counts
+-- as a fault.
+pub record Attempts (t : Attempt) (answered : Bool) (old new : SetState) : Type 0 where
+  pub skipped : skips old.health t ≡ true → answered ≡ false
+  pub made : AccountsFor (accesses_for t answered old.health) old new
+
+-- a plan: stop; or try an access, and go on with the first plan if it succeeds, else with the second
+pub data AccessPlan : Type 0 where
+  Stop : AccessPlan
+  Try : Attempt → AccessPlan → AccessPlan → AccessPlan
+
+-- these accesses are a path through the plan, from this health on
+pub data IsPath : AccessPlan → Health → List RowAccess → Type 0 where
+  stopped : (h : Health) → IsPath Stop h []
+  skipped : (t : Attempt) (next other : AccessPlan) (h : Health) (rest : List RowAccess) → skips h t ≡ true → IsPath other h rest
+      → IsPath (Try t next other) h rest
+  answered : (t : Attempt) (next other : AccessPlan) (h : Health) (rest : List RowAccess) → skips h t ≡ false → IsPath next h rest
+      → IsPath (Try t next other) h (access_of t true ∷ rest)
+  faulted : (t : Attempt) (next other : AccessPlan) (h : Health) (rest : List RowAccess) → skips h t ≡ false
+      → IsPath other (after_fault h t.place.disk) rest → IsPath (Try t next other) h (access_of t false ∷ rest)
+
+-- The plan was carried out: the accesses that were made are a path through it, and nothing else happened.
+pub record CarriesOut (plan : AccessPlan) (old new : SetState) : Type 0 where
+  pub made : List RowAccess
+  pub path : IsPath plan old.health made
+  pub accounted : AccountsFor made old new
