@@ -62,7 +62,7 @@ accounts_then xs ys a b c ab bc = record {
       let n = count_append (writes_row place row) xs ys in bc.rows place row (omega arith) ∙ ab.rows place row (omega arith);
 }
 
-count_one : (p : RowAccess → Bool) (a : RowAccess) (b : Bool) → p a ≡ b → count_by p (a ∷ []) ≡ cond b 1 0
+pub count_one : (p : RowAccess → Bool) (a : RowAccess) (b : Bool) → p a ≡ b → count_by p (a ∷ []) ≡ cond b 1 0
 count_one p a b is = count_cons p a [] ∙ ap (λ x. cond x 1 0 + 0) is ∙ (omega arith)
 
 none_counted : (p : RowAccess → Bool) (a : RowAccess) (b : Bool) → p a ≡ b → count_by p (a ∷ []) ≡ 0 → p a ≡ false

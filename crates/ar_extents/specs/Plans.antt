@@ -61,6 +61,32 @@ pub data AccessPlan : Type 0 where
   Stop : AccessPlan
   Try : Attempt → AccessPlan → AccessPlan → AccessPlan
 
+-- these attempts in turn, as long as they succeed; after the last the plan goes on
+abbrev pub all_of : List Attempt → AccessPlan → AccessPlan
+all_of [] next = next
+all_of (t ∷ rest) next = Try t (all_of rest next) Stop
+
+-- each of these attempts in turn, whether or not the others succeed
+abbrev pub each_of : List Attempt → AccessPlan
+each_of [] = Stop
+each_of (t ∷ rest) = Try t (each_of rest) (each_of rest)
+
+-- These attempts were made in turn up to the first that didn't succeed; `done` where all of them did.
+pub data AttemptsAll : List Attempt → Bool → SetState → SetState → Type 0 where
+  all_done : (s : SetState) → AttemptsAll [] true s s
+  one_done : (t : Attempt) (rest : List Attempt) (done : Bool) (old between new : SetState) → Attempts t true old between → AttemptsAll rest done between new
+      → AttemptsAll (t ∷ rest) done old new
+  one_failed : (t : Attempt) (rest : List Attempt) (old new : SetState) → Attempts t false old new → AttemptsAll (t ∷ rest) false old new
+
+-- The plan was carried out: its attempts were made one after the other, each going on by whether it succeeded, and
+-- nothing else happened.
+pub data CarriesOut : AccessPlan → SetState → SetState → Type 0 where
+  stops : (s : SetState) → CarriesOut Stop s s
+  goes_on : (t : Attempt) (next other : AccessPlan) (old between new : SetState) → Attempts t true old between → CarriesOut next between new
+      → CarriesOut (Try t next other) old new
+  falls_back : (t : Attempt) (next other : AccessPlan) (old between new : SetState) → Attempts t false old between → CarriesOut other between new
+      → CarriesOut (Try t next other) old new
+
 -- these accesses are a path through the plan, from this health on
 pub data IsPath : AccessPlan → Health → List RowAccess → Type 0 where
   stopped : (h : Health) → IsPath Stop h []
@@ -71,8 +97,13 @@ pub data IsPath : AccessPlan → Health → List RowAccess → Type 0 where
   faulted : (t : Attempt) (next other : AccessPlan) (h : Health) (rest : List RowAccess) → skips h t ≡ false
       → IsPath other (after_fault h t.place.disk) rest → IsPath (Try t next other) h (access_of t false ∷ rest)
 
--- The plan was carried out: the accesses that were made are a path through it, and nothing else happened.
-pub record CarriesOut (plan : AccessPlan) (old new : SetState) : Type 0 where
+-- a path through the plan accounts for all that happened
+pub record Accounted (plan : AccessPlan) (old new : SetState) : Type 0 where
   pub made : List RowAccess
   pub path : IsPath plan old.health made
-  pub accounted : AccountsFor made old new
+  pub accounts : AccountsFor made old new
+
+-- the accesses of the plan where none faults
+abbrev pub planned : AccessPlan → Health → List RowAccess
+planned Stop h = []
+planned (Try t next other) h = if skips h t then planned other h else access_of t true ∷ planned next h

@@ -4,6 +4,7 @@
 
 mod answers;
 mod health;
+mod laws;
 mod log;
 mod marks;
 mod outcome;
@@ -13,6 +14,7 @@ mod shape;
 
 pub use answers::{Got, Put, PutNew};
 pub use health::Health;
+pub use laws::accesses_are_planned;
 pub use log::{AccessKind, RowAccess};
 pub use outcome::RowOutcome;
 pub use refusal::{DiskRefusal, StartFault};
