@@ -3,6 +3,7 @@ pub mod Agrees
 pub mod Updates
 pub mod SlotLemmas
 pub mod Frames
+pub mod Plans
 pub mod Standing
 pub mod Outcomes
 pub mod Working

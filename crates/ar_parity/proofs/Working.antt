@@ -5,10 +5,11 @@ use Rattle.ar_disks.specs.declared.address.Members.{Members}
 use Rattle.ar_disks.specs.Members.{member, AreApart}
 use Rattle.ar_extents.specs.declared.health.Health.{Health}
 use Rattle.ar_extents.specs.Health.{IsRebuilding, rebuilt_disk}
-use Rattle.ar_extents.specs.Set.{SetState, IsSound}
+use Rattle.ar_extents.specs.Set.{SetState, IsSound, IsMissing}
 use Rattle.ar_extents.specs.Follows.{Follows, Keeps, KeepsBut, Anywhere, LeavesDisks, HasNoneOf, IsPlace, IsEither, WorksOn}
 use Rattle.ar_extents.specs.Access.{Accesses, Touches, next_place}
-use Rattle.ar_extents.specs.Groups.{IsMember}
+use Rattle.std.proofs.lemmas.Bool.Decides.{eqb_tells}
+use Rattle.ar_extents.specs.Groups.{IsGroup, IsMember}
 use Rattle.ar_extents.proofs.Follows.{keeps_refl, works_refl, works_then, works_more, works_in_turn, in_turn_first}
 use Rattle.ar_extents.proofs.Access.{works_read}
 use Rattle.ar_extents.proofs.Losses.{missing_lost, next_missing, lost_not_sound}
@@ -84,3 +85,21 @@ rebuilt_agrees a b c m row rebuilding works keeps health bc but r blocks agrees 
             ∙ (read.stand i lt).content_is before);
       };
     }
+
+-- while a member is rebuilt, work on the group that doesn't use it leaves its disk
+pub row_unasked : (m : Members) (i : ℕ) (a b : SetState) → IsGroup a m → i < 4 → IsRebuilding a.health → member m i ≡ next_place a → WorksOn (IsMember m) a b
+    → LeavesDisks (λ d. d ≡ rebuilt_disk a.health) a b
+row_unasked m i a b group lt rebuilding next works = record {
+  disks = λ d is.
+      works.touches.disks d
+      (λ p of sound same.
+      elim (eqb_tells of.position i) [
+        | inl q ↦
+            (let P : Place → Type 0 = λ x. IsMissing a x in
+            let here : p ≡ next_place a = of.is ∙ ap (λ (n : ℕ). member m n) q.1 ∙ next in
+            lost_not_sound a p (missing_lost a p (subst P (sym here) (next_missing a rebuilding))) sound)
+        | inr q ↦
+            group.apart of.position i of.below lt q.1
+            (ap (λ (x : Place). x.disk) (sym of.is) ∙ sym same ∙ is ∙ sym (ap (λ (x : Place). x.disk) next))
+      ]);
+}

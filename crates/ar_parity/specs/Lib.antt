@@ -2,6 +2,7 @@ pub mod Row
 pub mod Others
 pub mod Group
 pub mod Call
+pub mod Plans
 -- definitions of lower crates that clauses of this crate use
 pub use Rattle.ar_extents.specs.Health
 pub use Rattle.ar_extents.specs.Set

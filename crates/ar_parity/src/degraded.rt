@@ -6,6 +6,8 @@ ghost use Rattle.ar_disks.specs.Members.{member};
 ghost use Rattle.ar_extents.specs.Set.{IsLost};
 ghost use Rattle.ar_extents.specs.Follows.{Keeps, Anywhere, WorksOn};
 ghost use Rattle.ar_extents.specs.Groups.{IsGroup, IsMember};
+ghost use Rattle.ar_extents.specs.Plans.{AttemptsAll};
+ghost use Rattle.ar_parity.specs.Plans.{two_reads, three_reads, succeeded};
 ghost use Rattle.ar_parity.specs.Row.{Blocks, block};
 ghost use Rattle.ar_parity.specs.Group.{RowAgrees};
 ghost use Rattle.ar_disks.specs.Endings.{OnDone};
@@ -41,6 +43,7 @@ pub(crate) fn sum_of_two<D: Disk>(
     // The disk of `beside` isn't accessed.
     ensures beside { WorksOn (IsOffDiskOf (member members.now beside)) set.old set.new }
     ensures health { OnDone result (set.new.health ≡ set.old.health) }
+    ensures made { AttemptsAll (two_reads members.now lost beside row) (succeeded result) set.old set.new }
 
     ensures keeps { Keeps Anywhere set.old set.new }
     ensures works { WorksOn (IsMember members.now) set.old set.new }
@@ -75,6 +78,7 @@ pub(crate) fn sum_of_three<D: Disk>(
     ensures answer { ReportsFailure set.new result }
     ensures block { OnDone result ((blocks : Blocks) → RowAgrees set.old members.now row blocks → into.new ≡ block blocks lost) }
     ensures health { OnDone result (set.new.health ≡ set.old.health) }
+    ensures made { AttemptsAll (three_reads members.now lost row) (succeeded result) set.old set.new }
 
     ensures keeps { Keeps Anywhere set.old set.new }
     ensures works { WorksOn (IsMember members.now) set.old set.new }

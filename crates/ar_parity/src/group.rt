@@ -6,6 +6,8 @@ ghost use Rattle.ar_disks.specs.Members.{member};
 ghost use Rattle.ar_extents.specs.Follows.{Keeps, Anywhere, IsPlace, IsEither, WorksOn};
 ghost use Rattle.ar_extents.specs.Set.{IsMissing, IsSound, content};
 ghost use Rattle.ar_extents.specs.Groups.{IsGroup, IsMember, IsOutside, outcome_of};
+ghost use Rattle.ar_extents.specs.Plans.{CarriesOut, each_of};
+ghost use Rattle.ar_parity.specs.Plans.{stripes_from, parity_read, parity_write};
 ghost use Rattle.ar_parity.specs.Row.{row_of, data_position, parity_position, zero_blocks};
 ghost use Rattle.ar_parity.specs.Group.{RowAgrees, Holds, KeepsButRow, StopsOpening};
 ghost use Rattle.ar_disks.specs.Endings.{OnDone};
@@ -35,6 +37,8 @@ pub fn open_zero<D: Disk>(
         → RowAgrees set.new members.now row (zero_blocks (block_len_of set.old.geometry)) }
     // The rows are written in order, up to the one at which the set failed.
     ensures stopped { result ≡ Completion.Broken → StopsOpening members.now set.old set.new }
+    // Exactly these accesses are made.
+    ensures plan { CarriesOut (each_of (stripes_from members.now 0 (rows_of set.old.geometry))) set.old set.new }
 
     ensures keeps { Keeps (IsOutside members.now) set.old set.new }
     ensures works { WorksOn (IsMember members.now) set.old set.new }
@@ -69,6 +73,8 @@ pub fn get<D: Disk>(
 
     ensures outcome { result ≡ outcome_of set.new.health }
     ensures gives { OnDone result ((b : List ℕ) → Holds set.old members.now slot b → into.new ≡ b) }
+    // Exactly these accesses are made.
+    ensures plan { CarriesOut (parity_read members.now slot) set.old set.new }
 
     ensures keeps { Keeps Anywhere set.old set.new }
     ensures works { WorksOn (IsMember members.now) set.old set.new }
@@ -111,6 +117,8 @@ pub fn put<D: Disk>(
     ensures holds { (b : List ℕ) → Holds set.old members.now slot b → Holds set.new members.now slot from.now }
     ensures slots { (k : ℕ) → k ≢ slot → (b : List ℕ) → Holds set.old members.now k b → Holds set.new members.now k b }
 
+    // Exactly these accesses are made.
+    ensures plan { CarriesOut (parity_write set.old.health members.now slot) set.old set.new }
     // In the stripe, only the slot's own member and the parity's are written.
     ensures others { (i : ℕ) → i < 4 → i ≢ data_position slot → i ≢ parity_position (row_of slot)
         → content set.new (member members.now i) (row_of slot) ≡ content set.old (member members.now i) (row_of slot) }

@@ -7,6 +7,8 @@ ghost use Rattle.ar_extents.specs.Set.{faults_of};
 ghost use Rattle.ar_extents.specs.Access.{next_place};
 ghost use Rattle.ar_extents.specs.Follows.{Follows, Anywhere, Keeps, KeepsBut, LeavesDisks, HasNoneOf};
 ghost use Rattle.ar_extents.specs.Groups.{IsGroup, IsMember};
+ghost use Rattle.ar_extents.specs.Plans.{CarriesOut};
+ghost use Rattle.ar_parity.specs.Plans.{parity_rebuild};
 ghost use Rattle.ar_parity.specs.Row.{Blocks};
 ghost use Rattle.ar_parity.specs.Group.{RowAgrees};
 ghost use Rattle.ar_parity.specs.Call.{Rebuilds};
@@ -35,6 +37,8 @@ pub fn rebuild_row<D: Disk>(
     requires scratch { scratch.old.geometry ≡ set.old.geometry }
 
     ensures answer { Rebuilds set.old set.new members.now position row result }
+    // Exactly these accesses are made.
+    ensures plan { CarriesOut (parity_rebuild members.now position row) set.old set.new }
     ensures agrees { (r : ℕ) (blocks : Blocks) → RowAgrees set.old members.now r blocks → RowAgrees set.new members.now r blocks }
     ensures keeps { KeepsBut (member members.now position) row set.old set.new }
     ensures unwritten { result ≡ RowOutcome.Broken → Keeps Anywhere set.old set.new }

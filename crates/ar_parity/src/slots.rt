@@ -5,7 +5,7 @@
 //     row 1    slot 3     P          slot 4     slot 5
 //     row 2    slot 6     slot 7     P          slot 8
 //     row 3    slot 9     slot 10    slot 11    P
-ghost use Rattle.std.specs.Prelude.{◌≡◌, ◌<◌, ◌≢◌, ◌%◌};
+ghost use Rattle.std.specs.Prelude.{◌≡◌, ◌+◌, ◌<◌, ◌≢◌, ◌%◌};
 ghost use Rattle.ar_parity.specs.Row.{row_of, data_position, parity_position};
 ghost use Rattle.ar_parity.specs.Others.{low_other, high_other};
 
@@ -41,9 +41,10 @@ pub(crate) fn data_at(slot: u16) -> u8
     }
 }
 
-// A position other than this one.
+// The position after this one, and so another.
 pub(crate) fn another(position: u8) -> u8
     requires { position < 4 }
+    ensures next { result ≡ (position + 1) % 4 }
     ensures below { result < 4 }
     ensures apart { result ≢ position }
 {

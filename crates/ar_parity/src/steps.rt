@@ -7,6 +7,8 @@ ghost use Rattle.ar_disks.specs.Members.{member};
 ghost use Rattle.ar_extents.specs.Set.{IsLost};
 ghost use Rattle.ar_extents.specs.Follows.{Keeps, KeepsBut, Anywhere, IsPlace, WorksOn};
 ghost use Rattle.ar_extents.specs.Groups.{IsGroup};
+ghost use Rattle.ar_extents.specs.Plans.{Attempts, CarriesOut, read_at};
+ghost use Rattle.ar_parity.specs.Plans.{write_member, succeeded};
 ghost use Rattle.ar_parity.specs.Group.{Stands};
 ghost use Rattle.ar_disks.specs.Endings.{OnDone};
 ghost use Rattle.ar_parity.specs.Call.{ReportsFailure};
@@ -30,6 +32,7 @@ pub(crate) fn write<D: Disk>(
     ensures here { Stands set.new members.now row position from.now }
     ensures keeps { KeepsBut (member members.now position) row set.old set.new }
     ensures works { WorksOn (IsPlace (member members.now position)) set.old set.new }
+    ensures plan { CarriesOut (write_member members.now position row) set.old set.new }
 {
     match set.put(members.at(position), row, from) {
         Put::Written | Put::Missing => Completion::Done,
@@ -57,6 +60,7 @@ pub(crate) fn read_beside<D: Disk>(
     ensures answer { ReportsFailure set.new result }
     ensures bytes { OnDone result ((b : List ℕ) → Stands set.old members.now row position b → into.new ≡ b) }
     ensures health { OnDone result (set.new.health ≡ set.old.health) }
+    ensures made { Attempts (read_at (member members.now position) row) (succeeded result) set.old set.new }
 
     ensures keeps { Keeps Anywhere set.old set.new }
     ensures works { WorksOn (IsPlace (member members.now position)) set.old set.new }
@@ -90,6 +94,7 @@ pub(crate) fn add_beside<D: Disk>(
     ensures answer { ReportsFailure set.new result }
     ensures bytes { OnDone result ((b : List ℕ) → Stands set.old members.now row position b → into.new ≡ xor into.old b) }
     ensures health { OnDone result (set.new.health ≡ set.old.health) }
+    ensures made { Attempts (read_at (member members.now position) row) (succeeded result) set.old set.new }
 
     ensures keeps { Keeps Anywhere set.old set.new }
     ensures works { WorksOn (IsPlace (member members.now position)) set.old set.new }

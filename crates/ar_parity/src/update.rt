@@ -5,6 +5,8 @@ ghost use Rattle.ar_disks.specs.Members.{member};
 ghost use Rattle.ar_extents.specs.Set.{IsLost, IsMissing, IsSound, content};
 ghost use Rattle.ar_extents.specs.Follows.{IsPlace, IsEither, WorksOn, WorksInTurn};
 ghost use Rattle.ar_extents.specs.Groups.{IsGroup, IsMember};
+ghost use Rattle.ar_extents.specs.Plans.{CarriesOut};
+ghost use Rattle.ar_parity.specs.Plans.{write_two, write_known, write_lost, write_by_reading, stripe_write};
 ghost use Rattle.ar_parity.specs.Row.{Blocks, block, changed, parity_position};
 ghost use Rattle.ar_parity.specs.Group.{Stands, RowAgrees, KeepsButRow};
 ghost use Rattle.ar_parity.specs.Call.{ReportsFailure, UpdatesStripe, ReadsBefore, WritesInTurn, AsksOwnFirst};
@@ -41,6 +43,7 @@ fn write_both<D: Disk>(
 
     ensures keeps { KeepsButRow members.now row set.old set.new }
     ensures order { WorksInTurn (member members.now position) (member members.now parity) set.old set.new }
+    ensures plan { CarriesOut (write_two members.now position parity row) set.old set.new }
 {
     match write(set, members, position, row, from) {
         Completion::Done => write(set, members, parity, row, sum),
@@ -75,6 +78,7 @@ fn update<D: Disk>(
 
     ensures keeps { KeepsButRow members.now row set.old set.new }
     ensures order { WritesInTurn (member members.now position) (member members.now (parity_position row)) set.old set.new }
+    ensures plan { CarriesOut (write_known members.now position (parity_position row) row) set.old set.new }
     ensures sum_len { length sum.new ≡ length sum.old }
 {
     let parity = parity_at(row);
@@ -119,6 +123,7 @@ fn put_lost<D: Disk>(
     ensures works { WorksOn (IsMember members.now) set.old set.new }
     // The two others are read before the parity is written, and not accessed after that.
     ensures before { ReadsBefore (member members.now position) (member members.now (parity_position row)) set.old set.new }
+    ensures plan { CarriesOut (write_lost members.now position (parity_position row) row) set.old set.new }
 
     ensures sum_len { length sum.new ≡ length sum.old }
     ensures spare_len { length spare.new ≡ length spare.old }
@@ -160,6 +165,7 @@ fn change_by_reading<D: Disk>(
     ensures known { IsSound set.new (member members.now position)
         → WorksOn (IsEither (member members.now position) (member members.now (parity_position row))) set.old set.new }
     ensures first { AsksOwnFirst (member members.now position) (member members.now (parity_position row)) set.old set.new }
+    ensures plan { CarriesOut (write_by_reading members.now position (parity_position row) row) set.old set.new }
     ensures scratch { scratch.new.geometry ≡ scratch.old.geometry }
 {
     let sum = &mut scratch.second;
@@ -199,6 +205,7 @@ pub(crate) fn change<D: Disk>(
     ensures first { AsksOwnFirst (member members.now position) (member members.now (parity_position row)) set.old set.new }
     // If the parity is missing, its own disk alone is accessed.
     ensures alone { IsMissing set.old (member members.now (parity_position row)) → WorksOn (IsPlace (member members.now position)) set.old set.new }
+    ensures plan { CarriesOut (stripe_write set.old.health members.now position (parity_position row) row) set.old set.new }
     ensures scratch { scratch.new.geometry ≡ scratch.old.geometry }
 {
     if set.missing(members.at(parity_at(row))) {

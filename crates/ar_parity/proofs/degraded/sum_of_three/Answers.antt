@@ -2,6 +2,7 @@ use Rattle.ar_parity.proofs.Agrees.{three_sum_done}
 use Rattle.ar_extents.specs.Groups.{IsMember}
 use Rattle.ar_extents.proofs.Follows.{works_then}
 use Rattle.ar_extents.proofs.GroupLemmas.{works_member}
+use Rattle.ar_parity.proofs.Plans.{three_read, two_failed}
 use Rattle.ar_parity.proofs.degraded.sum_of_three.Goals as goal
 
 pub returns-in-Done-clause-block : goal.returns-in-Done-clause-block
@@ -17,3 +18,10 @@ returns-in-Done-clause-works g c =
     let d = c.add_beside.new.set in
     works_then (IsMember m) c.args.set.now b d c.in-Done.ensures.works
     (works_member m c.another-third.result b d c.another-third.ensures.below c.add_beside.ensures.works)
+
+pub returns-in-Done-clause-made : goal.returns-in-Done-clause-made
+returns-in-Done-clause-made g c =
+    three_read c.args.members.now c.args.lost c.args.row _ _ _ _ _ c.another-third.ensures.next c.in-Done.ensures.made c.add_beside.ensures.made
+
+pub returns-in-Broken-clause-made : goal.returns-in-Broken-clause-made
+returns-in-Broken-clause-made g c = two_failed c.args.members.now c.args.lost c.args.row _ _ _ c.another-third.ensures.next c.in-Broken.ensures.made

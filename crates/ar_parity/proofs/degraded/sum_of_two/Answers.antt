@@ -5,6 +5,7 @@ use Rattle.ar_parity.specs.Call.{IsOffDiskOf}
 use Rattle.ar_parity.proofs.Working.{off_disk}
 use Rattle.ar_extents.proofs.Follows.{works_then}
 use Rattle.ar_extents.proofs.GroupLemmas.{works_member}
+use Rattle.ar_parity.proofs.Plans.{two_read, first_failed}
 use Rattle.ar_parity.proofs.degraded.sum_of_two.Goals as goal
 
 pub returns-in-Done-clause-sum : goal.returns-in-Done-clause-sum
@@ -41,3 +42,12 @@ returns-in-Done-clause-works g c =
     let d = c.add_beside.new.set in
     works_then (IsMember m) a b d (works_member m c.lowest_beside-low.result a b c.lowest_beside-low.ensures.below c.in-Done.ensures.works)
     (works_member m c.highest_beside-high.result b d c.highest_beside-high.ensures.below c.add_beside.ensures.works)
+
+pub returns-in-Done-clause-made : goal.returns-in-Done-clause-made
+returns-in-Done-clause-made g c =
+    two_read c.args.members.now c.args.lost c.args.beside c.args.row _ _ _ _ _ _ c.lowest_beside-low.ensures.position c.highest_beside-high.ensures.position
+    c.in-Done.ensures.made c.add_beside.ensures.made
+
+pub returns-in-Broken-clause-made : goal.returns-in-Broken-clause-made
+returns-in-Broken-clause-made g c =
+    first_failed c.args.members.now c.args.lost c.args.beside c.args.row _ _ _ c.lowest_beside-low.ensures.position c.in-Broken.ensures.made

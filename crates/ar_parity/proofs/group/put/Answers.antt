@@ -1,5 +1,6 @@
 use Rattle.ar_parity.proofs.Outcomes.{outcome_told}
 use Rattle.ar_parity.proofs.SlotLemmas.{others_kept_at}
+use Rattle.ar_parity.proofs.Plans.{write_carried}
 use Rattle.ar_parity.proofs.group.put.Goals as goal
 
 pub returns-clause-slots : goal.returns-clause-slots
@@ -10,3 +11,7 @@ returns-clause-slots g c =
 
 pub returns-clause-outcome : goal.returns-clause-outcome
 returns-clause-outcome g c = outcome_told c.change.new.set c.change.result c.change.ensures.answer
+
+pub returns-clause-plan : goal.returns-clause-plan
+returns-clause-plan g c =
+    write_carried _ c.args.members.now c.args.slot _ _ _ _ c.data_at.ensures.position c.row_of_slot.ensures c.change.ensures.plan

@@ -7,6 +7,7 @@ use Rattle.ar_parity.proofs.Working.{first_of_two, own_alone}
 use Rattle.ar_parity.specs.Call.{IsOffDiskOf}
 use Rattle.ar_parity.specs.Row.{parity_position}
 use Rattle.ar_parity.proofs.Updates.{alone_changed}
+use Rattle.ar_parity.proofs.Plans.{stripe_carried}
 use Rattle.ar_parity.proofs.update.change.Goals as goal
 
 pub returns-then-missing-clause-changes : goal.returns-then-missing-clause-changes
@@ -30,3 +31,13 @@ returns-then-missing-clause-first g c =
       known = λ sound. own_alone (member m c.args.position) parity a c.write.new.set c.write.ensures.works;
       before = record { read = a; reads = works_refl (IsOffDiskOf parity) a; kept = keeps_refl Anywhere a; writes = alone };
     }
+
+pub returns-then-missing-clause-plan : goal.returns-then-missing-clause-plan
+returns-then-missing-clause-plan g c =
+    stripe_carried _ c.args.members.now c.args.position (parity_position c.args.row) _ c.args.row _ _ _ _ c.parity_at.ensures.position c.at.ensures
+    (sym c.missing.ensures ∙ c.if-missing.true) c.write.ensures.plan
+
+pub returns-clause-plan : goal.returns-clause-plan
+returns-clause-plan g c =
+    stripe_carried _ c.args.members.now c.args.position (parity_position c.args.row) _ c.args.row _ _ _ _ c.parity_at.ensures.position c.at.ensures
+    (sym c.missing.ensures ∙ c.if-missing.false) c.change_by_reading.ensures.plan

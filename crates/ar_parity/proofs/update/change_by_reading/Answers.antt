@@ -11,6 +11,10 @@ use Rattle.ar_extents.proofs.GroupLemmas.{works_member, works_pair}
 use Rattle.ar_extents.proofs.Losses.{missing_lost, broken_lost, lost_not_sound}
 use Rattle.ar_parity.proofs.Working.{member_read, first_of_two, in_order_works}
 use Rattle.ar_parity.specs.Call.{IsOffDiskOf}
+use Rattle.ar_extents.specs.Plans.{read_at, goes_on, falls_back}
+use Rattle.ar_extents.proofs.Plans.{carries_broken}
+use Rattle.ar_parity.specs.Plans.{write_lost}
+use Rattle.ar_parity.proofs.Plans.{attempt_at}
 use Rattle.ar_parity.proofs.update.change_by_reading.Goals as goal
 
 pub returns-in-Read-clause-changes : goal.returns-in-Read-clause-changes
@@ -105,3 +109,18 @@ returns-in-Broken-clause-first g c =
         writes = works_refl (IsEither own (member m (parity_position c.args.row))) b;
       };
     }
+
+pub returns-in-Read-clause-plan : goal.returns-in-Read-clause-plan
+returns-in-Read-clause-plan g c =
+    goes_on _ _ _ _ _ _ (attempt_at (λ p. read_at p c.args.row) _ _ (member c.args.members.now c.args.position) _ _ c.at.ensures c.in-Read.ensures.made)
+    c.update.ensures.plan
+
+pub returns-in-Missing-clause-plan : goal.returns-in-Missing-clause-plan
+returns-in-Missing-clause-plan g c =
+    falls_back _ _ _ _ _ _ (attempt_at (λ p. read_at p c.args.row) _ _ (member c.args.members.now c.args.position) _ _ c.at.ensures c.in-Missing.ensures.made)
+    c.put_lost.ensures.plan
+
+pub returns-in-Broken-clause-plan : goal.returns-in-Broken-clause-plan
+returns-in-Broken-clause-plan g c =
+    falls_back _ _ _ _ _ _ (attempt_at (λ p. read_at p c.args.row) _ _ (member c.args.members.now c.args.position) _ _ c.at.ensures c.in-Broken.ensures.made)
+    (carries_broken (write_lost c.args.members.now c.args.position (parity_position c.args.row) c.args.row) _ c.in-Broken.ensures.answer)

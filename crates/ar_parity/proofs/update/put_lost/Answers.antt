@@ -8,6 +8,9 @@ use Rattle.ar_parity.specs.Call.{IsOffDiskOf}
 use Rattle.ar_extents.proofs.Follows.{works_then, works_refl}
 use Rattle.ar_parity.proofs.Working.{second_of_two}
 use Rattle.ar_extents.proofs.GroupLemmas.{works_member}
+use Rattle.ar_extents.proofs.Plans.{all_then, all_stopped}
+use Rattle.ar_parity.specs.Plans.{two_reads, write_member, write_lost}
+use Rattle.ar_parity.proofs.Plans.{carried_to}
 use Rattle.ar_parity.proofs.update.put_lost.Goals as goal
 
 pub returns-in-Done-clause-agrees : goal.returns-in-Done-clause-agrees
@@ -57,3 +60,21 @@ returns-in-Broken-clause-before g c =
       kept = c.in-Broken.ensures.keeps;
       writes = works_refl (IsEither (member m c.args.position) (member m (parity_position c.args.row))) b;
     }
+
+pub returns-in-Done-clause-plan : goal.returns-in-Done-clause-plan
+returns-in-Done-clause-plan g c =
+    let m = c.args.members.now in
+    let i = c.args.position in
+    let j = c.parity_at-parity.result in
+    let row = c.args.row in
+    carried_to (λ j. write_lost m i j row) _ _ _ _ c.parity_at-parity.ensures.position
+    (all_then (two_reads m i j row) (write_member m j row) _ _ _ c.in-Done.ensures.made c.write.ensures.plan)
+
+pub returns-in-Broken-clause-plan : goal.returns-in-Broken-clause-plan
+returns-in-Broken-clause-plan g c =
+    let m = c.args.members.now in
+    let i = c.args.position in
+    let j = c.parity_at-parity.result in
+    let row = c.args.row in
+    carried_to (λ j. write_lost m i j row) _ _ _ _ c.parity_at-parity.ensures.position
+    (all_stopped (two_reads m i j row) (write_member m j row) _ _ c.in-Broken.ensures.made)

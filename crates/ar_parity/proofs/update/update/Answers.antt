@@ -6,6 +6,10 @@ use Rattle.ar_disks.specs.Members.{member}
 use Rattle.ar_extents.specs.Follows.{IsPlace, WorksInTurn}
 use Rattle.ar_extents.proofs.Follows.{works_refl, works_in_turn, in_turn_first}
 use Rattle.ar_parity.proofs.Working.{member_read}
+use Rattle.ar_extents.specs.Plans.{read_at, goes_on, falls_back}
+use Rattle.ar_extents.proofs.Plans.{carries_broken}
+use Rattle.ar_parity.specs.Plans.{write_two, write_member, write_known}
+use Rattle.ar_parity.proofs.Plans.{attempt_at, carried_to}
 use Rattle.ar_parity.proofs.update.update.Goals as goal
 
 pub returns-in-Read-clause-agrees : goal.returns-in-Read-clause-agrees
@@ -71,3 +75,31 @@ returns-in-Broken-clause-order g c =
       kept = c.get.ensures.keeps;
       writes = in_turn_first (member m c.args.position) (member m j) b b (works_refl (IsPlace (member m c.args.position)) b);
     }
+
+pub returns-in-Read-clause-plan : goal.returns-in-Read-clause-plan
+returns-in-Read-clause-plan g c =
+    let m = c.args.members.now in
+    let i = c.args.position in
+    let row = c.args.row in
+    carried_to (λ j. write_known m i j row) _ _ _ _ c.parity_at-parity.ensures.position
+    (goes_on (read_at (member m c.parity_at-parity.result) row) (write_two m i c.parity_at-parity.result row) (write_member m i row) _ _ _
+    (attempt_at (λ p. read_at p row) _ _ (member m c.parity_at-parity.result) _ _ c.at.ensures c.in-Read.ensures.made) c.write_both.ensures.plan)
+
+pub returns-in-Missing-clause-plan : goal.returns-in-Missing-clause-plan
+returns-in-Missing-clause-plan g c =
+    let m = c.args.members.now in
+    let i = c.args.position in
+    let row = c.args.row in
+    carried_to (λ j. write_known m i j row) _ _ _ _ c.parity_at-parity.ensures.position
+    (falls_back (read_at (member m c.parity_at-parity.result) row) (write_two m i c.parity_at-parity.result row) (write_member m i row) _ _ _
+    (attempt_at (λ p. read_at p row) _ _ (member m c.parity_at-parity.result) _ _ c.at.ensures c.in-Missing.ensures.made) c.write.ensures.plan)
+
+pub returns-in-Broken-clause-plan : goal.returns-in-Broken-clause-plan
+returns-in-Broken-clause-plan g c =
+    let m = c.args.members.now in
+    let i = c.args.position in
+    let row = c.args.row in
+    carried_to (λ j. write_known m i j row) _ _ _ _ c.parity_at-parity.ensures.position
+    (falls_back (read_at (member m c.parity_at-parity.result) row) (write_two m i c.parity_at-parity.result row) (write_member m i row) _ _ _
+    (attempt_at (λ p. read_at p row) _ _ (member m c.parity_at-parity.result) _ _ c.at.ensures c.in-Broken.ensures.made)
+    (carries_broken (write_member m i row) _ c.in-Broken.ensures.answer))
