@@ -11,10 +11,11 @@ use Rattle.ar_extents.specs.Follows.{Follows, Keeps, KeepsBut, Anywhere, IsPlace
 use Rattle.ar_extents.specs.declared.answers.Got.{Got}
 use Rattle.ar_extents.specs.declared.answers.Got.TheVariants.{Missing, Broken}
 use Rattle.ar_extents.specs.Access.{Touches, is_read}
-use Rattle.ar_extents.specs.Log.{AccountsFor, is_on, is_fault_of, is_write, writes_row}
+use Rattle.ar_extents.specs.Log.{AccountsFor, is_on, is_fault_of, is_writing, writes_row}
 use Rattle.ar_extents.specs.Plans.{Attempt, Attempts, AccessPlan, Stop, Try, CarriesOut, stops, goes_on, falls_back, access_of, read_at, write_at, skips}
 use Rattle.ar_extents.proofs.Accounts.{count_one}
 use Rattle.ar_extents.proofs.Access.{follows_touched}
+use Rattle.ar_extents.proofs.Faults.{is_lost-after_fault}
 use Rattle.ar_extents.proofs.Losses.{lost_or_sound}
 use Rattle.ar_extents.proofs.GroupLemmas.{same_place, place_is}
 use Rattle.ar_extents.proofs.Plans.{none_made, one_made}
@@ -108,12 +109,12 @@ other_place p q ne =
 
 unwritten_place : (t : Attempt) (done : Bool) (q : Place) (r : ℕ) → q ≢ t.place → writes_row q r (access_of t done) ≡ false
 unwritten_place t done q r ne =
-    ap (λ k. is_write t.kind && (eqb t.row r && k)) (other_place t.place q ne) ∙ ap (λ k. is_write t.kind && k) (and_false (eqb t.row r)) ∙ and_false (is_write t.kind)
+    ap (λ k. is_writing t.kind && (eqb t.row r && k)) (other_place t.place q ne) ∙ ap (λ k. is_writing t.kind && k) (and_false (eqb t.row r)) ∙ and_false (is_writing t.kind)
 
 unwritten_at : (t : Attempt) (done : Bool) (q : Place) (r : ℕ) → r ≢ t.row → writes_row q r (access_of t done) ≡ false
 unwritten_at t done q r ne =
     let other : eqb t.row r ≡ false = grind (arith, nat_tests) in
-    ap (λ k. is_write t.kind && (k && (eqb t.place.disk q.disk && eqb t.place.extent q.extent))) other ∙ and_false (is_write t.kind)
+    ap (λ k. is_writing t.kind && (k && (eqb t.place.disk q.disk && eqb t.place.extent q.extent))) other ∙ and_false (is_writing t.kind)
 
 -- a write changes its own row alone
 pub attempt_keeps : (t : Attempt) (done : Bool) (a b : SetState) → Attempts t done a b → KeepsBut t.place t.row a b
@@ -179,3 +180,20 @@ tried_one t a b (falls_back _ _ _ _ _ _ tried (stops _)) = record { done = false
 pub unread : (t : Attempt) (a b : SetState) (got : Got) → (got ≡ Missing) ⊎ (got ≡ Broken) → Attempts t (is_read got) a b → Attempts t false a b
 unread t a b got (inl missing) tried = subst (λ (k : Bool). Attempts t k a b) (ap is_read missing) tried
 unread t a b got (inr broken) tried = subst (λ (k : Bool). Attempts t k a b) (ap is_read broken) tried
+
+lost_after : (t : Attempt) (a b : SetState) (skip : Bool) → skips a.health t ≡ skip → skips a.health t ≡ is_lost a.health t.place.disk t.place.extent
+    → Attempts t false a b → IsLost b t.place
+lost_after t a b true skip when tried =
+    let P : Health → Type 0 = λ h. is_lost h t.place.disk t.place.extent ≡ true in
+    subst P (sym (none_made t false a b skip tried).health) (sym when ∙ skip)
+lost_after t a b false used when tried =
+    let P : Health → Type 0 = λ h. is_lost h t.place.disk t.place.extent ≡ true in
+    subst P (sym (one_made t false a b used tried).health) (is_lost-after_fault a.health t.place.disk t.place.extent)
+
+-- an extent whose read or write wasn't answered is lost
+pub unread_lost : (p : Place) (row : ℕ) (a b : SetState) → Attempts (read_at p row) false a b → IsLost b p
+unread_lost p row a b tried = lost_after (read_at p row) a b (skips a.health (read_at p row)) refl refl tried
+
+-- nothing was done
+pub nothing_done : (a b : SetState) → CarriesOut Stop a b → a ≡ b
+nothing_done a _ (stops _) = refl

@@ -10,7 +10,7 @@ use Rattle.ar_extents.specs.declared.log.AccessKind.{AccessKind}
 use Rattle.ar_extents.specs.declared.log.AccessKind.TheVariants.{Read, Write, Rebuild}
 use Rattle.ar_extents.specs.Set.{SetState, faults_of}
 use Rattle.ar_extents.specs.Log.{AccountsFor, is_fault_of}
-use Rattle.ar_extents.specs.Plans.{Attempt, Attempts, AttemptsAll, all_done, one_done, one_failed, all_of, each_of, AccessPlan, Stop, Try, CarriesOut, stops, goes_on, falls_back, IsPath, stopped, skipped, answered, faulted, Accounted, planned, access_of, is_skipped, skips}
+use Rattle.ar_extents.specs.Plans.{Attempt, Attempts, AttemptsAll, all_done, one_done, one_failed, all_of, each_of, AccessPlan, Stop, Try, CarriesOut, stops, goes_on, falls_back, IsPath, stopped, skipped, answered, faulted, Accounted, NoneFaults, planned, access_of, is_skipped, skips}
 use Rattle.ar_extents.proofs.Accounts.{accounts_none, accounts_then, count_cons}
 
 pub none_made : (t : Attempt) (done : Bool) (a b : SetState) → skips a.health t ≡ true → Attempts t done a b → AccountsFor [] a b
@@ -114,11 +114,11 @@ path_planned (Try t next other) h _ (answered _ _ _ _ rest used path) none =
 path_planned (Try t next other) h _ (faulted _ _ _ _ rest used path) none = absurd (fault_seen t rest (none t.place.disk))
 
 -- where no disk faults, exactly the planned accesses are made
-pub planned_made : (plan : AccessPlan) (a b : SetState) → CarriesOut plan a b → ((d : ℕ) → faults_of b d ≡ faults_of a d) → b.log ≡ a.log ++ planned plan a.health
+pub planned_made : (plan : AccessPlan) (a b : SetState) → CarriesOut plan a b → NoneFaults a b → b.log ≡ a.log ++ planned plan a.health
 planned_made plan a b carried sound =
     let all = accounted plan a b carried in
     all.accounts.log
-    ∙ ap (λ l. a.log ++ l) (path_planned plan a.health all.made all.path (λ d. let n = all.accounts.faults d in let same = sound d in omega arith))
+    ∙ ap (λ l. a.log ++ l) (path_planned plan a.health all.made all.path (λ d. let n = all.accounts.faults d in let same = sound.faults d in omega arith))
 
 -- attempts that all succeeded, and the plan that goes on from there
 pub all_then : (ts : List Attempt) (next : AccessPlan) (a b c : SetState) → AttemptsAll ts true a b → CarriesOut next b c → CarriesOut (all_of ts next) a c

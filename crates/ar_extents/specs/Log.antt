@@ -21,14 +21,14 @@ abbrev pub is_fault_of : ℕ → RowAccess → Bool
 is_fault_of d a = is_on d a && not a.answered
 
 -- the access writes
-abbrev pub is_write : AccessKind → Bool
-is_write Read = false
-is_write Write = true
-is_write Rebuild = true
+abbrev pub is_writing : AccessKind → Bool
+is_writing Read = false
+is_writing Write = true
+is_writing Rebuild = true
 
 -- the access writes this row of this extent
 abbrev pub writes_row : Place → ℕ → RowAccess → Bool
-writes_row place row a = is_write a.kind && (a.row == row && (a.place.disk == place.disk && a.place.extent == place.extent))
+writes_row place row a = is_writing a.kind && (a.row == row && (a.place.disk == place.disk && a.place.extent == place.extent))
 
 -- health after an access: a fault moves it
 abbrev pub health_then : Health → RowAccess → Health

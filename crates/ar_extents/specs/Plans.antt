@@ -7,7 +7,7 @@ use Rattle.ar_extents.specs.declared.log.RowAccess.{RowAccess}
 use Rattle.ar_extents.specs.declared.log.AccessKind.{AccessKind}
 use Rattle.ar_extents.specs.declared.log.AccessKind.TheVariants.{Read, Write, Rebuild}
 use Rattle.ar_extents.specs.Health.{is_lost, after_fault}
-use Rattle.ar_extents.specs.Set.{SetState}
+use Rattle.ar_extents.specs.Set.{SetState, faults_of}
 use Rattle.ar_extents.specs.Log.{AccountsFor}
 
 -- an access to try
@@ -102,6 +102,10 @@ pub record Accounted (plan : AccessPlan) (old new : SetState) : Type 0 where
   pub made : List RowAccess
   pub path : IsPath plan old.health made
   pub accounts : AccountsFor made old new
+
+-- no disk has faulted between the two states
+pub record NoneFaults (old new : SetState) : Type 0 where
+  pub faults : (d : ℕ) → faults_of new d ≡ faults_of old d
 
 -- the accesses of the plan where none faults
 abbrev pub planned : AccessPlan → Health → List RowAccess

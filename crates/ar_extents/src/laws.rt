@@ -1,12 +1,12 @@
 // Every access of a plan is accounted for.
-ghost use Rattle.std.specs.Prelude.{◌≡◌, ◌++◌, ℕ};
-ghost use Rattle.ar_extents.specs.Set.{SetState, faults_of};
-ghost use Rattle.ar_extents.specs.Plans.{AccessPlan, CarriesOut, Accounted, planned};
+ghost use Rattle.std.specs.Prelude.{◌≡◌, ◌++◌};
+ghost use Rattle.ar_extents.specs.Set.{SetState};
+ghost use Rattle.ar_extents.specs.Plans.{AccessPlan, CarriesOut, Accounted, NoneFaults, planned};
 
 /// Whatever a plan that was carried out came to, a path through it is what was added to the log, and each disk counts
 /// the accesses of it. Where no disk faulted, the accesses are exactly the planned ones. A call has no effect.
 pub fn accesses_are_planned()
     ensures accounted { (plan : AccessPlan) (old new : SetState) → CarriesOut plan old new → Accounted plan old new }
     ensures planned { (plan : AccessPlan) (old new : SetState) → CarriesOut plan old new
-        → ((d : ℕ) → faults_of new d ≡ faults_of old d) → new.log ≡ old.log ++ planned plan old.health }
+        → NoneFaults old new → new.log ≡ old.log ++ planned plan old.health }
 {}

@@ -1,5 +1,5 @@
 -- The plans of calls, told of the extents and the row that they find.
-use Rattle.std.proofs.Common.{◌≡◌, ℕ, Bool, true, false, cond, refl, ◌∙◌, ap, subst}
+use Rattle.std.proofs.Common.{◌≡◌, ◌∷◌, ◌++◌, [], ℕ, Bool, true, false, cond, refl, ◌∙◌, ap, subst}
 use Rattle.ar_disks.specs.declared.geometry.Geometry.{Geometry}
 use Rattle.ar_disks.specs.declared.address.Place.{Place}
 use Rattle.ar_disks.specs.declared.address.Members.{Members}
@@ -9,10 +9,11 @@ use Rattle.ar_extents.specs.Health.{rebuilt_disk, next_extent}
 use Rattle.ar_extents.specs.Access.{next_place}
 use Rattle.ar_extents.specs.Follows.{WorksInTurn}
 use Rattle.ar_extents.proofs.Asking.{went, tried_one, write_works}
-use Rattle.ar_extents.specs.Plans.{AccessPlan, Stop, Try, Attempts, CarriesOut, goes_on, read_at, write_at, rebuild_at}
-use Rattle.ar_extents.proofs.Plans.{carries_one, answered_health}
+use Rattle.ar_extents.specs.Plans.{AccessPlan, Stop, Try, Attempts, CarriesOut, goes_on, NoneFaults, planned, access_of, read_at, write_at, rebuild_at}
+use Rattle.ar_extents.proofs.Plans.{carries_one, answered_health, planned_made}
+use Rattle.ar_extents.specs.declared.health.Health.TheVariants.{Whole}
 use Rattle.ar_mirror.specs.Slots.{one_of, other_of, row_of}
-use Rattle.ar_mirror.specs.Plans.{copy_row, write_pair}
+use Rattle.ar_mirror.specs.Plans.{copy_row, write_pair, mirror_read, mirror_write}
 
 -- a plan for two extents and a row is one for those of the slot
 pub carried_at : (plan : Place → Place → ℕ → AccessPlan) (m : Members) (slot : ℕ) (a b : SetState) (g : Geometry) (one other : Place) (row : ℕ) → g ≡ a.geometry
@@ -52,3 +53,15 @@ written_in_turn one other row a c carried =
       first = write_works one row first.done a first.between first.tried;
       second = write_works other row second.done first.between c second.tried;
     }
+
+-- on a healthy set, and without a fault
+pub healthy_read : (a b : SetState) (m : Members) (slot : ℕ) → a.health ≡ Whole → NoneFaults a b → CarriesOut (mirror_read a.geometry m slot) a b
+    → b.log ≡ a.log ++ access_of (read_at (one_of a.geometry m slot) (row_of a.geometry slot)) true ∷ []
+healthy_read a b m slot whole none carried =
+    planned_made (mirror_read a.geometry m slot) a b carried none ∙ ap (λ (h : Health). a.log ++ planned (mirror_read a.geometry m slot) h) whole
+
+pub healthy_write : (a b : SetState) (m : Members) (slot : ℕ) → a.health ≡ Whole → NoneFaults a b → CarriesOut (mirror_write a.geometry m slot) a b
+    → b.log ≡ a.log ++ access_of (write_at (one_of a.geometry m slot) (row_of a.geometry slot)) true
+    ∷ access_of (write_at (other_of a.geometry m slot) (row_of a.geometry slot)) true ∷ []
+healthy_write a b m slot whole none carried =
+    planned_made (mirror_write a.geometry m slot) a b carried none ∙ ap (λ (h : Health). a.log ++ planned (mirror_write a.geometry m slot) h) whole

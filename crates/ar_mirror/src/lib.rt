@@ -8,6 +8,6 @@ mod rebuild;
 mod slot;
 
 pub use ar_extents::RowOutcome;
-pub use laws::mirrored_slots_survive_a_loss;
+pub use laws::{mirrored_accesses, mirrored_slots_survive_a_loss};
 pub use rebuild::rebuild_row;
 pub use slot::{get, put};

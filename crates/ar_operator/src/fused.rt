@@ -1,6 +1,6 @@
 // Disks in memory that can be told to fail while the array runs. A fuse is set under the array's lock, as every access
 // to a disk is made, so that loads and stores suffice.
-ghost use Rattle.std.specs.Prelude.{◌≡◌, ◌≤◌, IfOk, IfErr, IsTrue, OnOk, None, true, false, length};
+ghost use Rattle.std.specs.Prelude.{◌≡◌, ◌+◌, ◌≤◌, IfOk, IfErr, IsTrue, OnOk, None, true, false, length};
 ghost use Rattle.std.specs.Bool.{OnTrue, OnFalse};
 ghost use Rattle.ar_disks.specs.Geometry.{block_len_of};
 ghost use Rattle.ar_disks.specs.Disk.{HasPlace, Reads, Writes, counted};
@@ -100,15 +100,18 @@ impl<'a> FusedDisk<'a> {
         }
     }
 
-    // Uses up one access of the fuse, or fails the disk and counts a fault if none is left or it had failed before.
+    // Uses up one access of the fuse, or fails the disk and counts an access and a fault if none is left or it had failed
+    // before.
     fn passes(&mut self) -> bool
         ensures passed { OnTrue result (self.new ≡ self.old) }
         ensures there { IsTrue result → self.old.gone ≡ false }
-        ensures blown { OnFalse result (self.new ≡ record self.old { gone = true; faults = counted self.old.faults }) }
+        ensures blown { OnFalse result (self.new
+            ≡ record self.old { gone = true; faults = counted self.old.faults; accesses = self.old.accesses + 1 }) }
     {
         if !self.gone && self.fuse.passes() {
             return true;
         }
+        self.disk.count_access();
         self.gone = true;
         self.faults = self.faults.saturating_add(1);
         false

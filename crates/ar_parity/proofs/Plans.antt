@@ -4,8 +4,9 @@ use Rattle.ar_disks.specs.declared.address.Members.{Members}
 use Rattle.ar_disks.specs.declared.address.Place.{Place}
 use Rattle.ar_disks.specs.Members.{member}
 use Rattle.ar_extents.specs.Set.{SetState}
-use Rattle.ar_extents.specs.Plans.{Attempt, Attempts, AttemptsAll, one_done, one_failed, all_of, each_of, AccessPlan, Stop, Try, CarriesOut, stops, read_at, write_at, rebuild_at}
-use Rattle.ar_extents.proofs.Plans.{all_then, all_stopped, all_one, all_more, all_fewer, each_then, one_then}
+use Rattle.ar_extents.specs.Plans.{Attempt, Attempts, AttemptsAll, one_done, one_failed, all_of, each_of, AccessPlan, Stop, Try, CarriesOut, stops, NoneFaults, planned, access_of, read_at, write_at, rebuild_at}
+use Rattle.ar_extents.proofs.Plans.{all_then, all_stopped, all_one, all_more, all_fewer, each_then, one_then, planned_made}
+use Rattle.ar_extents.specs.declared.health.Health.TheVariants.{Whole}
 use Rattle.ar_parity.specs.Others.{low_other, high_other}
 use Rattle.ar_parity.specs.Plans.{two_reads, three_reads, parity_read, write_member, write_by_reading, stripe_write, parity_write, writes_from, stripes_from}
 use Rattle.ar_parity.specs.Row.{row_of, data_position, parity_position}
@@ -118,3 +119,17 @@ write_carried h m slot i row a b is_i is_row carried =
     let P : ℕ → Type 0 = λ n. CarriesOut (stripe_write h m n (parity_position row) row) a b in
     let Q : ℕ → Type 0 = λ r. CarriesOut (stripe_write h m (data_position slot) (parity_position r) r) a b in
     subst Q is_row (subst P is_i carried)
+
+-- on a healthy set, and without a fault
+pub healthy_read : (a b : SetState) (m : Members) (slot : ℕ) → a.health ≡ Whole → NoneFaults a b → CarriesOut (parity_read m slot) a b
+    → b.log ≡ a.log ++ access_of (read_at (member m (data_position slot)) (row_of slot)) true ∷ []
+healthy_read a b m slot whole none carried =
+    planned_made (parity_read m slot) a b carried none ∙ ap (λ (h : Health). a.log ++ planned (parity_read m slot) h) whole
+
+pub healthy_write : (a b : SetState) (m : Members) (slot : ℕ) → a.health ≡ Whole → NoneFaults a b → CarriesOut (parity_write a.health m slot) a b
+    → b.log ≡ a.log ++ access_of (read_at (member m (data_position slot)) (row_of slot)) true
+    ∷ access_of (read_at (member m (parity_position (row_of slot))) (row_of slot)) true
+    ∷ access_of (write_at (member m (data_position slot)) (row_of slot)) true
+    ∷ access_of (write_at (member m (parity_position (row_of slot))) (row_of slot)) true ∷ []
+healthy_write a b m slot whole none carried =
+    planned_made (parity_write a.health m slot) a b carried none ∙ ap (λ (h : Health). a.log ++ planned (parity_write h m slot) h) whole

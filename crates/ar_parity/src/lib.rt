@@ -13,5 +13,5 @@ mod zero;
 
 pub use ar_extents::RowOutcome;
 pub use group::{get, open_zero, put};
-pub use laws::redundancy;
+pub use laws::{parity_accesses, redundancy};
 pub use rebuild::rebuild_row;

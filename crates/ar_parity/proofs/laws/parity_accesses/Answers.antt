@@ -1,0 +1,8 @@
+use Rattle.ar_parity.proofs.Plans.{healthy_read, healthy_write}
+use Rattle.ar_parity.proofs.laws.parity_accesses.Goals as goal
+
+pub returns-clause-read : goal.returns-clause-read
+returns-clause-read c = healthy_read
+
+pub returns-clause-write : goal.returns-clause-write
+returns-clause-write c = healthy_write
