@@ -4,15 +4,16 @@ use Rattle.std.specs.Prelude.{count_by}
 use Rattle.std.proofs.lemmas.Bool.Decides.{eqb_tells, nat_tests}
 use Rattle.ar_disks.specs.declared.address.Place.{Place}
 use Rattle.ar_extents.specs.declared.health.Health.{Health}
-use Rattle.ar_extents.specs.Health.{is_lost}
+use Rattle.ar_extents.specs.declared.health.Health.TheVariants.{Whole, Out, Rebuilding, Broken}
+use Rattle.ar_extents.specs.Health.{is_lost, after_fault, IsRebuilding, rebuilt_disk}
 use Rattle.ar_extents.specs.declared.log.RowAccess.{RowAccess}
 use Rattle.ar_extents.specs.Set.{SetState, IsLost, faults_of, disk_in, content}
 use Rattle.ar_extents.specs.Follows.{Follows, Keeps, KeepsBut, Anywhere, IsPlace, WorksOn}
 use Rattle.ar_extents.specs.declared.answers.Got.{Got}
-use Rattle.ar_extents.specs.declared.answers.Got.TheVariants.{Missing, Broken}
-use Rattle.ar_extents.specs.Access.{Touches, is_read}
+use Rattle.ar_extents.specs.declared.answers.Got.TheVariants.{Missing, Broken as ReadBroken}
+use Rattle.ar_extents.specs.Access.{Touches, is_read, next_place}
 use Rattle.ar_extents.specs.Log.{AccountsFor, is_on, is_fault_of, is_writing, writes_row}
-use Rattle.ar_extents.specs.Plans.{Attempt, Attempts, AccessPlan, Stop, Try, CarriesOut, stops, goes_on, falls_back, access_of, read_at, write_at, skips}
+use Rattle.ar_extents.specs.Plans.{Attempt, Attempts, AccessPlan, Stop, Try, CarriesOut, stops, goes_on, falls_back, access_of, read_at, write_at, skips, rebuild_at, rebuilds_none}
 use Rattle.ar_extents.proofs.Accounts.{count_one}
 use Rattle.ar_extents.proofs.Access.{follows_touched}
 use Rattle.ar_extents.proofs.Faults.{is_lost-after_fault}
@@ -177,7 +178,7 @@ tried_one t a b (goes_on _ _ _ _ _ _ tried (stops _)) = record { done = true; tr
 tried_one t a b (falls_back _ _ _ _ _ _ tried (stops _)) = record { done = false; tried = tried }
 
 -- a read that returned no block wasn't answered
-pub unread : (t : Attempt) (a b : SetState) (got : Got) → (got ≡ Missing) ⊎ (got ≡ Broken) → Attempts t (is_read got) a b → Attempts t false a b
+pub unread : (t : Attempt) (a b : SetState) (got : Got) → (got ≡ Missing) ⊎ (got ≡ ReadBroken) → Attempts t (is_read got) a b → Attempts t false a b
 unread t a b got (inl missing) tried = subst (λ (k : Bool). Attempts t k a b) (ap is_read missing) tried
 unread t a b got (inr broken) tried = subst (λ (k : Bool). Attempts t k a b) (ap is_read broken) tried
 
@@ -197,3 +198,40 @@ unread_lost p row a b tried = lost_after (read_at p row) a b (skips a.health (re
 -- nothing was done
 pub nothing_done : (a b : SetState) → CarriesOut Stop a b → a ≡ b
 nothing_done a _ (stops _) = refl
+
+-- a read, and then a write of one row
+pub keeps_but_after : (p : Place) (row : ℕ) (a b c : SetState) → Keeps Anywhere a b → KeepsBut p row b c → KeepsBut p row a c
+keeps_but_after p row a b c first second = record {
+  other_rows = λ r ne. second.other_rows r ne ∙ first.rows p tt r;
+  other_places = record { rows = λ q ne r. second.other_places.rows q ne r ∙ first.rows q tt r };
+}
+
+out_of_rebuilding : (h : Health) → IsRebuilding h → after_fault h (rebuilt_disk h) ≡ Broken → ⊥
+out_of_rebuilding Whole is broken = is
+out_of_rebuilding (Out x) is broken = is
+out_of_rebuilding (Rebuilding x done) is broken =
+    elim (eqb_tells x x) [ inl t ↦ (let k : Out x ≡ Broken = rw t.0 at broken in cc) | inr t ↦ t.1 refl ]
+out_of_rebuilding Broken is broken = is
+
+still_rebuilding : (h : Health) → IsRebuilding h → h ≡ Broken → ⊥
+still_rebuilding h is broken = let P : Health → Type 0 = λ x. IsRebuilding x in subst P broken is
+
+tried_rebuilding : (t : Attempt) (done : Bool) (b c : SetState) → IsRebuilding b.health → t.place.disk ≡ rebuilt_disk b.health → skips b.health t ≡ false
+    → Attempts t done b c → c.health ≡ Broken → ⊥
+tried_rebuilding t true b c is place used tried broken = still_rebuilding b.health is (sym (one_made t true b c used tried).health ∙ broken)
+tried_rebuilding t false b c is place used tried broken =
+    out_of_rebuilding b.health is (ap (λ d. after_fault b.health d) (sym place) ∙ sym (one_made t false b c used tried).health ∙ broken)
+
+used_rebuilding : (h : Health) → IsRebuilding h → rebuilds_none h ≡ false
+used_rebuilding Whole is = absurd is
+used_rebuilding (Out x) is = absurd is
+used_rebuilding (Rebuilding x done) is = refl
+used_rebuilding Broken is = absurd is
+
+-- a write to the new disk breaks no set: where it faults, the disk is out
+pub rebuilt_sound : (a b c : SetState) (row : ℕ) (done : Bool) → IsRebuilding a.health → b.health ≡ a.health → Attempts (rebuild_at (next_place a) row) done b c
+    → c.health ≡ Broken → ⊥
+rebuilt_sound a b c row done is same tried =
+    let P : Health → Type 0 = λ x. IsRebuilding x in
+    let here : IsRebuilding b.health = subst P (sym same) is in
+    tried_rebuilding (rebuild_at (next_place a) row) done b c here (sym (ap rebuilt_disk same)) (used_rebuilding b.health here) tried

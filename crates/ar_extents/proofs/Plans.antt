@@ -8,7 +8,7 @@ use Rattle.ar_extents.specs.declared.health.Health.TheVariants.{Broken}
 use Rattle.ar_extents.specs.declared.log.RowAccess.{RowAccess}
 use Rattle.ar_extents.specs.declared.log.AccessKind.{AccessKind}
 use Rattle.ar_extents.specs.declared.log.AccessKind.TheVariants.{Read, Write, Rebuild}
-use Rattle.ar_extents.specs.Set.{SetState, faults_of}
+use Rattle.ar_extents.specs.Set.{SetState}
 use Rattle.ar_extents.specs.Log.{AccountsFor, is_fault_of}
 use Rattle.ar_extents.specs.Plans.{Attempt, Attempts, AttemptsAll, all_done, one_done, one_failed, all_of, each_of, AccessPlan, Stop, Try, CarriesOut, stops, goes_on, falls_back, IsPath, stopped, skipped, answered, faulted, Accounted, NoneFaults, planned, access_of, is_skipped, skips}
 use Rattle.ar_extents.proofs.Accounts.{accounts_none, accounts_then, count_cons}

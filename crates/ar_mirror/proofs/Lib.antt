@@ -3,4 +3,5 @@ pub mod Holding
 pub mod Frames
 pub mod Rebuilding
 pub mod Plans
+pub mod Told
 pub mod Standing

@@ -1,5 +1,5 @@
 -- The plans of calls, told of the extents and the row that they find.
-use Rattle.std.proofs.Common.{◌≡◌, ◌∷◌, ◌++◌, [], ℕ, Bool, true, false, cond, refl, ◌∙◌, ap, subst}
+use Rattle.std.proofs.Common.{◌≡◌, ◌∷◌, ◌++◌, [], ℕ, Bool, true, ◌∙◌, ap, subst}
 use Rattle.ar_disks.specs.declared.geometry.Geometry.{Geometry}
 use Rattle.ar_disks.specs.declared.address.Place.{Place}
 use Rattle.ar_disks.specs.declared.address.Members.{Members}
@@ -7,13 +7,11 @@ use Rattle.ar_extents.specs.Set.{SetState}
 use Rattle.ar_extents.specs.declared.health.Health.{Health}
 use Rattle.ar_extents.specs.Health.{rebuilt_disk, next_extent}
 use Rattle.ar_extents.specs.Access.{next_place}
-use Rattle.ar_extents.specs.Follows.{WorksInTurn}
-use Rattle.ar_extents.proofs.Asking.{went, tried_one, write_works}
 use Rattle.ar_extents.specs.Plans.{AccessPlan, Stop, Try, Attempts, CarriesOut, goes_on, NoneFaults, planned, access_of, read_at, write_at, rebuild_at}
 use Rattle.ar_extents.proofs.Plans.{carries_one, answered_health, planned_made}
 use Rattle.ar_extents.specs.declared.health.Health.TheVariants.{Whole}
 use Rattle.ar_mirror.specs.Slots.{one_of, other_of, row_of}
-use Rattle.ar_mirror.specs.Plans.{copy_row, write_pair, mirror_read, mirror_write}
+use Rattle.ar_mirror.specs.Plans.{copy_row, mirror_read, mirror_write}
 
 -- a plan for two extents and a row is one for those of the slot
 pub carried_at : (plan : Place → Place → ℕ → AccessPlan) (m : Members) (slot : ℕ) (a b : SetState) (g : Geometry) (one other : Place) (row : ℕ) → g ≡ a.geometry
@@ -36,23 +34,6 @@ copied_row from row a b c done read written =
     let same : next_place b ≡ next_place a = ap place (answered_health (read_at from row) a b read) in
     goes_on (read_at from row) (Try (rebuild_at (next_place a) row) Stop Stop) Stop a b c read
     (carries_one (rebuild_at (next_place a) row) b c done (subst P same written))
-
-either : (done : Bool) (plan : AccessPlan) → cond done plan plan ≡ plan
-either true plan = refl
-either false plan = refl
-
--- a pair is written in turn
-pub written_in_turn : (one other : Place) (row : ℕ) (a c : SetState) → CarriesOut (write_pair one other row) a c → WorksInTurn one other a c
-written_in_turn one other row a c carried =
-    let next : AccessPlan = Try (write_at other row) Stop Stop in
-    let first = went (write_at one row) next next a c carried in
-    let P : AccessPlan → Type 0 = λ p. CarriesOut p first.between c in
-    let second = tried_one (write_at other row) first.between c (subst P (either first.done next) first.rest) in
-    record {
-      between = first.between;
-      first = write_works one row first.done a first.between first.tried;
-      second = write_works other row second.done first.between c second.tried;
-    }
 
 -- on a healthy set, and without a fault
 pub healthy_read : (a b : SetState) (m : Members) (slot : ℕ) → a.health ≡ Whole → NoneFaults a b → CarriesOut (mirror_read a.geometry m slot) a b

@@ -28,5 +28,5 @@ pub fn mirrored_accesses()
     ensures write { (old new : SetState) (m : Members) (slot : ℕ) → old.health ≡ Whole → NoneFaults old new
         → CarriesOut (mirror_write old.geometry m slot) old new
         → new.log ≡ old.log ++ access_of (write_at (one_of old.geometry m slot) (row_of old.geometry slot)) true
-            ∷ access_of (write_at (other_of old.geometry m slot) (row_of old.geometry slot)) true ∷ [] }
+        ∷ access_of (write_at (other_of old.geometry m slot) (row_of old.geometry slot)) true ∷ [] }
 {}

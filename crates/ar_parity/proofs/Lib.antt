@@ -4,6 +4,7 @@ pub mod Updates
 pub mod SlotLemmas
 pub mod Frames
 pub mod Plans
+pub mod Told
 pub mod Standing
 pub mod Outcomes
 pub mod Working

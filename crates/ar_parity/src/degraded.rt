@@ -40,8 +40,6 @@ pub(crate) fn sum_of_two<D: Disk>(
     ensures answer { ReportsFailure set.new result }
     ensures sum { OnDone result ((blocks : Blocks) → RowAgrees set.old members.now row blocks
         → into.new ≡ xor (block blocks beside) (block blocks lost)) }
-    // The disk of `beside` isn't accessed.
-    ensures beside { WorksOn (IsOffDiskOf (member members.now beside)) set.old set.new }
     ensures health { OnDone result (set.new.health ≡ set.old.health) }
     ensures made { AttemptsAll (two_reads members.now lost beside row) (succeeded result) set.old set.new }
 

@@ -40,8 +40,6 @@ pub fn open_zero<D: Disk>(
     // Exactly these accesses are made.
     ensures plan { CarriesOut (each_of (stripes_from members.now 0 (rows_of set.old.geometry))) set.old set.new }
 
-    ensures keeps { Keeps (IsOutside members.now) set.old set.new }
-    ensures works { WorksOn (IsMember members.now) set.old set.new }
     ensures scratch { scratch.new.geometry ≡ scratch.old.geometry }
 {
     let zero = &mut scratch.first;
@@ -75,12 +73,6 @@ pub fn get<D: Disk>(
     ensures gives { OnDone result ((b : List ℕ) → Holds set.old members.now slot b → into.new ≡ b) }
     // Exactly these accesses are made.
     ensures plan { CarriesOut (parity_read members.now slot) set.old set.new }
-
-    ensures keeps { Keeps Anywhere set.old set.new }
-    ensures works { WorksOn (IsMember members.now) set.old set.new }
-    // While the slot's member is usable, no other is accessed.
-    ensures first { IsSound set.new (member members.now (data_position slot))
-        → WorksOn (IsPlace (member members.now (data_position slot))) set.old set.new }
 
     ensures len { length into.new ≡ length into.old }
     ensures scratch { scratch.new.geometry ≡ scratch.old.geometry }
@@ -119,21 +111,7 @@ pub fn put<D: Disk>(
 
     // Exactly these accesses are made.
     ensures plan { CarriesOut (parity_write set.old.health members.now slot) set.old set.new }
-    // In the stripe, only the slot's own member and the parity's are written.
-    ensures others { (i : ℕ) → i < 4 → i ≢ data_position slot → i ≢ parity_position (row_of slot)
-        → content set.new (member members.now i) (row_of slot) ≡ content set.old (member members.now i) (row_of slot) }
 
-    ensures keeps { KeepsButRow members.now (row_of slot) set.old set.new }
-    ensures works { WorksOn (IsMember members.now) set.old set.new }
-    // While the slot's member is usable, no other is accessed but the parity's.
-    ensures known { IsSound set.new (member members.now (data_position slot))
-        → WorksOn (IsEither (member members.now (data_position slot)) (member members.now (parity_position (row_of slot)))) set.old set.new }
-    // The same if it was usable after its read, whatever faults then; and its own is written before the parity's.
-    ensures first { AsksOwnFirst (member members.now (data_position slot)) (member members.now (parity_position (row_of slot)))
-        set.old set.new }
-    // If the parity is missing, the slot's member alone is accessed.
-    ensures alone { IsMissing set.old (member members.now (parity_position (row_of slot)))
-        → WorksOn (IsPlace (member members.now (data_position slot))) set.old set.new }
     ensures scratch { scratch.new.geometry ≡ scratch.old.geometry }
 {
     change(

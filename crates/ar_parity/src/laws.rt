@@ -29,7 +29,7 @@ pub fn parity_accesses()
     ensures write { (old new : SetState) (m : Members) (slot : ℕ) → old.health ≡ Whole → NoneFaults old new
         → CarriesOut (parity_write old.health m slot) old new
         → new.log ≡ old.log ++ access_of (read_at (member m (data_position slot)) (row_of slot)) true
-            ∷ access_of (read_at (member m (parity_position (row_of slot))) (row_of slot)) true
-            ∷ access_of (write_at (member m (data_position slot)) (row_of slot)) true
-            ∷ access_of (write_at (member m (parity_position (row_of slot))) (row_of slot)) true ∷ [] }
+        ∷ access_of (read_at (member m (parity_position (row_of slot))) (row_of slot)) true
+        ∷ access_of (write_at (member m (data_position slot)) (row_of slot)) true
+        ∷ access_of (write_at (member m (parity_position (row_of slot))) (row_of slot)) true ∷ [] }
 {}

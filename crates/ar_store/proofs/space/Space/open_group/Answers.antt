@@ -4,6 +4,8 @@ use Rattle.ar_extents.specs.Groups.{IsMember}
 use Rattle.ar_book.specs.Tables.{Tables, home}
 use Rattle.ar_book.specs.Changes.{opened}
 use Rattle.ar_store.specs.Store.{store_of}
+use Rattle.ar_disks.specs.Geometry.{rows_of}
+use Rattle.ar_parity.proofs.Told.{stripes_told}
 use Rattle.ar_store.specs.Calls.{IsAccessed}
 use Rattle.ar_store.proofs.Changes.{mirrored_not_parity}
 use Rattle.ar_store.proofs.Within.{within_refl}
@@ -83,11 +85,12 @@ returns-in-Done g c =
     let b = c.open_zero.new.set in
     let opening = c.in-Some.ensures in
     let zero = c.open_zero.ensures in
+    let told = stripes_told c.members-members.result 0 (rows_of s.disks.geometry) s.disks b zero.plan in
     let answer = sym c.in-Done.is ∙ zero.outcome in
     let tables = opening.opened ∙ ap (λ x. opened s.book c.in-Some.group x) c.in-Parity.is in
-    let access : IsAccessed s.disks b = accessed_work (IsMember c.members-members.result) s.disks b zero.works in
+    let access : IsAccessed s.disks b = accessed_work (IsMember c.members-members.result) s.disks b told.works in
     let zeros = zeroed s.disks b s.book u c.in-Some.group c.members-members.result c.requires.ready.space opening.lowest tables c.members-members.ensures
-    access zero.keeps zero.slots in
+    access told.keeps zero.slots in
     record {
       opens = record { many = opening.when.0 refl; lowest = opening.lowest; tables = opening.opened };
       answer = (λ broke. absurd (opened_not_broken c.in-Some.group broke), λ broken. absurd (done_sound b.health answer broken));
@@ -97,9 +100,9 @@ returns-in-Done g c =
       free = λ _. opened_free s.book u c.in-Some.group c.args.class c.requires.ready.space.tables opening.lowest (opening.when.0 refl) c.requires.class opening.opened;
       stand = zeros.stand;
       asks = only_opened (store_of s.disks s.book) (store_of b u) c.in-Some.group opening.lowest
-          (opened_asks s.disks b s.book u c.in-Some.group c.args.class c.members-members.result opening.opened c.members-members.ensures zero.works zero.keeps);
+          (opened_asks s.disks b s.book u c.in-Some.group c.args.class c.members-members.result opening.opened c.members-members.ensures told.works told.keeps);
       stays = record {
-        ready = record { space = zeros.space; scratch = zero.scratch ∙ c.requires.ready.scratch ∙ sym zero.works.follows.geometry };
+        ready = record { space = zeros.space; scratch = zero.scratch ∙ c.requires.ready.scratch ∙ sym told.works.follows.geometry };
         units = zeros.units;
         accessed = access;
       };
@@ -112,11 +115,12 @@ returns-in-Broken g c =
     let b = c.open_zero.new.set in
     let opening = c.in-Some.ensures in
     let zero = c.open_zero.ensures in
+    let told = stripes_told c.members-members.result 0 (rows_of s.disks.geometry) s.disks b zero.plan in
     let broken = broken_is b.health (sym c.in-Broken.is ∙ zero.outcome) in
     let tables = opening.opened ∙ ap (λ x. opened s.book c.in-Some.group x) c.in-Parity.is in
-    let access : IsAccessed s.disks b = accessed_work (IsMember c.members-members.result) s.disks b zero.works in
+    let access : IsAccessed s.disks b = accessed_work (IsMember c.members-members.result) s.disks b told.works in
     let zeros = zeroed s.disks b s.book u c.in-Some.group c.members-members.result c.requires.ready.space opening.lowest tables c.members-members.ensures
-    access zero.keeps zero.slots in
+    access told.keeps zero.slots in
     record {
       opens = record {
         broken = broken;
@@ -129,9 +133,9 @@ returns-in-Broken g c =
       free = λ _. opened_free s.book u c.in-Some.group c.args.class c.requires.ready.space.tables opening.lowest (opening.when.0 refl) c.requires.class opening.opened;
       stand = zeros.stand;
       asks = only_opened (store_of s.disks s.book) (store_of b u) c.in-Some.group opening.lowest
-          (opened_asks s.disks b s.book u c.in-Some.group c.args.class c.members-members.result opening.opened c.members-members.ensures zero.works zero.keeps);
+          (opened_asks s.disks b s.book u c.in-Some.group c.args.class c.members-members.result opening.opened c.members-members.ensures told.works told.keeps);
       stays = record {
-        ready = record { space = zeros.space; scratch = zero.scratch ∙ c.requires.ready.scratch ∙ sym zero.works.follows.geometry };
+        ready = record { space = zeros.space; scratch = zero.scratch ∙ c.requires.ready.scratch ∙ sym told.works.follows.geometry };
         units = zeros.units;
         accessed = access;
       };

@@ -1,6 +1,8 @@
 use Rattle.std.proofs.Common.{sym, ◌∙◌}
 use Rattle.ar_extents.specs.Groups.{IsMember}
 use Rattle.ar_book.specs.declared.class.Class.TheVariants.{Parity}
+use Rattle.ar_disks.specs.Geometry.{rows_of}
+use Rattle.ar_parity.proofs.Told.{stripes_told}
 use Rattle.ar_store.specs.Calls.{IsAccessed}
 use Rattle.ar_store.proofs.Fills.{accessed_work}
 use Rattle.ar_store.proofs.Asking.{opened_asks}
@@ -27,18 +29,19 @@ returns g c =
     let b = c.open_zero.new.set in
     let opening = c.open_last-group.ensures in
     let zero = c.open_zero.ensures in
-    let access : IsAccessed s.disks b = accessed_work (IsMember c.members-members.result) s.disks b zero.works in
+    let told = stripes_told c.members-members.result 0 (rows_of s.disks.geometry) s.disks b zero.plan in
+    let access : IsAccessed s.disks b = accessed_work (IsMember c.members-members.result) s.disks b told.works in
     let zeros = zeroed s.disks b s.book c.open_last-group.new.self c.open_last-group.result c.members-members.result c.requires.ready.space opening.lowest
-    opening.opened c.members-members.ensures access zero.keeps zero.slots in
+    opening.opened c.members-members.ensures access told.keeps zero.slots in
     record {
       lowest = opening.lowest;
       opened = opening.opened;
       zeros = zeros.zeros_in;
       stand = zeros.stand;
       asks = opened_asks s.disks b s.book c.open_last-group.new.self c.open_last-group.result Parity c.members-members.result opening.opened
-          c.members-members.ensures zero.works zero.keeps;
+          c.members-members.ensures told.works told.keeps;
       stays = record {
-        ready = record { space = zeros.space; scratch = zero.scratch ∙ c.requires.ready.scratch ∙ sym zero.works.follows.geometry };
+        ready = record { space = zeros.space; scratch = zero.scratch ∙ c.requires.ready.scratch ∙ sym told.works.follows.geometry };
         units = zeros.units;
         accessed = access;
       };

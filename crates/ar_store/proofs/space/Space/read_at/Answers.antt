@@ -2,6 +2,8 @@ use Rattle.std.proofs.Common.{sym, refl, ◌∙◌}
 use Rattle.ar_extents.specs.Groups.{IsMember}
 use Rattle.ar_mirror.specs.Calls.{IsInPair}
 use Rattle.ar_book.specs.declared.class.Class.TheVariants.{Mirrored, Parity}
+use Rattle.ar_mirror.proofs.Told.{read_told}
+use Rattle.ar_parity.proofs.Told.{slot_read}
 use Rattle.ar_store.specs.Calls.{IsAccessed}
 use Rattle.ar_store.specs.Spaces.{store_in}
 use Rattle.ar_store.proofs.Changes.{units_refl}
@@ -31,19 +33,20 @@ returns-in-Mirrored g c =
     let m = c.members-members.result in
     let b = c.get.new.set in
     let read = c.get.ensures in
-    let access : IsAccessed s.disks b = accessed_work (IsInPair s.disks.geometry m c.args.slot.slot) s.disks b read.works in
-    let leaves = read_leaves s.disks b s.book c.requires.ready.space access read.keeps in
+    let told = read_told m c.args.slot.slot s.disks b read.plan in
+    let access : IsAccessed s.disks b = accessed_work (IsInPair s.disks.geometry m c.args.slot.slot) s.disks b told.works in
+    let leaves = read_leaves s.disks b s.book c.requires.ready.space access told.keeps in
     record {
       outcome = read.outcome;
       given = given_in s c.args.slot m c.requires.ready.space c.requires.slot c.members-members.ensures Mirrored c.get.new.into c.get.result (sym c.in-Mirrored.is ∙ c.class.ensures)
           (mirror_given s.disks b m c.args.slot.slot c.get.new.into c.get.result read.gives);
       book = refl;
       asks = asked_in s c.args.slot m c.requires.ready.space c.requires.slot c.members-members.ensures Mirrored b (sym c.in-Mirrored.is ∙ c.class.ensures)
-          (record { works = read.works; first = read.first });
-      keeps = read.keeps;
+          (record { works = told.works; first = told.first });
+      keeps = told.keeps;
       stand = leaves.stand;
       stays = record {
-        ready = record { space = leaves.space; scratch = c.requires.ready.scratch ∙ sym read.works.follows.geometry };
+        ready = record { space = leaves.space; scratch = c.requires.ready.scratch ∙ sym told.works.follows.geometry };
         units = units_refl s.book;
         accessed = access;
       };
@@ -68,19 +71,20 @@ returns-in-Parity g c =
     let m = c.members-members.result in
     let b = c.get-in-Parity.new.set in
     let read = c.get-in-Parity.ensures in
-    let access : IsAccessed s.disks b = accessed_work (IsMember m) s.disks b read.works in
-    let leaves = read_leaves s.disks b s.book c.requires.ready.space access read.keeps in
+    let told = slot_read m c.args.slot.slot s.disks b read.plan in
+    let access : IsAccessed s.disks b = accessed_work (IsMember m) s.disks b told.works in
+    let leaves = read_leaves s.disks b s.book c.requires.ready.space access told.keeps in
     record {
       outcome = read.outcome;
       given = given_in s c.args.slot m c.requires.ready.space c.requires.slot c.members-members.ensures Parity c.get-in-Parity.new.into c.get-in-Parity.result
           (sym c.in-Parity.is ∙ c.class.ensures) read.gives;
       book = refl;
       asks = asked_in s c.args.slot m c.requires.ready.space c.requires.slot c.members-members.ensures Parity b (sym c.in-Parity.is ∙ c.class.ensures)
-          (record { works = read.works; first = read.first });
-      keeps = read.keeps;
+          (record { works = told.works; first = told.first });
+      keeps = told.keeps;
       stand = leaves.stand;
       stays = record {
-        ready = record { space = leaves.space; scratch = read.scratch ∙ c.requires.ready.scratch ∙ sym read.works.follows.geometry };
+        ready = record { space = leaves.space; scratch = read.scratch ∙ c.requires.ready.scratch ∙ sym told.works.follows.geometry };
         units = units_refl s.book;
         accessed = access;
       };

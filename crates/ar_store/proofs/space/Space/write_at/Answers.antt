@@ -2,6 +2,8 @@ use Rattle.std.proofs.Common.{sym, refl, ◌∙◌}
 use Rattle.ar_extents.specs.Groups.{IsMember}
 use Rattle.ar_mirror.specs.Calls.{IsInPair}
 use Rattle.ar_book.specs.declared.class.Class.TheVariants.{Mirrored, Parity}
+use Rattle.ar_mirror.proofs.Told.{write_told}
+use Rattle.ar_parity.proofs.Told.{slot_told, slot_keeps, slot_others}
 use Rattle.ar_store.specs.Calls.{IsAccessed}
 use Rattle.ar_store.specs.Spaces.{store_in}
 use Rattle.ar_store.proofs.Changes.{units_refl}
@@ -32,20 +34,21 @@ returns-in-Mirrored g c =
     let s = store_in c.args.self.now in
     let b = c.put.new.set in
     let put = c.put.ensures in
-    let access : IsAccessed s.disks b = accessed_work (IsInPair s.disks.geometry c.members-members.result c.args.slot.slot) s.disks b put.works in
+    let told = write_told c.members-members.result c.args.slot.slot s.disks b put.plan in
+    let access : IsAccessed s.disks b = accessed_work (IsInPair s.disks.geometry c.members-members.result c.args.slot.slot) s.disks b told.works in
     let written = written_mirrored s c.args.slot c.members-members.result c.requires.ready.space c.requires.slot c.members-members.ensures b c.args.from.now
-    (sym c.in-Mirrored.is ∙ c.class.ensures) put.holds put.slots put.keeps in
+    (sym c.in-Mirrored.is ∙ c.class.ensures) put.holds put.slots told.keeps in
     record {
       outcome = put.outcome;
       here = written.here;
-      others = slots_written s.disks b s.book c.args.slot c.args.from.now c.requires.ready.space c.requires.slot put.works.follows written;
+      others = slots_written s.disks b s.book c.args.slot c.args.from.now c.requires.ready.space c.requires.slot told.works.follows written;
       book = refl;
       asks = wrote_in s c.args.slot c.members-members.result c.requires.ready.space c.requires.slot c.members-members.ensures Mirrored b
-          (sym c.in-Mirrored.is ∙ c.class.ensures) (wrote_mirrored s.disks b c.members-members.result c.args.slot.slot put.works put.slots put.keeps put.order);
+          (sym c.in-Mirrored.is ∙ c.class.ensures) (wrote_mirrored s.disks b c.members-members.result c.args.slot.slot told.works put.slots told.keeps told.order);
       stays = record {
         ready = record {
           space = space_written s.disks b s.book c.args.slot c.args.from.now c.requires.ready.space c.requires.slot access c.requires.whole written;
-          scratch = c.requires.ready.scratch ∙ sym put.works.follows.geometry;
+          scratch = c.requires.ready.scratch ∙ sym told.works.follows.geometry;
         };
         units = units_refl s.book;
         accessed = access;
@@ -69,21 +72,25 @@ returns-in-Parity g c =
     let s = store_in c.args.self.now in
     let b = c.put-in-Parity.new.set in
     let put = c.put-in-Parity.ensures in
-    let access : IsAccessed s.disks b = accessed_work (IsMember c.members-members.result) s.disks b put.works in
+    let m = c.members-members.result in
+    let group = asked_group s c.args.slot m c.requires.ready.space c.requires.slot c.members-members.ensures in
+    let told = slot_told m c.args.slot.slot s.disks b group.apart put.plan in
+    let keeps = slot_keeps m c.args.slot.slot s.disks b told in
+    let access : IsAccessed s.disks b = accessed_work (IsMember c.members-members.result) s.disks b told.works in
     let written = written_parity s c.args.slot c.members-members.result c.requires.ready.space c.requires.slot c.members-members.ensures b c.args.from.now
-    (sym c.in-Parity.is ∙ c.class.ensures) put.holds put.slots put.keeps in
+    (sym c.in-Parity.is ∙ c.class.ensures) put.holds put.slots keeps in
     record {
       outcome = put.outcome;
       here = written.here;
-      others = slots_written s.disks b s.book c.args.slot c.args.from.now c.requires.ready.space c.requires.slot put.works.follows written;
+      others = slots_written s.disks b s.book c.args.slot c.args.from.now c.requires.ready.space c.requires.slot told.works.follows written;
       book = refl;
       asks = wrote_in s c.args.slot c.members-members.result c.requires.ready.space c.requires.slot c.members-members.ensures Parity b
-          (sym c.in-Parity.is ∙ c.class.ensures) (wrote_parity s.disks b c.members-members.result c.args.slot.slot put.works put.known put.first put.alone put.slots
-          (record { row = put.keeps; others = put.others }));
+          (sym c.in-Parity.is ∙ c.class.ensures) (wrote_parity s.disks b c.members-members.result c.args.slot.slot told.works told.known told.first told.alone put.slots
+          (record { row = keeps; others = slot_others m c.args.slot.slot s.disks b group.apart told }));
       stays = record {
         ready = record {
           space = space_written s.disks b s.book c.args.slot c.args.from.now c.requires.ready.space c.requires.slot access c.requires.whole written;
-          scratch = put.scratch ∙ c.requires.ready.scratch ∙ sym put.works.follows.geometry;
+          scratch = put.scratch ∙ c.requires.ready.scratch ∙ sym told.works.follows.geometry;
         };
         units = units_refl s.book;
         accessed = access;
