@@ -2,10 +2,10 @@
 ghost use Rattle.std.specs.Prelude.{◌≡◌, ◌≢◌, ◌<◌, length};
 ghost use Rattle.ar_disks.specs.Geometry.{rows_of, block_len_of};
 ghost use Rattle.ar_disks.specs.Members.{member};
-ghost use Rattle.ar_extents.specs.Health.{IsRebuilding, rebuilt_disk};
-ghost use Rattle.ar_extents.specs.Follows.{Follows, Anywhere, Keeps, KeepsBut, LeavesDisks, HasNoneOf, IsEither};
+ghost use Rattle.ar_extents.specs.Health.{IsRebuilding};
+ghost use Rattle.ar_extents.specs.Follows.{Follows, KeepsBut};
 ghost use Rattle.ar_extents.specs.Access.{next_place};
-ghost use Rattle.ar_extents.specs.Set.{HasExtent, faults_of};
+ghost use Rattle.ar_extents.specs.Set.{HasExtent};
 ghost use Rattle.ar_extents.specs.Groups.{IsGroup};
 ghost use Rattle.ar_mirror.specs.Slots.{partner_of};
 ghost use Rattle.ar_extents.specs.Plans.{CarriesOut};

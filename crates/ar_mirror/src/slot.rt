@@ -2,14 +2,12 @@
 // take either.
 ghost use Rattle.std.specs.Prelude.{◌≡◌, ◌<◌, length};
 ghost use Rattle.ar_disks.specs.Geometry.{block_len_of};
-ghost use Rattle.ar_extents.specs.Follows.{Keeps, Anywhere, IsPlace, WorksOn, WorksInTurn};
-ghost use Rattle.ar_extents.specs.Set.{IsSound};
 ghost use Rattle.ar_extents.specs.Groups.{IsGroup, outcome_of};
-ghost use Rattle.ar_mirror.specs.Slots.{mirror_slots_of, one_of, other_of};
+ghost use Rattle.ar_mirror.specs.Slots.{mirror_slots_of};
 ghost use Rattle.ar_extents.specs.Plans.{CarriesOut};
 ghost use Rattle.ar_mirror.specs.Plans.{mirror_read, mirror_write};
 ghost use Rattle.ar_mirror.specs.Holds.{Holds};
-ghost use Rattle.ar_mirror.specs.Calls.{ReadsSlot, IsInPair, KeepsButSlot, OtherMirrorSlotsHold, OtherGroupsHold};
+ghost use Rattle.ar_mirror.specs.Calls.{ReadsSlot, OtherMirrorSlotsHold, OtherGroupsHold};
 
 use crate::pair::pair_of;
 use ar_disks::{Block, Completion, Disk, Members};

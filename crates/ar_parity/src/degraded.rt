@@ -11,7 +11,7 @@ ghost use Rattle.ar_parity.specs.Plans.{two_reads, three_reads, succeeded};
 ghost use Rattle.ar_parity.specs.Row.{Blocks, block};
 ghost use Rattle.ar_parity.specs.Group.{RowAgrees};
 ghost use Rattle.ar_disks.specs.Endings.{OnDone};
-ghost use Rattle.ar_parity.specs.Call.{ReportsFailure, IsOffDiskOf};
+ghost use Rattle.ar_parity.specs.Call.{ReportsFailure};
 
 use crate::slots::{another, highest_beside, lowest_beside};
 use crate::steps::{add_beside, read_beside};

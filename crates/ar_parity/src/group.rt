@@ -3,15 +3,13 @@ ghost use Rattle.std.specs.Prelude.{◌≡◌, ◌≢◌, ℕ, ◌*◌, ◌<◌,
 ghost use Rattle.ar_disks.specs.Block.{zeros};
 ghost use Rattle.ar_disks.specs.Geometry.{rows_of, block_len_of};
 ghost use Rattle.ar_disks.specs.Members.{member};
-ghost use Rattle.ar_extents.specs.Follows.{Keeps, Anywhere, IsPlace, IsEither, WorksOn};
-ghost use Rattle.ar_extents.specs.Set.{IsMissing, IsSound, content};
-ghost use Rattle.ar_extents.specs.Groups.{IsGroup, IsMember, IsOutside, outcome_of};
+ghost use Rattle.ar_extents.specs.Groups.{IsGroup, outcome_of};
 ghost use Rattle.ar_extents.specs.Plans.{CarriesOut, each_of};
 ghost use Rattle.ar_parity.specs.Plans.{stripes_from, parity_read, parity_write};
-ghost use Rattle.ar_parity.specs.Row.{row_of, data_position, parity_position, zero_blocks};
-ghost use Rattle.ar_parity.specs.Group.{RowAgrees, Holds, KeepsButRow, StopsOpening};
+ghost use Rattle.ar_parity.specs.Row.{row_of, data_position, zero_blocks};
+ghost use Rattle.ar_parity.specs.Group.{RowAgrees, Holds, StopsOpening};
 ghost use Rattle.ar_disks.specs.Endings.{OnDone};
-ghost use Rattle.ar_parity.specs.Call.{UpdatesStripe, AsksOwnFirst};
+ghost use Rattle.ar_parity.specs.Call.{UpdatesStripe};
 
 use crate::degraded::sum_of_three;
 use crate::slots::{data_at, row_of_slot};

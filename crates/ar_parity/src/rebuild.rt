@@ -2,11 +2,9 @@
 ghost use Rattle.std.specs.Prelude.{◌≡◌, ℕ, ◌<◌};
 ghost use Rattle.ar_disks.specs.Geometry.{rows_of};
 ghost use Rattle.ar_disks.specs.Members.{member};
-ghost use Rattle.ar_extents.specs.Health.{IsRebuilding, rebuilt_disk};
-ghost use Rattle.ar_extents.specs.Set.{faults_of};
+ghost use Rattle.ar_extents.specs.Health.{IsRebuilding};
 ghost use Rattle.ar_extents.specs.Access.{next_place};
-ghost use Rattle.ar_extents.specs.Follows.{Follows, Anywhere, Keeps, KeepsBut, LeavesDisks, HasNoneOf};
-ghost use Rattle.ar_extents.specs.Groups.{IsGroup, IsMember};
+ghost use Rattle.ar_extents.specs.Groups.{IsGroup};
 ghost use Rattle.ar_extents.specs.Plans.{CarriesOut};
 ghost use Rattle.ar_parity.specs.Plans.{parity_rebuild};
 ghost use Rattle.ar_parity.specs.Row.{Blocks};

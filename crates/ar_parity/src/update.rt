@@ -2,14 +2,14 @@
 ghost use Rattle.std.specs.Prelude.{◌≡◌, ◌≢◌, ℕ, ◌<◌, length};
 ghost use Rattle.ar_disks.specs.Geometry.{rows_of, block_len_of};
 ghost use Rattle.ar_disks.specs.Members.{member};
-ghost use Rattle.ar_extents.specs.Set.{IsLost, IsMissing, IsSound, content};
-ghost use Rattle.ar_extents.specs.Follows.{IsPlace, IsEither, WorksOn, WorksInTurn};
+ghost use Rattle.ar_extents.specs.Set.{IsLost, content};
+ghost use Rattle.ar_extents.specs.Follows.{WorksOn, WorksInTurn};
 ghost use Rattle.ar_extents.specs.Groups.{IsGroup, IsMember};
 ghost use Rattle.ar_extents.specs.Plans.{CarriesOut};
 ghost use Rattle.ar_parity.specs.Plans.{write_two, write_known, write_lost, write_by_reading, stripe_write};
 ghost use Rattle.ar_parity.specs.Row.{Blocks, block, changed, parity_position};
 ghost use Rattle.ar_parity.specs.Group.{Stands, RowAgrees, KeepsButRow};
-ghost use Rattle.ar_parity.specs.Call.{ReportsFailure, UpdatesStripe, ReadsBefore, WritesInTurn, AsksOwnFirst};
+ghost use Rattle.ar_parity.specs.Call.{ReportsFailure, UpdatesStripe, WritesInTurn};
 
 use crate::degraded::sum_of_two;
 use crate::slots::parity_at;
