@@ -1,10 +1,11 @@
 -- A disk: its contents, whether it has failed, and what an access changes.
-use Rattle.std.specs.Prelude.{◌≡◌, ◌≢◌, ℕ, ◌+◌, ◌*◌, ◌<◌, ◌^◌, ◌-◌, min, nat_lt, Bool, not, IsTrue, if◌then◌else◌, List, [], slice_range}
+use Rattle.std.specs.Prelude.{◌≡◌, ◌≢◌, ℕ, ◌+◌, ◌*◌, ◌<◌, ◌^◌, ◌-◌, min, nat_lt, Bool, not, IsTrue, if◌then◌else◌, List}
+use Rattle.std.specs.Prelude.{[], slice_range}
 use Rattle.ar_disks.specs.declared.geometry.Geometry.{Geometry}
 use Rattle.ar_disks.specs.Geometry.{rows_of, block_len_of}
 
--- the disk's contents, extent by extent and row by row in each; whether it has failed (`gone`); its fault count; and the
--- number of its reads and writes, whatever they returned
+-- the disk's contents, extent by extent and row by row in each; whether it has failed (`gone`); its fault count; and
+-- the number of its reads and writes, whatever they returned
 pub record DiskState : Type 0 where
   pub geometry : Geometry
   pub extents : ℕ
@@ -21,7 +22,8 @@ offset_of g extent row = (extent * rows_of g + row) * block_len_of g
 unfoldable pub block_at : DiskState → ℕ → ℕ → List ℕ
 block_at disk extent row =
     if nat_lt row (rows_of disk.geometry)
-    then slice_range disk.bytes (offset_of disk.geometry extent row) (offset_of disk.geometry extent row + block_len_of disk.geometry)
+    then slice_range disk.bytes (offset_of disk.geometry extent row)
+    (offset_of disk.geometry extent row + block_len_of disk.geometry)
     else []
 
 -- the disk has this row of this extent

@@ -56,7 +56,8 @@ impl MemDisk {
         extents: u16,
         byte: u8,
     ) -> Result<MemDisk, AllocError>
-        ensures { IfOk result (λ disk. disk ≡ sound_disk geometry extents (replicate (extents * extent_len_of geometry) byte)) }
+        ensures { IfOk result (λ disk. disk
+            ≡ sound_disk geometry extents (replicate (extents * extent_len_of geometry) byte)) }
     {
         let bytes = vec![in alloc; byte; disk_len(geometry, extents)]?;
         Ok(MemDisk::new(geometry, extents, bytes))

@@ -1,5 +1,6 @@
 -- The start of a set, and the calls that add, replace or fail a disk: one list of refusals each, out of memory apart.
-use Rattle.std.specs.Prelude.{ℕ, ◌==◌, ◌&&◌, ◌||◌, nat_lt, nat_le, Bool, true, false, if◌then◌else◌, List, [], ◌∷◌, ◌++◌, length, Option, Some, None, replicate, slice_set}
+use Rattle.std.specs.Prelude.{ℕ, ◌==◌, ◌&&◌, ◌||◌, nat_lt, nat_le, Bool, true, false, if◌then◌else◌, List, [], ◌∷◌}
+use Rattle.std.specs.Prelude.{◌++◌, length, Option, Some, None, replicate, slice_set}
 use Rattle.std.specs.List.{list_all}
 use Rattle.ar_disks.specs.declared.geometry.Geometry.{Geometry}
 use Rattle.ar_disks.specs.declared.geometry.Geometry.TheVariants.{Paper, Small}
@@ -7,7 +8,8 @@ use Rattle.ar_disks.specs.Disk.{DiskState}
 use Rattle.ar_extents.specs.declared.health.Health.{Health}
 use Rattle.ar_extents.specs.declared.health.Health.TheVariants.{Whole, Out, Rebuilding, Broken as AllBroken}
 use Rattle.ar_extents.specs.declared.refusal.DiskRefusal.{DiskRefusal}
-use Rattle.ar_extents.specs.declared.refusal.DiskRefusal.TheVariants.{TooManyDisks, WrongSize, NotOut, NoSuchDisk, Broken}
+use Rattle.ar_extents.specs.declared.refusal.DiskRefusal.TheVariants.{TooManyDisks, WrongSize, NotOut, NoSuchDisk}
+use Rattle.ar_extents.specs.declared.refusal.DiskRefusal.TheVariants.{Broken}
 use Rattle.ar_extents.specs.declared.refusal.StartFault.{StartFault}
 use Rattle.ar_extents.specs.declared.refusal.StartFault.TheVariants.{BadCount, WrongSize as BadSize}
 use Rattle.ar_extents.specs.Health.{is_out, after_fault, after_done}

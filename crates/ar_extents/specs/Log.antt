@@ -1,5 +1,6 @@
 -- The log of a set's accesses, and what the accesses of a call leave.
-use Rattle.std.specs.Prelude.{◌≡◌, ℕ, ◌==◌, ◌&&◌, ◌+◌, Bool, true, false, not, List, [], ◌∷◌, ◌++◌, length, count_by, if◌then◌else◌}
+use Rattle.std.specs.Prelude.{◌≡◌, ℕ, ◌==◌, ◌&&◌, ◌+◌, Bool, true, false, not, List, [], ◌∷◌, ◌++◌, length, count_by}
+use Rattle.std.specs.Prelude.{if◌then◌else◌}
 use Rattle.ar_disks.specs.declared.address.Place.{Place}
 use Rattle.ar_extents.specs.declared.health.Health.{Health}
 use Rattle.ar_extents.specs.declared.log.RowAccess.{RowAccess}
@@ -28,7 +29,8 @@ is_writing Rebuild = true
 
 -- the access writes this row of this extent
 abbrev pub writes_row : Place → ℕ → RowAccess → Bool
-writes_row place row a = is_writing a.kind && (a.row == row && (a.place.disk == place.disk && a.place.extent == place.extent))
+writes_row place row a =
+    is_writing a.kind && (a.row == row && (a.place.disk == place.disk && a.place.extent == place.extent))
 
 -- health after an access: a fault moves it
 abbrev pub health_then : Health → RowAccess → Health
@@ -52,4 +54,5 @@ pub record AccountsFor (made : List RowAccess) (old new : SetState) : Type 0 whe
   pub accesses : (d : ℕ) → accesses_of new d ≡ accesses_of old d + count_by (is_on d) made
   pub faults : (d : ℕ) → faults_of new d ≡ faults_of old d + count_by (is_fault_of d) made
   pub disks : (d : ℕ) → count_by (is_on d) made ≡ 0 → disk_in new.disks d ≡ disk_in old.disks d
-  pub rows : (place : Place) (row : ℕ) → count_by (writes_row place row) made ≡ 0 → content new place row ≡ content old place row
+  pub rows : (place : Place) (row : ℕ) → count_by (writes_row place row) made ≡ 0
+      → content new place row ≡ content old place row

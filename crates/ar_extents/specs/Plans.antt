@@ -50,8 +50,8 @@ access_of t answered = record { place = t.place; row = t.row; kind = t.kind; ans
 abbrev pub accesses_for : Attempt → Bool → Health → List RowAccess
 accesses_for t answered h = if skips h t then [] else access_of t answered ∷ []
 
--- One attempt was made: exactly one access, which returned `answered`, or none where the attempt is skipped; that counts
--- as a fault.
+-- One attempt was made: exactly one access, which returned `answered`, or none where the attempt is skipped; that
+-- counts as a fault.
 pub record Attempts (t : Attempt) (answered : Bool) (old new : SetState) : Type 0 where
   pub skipped : skips old.health t ≡ true → answered ≡ false
   pub made : AccountsFor (accesses_for t answered old.health) old new
@@ -74,25 +74,31 @@ each_of (t ∷ rest) = Try t (each_of rest) (each_of rest)
 -- These attempts were made in turn up to the first that didn't succeed; `done` where all of them did.
 pub data AttemptsAll : List Attempt → Bool → SetState → SetState → Type 0 where
   all_done : (s : SetState) → AttemptsAll [] true s s
-  one_done : (t : Attempt) (rest : List Attempt) (done : Bool) (old between new : SetState) → Attempts t true old between → AttemptsAll rest done between new
+  one_done : (t : Attempt) (rest : List Attempt) (done : Bool) (old between new : SetState)
+      → Attempts t true old between → AttemptsAll rest done between new
       → AttemptsAll (t ∷ rest) done old new
-  one_failed : (t : Attempt) (rest : List Attempt) (old new : SetState) → Attempts t false old new → AttemptsAll (t ∷ rest) false old new
+  one_failed : (t : Attempt) (rest : List Attempt) (old new : SetState) → Attempts t false old new
+      → AttemptsAll (t ∷ rest) false old new
 
 -- The plan was carried out: its attempts were made one after the other, each going on by whether it succeeded, and
 -- nothing else happened.
 pub data CarriesOut : AccessPlan → SetState → SetState → Type 0 where
   stops : (s : SetState) → CarriesOut Stop s s
-  goes_on : (t : Attempt) (next other : AccessPlan) (old between new : SetState) → Attempts t true old between → CarriesOut next between new
+  goes_on : (t : Attempt) (next other : AccessPlan) (old between new : SetState) → Attempts t true old between
+      → CarriesOut next between new
       → CarriesOut (Try t next other) old new
-  falls_back : (t : Attempt) (next other : AccessPlan) (old between new : SetState) → Attempts t false old between → CarriesOut other between new
+  falls_back : (t : Attempt) (next other : AccessPlan) (old between new : SetState) → Attempts t false old between
+      → CarriesOut other between new
       → CarriesOut (Try t next other) old new
 
 -- these accesses are a path through the plan, from this health on
 pub data IsPath : AccessPlan → Health → List RowAccess → Type 0 where
   stopped : (h : Health) → IsPath Stop h []
-  skipped : (t : Attempt) (next other : AccessPlan) (h : Health) (rest : List RowAccess) → skips h t ≡ true → IsPath other h rest
+  skipped : (t : Attempt) (next other : AccessPlan) (h : Health) (rest : List RowAccess) → skips h t ≡ true
+      → IsPath other h rest
       → IsPath (Try t next other) h rest
-  answered : (t : Attempt) (next other : AccessPlan) (h : Health) (rest : List RowAccess) → skips h t ≡ false → IsPath next h rest
+  answered : (t : Attempt) (next other : AccessPlan) (h : Health) (rest : List RowAccess) → skips h t ≡ false
+      → IsPath next h rest
       → IsPath (Try t next other) h (access_of t true ∷ rest)
   faulted : (t : Attempt) (next other : AccessPlan) (h : Health) (rest : List RowAccess) → skips h t ≡ false
       → IsPath other (after_fault h t.place.disk) rest → IsPath (Try t next other) h (access_of t false ∷ rest)

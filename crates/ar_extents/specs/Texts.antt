@@ -1,7 +1,8 @@
 -- The text of refusals.
 use Rattle.std.specs.Prelude.{ℕ, List, codes}
 use Rattle.ar_extents.specs.declared.refusal.DiskRefusal.{DiskRefusal}
-use Rattle.ar_extents.specs.declared.refusal.DiskRefusal.TheVariants.{TooManyDisks, WrongSize, NotOut, NoSuchDisk, NoMemory, Broken}
+use Rattle.ar_extents.specs.declared.refusal.DiskRefusal.TheVariants.{TooManyDisks, WrongSize, NotOut, NoSuchDisk}
+use Rattle.ar_extents.specs.declared.refusal.DiskRefusal.TheVariants.{NoMemory, Broken}
 
 -- the text of a refusal: its number and its name
 abbrev pub disk_refusal_text : DiskRefusal → List ℕ

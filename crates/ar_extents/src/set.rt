@@ -15,8 +15,8 @@ mod start;
 
 pub use start::fault_of;
 
-/// Disks of one shape, with their health, the flags of their unassigned (`loose`) extents and, for contracts alone, a log
-/// of all accesses.
+/// Disks of one shape, with their health, the flags of their unassigned (`loose`) extents and, for contracts alone, a
+/// log of all accesses.
 #[derive(Drop)]
 pub struct DiskSet<D: Disk> {
     geometry: Geometry,
@@ -33,9 +33,23 @@ impl<D: Disk> Model for DiskSet<D> {
 
     ghost Value = { SetState };
 
-    ghost view = { λ s. record { geometry = s.geometry; extents = s.extents; disks = map D.state s.disks.items; health = s.health; loose = s.loose.items; log = s.log.accesses } };
+    ghost view = { λ s. record {
+      geometry = s.geometry;
+      extents = s.extents;
+      disks = map D.state s.disks.items;
+      health = s.health;
+      loose = s.loose.items;
+      log = s.log.accesses;
+    } };
 
-    ghost invariant = { λ s. IsValidSet (record { geometry = s.geometry; extents = s.extents; disks = map D.state s.disks.items; health = s.health; loose = s.loose.items; log = s.log.accesses }) };
+    ghost invariant = { λ s. IsValidSet (record {
+      geometry = s.geometry;
+      extents = s.extents;
+      disks = map D.state s.disks.items;
+      health = s.health;
+      loose = s.loose.items;
+      log = s.log.accesses;
+    }) };
 }
 
 impl<D: Disk> DiskSet<D> {

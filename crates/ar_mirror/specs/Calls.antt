@@ -19,8 +19,10 @@ use Rattle.ar_mirror.specs.Holds.{Holds}
 -- other
 pub record IsSlotBlock (old new : SetState) (m : Members) (slot : ℕ) (bytes : List ℕ) : Type 0 where
   pub held : (block : List ℕ) → Holds old m slot block → bytes ≡ block
-  pub first : IsSound new (one_of old.geometry m slot) → bytes ≡ content old (one_of old.geometry m slot) (row_of old.geometry slot)
-  pub second : IsLost new (one_of old.geometry m slot) → bytes ≡ content old (other_of old.geometry m slot) (row_of old.geometry slot)
+  pub first : IsSound new (one_of old.geometry m slot)
+      → bytes ≡ content old (one_of old.geometry m slot) (row_of old.geometry slot)
+  pub second : IsLost new (one_of old.geometry m slot)
+      → bytes ≡ content old (other_of old.geometry m slot) (row_of old.geometry slot)
 
 -- what each outcome of a read means
 abbrev pub ReadsSlot : SetState → SetState → Members → ℕ → List ℕ → Completion → Type 0
@@ -33,15 +35,18 @@ IsInPair g m slot p = IsEither (one_of g m slot) (other_of g m slot) p
 
 -- only the slot's row in the members of its pair may have changed
 pub record KeepsButSlot (m : Members) (slot : ℕ) (old new : SetState) : Type 0 where
-  pub rows : (p : Place) (row : ℕ) → (IsInPair old.geometry m slot p → row ≢ row_of old.geometry slot) → content new p row ≡ content old p row
+  pub rows : (p : Place) (row : ℕ) → (IsInPair old.geometry m slot p → row ≢ row_of old.geometry slot)
+      → content new p row ≡ content old p row
 
 -- every other slot of the group keeps its block
 pub record OtherMirrorSlotsHold (m : Members) (slot : ℕ) (old new : SetState) : Type 0 where
-  pub slots : (t : ℕ) → t < mirror_slots_of old.geometry → t ≢ slot → (block : List ℕ) → Holds old m t block → Holds new m t block
+  pub slots : (t : ℕ) → t < mirror_slots_of old.geometry → t ≢ slot → (block : List ℕ) → Holds old m t block
+      → Holds new m t block
 
 -- every slot of every group that shares no extent with this one keeps its block
 pub record OtherGroupsHold (m : Members) (old new : SetState) : Type 0 where
-  pub groups : (n : Members) → AreDisjoint m n → (t : ℕ) → t < mirror_slots_of old.geometry → (block : List ℕ) → Holds old n t block → Holds new n t block
+  pub groups : (n : Members) → AreDisjoint m n → (t : ℕ) → t < mirror_slots_of old.geometry → (block : List ℕ)
+      → Holds old n t block → Holds new n t block
 
 -- every slot of every mirrored group keeps its block
 pub record AllSlotsHold (old new : SetState) : Type 0 where

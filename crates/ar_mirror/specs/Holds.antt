@@ -17,7 +17,8 @@ Holds s m slot block = BothHave s (one_of s.geometry m slot) (other_of s.geometr
 
 -- the content of the first of two extents if that one is usable, else of the other
 abbrev pub content_of_pair : SetState → Place → Place → ℕ → List ℕ
-content_of_pair s one other row = if is_lost s.health one.disk one.extent then content s other row else content s one row
+content_of_pair s one other row =
+    if is_lost s.health one.disk one.extent then content s other row else content s one row
 
 -- the block stored in a slot: the content of its first member if that one is usable, else of the other
 abbrev pub standing : SetState → Members → ℕ → List ℕ

@@ -12,7 +12,8 @@ read_either one other row = Try (read_at one row) Stop (Try (read_at other row) 
 
 -- writes a row of one extent, and then of the other, whether or not the first was answered
 abbrev pub write_pair : Place → Place → ℕ → AccessPlan
-write_pair one other row = Try (write_at one row) (Try (write_at other row) Stop Stop) (Try (write_at other row) Stop Stop)
+write_pair one other row =
+    Try (write_at one row) (Try (write_at other row) Stop Stop) (Try (write_at other row) Stop Stop)
 
 -- reads a row of one extent and, if that is answered, writes it to the extent that is rebuilt next
 abbrev pub copy_row : Place → Place → ℕ → AccessPlan

@@ -36,7 +36,8 @@ pub fn rebuild_row<D: Disk>(
 
     ensures answer { Rebuilds set.old set.new (member members.now (partner_of position)) row result }
     // Exactly these accesses are made.
-    ensures plan { CarriesOut (copy_row (member members.now (partner_of position)) (next_place set.old) row) set.old set.new }
+    ensures plan { CarriesOut (copy_row (member members.now (partner_of position)) (next_place set.old) row)
+        set.old set.new }
     ensures slots { AllSlotsHold set.old set.new }
 
     ensures scratch { scratch.new.geometry ≡ scratch.old.geometry }

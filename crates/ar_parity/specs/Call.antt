@@ -21,7 +21,8 @@ ReportsFailure s Broken = s.health ≡ AllBroken
 
 -- Whatever four blocks the stripe agreed on, it agrees on them with the new block at its position and the new parity.
 pub record UpdatesStripe (old new : SetState) (m : Members) (row position : ℕ) (bytes : List ℕ) : Type 0 where
-  pub agrees : (blocks : Blocks) → RowAgrees old m row blocks → RowAgrees new m row (changed blocks position (parity_position row) bytes)
+  pub agrees : (blocks : Blocks) → RowAgrees old m row blocks
+      → RowAgrees new m row (changed blocks position (parity_position row) bytes)
 
 -- the extent is on another disk than this one
 abbrev pub IsOffDiskOf : Place → Place → Type 0
@@ -56,7 +57,8 @@ pub record AsksOwnFirst (own parity : Place) (old new : SetState) : Type 0 where
 
 -- The member's row has the block that agrees with the three others, and health is unchanged.
 pub record IsRebuilt (old new : SetState) (m : Members) (position row : ℕ) : Type 0 where
-  pub agrees : (blocks : Blocks) → RowAgrees old m row blocks → content new (member m position) row ≡ block blocks position
+  pub agrees : (blocks : Blocks) → RowAgrees old m row blocks
+      → content new (member m position) row ≡ block blocks position
   pub health : new.health ≡ old.health
 
 -- what each outcome of a row's rebuild means

@@ -50,8 +50,10 @@ pub record StopsOpening (m : Members) (old new : SetState) : Type 0 where
 abbrev pub sum_beside : SetState → Members → ℕ → ℕ → List ℕ
 sum_beside s m row zero = xor (xor (content s m.second row) (content s m.third row)) (content s m.fourth row)
 sum_beside s m row (suc zero) = xor (xor (content s m.first row) (content s m.third row)) (content s m.fourth row)
-sum_beside s m row (suc (suc zero)) = xor (xor (content s m.first row) (content s m.second row)) (content s m.fourth row)
-sum_beside s m row (suc (suc (suc n))) = xor (xor (content s m.first row) (content s m.second row)) (content s m.third row)
+sum_beside s m row (suc (suc zero)) =
+    xor (xor (content s m.first row) (content s m.second row)) (content s m.fourth row)
+sum_beside s m row (suc (suc (suc n))) =
+    xor (xor (content s m.first row) (content s m.second row)) (content s m.third row)
 
 -- the block stored at a position of a stripe: the member's content if it is usable, else the XOR of the three others
 abbrev pub standing_at : SetState → Members → ℕ → ℕ → List ℕ

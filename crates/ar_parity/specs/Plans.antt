@@ -47,7 +47,8 @@ write_by_reading m i j row = Try (read_at (member m i) row) (write_known m i j r
 -- the read of a slot: its own member or, where that one isn't answered, the three others
 abbrev pub parity_read : Members → ℕ → AccessPlan
 parity_read m slot =
-    Try (read_at (member m (data_position slot)) (row_of slot)) Stop (all_of (three_reads m (data_position slot) (row_of slot)) Stop)
+    Try (read_at (member m (data_position slot)) (row_of slot)) Stop
+    (all_of (three_reads m (data_position slot) (row_of slot)) Stop)
 
 -- the write of the block at `i`: if the parity at `j` is missing, it writes that block alone
 abbrev pub stripe_write : Health → Members → ℕ → ℕ → ℕ → AccessPlan

@@ -74,7 +74,8 @@ pub(crate) fn sum_of_three<D: Disk>(
     requires spare_whole { length spare.old ≡ block_len_of set.old.geometry }
 
     ensures answer { ReportsFailure set.new result }
-    ensures block { OnDone result ((blocks : Blocks) → RowAgrees set.old members.now row blocks → into.new ≡ block blocks lost) }
+    ensures block { OnDone result ((blocks : Blocks) → RowAgrees set.old members.now row blocks
+        → into.new ≡ block blocks lost) }
     ensures health { OnDone result (set.new.health ≡ set.old.health) }
     ensures made { AttemptsAll (three_reads members.now lost row) (succeeded result) set.old set.new }
 

@@ -20,8 +20,8 @@ pub fn redundancy()
         → AreApart m → s.health ≢ Broken → Holds s m slot b → Holds s m slot c → b ≡ c }
 {}
 
-/// With all disks present, and where none faults, the read of a slot is one read, of its own member. Its write reads the
-/// old block and the parity, and then writes the block and the parity. A call has no effect.
+/// With all disks present, and where none faults, the read of a slot is one read, of its own member. Its write reads
+/// the old block and the parity, and then writes the block and the parity. A call has no effect.
 pub fn parity_accesses()
     ensures read { (old new : SetState) (m : Members) (slot : ℕ) → old.health ≡ Whole → NoneFaults old new
         → CarriesOut (parity_read m slot) old new

@@ -37,7 +37,8 @@ pub fn rebuild_row<D: Disk>(
     ensures answer { Rebuilds set.old set.new members.now position row result }
     // Exactly these accesses are made.
     ensures plan { CarriesOut (parity_rebuild members.now position row) set.old set.new }
-    ensures agrees { (r : ℕ) (blocks : Blocks) → RowAgrees set.old members.now r blocks → RowAgrees set.new members.now r blocks }
+    ensures agrees { (r : ℕ) (blocks : Blocks) → RowAgrees set.old members.now r blocks
+        → RowAgrees set.new members.now r blocks }
 
     ensures scratch { scratch.new.geometry ≡ scratch.old.geometry }
 {

@@ -92,7 +92,8 @@ pub(crate) fn add_beside<D: Disk>(
     requires spare_whole { length spare.old ≡ block_len_of set.old.geometry }
 
     ensures answer { ReportsFailure set.new result }
-    ensures bytes { OnDone result ((b : List ℕ) → Stands set.old members.now row position b → into.new ≡ xor into.old b) }
+    ensures bytes { OnDone result ((b : List ℕ) → Stands set.old members.now row position b
+        → into.new ≡ xor into.old b) }
     ensures health { OnDone result (set.new.health ≡ set.old.health) }
     ensures made { Attempts (read_at (member members.now position) row) (succeeded result) set.old set.new }
 

@@ -75,7 +75,8 @@ fn update<D: Disk>(
         → RowAgrees set.new members.now row (changed blocks position (parity_position row) from.now) }
 
     ensures keeps { KeepsButRow members.now row set.old set.new }
-    ensures order { WritesInTurn (member members.now position) (member members.now (parity_position row)) set.old set.new }
+    ensures order { WritesInTurn (member members.now position) (member members.now (parity_position row))
+        set.old set.new }
     ensures plan { CarriesOut (write_known members.now position (parity_position row) row) set.old set.new }
     ensures sum_len { length sum.new ≡ length sum.old }
 {
@@ -185,7 +186,8 @@ pub(crate) fn change<D: Disk>(
 
     ensures keeps { KeepsButRow members.now row set.old set.new }
     ensures works { WorksOn (IsMember members.now) set.old set.new }
-    ensures plan { CarriesOut (stripe_write set.old.health members.now position (parity_position row) row) set.old set.new }
+    ensures plan { CarriesOut (stripe_write set.old.health members.now position (parity_position row) row)
+        set.old set.new }
     ensures scratch { scratch.new.geometry ≡ scratch.old.geometry }
 {
     if set.missing(members.at(parity_at(row))) {

@@ -6,7 +6,8 @@ ghost use Rattle.ar_extents.specs.Set.{disk_in, HasExtent};
 ghost use Rattle.ar_extents.specs.Health.{IsRebuilding, rebuilt_disk};
 ghost use Rattle.ar_extents.specs.Plans.{Attempts, read_at, write_at, rebuild_at, access_of};
 ghost use Rattle.ar_extents.specs.Follows.{Follows, Keeps, KeepsBut, Anywhere};
-ghost use Rattle.ar_extents.specs.Access.{OthersStay, Touches, Accesses, Gets, PutsRow, PutsNew, is_read, is_written, is_new_written, next_place};
+ghost use Rattle.ar_extents.specs.Access.{OthersStay, Touches, Accesses, Gets, PutsRow, PutsNew, is_read, is_written};
+ghost use Rattle.ar_extents.specs.Access.{is_new_written, next_place};
 
 use super::DiskSet;
 use crate::log::AccessLog;

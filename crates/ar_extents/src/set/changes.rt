@@ -3,7 +3,8 @@ ghost use Rattle.std.specs.Prelude.{◌≡◌, ◌∷◌, ◌++◌, [], Some, No
 ghost use Rattle.ar_extents.specs.declared.refusal.DiskRefusal.TheVariants.{NoMemory};
 ghost use Rattle.ar_extents.specs.Health.{IsRebuilding};
 ghost use Rattle.ar_extents.specs.Set.{CanCount};
-ghost use Rattle.ar_extents.specs.Changes.{add_refusal, added, replace_refusal, replaced, fail_refusal, failed, with_done};
+ghost use Rattle.ar_extents.specs.Changes.{add_refusal, added, replace_refusal, replaced, fail_refusal, failed};
+ghost use Rattle.ar_extents.specs.Changes.{with_done};
 
 use super::DiskSet;
 use crate::marks::Marks;
