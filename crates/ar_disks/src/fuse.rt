@@ -50,7 +50,7 @@ impl FuseDisk {
         self.left
     }
 
-    // Uses up one access of the fuse, or fails the disk and counts a fault where none is left.
+    // Uses up one access of the fuse, or fails the disk and counts an access and a fault where none is left.
     fn passes(&mut self) -> bool
         ensures passes { IsTrue result ↔ (0 < self.old.left) }
         ensures used { OnTrue result (self.new ≡ record self.old { left = self.old.left - 1 }) }

@@ -63,7 +63,7 @@ impl MemDisk {
         Ok(MemDisk::new(geometry, extents, bytes))
     }
 
-    /// Counts an access that isn't made: one that a disk over this one refuses.
+    /// Counts an access without making it, for a disk over this one that refuses it. No code over `Disk` can call this.
     pub fn count_access(&mut self)
         ensures { self.new ≡ accessed self.old (self.old.accesses + 1) }
     {

@@ -1,4 +1,4 @@
--- What an attempt tells in the words of `Follows`: which disks were accessed, and which rows were written.
+-- What an attempt implies, in the relations of `Follows`: which disks were accessed, and which rows were written.
 use Rattle.std.proofs.Common.{◌≡◌, ◌≢◌, ◌⊎◌, inl, inr, ℕ, ◌+◌, Bool, true, false, not, ◌&&◌, cond, eqb, [], ◌∷◌, refl, sym, ◌∙◌, ap, subst, arith}
 use Rattle.std.specs.Prelude.{count_by}
 use Rattle.std.proofs.lemmas.Bool.Decides.{eqb_tells, nat_tests}

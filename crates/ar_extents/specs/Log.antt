@@ -1,4 +1,4 @@
--- The log of a set's accesses, and what the accesses of a call leave.
+-- The log of a set's accesses, and what the accesses of a call change.
 use Rattle.std.specs.Prelude.{◌≡◌, ℕ, ◌==◌, ◌&&◌, ◌+◌, Bool, true, false, not, List, [], ◌∷◌, ◌++◌, length, count_by}
 use Rattle.std.specs.Prelude.{if◌then◌else◌}
 use Rattle.ar_disks.specs.declared.address.Place.{Place}
@@ -9,7 +9,7 @@ use Rattle.ar_extents.specs.declared.log.AccessKind.TheVariants.{Read, Write, Re
 use Rattle.ar_extents.specs.Health.{after_fault}
 use Rattle.ar_extents.specs.Set.{SetState, disk_in, faults_of, content}
 
--- the number of accesses of a disk, by the disk itself
+-- the number of accesses that a disk has counted
 abbrev pub accesses_of : SetState → ℕ → ℕ
 accesses_of s d = (disk_in s.disks d).accesses
 
@@ -17,7 +17,7 @@ accesses_of s d = (disk_in s.disks d).accesses
 abbrev pub is_on : ℕ → RowAccess → Bool
 is_on d a = a.place.disk == d
 
--- the access is one of this disk, which faulted
+-- the access is one of this disk, and faulted
 abbrev pub is_fault_of : ℕ → RowAccess → Bool
 is_fault_of d a = is_on d a && not a.answered
 
@@ -32,7 +32,7 @@ abbrev pub writes_row : Place → ℕ → RowAccess → Bool
 writes_row place row a =
     is_writing a.kind && (a.row == row && (a.place.disk == place.disk && a.place.extent == place.extent))
 
--- health after an access: a fault moves it
+-- health after an access: only a fault changes it
 abbrev pub health_then : Health → RowAccess → Health
 health_then h a = if a.answered then h else after_fault h a.place.disk
 
@@ -41,9 +41,9 @@ abbrev pub health_after : Health → List RowAccess → Health
 health_after h [] = h
 health_after h (a ∷ rest) = health_after (health_then h a) rest
 
--- Between two states of a set exactly these accesses were made, in this order, and nothing else happened: the log has
--- grown by them; each disk counts those of it, and its faults among them; the faults have moved health; a disk without
--- any is as it was; and a row that none of them writes has the content it had.
+-- Between two states of a set exactly these accesses were made, in this order: the log has grown by them; each disk has
+-- counted its own, and the faults among them; the faults have changed health; a disk without an access is unchanged;
+-- and a row that none of them writes keeps its content. What a written row holds is said apart.
 pub record AccountsFor (made : List RowAccess) (old new : SetState) : Type 0 where
   pub geometry : new.geometry ≡ old.geometry
   pub extents : new.extents ≡ old.extents

@@ -33,7 +33,8 @@ rebuilds_none (Out x) = true
 rebuilds_none (Rebuilding x done) = false
 rebuilds_none Broken = true
 
--- An attempt costs no access where its extent is lost; a write to the extent that is rebuilt next, where none is.
+-- An attempt is skipped, at no access, where its extent is lost; a write to the extent that is rebuilt next, where no
+-- disk is being rebuilt.
 abbrev pub is_skipped : Health → AccessKind → Place → Bool
 is_skipped h Read p = is_lost h p.disk p.extent
 is_skipped h Write p = is_lost h p.disk p.extent
@@ -42,7 +43,7 @@ is_skipped h Rebuild p = rebuilds_none h
 abbrev pub skips : Health → Attempt → Bool
 skips h t = is_skipped h t.kind t.place
 
--- the access that an attempt comes to
+-- the access of an attempt that isn't skipped
 abbrev pub access_of : Attempt → Bool → RowAccess
 access_of t answered = record { place = t.place; row = t.row; kind = t.kind; answered = answered }
 
@@ -50,8 +51,8 @@ access_of t answered = record { place = t.place; row = t.row; kind = t.kind; ans
 abbrev pub accesses_for : Attempt → Bool → Health → List RowAccess
 accesses_for t answered h = if skips h t then [] else access_of t answered ∷ []
 
--- One attempt was made: exactly one access, which returned `answered`, or none where the attempt is skipped; that
--- counts as a fault.
+-- One attempt was made: exactly one access, which returned `answered`; or none where the attempt is skipped, and then
+-- `answered` is false.
 pub record Attempts (t : Attempt) (answered : Bool) (old new : SetState) : Type 0 where
   pub skipped : skips old.health t ≡ true → answered ≡ false
   pub made : AccountsFor (accesses_for t answered old.health) old new
@@ -71,7 +72,7 @@ abbrev pub each_of : List Attempt → AccessPlan
 each_of [] = Stop
 each_of (t ∷ rest) = Try t (each_of rest) (each_of rest)
 
--- These attempts were made in turn up to the first that didn't succeed; `done` where all of them did.
+-- These attempts were made in turn up to the first that didn't succeed; the flag says whether all of them did.
 pub data AttemptsAll : List Attempt → Bool → SetState → SetState → Type 0 where
   all_done : (s : SetState) → AttemptsAll [] true s s
   one_done : (t : Attempt) (rest : List Attempt) (done : Bool) (old between new : SetState)

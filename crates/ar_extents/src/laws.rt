@@ -3,8 +3,8 @@ ghost use Rattle.std.specs.Prelude.{◌≡◌, ◌++◌};
 ghost use Rattle.ar_extents.specs.Set.{SetState};
 ghost use Rattle.ar_extents.specs.Plans.{AccessPlan, CarriesOut, Accounted, NoneFaults, planned};
 
-/// Whatever a plan that was carried out came to, a path through it is what was added to the log, and each disk counts
-/// the accesses of it. Where no disk faulted, the accesses are exactly the planned ones. A call has no effect.
+/// Where a plan was carried out, the accesses that were added to the log are a path through it, and each disk has
+/// counted its own. Where no disk faulted, they are exactly the planned ones. A call has no effect.
 pub fn accesses_are_planned()
     ensures accounted { (plan : AccessPlan) (old new : SetState) → CarriesOut plan old new → Accounted plan old new }
     ensures planned { (plan : AccessPlan) (old new : SetState) → CarriesOut plan old new

@@ -1,4 +1,4 @@
--- The plans of calls, told of the extents and the row that they find.
+-- The plans of calls, for the extents and the row that the code computes.
 use Rattle.std.proofs.Common.{◌≡◌, ◌∷◌, ◌++◌, [], ℕ, Bool, true, ◌∙◌, ap, subst}
 use Rattle.ar_disks.specs.declared.geometry.Geometry.{Geometry}
 use Rattle.ar_disks.specs.declared.address.Place.{Place}

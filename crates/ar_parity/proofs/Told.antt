@@ -1,4 +1,4 @@
--- What the plans of calls tell in the words of `Follows`.
+-- What the plans of calls imply, in the relations of `Follows`.
 use Rattle.std.proofs.Common.{◌≡◌, ◌≢◌, ◌⊎◌, inl, inr, ℕ, zero, suc, List, ◌++◌, ◌<◌, ◌≤◌, ◌+◌, ◌%◌, Bool, true, false, cond, refl, sym, ◌∙◌, ap, subst, arith, true≢false}
 use Rattle.std.proofs.lemmas.Bool.Decides.{nat_tests}
 use Rattle.ar_disks.specs.declared.address.Place.{Place}

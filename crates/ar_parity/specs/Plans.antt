@@ -27,24 +27,24 @@ three_reads m i row = two_reads m i ((i + 1) % 4) row ++ read_at (member m ((i +
 abbrev pub write_member : Members → ℕ → ℕ → AccessPlan
 write_member m i row = Try (write_at (member m i) row) Stop Stop
 
--- writes one member, and then another in any case
+-- writes one member, and then another, whether or not the first write succeeded
 abbrev pub write_two : Members → ℕ → ℕ → ℕ → AccessPlan
 write_two m i j row = Try (write_at (member m i) row) (write_member m j row) (write_member m j row)
 
--- read-modify-write once the old block at `i` is read: reads the parity at `j`, and writes both; where the parity isn't
--- answered, it writes the block alone
+-- read-modify-write once the old block at `i` is read: reads the parity at `j`, and writes both; where that read
+-- doesn't succeed, it writes the block alone
 abbrev pub write_known : Members → ℕ → ℕ → ℕ → AccessPlan
 write_known m i j row = Try (read_at (member m j) row) (write_two m i j row) (write_member m i row)
 
--- reconstruct-write where the old block at `i` isn't answered: reads the two others and writes the parity at `j`
+-- reconstruct-write where the old block at `i` couldn't be read: reads the two others and writes the parity at `j`
 abbrev pub write_lost : Members → ℕ → ℕ → ℕ → AccessPlan
 write_lost m i j row = all_of (two_reads m i j row) (write_member m j row)
 
--- reads the old block at `i` and goes on by whether that is answered
+-- reads the old block at `i`: read-modify-write if that succeeds, else reconstruct-write
 abbrev pub write_by_reading : Members → ℕ → ℕ → ℕ → AccessPlan
 write_by_reading m i j row = Try (read_at (member m i) row) (write_known m i j row) (write_lost m i j row)
 
--- the read of a slot: its own member or, where that one isn't answered, the three others
+-- the read of a slot: its own member and, only where that read doesn't succeed, the three others
 abbrev pub parity_read : Members → ℕ → AccessPlan
 parity_read m slot =
     Try (read_at (member m (data_position slot)) (row_of slot)) Stop

@@ -52,7 +52,7 @@ pub fn open_zero<D: Disk>(
 }
 
 /// Reads slot `slot`, below three times the rows of an extent, into `into`, a block of the set's length: from its
-/// member or, if that one is missing, as the XOR of the stripe's three others.
+/// member or, if that one is missing or faults, as the XOR of the stripe's three others.
 ///
 /// After `Broken`, `into` has unspecified bytes.
 pub fn get<D: Disk>(
@@ -86,8 +86,8 @@ pub fn get<D: Disk>(
 
 /// Writes `from`, a block of the set's length, to slot `slot`, below three times the rows of an extent, and updates the
 /// stripe's parity, each unless its member is missing. It reads the old block and parity first (read-modify-write) or,
-/// if the slot's member is missing, the two other data blocks (reconstruct-write); if the parity is missing, nothing.
-/// Every other slot keeps its block.
+/// if the slot's member is missing or its read faults, the two other data blocks (reconstruct-write); if the parity is
+/// missing, nothing. Every other slot keeps its block.
 ///
 /// After `Broken`, the stripe's row in these two members has unspecified bytes.
 pub fn put<D: Disk>(
