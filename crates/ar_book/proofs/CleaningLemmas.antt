@@ -1,5 +1,6 @@
 -- A group's blocks and holes are its slots: so all of its blocks fit in the holes of its class's other groups or those of none do.
-use Rattle.std.proofs.Common.{◌≡◌, ◌≢◌, ◌⊎◌, ℕ, zero, suc, ◌<◌, ◌≤◌, ◌+◌, ◌-◌, ◌*◌, true, false, if◌then◌else◌, cond, Option, None, Some, is_some, IsSome, IfSome, IfNone, List, [], ◌∷◌, length, get_or, sum_by, count_by, refl, sym, ap, subst, inl, inr, arith}
+use Rattle.std.proofs.Common.{◌≡◌, ◌≢◌, ◌⊎◌, ℕ, zero, suc, ◌<◌, ◌≤◌, ◌+◌, ◌-◌, ◌*◌, true, false, if◌then◌else◌, cond, Option, None, Some, is_some, IsSome, IfSome, IfNone, List, [], ◌∷◌, length, take, get_or, sum_by, count_by, refl, sym, ap, subst, inl, inr, arith}
+use Rattle.std.proofs.lemmas.List.{take_all}
 use Rattle.std.proofs.lemmas.List.Sums.{sum_by-cons}
 use Rattle.ar_disks.specs.Geometry.{rows_of}
 use Rattle.ar_disks.specs.declared.address.Key.{Key}
@@ -176,3 +177,14 @@ module _ (t : Tables) (ok : TablesAgree t) where
   pub none_of_all : (c : Class) (n : ℕ) (o : Option ℕ) → length t.groups ≤ n → IsEmptiestBelow t c n o → IfNone o ((g : ℕ) → CanBeEmptied t c g → ⊥)
   none_of_all c n None h old = λ g can. old.least g can.has (let there = can.has.there in omega arith)
   none_of_all c n (Some k) h old = tt
+
+-- the groups below a number: the emptiest, the number of their holes, and a step for each
+pub record HasWalked (t : Tables) (c : Class) (to sum : ℕ) (o : Option ℕ) (before count : ℕ) : Type 0 where
+  pub below : IsEmptiestBelow t c to o
+  pub holes : sum ≡ sum_by (holes_in t.geometry c) (take to t.groups)
+  pub most : sum ≤ 48 * to
+  pub steps : count ≡ before + to
+
+-- those of all groups
+pub all_holes : (t : Tables) (c : Class) (n : ℕ) → length t.groups ≤ n → sum_by (holes_in t.geometry c) (take n t.groups) ≡ holes_of t c
+all_holes t c n h = ap (sum_by (holes_in t.geometry c)) (take_all n t.groups h)

@@ -17,10 +17,12 @@ pub mod AfterAssign
 pub mod AfterRelease
 pub mod AfterOpen
 pub mod AfterStamp
+pub mod Placed
 pub mod AfterMake
 pub mod AfterForm
 pub mod Presence
 pub mod CleaningLemmas
+pub mod Beside
 pub mod IndexLemmas
 pub mod Searches
 pub mod Ages

@@ -58,6 +58,12 @@ pub record IsFirstBlock (t : Tables) (g : ℕ) (k : Key) : Type 0 where
   pub names : key_at t (record { group = g; slot = slot }) ≡ Some k
   pub least : (i : ℕ) → IsSome (key_at t (record { group = g; slot = i })) → slot ≤ i
 
+-- the group is of a class, has fewer blocks than slots, and is another than one group
+pub record IsOpenBut (t : Tables) (c : Class) (g number : ℕ) : Type 0 where
+  pub class : class_of t number ≡ c
+  pub fewer : used (group_in t.groups number) < slots_of t.geometry c
+  pub beside : number ≢ g
+
 -- a hole of a class outside one group
 pub record IsHoleBeside (t : Tables) (c : Class) (g : ℕ) (s : Slot) : Type 0 where
   pub hole : IsHole t c s
@@ -67,3 +73,9 @@ pub record IsHoleBeside (t : Tables) (c : Class) (g : ℕ) (s : Slot) : Type 0 w
 pub record IsLowestHoleBeside (t : Tables) (c : Class) (g : ℕ) (s : Slot) : Type 0 where
   pub found : IsHoleBeside t c g s
   pub least : (other : Slot) → IsHoleBeside t c g other → IsUpTo s other
+
+-- the lowest group of a class with a hole, but for one group
+pub record IsOpenBeside (t : Tables) (c : Class) (g number : ℕ) : Type 0 where
+  pub there : number < length t.groups
+  pub has : IsOpenBut t c g number
+  pub least : (s : Slot) → IsHoleBeside t c g s → number ≤ s.group

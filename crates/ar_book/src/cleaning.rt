@@ -1,29 +1,38 @@
 // Cleaning's choice: the group with the fewest blocks is emptied, if they fit in the holes of its class's other groups.
-ghost use Rattle.std.specs.Prelude.{◌≡◌, ◌+◌, ◌<◌, ◌≤◌, ℕ, true, false, length, IfSome, IfNone};
-ghost use Rattle.ar_book.specs.declared.class.Slot.{Slot};
-ghost use Rattle.ar_book.specs.Choices.{IsHole, IsUpTo};
+//
+// One walk over the groups finds it. Kept in the search tree it would be found in none, but each write to a new slot, and
+// each move, would climb to the root for it, and took up to 1.8 times as many instructions.
+ghost use Rattle.std.specs.Prelude.{◌≡◌, ◌+◌, ◌*◌, ◌<◌, ◌≤◌, ℕ, true, false, length, IfSome, IfNone};
+ghost use Rattle.ar_disks.specs.Geometry.{rows_of};
+ghost use Rattle.ar_book.specs.Book.{TablesAgree};
 ghost use Rattle.ar_book.specs.Tables.{used, group_in};
-ghost use Rattle.ar_book.specs.Cleaning.{holes_in, holes_of, CanBeEmptied, IsEmptiest, IsEmptiestBelow, IsInUse, IsFirstBlock, IsLowestHoleBeside, IsHoleBeside};
+ghost use Rattle.ar_book.specs.Cleaning.{holes_in, CanBeEmptied, IsEmptiest, IsEmptiestBelow, IsInUse, IsFirstBlock, IsOpenBut, IsOpenBeside, IsLowestHoleBeside};
 
 use crate::group::slots_of;
 use crate::{Book, Class, Slot};
 use ar_disks::Key;
+use ar_index::Steps;
 
 impl Book {
     /// The group of a class that cleaning empties: of those that have blocks, all of which fit in the holes of the
-    /// other groups of the class, the one with the fewest, the lowest on ties. None if there is none.
-    pub fn emptiest(&self, class: Class) -> Option<u32>
+    /// other groups of the class, the one with the fewest, the lowest on ties. None if there is none. Counts a step for
+    /// each group.
+    pub fn emptiest(&self, class: Class, steps: &mut Steps) -> Option<u32>
         ensures found { IfSome result (IsEmptiest self.now class) }
         ensures none { IfNone result ((group : ℕ) → CanBeEmptied self.now class group → ⊥) }
+        ensures counted { steps.new.count ≡ steps.old.count + length self.now.groups }
     {
-        // A group's holes and blocks are its slots: so its blocks fit in the others' holes exactly if the class has at
-        // least as many holes as a group has slots.
-        if self.holes(class) < u32::from(slots_of(self.geometry, class)) {
-            return None;
-        }
+        let mut holes = 0;
         let mut emptiest = None;
         for number in 0..self.groups() {
+            steps.tick();
+            holes += u32::from(self.holes_at(class, number));
             emptiest = self.emptier(class, number, emptiest);
+        }
+        // A group's holes and blocks are its slots: so its blocks fit in the others' holes exactly if the class has at
+        // least as many holes as a group has slots.
+        if holes < u32::from(slots_of(self.geometry, class)) {
+            return None;
         }
         emptiest
     }
@@ -53,17 +62,6 @@ impl Book {
         self.class(group) == class && self.used(group) > 0
     }
 
-    // The number of holes in the groups of a class.
-    fn holes(&self, class: Class) -> u32
-        ensures { result ≡ holes_of self.now class }
-    {
-        let mut holes = 0;
-        for number in 0..self.groups() {
-            holes += u32::from(self.holes_at(class, number));
-        }
-        holes
-    }
-
     // The number of holes in a group; 0 if it is of another class.
     fn holes_at(&self, class: Class, group: u32) -> u16
         requires { group < length self.now.groups }
@@ -77,13 +75,16 @@ impl Book {
         slots_of(self.geometry, own) - self.used(group)
     }
 
-    /// The block in the lowest occupied slot of a group that has blocks.
-    pub fn first_block(&self, group: u32) -> Key
+    /// The block in the lowest occupied slot of a group that has blocks. Counts a step for each slot up to it.
+    pub fn first_block(&self, group: u32, steps: &mut Steps) -> Key
         requires there { group < length self.now.groups }
         requires some { 0 < used (group_in self.now.groups group) }
-        ensures { IsFirstBlock self.now group result }
+        ensures first { IsFirstBlock self.now group result }
+        ensures few { steps.new.count ≤ steps.old.count + 3 * rows_of self.now.geometry }
+        ensures on { steps.old.count ≤ steps.new.count }
     {
         for slot in 0..3 * self.geometry.rows() {
+            steps.tick();
             if let Some(key) = self.key_at(Slot { group, slot }) {
                 return key;
             }
@@ -91,33 +92,50 @@ impl Book {
         unreachable!()
     }
 
-    /// The lowest hole of a class outside `group`, which can be emptied into such holes.
-    pub fn hole_beside(&self, class: Class, group: u32) -> Slot
+    /// The lowest hole of a class outside `group`, which can be emptied into such holes. Counts a step for each group
+    /// from the lowest with a hole on, and for each slot of the last one up to the hole.
+    pub fn hole_beside(&self, class: Class, group: u32, steps: &mut Steps) -> Slot
         requires { CanBeEmptied self.now class group }
-        ensures { IsLowestHoleBeside self.now class group result }
+        ensures hole { IsLowestHoleBeside self.now class group result }
+        ensures few { steps.new.count ≤ steps.old.count + (length self.now.groups + 3 * rows_of self.now.geometry) }
+        ensures on { steps.old.count ≤ steps.new.count }
     {
-        for number in 0..self.groups() {
-            if number != group {
-                if let Some(slot) = self.hole_in(class, number) {
-                    return slot;
-                }
+        let number = self.open_beside(class, group, steps);
+        match self.scan(number, steps) {
+            Some(slot) => Slot {
+                group: number,
+                slot,
+            },
+            None => unreachable!(),
+        }
+    }
+
+    // The lowest group of a class, but for `group`, that has a hole.
+    fn open_beside(&self, class: Class, group: u32, steps: &mut Steps) -> u32
+        requires { CanBeEmptied self.now class group }
+        ensures found { IsOpenBeside self.now class group result }
+        ensures few { steps.new.count ≤ steps.old.count + length self.now.groups }
+        ensures on { steps.old.count ≤ steps.new.count }
+        ensures sound { TablesAgree self.now }
+    {
+        let lowest = self.open(class).unwrap_or(self.groups());
+        for number in lowest..self.groups() {
+            steps.tick();
+            if self.is_open_but(class, group, number) {
+                return number;
             }
         }
         unreachable!()
     }
 
-    // The lowest hole of a group, if it is of `class`.
-    fn hole_in(&self, class: Class, group: u32) -> Option<Slot>
-        requires { group < length self.now.groups }
-        ensures found { IfSome result (IsHole self.now class) }
-        ensures group { IfSome result (λ slot. slot.group ≡ group) }
-        ensures least { IfSome result (λ slot. (other : Slot) → other.group ≡ group → IsHole self.now class other → IsUpTo slot other) }
-        ensures none { IfNone result ((other : Slot) → other.group ≡ group → IsHole self.now class other → ⊥) }
+    // Whether group `number` is of `class`, has a hole, and isn't `group`.
+    fn is_open_but(&self, class: Class, group: u32, number: u32) -> bool
+        requires { number < length self.now.groups }
+        ensures yes { result ≡ true → IsOpenBut self.now class group number }
+        ensures no { result ≡ false → IsOpenBut self.now class group number → ⊥ }
     {
-        if self.class(group) != class {
-            return None;
-        }
-        let slot = self.lowest_hole(group)?;
-        Some(Slot { group, slot })
+        number != group
+            && self.class(number) == class
+            && self.used(number) < slots_of(self.geometry, class)
     }
 }

@@ -124,7 +124,7 @@ impl Group {
     }
 
     /// The lowest empty slot below `end`. Counts a step for each slot up to it.
-    pub(crate) fn lowest_hole(&self, end: u16, steps: &mut Steps) -> Option<u16>
+    pub(crate) fn first_hole(&self, end: u16, steps: &mut Steps) -> Option<u16>
         ensures found { IfSome result (λ i. (i < end) × (slice_index_or self.now.slots i None ≡ None)) }
         ensures least { IfSome result (λ i. (j : ℕ) → j < i → IsSome (slice_index_or self.now.slots j None)) }
         ensures none { IfNone result ((j : ℕ) → j < end → IsSome (slice_index_or self.now.slots j None)) }

@@ -48,6 +48,25 @@ impl Book {
         set_home(&mut self.units, key, Some(slot));
     }
 
+    /// Makes an empty slot the home of a unit's block, empties the home that it had, and gives it the next write sequence
+    /// number.
+    pub fn place(&mut self, key: Key, slot: Slot, steps: &mut Steps)
+        requires block { HasBlock self.old key }
+        requires slot { HasSlot self.old slot }
+        requires empty { key_at self.old slot ≡ None }
+        ensures placed { self.new ≡ stamped (assigned self.old key slot) key }
+        // As many steps as `assign` alone if the block wasn't at the mirrored level.
+        ensures few { level self.old key ≢ Mirrored → length self.old.groups ≤ 4096
+            → steps.new.count ≤ steps.old.count + (6 * rows_of self.old.geometry + 24) }
+        ensures first { home self.old key ≡ None → length self.old.groups ≤ 4096
+            → steps.new.count ≤ steps.old.count + (3 * rows_of self.old.geometry + 12) }
+        ensures on { steps.old.count ≤ steps.new.count }
+    {
+        // Stamped first, the block is the newest of its group, whose oldest block then mostly stays.
+        self.stamp(key, steps);
+        self.assign(key, slot, steps);
+    }
+
     /// Empties the home of a unit's block. Counts no step if it has none.
     pub fn release(&mut self, key: Key, steps: &mut Steps)
         requires { HasBlock self.old key }

@@ -63,7 +63,7 @@ impl Book {
     }
 
     // The same, with a step counted for each slot up to it.
-    fn scan(&self, group: u32, steps: &mut Steps) -> Option<u16>
+    pub(crate) fn scan(&self, group: u32, steps: &mut Steps) -> Option<u16>
         requires { group < length self.now.groups }
         ensures found { IfSome result (IsHoleOf self.now group) }
         ensures least { IfSome result (λ slot. (i : ℕ) → IsHoleOf self.now group i → slot ≤ i) }
@@ -73,7 +73,7 @@ impl Book {
         ensures on { steps.old.count ≤ steps.new.count }
     {
         let group = &self.groups[group as usize];
-        group.lowest_hole(slots_of(self.geometry, group.class()), steps)
+        group.first_hole(slots_of(self.geometry, group.class()), steps)
     }
 
     /// The lowest hole of a class: the lowest empty slot of the lowest group of the class that has one. Counts a step
@@ -93,7 +93,7 @@ impl Book {
     }
 
     // The lowest group of a class that has a hole.
-    fn open(&self, class: Class) -> Option<u32>
+    pub(crate) fn open(&self, class: Class) -> Option<u32>
         ensures there { IfSome result (λ group. group < length self.now.groups) }
         ensures class { IfSome result (λ group. class_of self.now group ≡ class) }
         ensures some { IfSome result (λ group. ((i : ℕ) → IsHoleOf self.now group i → ⊥) → ⊥) }
@@ -104,15 +104,17 @@ impl Book {
     }
 
     /// The lowest mirrored group, which is full. It exists if a block has no home, no group has a hole, and one group
-    /// is free, as the preconditions say.
-    pub fn full_mirrored(&self) -> u32
+    /// is free, as the preconditions say. Counts a step for each group up to it.
+    pub fn full_mirrored(&self, steps: &mut Steps) -> u32
         requires waiting { HasUnplacedBlock self.now }
         requires mirrored { (slot : Slot) → IsHole self.now Class.Mirrored slot → ⊥ }
         requires parity { (slot : Slot) → IsHole self.now Class.Parity slot → ⊥ }
         requires free { free_groups self.now ≡ 1 }
-        ensures { IsFullMirrored self.now result }
+        ensures full { IsFullMirrored self.now result }
+        ensures counted { steps.new.count ≡ steps.old.count + result + 1 }
     {
         for number in 0..self.groups() {
+            steps.tick();
             if matches!(self.class(number), Class::Mirrored) {
                 return number;
             }

@@ -11,6 +11,7 @@ use crate::step::move_to;
 use ar_book::{Book, Class, Slot};
 use ar_disks::{Disk, Key};
 use ar_extents::Health;
+use ar_index::Steps;
 use ar_store::Store;
 
 /// Moves one block: of the mirrored groups that have blocks, all of which fit in the holes of the others, the one with
@@ -59,6 +60,8 @@ fn cleaning_of(book: &Book, class: Class) -> Option<(Key, Slot)>
     ensures names { IfSome result (λ pair. NamesCleaningOf book.now class pair.0 pair.1) }
     ensures none { IfNone result (HasNothingIn book.now class) }
 {
-    let group = book.emptiest(class)?;
-    Some((book.first_block(group), book.hole_beside(class, group)))
+    let mut steps = Steps::new();
+    let group = book.emptiest(class, &mut steps)?;
+    let key = book.first_block(group, &mut steps);
+    Some((key, book.hole_beside(class, group, &mut steps)))
 }

@@ -507,12 +507,6 @@ pub asks_from : (a b : StoreState) (key : Key) (from other : Slot) → home a.bo
 asks_from a b key from other is asks slot placed =
     let P : Slot → Type 0 = λ x. AsksSlots x other a b in subst P (same_Some from slot (sym is ∙ placed)) asks
 
--- the tables change, and the disks that were asked are the same
-pub asks_stamped : (a : StoreState) (b : SetState) (t u : Tables) (way : Way) → AsksWay way a (store_of b t) → AsksWay way a (store_of b u)
-asks_stamped a b t u (Home s) asks = asks
-asks_stamped a b t u (Hole s) asks = asks
-asks_stamped a b t u Broken asks = asks
-
 -- a free group was opened, and no block moved so far
 pub opening_asks : (a b : StoreState) (from to : ℕ) → AsksGroup to a b → AsksGroups from to a b
 opening_asks a b from to opening = second_group b.disks a.disks.geometry (members_of a from) (members_of a to) a.disks b.disks opening

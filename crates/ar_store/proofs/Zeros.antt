@@ -89,10 +89,8 @@ zeros_unneeded a t u k (Hole s) found (inr has) = λ needs. absurd (let few = ne
 zeros_unneeded a t u k Broken found opens = tt
 
 -- a stamp changes no slot
-pub beside_stamped : (a : StoreState) (b : SetState) (t : Tables) (k : Key) (way : Way) → BesideWay way a (store_of b t) → BesideWay way a (store_of b (stamped t k))
-beside_stamped a b t k (Home s) beside = tt
-beside_stamped a b t k (Hole s) beside = record { slots = λ slot block there same ne holds. beside.slots slot block there same ne holds }
-beside_stamped a b t k Broken beside = tt
+pub beside_hold_stamped : (a : StoreState) (b : SetState) (t : Tables) (k : Key) (to : Slot) → BesideHold a (store_of b t) to → BesideHold a (store_of b (stamped t k)) to
+beside_hold_stamped a b t k to beside = record { slots = λ slot block there same ne holds. beside.slots slot block there same ne holds }
 
 -- The slot that a squeeze left was written: those behind it hold zeros.
 pub zeros_put : (a b d : StoreState) (k : Key) (way : Way) → IsSpace b → Follows b.disks d.disks → Leads a.book k b.book way → IsReadyFor b k way → way ≢ Broken

@@ -15,7 +15,7 @@ impl<D: Disk> Space<D> {
     ghost use Rattle.ar_book.specs.Tables.{home, free_groups, HasBlock};
     ghost use Rattle.ar_book.specs.Changes.{assigned, stamped};
     ghost use Rattle.ar_store.specs.Slots.{stands, AllStand, OthersStand, BesideHold, SlotHolds};
-    ghost use Rattle.ar_store.specs.Placing.{IsVacant, IsReadyFor, placed_by};
+    ghost use Rattle.ar_store.specs.Placing.{IsVacant, IsReadyFor, placed_by, put_in};
     ghost use Rattle.ar_store.specs.Store.{store_of, class_in};
     ghost use Rattle.ar_store.specs.Asking.{AsksSlot, AsksSlots, AsksWay, KeepsButRowsOf, ReadsThenWrites};
     ghost use Rattle.ar_store.specs.Calls.{BesideWay};
@@ -96,7 +96,31 @@ impl<D: Disk> Space<D> {
         ensures asks { AsksWay way (store_in self.old) (store_in self.new) }
         ensures stays { Stays self.old self.new }
     {
-        match self.write_by(key, way, from) {
+        match way {
+            Way::Home(slot) => self.rewrite(key, slot, from),
+            Way::Hole(slot) => self.put_in(key, slot, from),
+            Way::Broken => Completion::Broken,
+        }
+    }
+
+    // Writes a block to its home, and gives it the next write sequence number.
+    fn rewrite(&mut self, key: Key, slot: Slot, from: &[u8]) -> Completion
+        requires ready { IsReady self.old }
+        requires block { HasBlock self.old.book key }
+        requires home { home self.old.book key ≡ Some slot }
+        requires whole { length from.now ≡ block_len_of self.old.disks.geometry }
+
+        ensures outcome { result ≡ outcome_of self.new.disks.health }
+        ensures tables { result ≡ Completion.Done → self.new.book ≡ stamped self.old.book key }
+        ensures unwritten { result ≡ Completion.Broken → self.new.book ≡ self.old.book }
+        ensures free { free_groups self.old.book ≤ free_groups self.new.book }
+
+        ensures here { result ≡ Completion.Done → stands (store_in self.new) key ≡ from.now }
+        ensures others { OthersStand (store_in self.old) (store_in self.new) key }
+        ensures asks { AsksSlot (class_in (store_in self.old) slot.group) slot (store_in self.old) (store_in self.new) }
+        ensures stays { Stays self.old self.new }
+    {
+        match self.write_at(slot, from) {
             Completion::Done => {
                 self.book.stamp(key, &mut Steps::new());
                 Completion::Done
@@ -105,28 +129,30 @@ impl<D: Disk> Space<D> {
         }
     }
 
-    // Writes a block to the slot that `way` has found for it, which becomes its home.
-    fn write_by(&mut self, key: Key, way: Way, from: &[u8]) -> Completion
+    // Writes a block to an empty slot, which becomes its home, and gives it the next write sequence number.
+    fn put_in(&mut self, key: Key, vacant: Slot, from: &[u8]) -> Completion
         requires ready { IsReady self.old }
         requires block { HasBlock self.old.book key }
-        requires way { IsReadyFor (store_in self.old) key way }
+        requires hole { IsVacant self.old.book vacant }
         requires whole { length from.now ≡ block_len_of self.old.disks.geometry }
 
         ensures outcome { result ≡ outcome_of self.new.disks.health }
-        ensures tables { result ≡ Completion.Done → self.new.book ≡ placed_by self.old.book key way }
+        ensures tables { result ≡ Completion.Done → self.new.book ≡ put_in self.old.book key vacant }
         ensures unwritten { result ≡ Completion.Broken → self.new.book ≡ self.old.book }
         ensures free { free_groups self.old.book ≤ free_groups self.new.book }
 
         ensures here { result ≡ Completion.Done → stands (store_in self.new) key ≡ from.now }
         ensures others { OthersStand (store_in self.old) (store_in self.new) key }
-        ensures beside { BesideWay way (store_in self.old) (store_in self.new) }
-        ensures asks { AsksWay way (store_in self.old) (store_in self.new) }
+        ensures beside { BesideHold (store_in self.old) (store_in self.new) vacant }
+        ensures asks { AsksSlot (class_in (store_in self.old) vacant.group) vacant (store_in self.old) (store_in self.new) }
         ensures stays { Stays self.old self.new }
     {
-        match way {
-            Way::Home(slot) => self.write_at(slot, from),
-            Way::Hole(slot) => self.fill(key, slot, from),
-            Way::Broken => Completion::Broken,
+        match self.write_at(vacant, from) {
+            Completion::Done => {
+                self.book.place(key, vacant, &mut Steps::new());
+                Completion::Done
+            }
+            Completion::Broken => Completion::Broken,
         }
     }
 }

@@ -8,6 +8,7 @@ use crate::space::Space;
 use ar_book::Slot;
 use ar_disks::{Block, Completion, Disk};
 use ar_extents::Health;
+use ar_index::Steps;
 
 impl<D: Disk> Space<D> {
     ghost use Rattle.std.specs.Prelude.{◌≡◌, ◌≢◌, ◌<◌, length, None, IfSome, IfNone};
@@ -46,7 +47,7 @@ impl<D: Disk> Space<D> {
         ensures stays { Stays self.old self.new }
         ensures len { length block.new ≡ length block.old }
     {
-        let from = self.book.full_mirrored();
+        let from = self.book.full_mirrored(&mut Steps::new());
         let to = self.open_last();
         if let Health::Broken = self.disks.health() {
             return None;

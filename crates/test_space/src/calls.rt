@@ -25,7 +25,9 @@ pub enum Call {
     ClearAttention(Unit),
     /// Gives a block the lowest hole of a class, and tells it.
     Place(Unit, u32, Class),
-    /// The same for so many blocks of a unit from one on; tells the last hole.
+    /// The same, and stamps the block.
+    Put(Unit, u32, Class),
+    /// Gives such a hole to each of so many blocks of a unit from one on; tells the last hole.
     PlaceAll(Unit, u32, u32, Class),
     Release(Unit, u32),
     Stamp(Unit, u32),
@@ -124,6 +126,7 @@ pub fn ask(rt: &impl Abort, book: &mut Book, call: Call) -> Answer {
         Call::Drop(unit) => granted(book.drop_unit(addr(rt, unit))),
         Call::ClearAttention(unit) => clear_attention(book, addr(rt, unit)),
         Call::Place(unit, rb, class) => place(book, key(rt, unit, rb), class),
+        Call::Put(unit, rb, class) => put(book, key(rt, unit, rb), class),
         Call::PlaceAll(unit, first, blocks, class) => place_all(
             rt, book, unit, first, blocks, class,
         ),
@@ -210,7 +213,7 @@ fn full_mirrored(book: &Book, waiting: Key) -> Answer {
     {
         return Answer::Nothing;
     }
-    number(book.full_mirrored())
+    number(book.full_mirrored(&mut Steps::new()))
 }
 
 /// The extents with one number on the disks 0 to 3.
@@ -306,6 +309,17 @@ fn place(book: &mut Book, key: Key, class: Class) -> Answer {
         return Answer::Nothing;
     }
     book.assign(key, hole, &mut Steps::new());
+    slot(Some(hole))
+}
+
+fn put(book: &mut Book, key: Key, class: Class) -> Answer {
+    let Some(hole) = book.hole(class, &mut Steps::new()) else {
+        return Answer::Nothing;
+    };
+    if key.rb >= book.blocks(key.addr) {
+        return Answer::Nothing;
+    }
+    book.place(key, hole, &mut Steps::new());
     slot(Some(hole))
 }
 

@@ -49,6 +49,7 @@ fn event(seed: &mut u64) -> Call {
         21..=28 => Call::Release(unit, rb),
         29..=36 => Call::Stamp(unit, rb),
         37..=40 => Call::PlaceAll(unit, rb, 50, class),
+        41..=48 => Call::Put(unit, rb, class),
         _ => Call::Place(unit, rb, class),
     }
 }
@@ -225,6 +226,101 @@ fn check_oldest(rt: &impl Abort, book: &Book, event: u32) {
     );
 }
 
+// What cleaning chooses in a class: the group that it empties, the block that leaves it, and the slot where that goes.
+type Cleaning = (u32, Key, Slot);
+
+fn cleaning(book: &Book, class: Class) -> Option<Cleaning> {
+    let mut steps = Steps::new();
+    let group = book.emptiest(class, &mut steps)?;
+    let key = book.first_block(group, &mut steps);
+    let hole = book.hole_beside(class, group, &mut steps);
+    Some((group, key, hole))
+}
+
+fn holes_in(book: &Book, class: Class, group: u32) -> u16
+    requires { group < length book.now.groups }
+{
+    if book.class(group) == class {
+        slots_of(class).wrapping_sub(book.used(group))
+    } else {
+        0
+    }
+}
+
+fn plain_holes(book: &Book, class: Class) -> u32 {
+    let mut holes: u32 = 0;
+    for group in 0..book.groups() {
+        holes = holes.wrapping_add(holes_in(book, class, group).into());
+    }
+    holes
+}
+
+// Whether a group's blocks fit in `holes` less its own.
+fn fits(book: &Book, class: Class, group: u32, holes: u32) -> bool
+    requires { group < length book.now.groups }
+{
+    let others = holes.wrapping_sub(holes_in(book, class, group).into());
+    u32::from(book.used(group)) <= others
+}
+
+fn emptier(book: &Book, class: Class, group: u32, former: Option<u32>) -> Option<u32>
+    requires { group < length book.now.groups }
+{
+    if book.class(group) != class || book.used(group) == 0 {
+        return former;
+    }
+    match former {
+        Some(first) if first < group && book.used(first) <= book.used(group) => former,
+        _ => Some(group),
+    }
+}
+
+fn plain_emptiest(book: &Book, class: Class) -> Option<u32> {
+    let holes = plain_holes(book, class);
+    let mut emptiest = None;
+    for group in 0..book.groups() {
+        if fits(book, class, group, holes) {
+            emptiest = emptier(book, class, group, emptiest);
+        }
+    }
+    emptiest
+}
+
+fn first_in(book: &Book, class: Class, group: u32) -> Option<Key> {
+    for slot in 0..slots_of(class) {
+        if let Some(key) = book.key_at(Slot { group, slot }) {
+            return Some(key);
+        }
+    }
+    None
+}
+
+fn hole_but(book: &Book, class: Class, but: u32) -> Option<Slot> {
+    for group in 0..book.groups() {
+        if group != but && book.class(group) == class {
+            if let Some(slot) = hole_in(book, group, slots_of(class)) {
+                return Some(slot);
+            }
+        }
+    }
+    None
+}
+
+fn plain_cleaning(book: &Book, class: Class) -> Option<Cleaning> {
+    let group = plain_emptiest(book, class)?;
+    let key = first_in(book, class, group)?;
+    Some((group, key, hole_but(book, class, group)?))
+}
+
+fn check_cleaning(rt: &impl Abort, book: &Book, class: Class, event: u32) {
+    let chosen = cleaning(book, class);
+    let wanted = plain_cleaning(book, class);
+    assert!(rt;
+        chosen == wanted,
+        "cleaning {chosen:?} after event {event}, not {wanted:?}"
+    );
+}
+
 fn run(rt: &impl Abort, book: &mut Book) {
     let mut seed = 2_026;
     for index in 0..EVENTS {
@@ -238,8 +334,10 @@ fn run(rt: &impl Abort, book: &mut Book) {
         check_hole(rt, book, Class::Parity, 6, index);
         check_free(rt, book, index);
         check_oldest(rt, book, index);
-        // (Each compares every group.)
+        // (These walk all groups several times.)
         if index % 16 == 0 {
+            check_cleaning(rt, book, Class::Mirrored, index);
+            check_cleaning(rt, book, Class::Parity, index);
             check_summaries(rt, book, index);
         }
     }

@@ -92,6 +92,7 @@ impl Plain {
             Call::Grow(unit, sectors) => self.grow(unit, sectors),
             Call::Drop(unit) => self.drop_unit(unit),
             Call::Place(unit, rb, class) => self.place(unit, rb, class),
+            Call::Put(unit, rb, class) => self.put(unit, rb, class),
             Call::Release(unit, rb) => self.release(unit, rb),
             Call::Stamp(unit, rb) => self.stamp(unit, rb),
             Call::Open(class) => self.open(class),
@@ -343,6 +344,14 @@ impl Plain {
         slot(Some(hole))
     }
 
+    fn put(&mut self, unit: Unit, rb: u32, class: Class) -> Answer {
+        let placed = self.place(unit, rb, class);
+        if placed != Answer::Nothing {
+            let _ = self.stamp(unit, rb);
+        }
+        placed
+    }
+
     fn release(&mut self, unit: Unit, rb: u32) -> Answer {
         if rb >= self.blocks(unit) {
             return Answer::Nothing;
@@ -414,6 +423,7 @@ fn draw(seed: &mut u64) -> Call {
         3 => Call::Release(unit, rb),
         4 | 5 => Call::Stamp(unit, rb),
         6 | 7 => Call::Open(class),
+        8 | 9 => Call::Put(unit, rb, class),
         _ => Call::Place(unit, rb, class),
     }
 }

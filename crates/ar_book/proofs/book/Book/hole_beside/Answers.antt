@@ -1,8 +1,6 @@
-use Rattle.std.proofs.Common.{arith}
-use Rattle.ar_book.proofs.CleaningLemmas.{some_beside}
+use Rattle.ar_book.proofs.Beside.{beside_some}
 use Rattle.ar_book.proofs.book.Book.hole_beside.Goals as goal
 
 pub unreachable-requires : goal.unreachable-requires
 unreachable-requires c =
-    some_beside c.args.self.now c.groups-number-end.ensures.sound c.args.class c.args.group c.requires
-    (λ s inside hole. c.loop-number.invariant s (omega (arith, c.groups-number-end.ensures.count)) hole)
+    beside_some c.args.self.now c.open_beside-number.ensures.sound c.args.class c.args.group c.open_beside-number.result c.open_beside-number.ensures.found c.in-None.ensures.none

@@ -33,7 +33,7 @@ move_all-requires g c =
     record {
       ready = opening.stays.ready;
       can = subst (λ (u : Tables). CanMove u from to) (sym opening.opened)
-          (can_move t from to c.requires.ready.space.tables c.full_mirrored-from.ensures opening.lowest);
+          (can_move t from to c.requires.ready.space.tables c.full_mirrored-from.ensures.full opening.lowest);
       sound = λ broken. c.in_default.not-Broken (c.health.ensures.same ∙ broken);
       whole = c.requires.whole ∙ ap block_len_of (sym opening.stays.accessed.follows.geometry);
     }
@@ -50,12 +50,12 @@ returns-in-Done g c =
     let moved = c.move_all.ensures in
     let both = stays_then s mid new opening.stays moved.stays in
     record {
-      squeezed = squeezed_is t mid.book new.book from to (2 * c.rows.result) c.full_mirrored-from.ensures opening.lowest opening.opened
+      squeezed = squeezed_is t mid.book new.book from to (2 * c.rows.result) c.full_mirrored-from.ensures.full opening.lowest opening.opened
           (moved.moved c.in-Done.is)
           (slots_end c.rows.result c.geometry.result t.geometry c.rows.ensures
           (c.geometry.ensures ∙ both.accessed.follows.geometry ∙ sym c.requires.ready.space.geometry))
           (moved.hole c.in-Done.is);
-      free = free_counted new.book from both.ready.space.tables (subst (λ n. from < n) (sym both.units.groups) c.full_mirrored-from.ensures.there)
+      free = free_counted new.book from both.ready.space.tables (subst (λ n. from < n) (sym both.units.groups) c.full_mirrored-from.ensures.full.there)
           (moved.emptied c.in-Done.is);
       zeros =
           (let slot = slots_end c.rows.result c.geometry.result t.geometry c.rows.ensures
@@ -67,10 +67,10 @@ returns-in-Done g c =
                 (moved.zeros c.in-Done.is opening.zeros);
           });
       none = tt;
-      begun = begun_squeeze t mid.book new.book from to moved.turns.moved c.full_mirrored-from.ensures opening.lowest opening.opened moved.turns.tables;
+      begun = begun_squeeze t mid.book new.book from to moved.turns.moved c.full_mirrored-from.ensures.full opening.lowest opening.opened moved.turns.tables;
       unplaced = λ k is. moved.unplaced k (homes_opened t mid.book to k opening.opened is);
       stand = all_then s mid new moved.stays opening.stand moved.stand;
-      asks = only_squeeze (store_in s) (store_in new) c.full_mirrored-from.result c.open_last-to.result c.full_mirrored-from.ensures opening.lowest
+      asks = only_squeeze (store_in s) (store_in new) c.full_mirrored-from.result c.open_last-to.result c.full_mirrored-from.ensures.full opening.lowest
           (squeezes (store_in s) (store_in mid) (store_in new) c.full_mirrored-from.result c.open_last-to.result opening.opened opening.lowest.there
           opening.asks opening.zeros moved.asks moved.turns);
       stays = both;
@@ -89,11 +89,11 @@ returns-in-Broken-move_all g c =
       free = tt;
       zeros = tt;
       none = broken_is new.disks.health (sym c.in-Broken-move_all.is ∙ moved.outcome);
-      begun = begun_squeeze s.book mid.book new.book c.full_mirrored-from.result c.open_last-to.result moved.turns.moved c.full_mirrored-from.ensures
+      begun = begun_squeeze s.book mid.book new.book c.full_mirrored-from.result c.open_last-to.result moved.turns.moved c.full_mirrored-from.ensures.full
           opening.lowest opening.opened moved.turns.tables;
       unplaced = λ k is. moved.unplaced k (homes_opened s.book mid.book c.open_last-to.result k opening.opened is);
       stand = all_then s mid new moved.stays opening.stand moved.stand;
-      asks = only_squeeze (store_in s) (store_in new) c.full_mirrored-from.result c.open_last-to.result c.full_mirrored-from.ensures opening.lowest
+      asks = only_squeeze (store_in s) (store_in new) c.full_mirrored-from.result c.open_last-to.result c.full_mirrored-from.ensures.full opening.lowest
           (squeezes (store_in s) (store_in mid) (store_in new) c.full_mirrored-from.result c.open_last-to.result opening.opened opening.lowest.there
           opening.asks opening.zeros moved.asks moved.turns);
       stays = stays_then s mid new opening.stays moved.stays;
@@ -111,7 +111,7 @@ returns-in-Broken g c =
       begun = record {
         from = c.full_mirrored-from.result;
         to = c.open_last-to.result;
-        full = c.full_mirrored-from.ensures;
+        full = c.full_mirrored-from.ensures.full;
         lowest = opening.lowest;
         moved = 0;
         moves = record { within = omega arith; tables = opening.opened };
@@ -119,7 +119,7 @@ returns-in-Broken g c =
       unplaced = λ k is. homes_opened c.args.self.now.book c.open_last-to.new.self.book c.open_last-to.result k opening.opened is;
       stand = opening.stand;
       asks = only_squeeze (store_in c.args.self.now) (store_in c.open_last-to.new.self) c.full_mirrored-from.result c.open_last-to.result
-          c.full_mirrored-from.ensures opening.lowest
+          c.full_mirrored-from.ensures.full opening.lowest
           (squeeze_cut (store_in c.args.self.now) (store_in c.open_last-to.new.self) c.full_mirrored-from.result c.open_last-to.result opening.opened
           opening.asks (sym c.health.ensures.same ∙ c.in-Broken.is));
       stays = opening.stays;

@@ -1,56 +1,74 @@
-use Rattle.std.proofs.Common.{◌≤◌, sym, ap, subst, ◌∙◌}
-use Rattle.ar_book.specs.Tables.{Tables, free_groups}
+use Rattle.std.proofs.Common.{sym, refl, ap, subst, ◌∙◌}
+use Rattle.ar_book.specs.Tables.{Tables}
 use Rattle.ar_book.specs.Changes.{stamped}
-use Rattle.ar_store.specs.Store.{store_of}
+use Rattle.ar_extents.specs.Groups.{outcome_of}
+use Rattle.ar_store.specs.declared.way.Way.{Way}
+use Rattle.ar_store.specs.Placing.{IsReadyFor, placed_by}
+use Rattle.ar_store.specs.Asking.{AsksWay}
 use Rattle.ar_store.specs.Calls.{BesideWay}
 use Rattle.ar_store.specs.Spaces.{store_in}
-use Rattle.ar_store.proofs.Zeros.{beside_stamped}
-use Rattle.ar_store.proofs.Changes.{block_then}
-use Rattle.ar_store.proofs.Fills.{stamped_then, done_not_broken}
-use Rattle.ar_store.proofs.Asking.{asks_stamped}
+use Rattle.ar_store.proofs.Fills.{none_stands, done_not_broken, same_free}
+use Rattle.ar_store.proofs.Stays.{stays_refl}
 use Rattle.ar_store.proofs.space.Space.write.Goals as goal
 
-pub write_by-requires : goal.write_by-requires
-write_by-requires g c = record { ready = c.requires.ready; block = c.requires.block; way = c.requires.way; whole = c.requires.whole }
+pub rewrite-requires : goal.rewrite-requires
+rewrite-requires g c = record {
+  ready = c.requires.ready;
+  block = c.requires.block;
+  home = subst (λ (w : Way). IsReadyFor (store_in c.args.self.now) c.args.key w) c.in-Home.is c.requires.way;
+  whole = c.requires.whole;
+}
 
-pub stamp-requires : goal.stamp-requires
-stamp-requires g c = block_then c.args.self.now.book c.write_by.new.self.book c.args.key c.write_by.ensures.stays.units c.requires.block
-
-pub returns-in-Done : goal.returns-in-Done
-returns-in-Done g c =
-    let s = c.args.self.now in
-    let new = c.write_by.new.self in
-    let wrote = c.write_by.ensures in
-    let stamps = stamped_then (store_in s) new.disks s.book new.book c.stamp.new.self c.args.key c.args.from.now wrote.stays.ready.space c.requires.block
-    wrote.stays.units (wrote.here c.in-Done.is) wrote.others c.stamp.ensures.stamped in
+pub returns-in-Home : goal.returns-in-Home
+returns-in-Home g c =
+    let wrote = c.rewrite.ensures in
     record {
-      outcome = sym c.in-Done.is ∙ wrote.outcome;
-      tables = λ _. c.stamp.ensures.stamped ∙ ap (λ (x : Tables). stamped x c.args.key) (wrote.tables c.in-Done.is);
-      unwritten = λ broke. absurd (done_not_broken broke);
-      free = subst (λ (x : Tables). free_groups s.book ≤ free_groups x) (sym c.stamp.ensures.stamped) wrote.free;
-      here = λ _. stamps.here;
-      others = stamps.others;
-      beside = subst (λ (x : Tables). BesideWay c.args.way (store_in s) (store_of new.disks x)) (sym c.stamp.ensures.stamped)
-          (beside_stamped (store_in s) new.disks new.book c.args.key c.args.way wrote.beside);
-      asks = asks_stamped (store_in s) new.disks new.book c.stamp.new.self c.args.way wrote.asks;
-      stays = record {
-        ready = record { space = stamps.space; scratch = wrote.stays.ready.scratch };
-        units = stamps.units;
-        accessed = wrote.stays.accessed;
-      };
+      outcome = wrote.outcome;
+      tables = λ done. wrote.tables done ∙ ap (λ (w : Way). stamped (placed_by c.args.self.now.book c.args.key w) c.args.key) (sym c.in-Home.is);
+      unwritten = wrote.unwritten;
+      free = wrote.free;
+      here = wrote.here;
+      others = wrote.others;
+      beside = subst (λ (w : Way). BesideWay w (store_in c.args.self.now) (store_in c.rewrite.new.self)) (sym c.in-Home.is) tt;
+      asks = subst (λ (w : Way). AsksWay w (store_in c.args.self.now) (store_in c.rewrite.new.self)) (sym c.in-Home.is) wrote.asks;
+      stays = wrote.stays;
+    }
+
+pub put_in-requires : goal.put_in-requires
+put_in-requires g c = record {
+  ready = c.requires.ready;
+  block = c.requires.block;
+  hole = subst (λ (w : Way). IsReadyFor (store_in c.args.self.now) c.args.key w) c.in-Hole.is c.requires.way;
+  whole = c.requires.whole;
+}
+
+pub returns-in-Hole : goal.returns-in-Hole
+returns-in-Hole g c =
+    let wrote = c.put_in.ensures in
+    record {
+      outcome = wrote.outcome;
+      tables = λ done. wrote.tables done ∙ ap (λ (w : Way). stamped (placed_by c.args.self.now.book c.args.key w) c.args.key) (sym c.in-Hole.is);
+      unwritten = wrote.unwritten;
+      free = wrote.free;
+      here = wrote.here;
+      others = wrote.others;
+      beside = subst (λ (w : Way). BesideWay w (store_in c.args.self.now) (store_in c.put_in.new.self)) (sym c.in-Hole.is) wrote.beside;
+      asks = subst (λ (w : Way). AsksWay w (store_in c.args.self.now) (store_in c.put_in.new.self)) (sym c.in-Hole.is) wrote.asks;
+      stays = wrote.stays;
     }
 
 pub returns-in-Broken : goal.returns-in-Broken
 returns-in-Broken g c =
-    let wrote = c.write_by.ensures in
+    let s = c.args.self.now in
+    let broken = subst (λ (w : Way). IsReadyFor (store_in s) c.args.key w) c.in-Broken.is c.requires.way in
     record {
-      outcome = sym c.in-Broken.is ∙ wrote.outcome;
+      outcome = sym (ap outcome_of broken);
       tables = λ done. absurd (done_not_broken (sym done));
-      unwritten = λ _. wrote.unwritten c.in-Broken.is;
-      free = wrote.free;
+      unwritten = λ _. refl;
+      free = same_free s.book s.book refl;
       here = λ done. absurd (done_not_broken (sym done));
-      others = wrote.others;
-      beside = wrote.beside;
-      asks = wrote.asks;
-      stays = wrote.stays;
+      others = none_stands (store_in s) (store_in s) c.args.key broken;
+      beside = subst (λ (w : Way). BesideWay w (store_in s) (store_in s)) (sym c.in-Broken.is) tt;
+      asks = subst (λ (w : Way). AsksWay w (store_in s) (store_in s)) (sym c.in-Broken.is) refl;
+      stays = stays_refl s c.requires.ready;
     }
