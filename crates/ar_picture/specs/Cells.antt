@@ -1,5 +1,5 @@
 -- What a picture shows of an extent.
-use Rattle.std.specs.Prelude.{ℕ, ◌*◌, ◌/◌, Bool, false, ◌==◌, ◌&&◌, nat_le, if◌then◌else◌, List, Option, None, Some, position, find}
+use Rattle.std.specs.Prelude.{◌≡◌, ℕ, ◌*◌, ◌/◌, ◌<◌, Bool, false, ◌==◌, ◌&&◌, nat_le, if◌then◌else◌, List, Option, None, Some, position, find, slice_get}
 use Rattle.ar_disks.specs.Members.{stands_on}
 use Rattle.ar_disks.specs.declared.address.Place.{Place}
 use Rattle.ar_picture.specs.declared.picture.Class.{Class}
@@ -45,6 +45,22 @@ content_within (Some g) = content_of g
 -- the use of an extent
 abbrev pub content_at : List Group → Place → Content
 content_at groups p = content_within (find (λ g. stands_on g.members p) groups)
+
+-- the use of the extents of the group with this number, or of no group
+abbrev pub content_numbered : List Group → Option ℕ → Content
+content_numbered groups None = Loose
+content_numbered groups (Some number) = content_within (slice_get groups number)
+
+-- for each extent of a disk, by number, the lowest group that has it
+abbrev pub ListsGroups : Picture → ℕ → List (Option ℕ) → Type 0
+ListsGroups picture disk numbers =
+    (extent : ℕ) → extent < picture.extents
+    → slice_get numbers extent ≡ Some (group_at picture.groups.items (record { disk = disk; extent = extent }))
+
+-- the entry of an extent after a group with this number, to which the extent belongs or not: the lower group stays
+abbrev pub listed : Bool → ℕ → Option ℕ → Option ℕ
+listed belongs number (Some lower) = Some lower
+listed belongs number None = if belongs then Some number else None
 
 -- what the picture shows of an extent
 abbrev pub cell_of : Picture → Place → Cell

@@ -1,8 +1,6 @@
 // Cells: what a picture shows of an extent. The lowest group that has the extent decides its use.
-ghost use Rattle.std.specs.Prelude.{◌≡◌, find};
-ghost use Rattle.std.specs.Option.{option_copied};
-ghost use Rattle.ar_disks.specs.Members.{stands_on};
-ghost use Rattle.ar_picture.specs.Cells.{content_of, content_at, cell_of};
+ghost use Rattle.std.specs.Prelude.{◌≡◌};
+ghost use Rattle.ar_picture.specs.Cells.{cell_of, content_at, content_numbered, content_of};
 
 use crate::{Class, Group, Picture};
 use ar_disks::Place;
@@ -56,16 +54,19 @@ impl Picture {
     fn content_at(&self, place: Place) -> Content
         ensures { result ≡ content_at self.now.groups.items place }
     {
-        match self.group_of(place) {
+        self.content_numbered(self.group_at(place))
+    }
+
+    // The use of the extents of the group with this number, or of no group.
+    pub(crate) fn content_numbered(&self, number: Option<usize>) -> Content
+        ensures { result ≡ content_numbered self.now.groups.items number }
+    {
+        let Some(number) = number else {
+            return Content::Loose;
+        };
+        match self.groups.get(number) {
             Some(group) => group.content(),
             None => Content::Loose,
         }
-    }
-
-    // The lowest group that has an extent.
-    fn group_of(&self, place: Place) -> Option<&Group>
-        ensures { option_copied result ≡ find (λ g. stands_on g.members place) self.now.groups.items }
-    {
-        self.groups.iter().find(|group| group.stands_on(place))
     }
 }

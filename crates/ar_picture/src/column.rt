@@ -2,6 +2,7 @@
 ghost use Rattle.std.specs.Prelude.{◌≡◌, ℕ, ◌*◌, ◌<◌, ◌≤◌, ◌^◌, OnOk, codes, sum, take, slice_get, slice_index};
 ghost use Rattle.std.specs.Io.KnownBytes.{Appends};
 ghost use Rattle.std.specs.List.{flat_map, range_with_len};
+ghost use Rattle.ar_picture.specs.Cells.{group_at};
 ghost use Rattle.ar_picture.specs.Drawings.{bar_at, bar_svg, cell_svg, extent_svg, hatch_svg, label_svg, piece_svg, pieces_svg};
 ghost use Rattle.ar_picture.specs.Drawings.{row_svg, slots_svg, style_of, use_svg, words_at, words_svg};
 
@@ -9,11 +10,13 @@ use crate::layout::{Scale, WIDTH, left_of};
 use crate::palette::colour_at;
 use crate::{Class, Content, Group, Held, Picture, UNITS_MAX};
 use ar_disks::Place;
+use std::alloc::Global;
 use std::io;
 use std::io::Write;
 
-/// Writes the extents of a disk.
+/// Writes the extents of a disk. Fails if they can't be written, or out of memory.
 pub fn write_extents<W: Write>(
+    alloc: Global,
     out: &mut W,
     picture: &Picture,
     scale: Scale,
@@ -22,27 +25,32 @@ pub fn write_extents<W: Write>(
     ensures text { OnOk result (Appends (W.contents out.old) (W.contents out.new)
         (flat_map (row_svg scale picture.now disk) (range_with_len 0 picture.now.extents))) }
 {
+    let numbers = picture.groups_of_disk(alloc, disk)?;
     for extent in 0..picture.extents {
-        write_extent(out, picture, scale, Place { disk, extent })?;
+        let number = numbers[usize::from(extent)];
+        write_extent(out, picture, scale, Place { disk, extent }, number)?;
     }
     Ok(())
 }
 
-// Writes an extent: its cell, the bar of its group, a hatch if it is missing, and text if there is room.
+// Writes an extent of the group with this number: its cell, the group's bar, a hatch if it is missing, and text if
+// there is room.
 fn write_extent<W: Write>(
     out: &mut W,
     picture: &Picture,
     scale: Scale,
     place: Place,
+    number: Option<usize>,
 ) -> io::Result<()>
+    requires { number ≡ group_at picture.now.groups.items place }
     ensures text { OnOk result
         (Appends (W.contents out.old) (W.contents out.new) (extent_svg scale picture.now place)) }
 {
-    let cell = picture.cell_at(place);
-    let number = picture.group_at(place);
-    write_cell(out, scale, place, style_of(cell.content))?;
+    let content = picture.content_numbered(number);
+    let is_missing = picture.health.is_missing(place);
+    write_cell(out, scale, place, style_of(content))?;
     write_bar_at(out, picture, scale, place, number)?;
-    write_hatch(out, scale, place, cell.is_missing)?;
+    write_hatch(out, scale, place, is_missing)?;
     write_words_at(out, picture, scale, place, number)
 }
 

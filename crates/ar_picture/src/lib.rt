@@ -4,6 +4,7 @@
 mod cell;
 mod column;
 mod folds;
+mod groups;
 mod layout;
 mod legend;
 mod palette;

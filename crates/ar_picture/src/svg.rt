@@ -11,6 +11,7 @@ use crate::layout::{Scale, TOP, WIDTH, left_of, size_of};
 use crate::legend::write_legend;
 use crate::palette::{GROUND, MIRRORED, PARITY};
 use crate::{Health, Picture};
+use std::alloc::Global;
 use std::io;
 use std::io::Write;
 
@@ -36,20 +37,21 @@ const HATCH: &str = "\
 
 /// Writes the picture as an SVG: for each disk a column of its extents, coloured by the class of their group, each with
 /// a bar as long as the group is full, in the colours of the units whose blocks it holds; and a legend. Missing extents
-/// are hatched. It is exactly the text that specs/Drawings.antt gives.
-pub fn write_svg<W: Write>(out: &mut W, picture: &Picture) -> io::Result<()>
+/// are hatched. It is exactly the text that specs/Drawings.antt gives. Fails if that can't be written, or out of
+/// memory: it allocates a number for each extent of one disk.
+pub fn write_svg<W: Write>(alloc: Global, out: &mut W, picture: &Picture) -> io::Result<()>
     ensures text { OnOk result (Appends (W.contents out.old) (W.contents out.new) (svg_text picture.now)) }
 {
-    draw(out, picture, Scale::of(picture.extents))
+    draw(alloc, out, picture, Scale::of(picture.extents))
 }
 
 // Writes the picture at a scale.
-fn draw<W: Write>(out: &mut W, picture: &Picture, scale: Scale) -> io::Result<()>
+fn draw<W: Write>(alloc: Global, out: &mut W, picture: &Picture, scale: Scale) -> io::Result<()>
     ensures text { OnOk result (Appends (W.contents out.old) (W.contents out.new) (picture_svg scale picture.now)) }
 {
     write_frame(out, picture, scale)?;
     write_numbers(out, picture.extents, scale)?;
-    write_disks(out, picture, scale)?;
+    write_disks(alloc, out, picture, scale)?;
     write_legend(out, picture)?;
     writeln!(out, "</svg>")
 }
@@ -154,33 +156,49 @@ fn write_number<W: Write>(out: &mut W, scale: Scale, extent: u16) -> io::Result<
 }
 
 // Writes all disks.
-fn write_disks<W: Write>(out: &mut W, picture: &Picture, scale: Scale) -> io::Result<()>
+fn write_disks<W: Write>(
+    alloc: Global,
+    out: &mut W,
+    picture: &Picture,
+    scale: Scale,
+) -> io::Result<()>
     ensures text { OnOk result (Appends (W.contents out.old) (W.contents out.new) (disks_svg scale picture.now)) }
 {
     let outline = scale.outline();
     writeln!(out, "<g stroke-width='{outline}'>")?;
-    write_columns(out, picture, scale)?;
+    write_columns(alloc, out, picture, scale)?;
     writeln!(out, "</g>")
 }
 
 // Writes the column of each disk.
-fn write_columns<W: Write>(out: &mut W, picture: &Picture, scale: Scale) -> io::Result<()>
+fn write_columns<W: Write>(
+    alloc: Global,
+    out: &mut W,
+    picture: &Picture,
+    scale: Scale,
+) -> io::Result<()>
     ensures text { OnOk result (Appends (W.contents out.old) (W.contents out.new)
         (flat_map (disk_svg scale picture.now) (range_with_len 0 picture.now.disks))) }
 {
     for disk in 0..picture.disks {
-        write_disk(out, picture, scale, disk)?;
+        write_disk(alloc, out, picture, scale, disk)?;
     }
     Ok(())
 }
 
 // Writes a disk's column.
-fn write_disk<W: Write>(out: &mut W, picture: &Picture, scale: Scale, disk: u8) -> io::Result<()>
+fn write_disk<W: Write>(
+    alloc: Global,
+    out: &mut W,
+    picture: &Picture,
+    scale: Scale,
+    disk: u8,
+) -> io::Result<()>
     ensures text { OnOk result (Appends (W.contents out.old) (W.contents out.new) (disk_svg scale picture.now disk)) }
 {
     write_name(out, disk)?;
     write_state(out, picture.health, disk)?;
-    write_extents(out, picture, scale, disk)
+    write_extents(alloc, out, picture, scale, disk)
 }
 
 // Writes a disk's name above its column.

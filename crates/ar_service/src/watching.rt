@@ -86,7 +86,7 @@ fn draw(alloc: Global, picture: &Option<Picture>) -> Result<Vec<u8>, AllocError>
 {
     let mut text = Vec::new(alloc);
     if let Some(picture) = picture {
-        write_svg(&mut text, picture).map_err(|_| AllocError)?;
+        write_svg(alloc, &mut text, picture).map_err(|_| AllocError)?;
     }
     Ok(text)
 }

@@ -26,6 +26,6 @@ pub fn draw<R: Files + AllocGlobal>(
         .picture(rt.alloc())
         .map_err(|_| DrawingFault::NoMemory)?;
     let mut svg = Vec::new(rt.alloc());
-    write_svg(&mut svg, &picture).map_err(|_| DrawingFault::NoMemory)?;
+    write_svg(rt.alloc(), &mut svg, &picture).map_err(|_| DrawingFault::NoMemory)?;
     fs::write(rt, file, &svg).map_err(|_| DrawingFault::Write)
 }

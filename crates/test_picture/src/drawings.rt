@@ -41,7 +41,7 @@ fn picture(alloc: Global, blocks: &[Held]) -> Result<Picture, AllocError> {
 // The SVG of a picture.
 fn svg_of_picture(alloc: Global, picture: &Picture) -> io::Result<Vec<u8>> {
     let mut out = Vec::new(alloc);
-    write_svg(&mut out, picture)?;
+    write_svg(alloc, &mut out, picture)?;
     Ok(out)
 }
 
@@ -129,7 +129,7 @@ impl Write for Short {
 fn are_written(alloc: Global, left: usize) -> io::Result<(bool, bool)> {
     let picture = picture(alloc, &[])?;
     let folds = picture.folds(alloc)?;
-    let svg = write_svg(&mut Short { left }, &picture).is_ok();
+    let svg = write_svg(alloc, &mut Short { left }, &picture).is_ok();
     let map = write_map(&mut Short { left }, &picture, &folds).is_ok();
     Ok((svg, map))
 }
