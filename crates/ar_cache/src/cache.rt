@@ -29,6 +29,8 @@ pub struct Cache {
     entries: LruCache<Key, Block>,
     // A block without an entry, kept for the next one: so a full cache allocates one block at most.
     spare: Option<Block>,
+    // How many entries have left because the backing has their blocks. It saturates, and no contract sees it.
+    destages: u64,
 }
 
 impl Model for Cache {
@@ -64,6 +66,7 @@ impl Cache {
             capacity,
             entries: LruCache::new(alloc, places)?,
             spare: None,
+            destages: 0,
         })
     }
 
@@ -73,6 +76,12 @@ impl Cache {
         ensures sound { IsValidCache self.now }
     {
         self.entries.len()
+    }
+
+    /// Returns how many entries were destaged: evicted or flushed, and not written through or discarded. The number
+    /// saturates.
+    pub fn destages(&self) -> u64 {
+        self.destages
     }
 
     /// Returns whether no block is cached.
@@ -156,7 +165,7 @@ impl Cache {
     {
         let answer = self.destage_last(backing);
         if let Flush::Flushed(_) = answer {
-            self.drop_last();
+            self.drop_destaged();
         }
         answer
     }
@@ -319,7 +328,7 @@ impl Cache {
         }
         match backing.put(key, block) {
             Completion::Done => {
-                self.drop_last();
+                self.drop_destaged();
                 Completion::Done
             }
             Completion::Broken => Completion::Broken,
@@ -347,7 +356,8 @@ impl Cache {
         }
     }
 
-    // Adds an entry as the most recently used, in a full cache in place of the last. Returns false if out of memory.
+    // Adds an entry as the most recently used, in a full cache in place of the last, which was destaged. Returns false
+    // if out of memory.
     fn insert(&mut self, key: Key, block: &[u8]) -> bool
         requires absent { cached self.old key ≡ None }
         requires whole { length block.now ≡ block_len_of self.old.geometry }
@@ -363,6 +373,7 @@ impl Cache {
         match self.entries.push(key, copy) {
             Ok(Some((_, evicted))) => {
                 self.spare = Some(evicted);
+                self.destages = self.destages.saturating_add(1);
                 true
             }
             Ok(None) => true,
@@ -384,13 +395,22 @@ impl Cache {
         }
     }
 
-    // Removes the entry of a key.
+    // Removes the entry of a key, which was destaged.
     fn take_out(&mut self, key: Key)
         ensures { self.new ≡ with_entries self.old (without_key self.old.entries key) }
     {
         if let Some(block) = self.entries.pop(&key) {
             self.spare = Some(block);
+            self.destages = self.destages.saturating_add(1);
         }
+    }
+
+    // Removes the least recently used entry, which was destaged.
+    fn drop_destaged(&mut self)
+        ensures { self.new ≡ with_entries self.old (without_last self.old.entries) }
+    {
+        self.destages = self.destages.saturating_add(1);
+        self.drop_last();
     }
 
     // Removes the least recently used entry.

@@ -11,4 +11,6 @@ pub struct Space<D: Disk> {
     pub disks: DiskSet<D>,
     pub book: Book,
     pub scratch: Scratch,
+    /// How many squeezes were completed. It saturates, and no contract sees it.
+    pub squeezes: u64,
 }

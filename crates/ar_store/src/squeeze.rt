@@ -53,10 +53,13 @@ impl<D: Disk> Space<D> {
             return None;
         }
         match self.move_all(from, to, block) {
-            Completion::Done => Some(Slot {
-                group: to,
-                slot: 2 * self.disks.geometry().rows(),
-            }),
+            Completion::Done => {
+                self.squeezes = self.squeezes.saturating_add(1);
+                Some(Slot {
+                    group: to,
+                    slot: 2 * self.disks.geometry().rows(),
+                })
+            }
             Completion::Broken => None,
         }
     }

@@ -84,8 +84,10 @@ fn form<D: Disk>(mut set: DiskSet<D>, plan: Plan) -> Store<D>
             disks: set,
             book: plan.book,
             scratch: plan.buffers.scratch,
+            squeezes: 0,
         },
         block: plan.buffers.block,
+        promotions: 0,
     }
 }
 

@@ -3,6 +3,7 @@
 
 use crate::Opening;
 use crate::space::Space;
+use crate::way::Way;
 use ar_book::{Book, Class, Slot};
 use ar_disks::{Block, Completion, Disk, Key};
 use ar_extents::{DiskSet, Health};
@@ -15,6 +16,8 @@ pub struct Store<D: Disk> {
     pub space: Space<D>,
     /// The buffer of a block that moves from one slot to another.
     pub block: Block,
+    // How many puts have moved a block from a parity group to a mirrored one. It saturates, and no contract sees it.
+    pub(crate) promotions: u64,
 }
 
 impl<D: Disk> Model for Store<D> {
@@ -73,6 +76,16 @@ impl<D: Disk> Store<D> {
         ensures { result.now ≡ self.now.book }
     {
         &self.space.book
+    }
+
+    /// Returns how many puts have moved a block from a parity group to a mirrored one. The number saturates.
+    pub fn promotions(&self) -> u64 {
+        self.promotions
+    }
+
+    /// Returns how many squeezes were completed. The number saturates.
+    pub fn squeezes(&self) -> u64 {
+        self.space.squeezes
     }
 
     /// Reads the block of `key` into `into`, a block of the store's length. A block without a home (the slot that a
@@ -134,7 +147,11 @@ impl<D: Disk> Store<D> {
             return Completion::Broken;
         }
         let way = self.space.find_way(key, &mut self.block);
-        self.space.write(key, way, from)
+        let promotes = promotes(&self.space.book, key, way);
+        let completion = self.space.write(key, way, from);
+        let promoted = promotes && completion == Completion::Done;
+        self.promotions = self.promotions.saturating_add(u64::from(promoted));
+        completion
     }
 
     /// Gives a block without a home one by writing zeros: it goes where `put` would put it, accesses what a put
@@ -215,4 +232,10 @@ impl<D: Disk> Store<D> {
         }
         self.space.open_group(class)
     }
+}
+
+// Whether a block moves from a parity group to a mirrored one on this way: a hole is found for a block that has a home
+// for nothing else.
+fn promotes(book: &Book, key: Key, way: Way) -> bool {
+    matches!(way, Way::Hole(_)) && book.home(key).is_some()
 }

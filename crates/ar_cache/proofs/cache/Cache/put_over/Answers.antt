@@ -89,7 +89,7 @@ returns-in-Done-clause-seen g c done =
           let j = g.B.Backing.block_at c.put.new.self in
           let d = c.destage_last.ensures in
           let left = with_entries old (without_last old.entries) in
-          let new = c.drop_last.ensures ∙ ap (λ s. with_entries s (without_last s.entries)) c.if-insert.ensures.refused in
+          let new = c.drop_destaged.ensures ∙ ap (λ s. with_entries s (without_last s.entries)) c.if-insert.ensures.refused in
           let given : SameReads old f left h = seen_given c.destage_last.result old f h c.in_default.not-Broken d.sound.distinct d.behind.given (λ e. ap g.B.Backing.block_at (d.behind.quiet e)) in
           let absent = absent_without_last old.entries c.args.key d.sound.distinct c.requires.absent in
           subst (λ s. Sees old f s j c.args.key c.args.block.now) (sym new)
@@ -99,8 +99,8 @@ returns-in-Done-clause-seen g c done =
           let f = g.B.Backing.block_at c.args.backing.now in
           let h = g.B.Backing.block_at c.destage_last.new.backing in
           let d = c.destage_last.ensures in
-          let new = c.drop_last.ensures ∙ ap (λ s. with_entries s (without_last s.entries)) c.if-insert.ensures.refused in
-          let gone : cached c.drop_last.new.self c.args.key ≡ None = subst (λ s. cached s c.args.key ≡ None) (sym new) (absent_without_last old.entries c.args.key d.sound.distinct c.requires.absent) in
+          let new = c.drop_destaged.ensures ∙ ap (λ s. with_entries s (without_last s.entries)) c.if-insert.ensures.refused in
+          let gone : cached c.drop_destaged.new.self c.args.key ≡ None = subst (λ s. cached s c.args.key ≡ None) (sym new) (absent_without_last old.entries c.args.key d.sound.distinct c.requires.absent) in
           record {
             others = λ q ne apart.
                 (c.in-Done.ensures.written refl).others q ne
@@ -116,12 +116,12 @@ returns-in-Done-clause-entries g c =
       absent = λ miss done.
           let old = c.args.self.now in
           let full = ≤_antisym c.destage_last.ensures.sound.fits c.requires.full in
-          let new = c.drop_last.ensures ∙ ap (λ s. with_entries s (without_last s.entries)) c.if-insert.ensures.refused in
+          let new = c.drop_destaged.ensures ∙ ap (λ s. with_entries s (without_last s.entries)) c.if-insert.ensures.refused in
           inr (new ∙ ap (with_entries old) (sym (with_room_full old full)));
       broken = λ lost. cc;
       fits =
           let old = c.args.self.now in
-          let new = c.drop_last.ensures ∙ ap (λ s. with_entries s (without_last s.entries)) c.if-insert.ensures.refused in
+          let new = c.drop_destaged.ensures ∙ ap (λ s. with_entries s (without_last s.entries)) c.if-insert.ensures.refused in
           subst (λ s. length s.entries ≤ s.capacity) (sym new) (fits_without_last old c.destage_last.ensures.sound.fits);
     }
 
@@ -131,16 +131,16 @@ returns-in-Done-clause-behind g c =
     record {
       present = λ is. absurd (false≢true (rw c.requires.absent at is));
       put = λ done.
-          subst (λ ks. InTurn g.B.Backing.puts (ks ++ put_through c.drop_last.new.self c.args.key) c.args.backing.now c.put.new.self) (sym keys) (
+          subst (λ ks. InTurn g.B.Backing.puts (ks ++ put_through c.drop_destaged.new.self c.args.key) c.args.backing.now c.put.new.self) (sym keys) (
           let old = c.args.self.now in
           let d = c.destage_last.ensures in
           let step = g.B.Backing.puts in
           let f = g.B.Backing.block_at c.args.backing.now in
           let h = g.B.Backing.block_at c.destage_last.new.backing in
-          let new = c.drop_last.ensures ∙ ap (λ s. with_entries s (without_last s.entries)) c.if-insert.ensures.refused in
-          let gone : cached c.drop_last.new.self c.args.key ≡ None = subst (λ s. cached s c.args.key ≡ None) (sym new) (absent_without_last old.entries c.args.key d.sound.distinct c.requires.absent) in
-          let through : put_through c.drop_last.new.self c.args.key ≡ c.args.key ∷ [] = rw gone in
-          in_turn_then step (last_keys old.entries) (put_through c.drop_last.new.self c.args.key) c.args.backing.now c.destage_last.new.backing c.put.new.self
+          let new = c.drop_destaged.ensures ∙ ap (λ s. with_entries s (without_last s.entries)) c.if-insert.ensures.refused in
+          let gone : cached c.drop_destaged.new.self c.args.key ≡ None = subst (λ s. cached s c.args.key ≡ None) (sym new) (absent_without_last old.entries c.args.key d.sound.distinct c.requires.absent) in
+          let through : put_through c.drop_destaged.new.self c.args.key ≡ c.args.key ∷ [] = rw gone in
+          in_turn_then step (last_keys old.entries) (put_through c.drop_destaged.new.self c.args.key) c.args.backing.now c.destage_last.new.backing c.put.new.self
           (in_turn_last step c.destage_last.result old.entries f h c.args.backing.now c.destage_last.new.backing c.in_default.not-Broken d.behind.given d.behind.put d.behind.quiet)
           (subst (λ ks. InTurn step ks c.destage_last.new.backing c.put.new.self) (sym through) (in_turn_one step c.args.key c.destage_last.new.backing c.put.new.self (c.in-Done.ensures.puts refl))));
       stopped = λ lost. cc;
@@ -151,7 +151,7 @@ returns-in-Done-clause-all_known g c =
     let old = c.args.self.now in
     let knows = g.B.Backing.knows in
     let d = c.destage_last.ensures in
-    let new = c.drop_last.ensures ∙ ap (λ s. with_entries s (without_last s.entries)) c.if-insert.ensures.refused in
+    let new = c.drop_destaged.ensures ∙ ap (λ s. with_entries s (without_last s.entries)) c.if-insert.ensures.refused in
     let first = known_kept (knows c.args.backing.now) (knows c.destage_last.new.backing) old d.keeps.same_keys c.requires.all_known in
     let then = known_kept (knows c.destage_last.new.backing) (knows c.put.new.self) old c.in-Done.ensures.keeps.same_keys first in
     subst (KnowsAll (knows c.put.new.self)) (sym new) (known_without_last (knows c.put.new.self) old d.sound.distinct then)

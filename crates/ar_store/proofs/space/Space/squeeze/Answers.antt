@@ -73,7 +73,7 @@ returns-in-Done g c =
       asks = only_squeeze (store_in s) (store_in new) c.full_mirrored-from.result c.open_last-to.result c.full_mirrored-from.ensures.full opening.lowest
           (squeezes (store_in s) (store_in mid) (store_in new) c.full_mirrored-from.result c.open_last-to.result opening.opened opening.lowest.there
           opening.asks opening.zeros moved.asks moved.turns);
-      stays = both;
+      stays = record { ready = record { space = both.ready.space; scratch = both.ready.scratch }; units = both.units; accessed = both.accessed };
       len = moved.len;
     }
 

@@ -32,8 +32,8 @@ find_way-way-requires g c =
       whole = c.self.invariant.block_len;
     }
 
-pub write-requires : goal.write-requires
-write-requires g c =
+pub write-completion-requires : goal.write-completion-requires
+write-completion-requires g c =
     let a = c.self.inside.space in
     let way = c.find_way-way.ensures in
     record {
@@ -48,9 +48,9 @@ pub invariant_of-self : goal.invariant_of-self
 invariant_of-self g c =
     let a = c.self.inside.space in
     let b = c.find_way-way.new.self in
-    let d = c.write.new.self in
+    let d = c.write-completion.new.self in
     let way = c.find_way-way.ensures in
-    let wrote = c.write.ensures in
+    let wrote = c.write-completion.ensures in
     fields_stay a d c.self.inside.block c.find_way-way.new.block c.self.invariant (stays_then a b d way.stays wrote.stays)
     (λ sound. (let before = way.free (was_sound b.disks d.disks wrote.stays.accessed.follows sound) in let after = wrote.free in omega arith)) way.len
 
@@ -58,9 +58,9 @@ pub returns : goal.returns
 returns g c =
     let a = c.self.inside.space in
     let b = c.find_way-way.new.self in
-    let d = c.write.new.self in
+    let d = c.write-completion.new.self in
     let way = c.find_way-way.ensures in
-    let wrote = c.write.ensures in
+    let wrote = c.write-completion.ensures in
     let both = stays_then a b d way.stays wrote.stays in
     let view = c.self.view_is in
     record {
