@@ -14,6 +14,8 @@ use ar_store::Store;
 #[derive(Drop)]
 pub struct Behind<D: Disk> {
     pub store: Store<D>,
+    /// How many blocks were read from the store. It saturates, and no contract sees it.
+    pub reads: u64,
 }
 
 impl<D: Disk> Backing for Behind<D> {
@@ -34,6 +36,7 @@ impl<D: Disk> Backing for Behind<D> {
     ghost breaks = { λ old key new. BreaksStored old.store key new.store };
 
     fn get(&mut self, key: Key, into: &mut Block) -> Completion {
+        self.reads = self.reads.saturating_add(1);
         self.store.get(key, into)
     }
 

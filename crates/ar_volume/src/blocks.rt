@@ -29,6 +29,21 @@ use std::marker::Model;
 pub struct Blocks<D: Disk> {
     pub(crate) cache: Cache,
     pub(crate) behind: Behind<D>,
+    // How many blocks were read, from the cache or from behind it. It saturates, and no contract sees it.
+    reads: u64,
+}
+
+/// What was counted since the start, in numbers that saturate. No contract sees them.
+#[derive(Clone, Copy, Debug, PartialEq, Eq)]
+pub struct Counters {
+    /// Writes that moved their block from a parity group to a mirrored one.
+    pub promotions: u64,
+    /// Mirrored groups that were moved to a parity group to make room for a write.
+    pub squeezes: u64,
+    /// Blocks that a READ, or a WRITE of a part of them, found in the cache.
+    pub cache_hits: u64,
+    /// Cached blocks that were written back, by eviction or by a flush.
+    pub destages: u64,
 }
 
 impl<D: Disk> Model for Blocks<D> {
@@ -62,6 +77,7 @@ impl<D: Disk> Backing for Blocks<D> {
         if self.is_broken() {
             return Completion::Broken;
         }
+        self.reads = self.reads.saturating_add(1);
         self.cache.get(key, into, &mut self.behind)
     }
 
@@ -109,7 +125,8 @@ impl<D: Disk> Blocks<D> {
         let store = Store::start(alloc, disks)?;
         Ok(Blocks {
             cache,
-            behind: Behind { store },
+            behind: Behind { store, reads: 0 },
+            reads: 0,
         })
     }
 
@@ -146,6 +163,23 @@ impl<D: Disk> Blocks<D> {
         ensures { result.now ≡ self.now.store.disks }
     {
         &self.behind.store.space.disks
+    }
+
+    /// Returns what was counted since the start.
+    pub fn counters(&self) -> Counters {
+        Counters {
+            promotions: self.behind.store.promotions(),
+            squeezes: self.behind.store.squeezes(),
+            cache_hits: self.reads.saturating_sub(self.behind.reads),
+            destages: self.cache.destages(),
+        }
+    }
+
+    /// Returns the number of cached blocks.
+    pub fn cached_blocks(&self) -> usize
+        ensures { result ≡ length self.now.cache.entries }
+    {
+        self.cache.len()
     }
 
     /// Returns the geometry of the blocks.

@@ -21,7 +21,7 @@ mod transfer;
 pub use ar_book::{Refusal as UnitRefusal, Slot};
 pub use ar_cache::{Backing, CAPACITY_LIMIT, Flush};
 pub use ar_extents::{DiskRefusal, Health, StartFault};
-pub use blocks::Blocks;
+pub use blocks::{Blocks, Counters};
 pub use flush::UnitFlush;
 pub use new_disk::NewDisk;
 pub use refusal::Refusal;

@@ -20,7 +20,7 @@ returns g c =
       len = got.len;
       blocks = λ done. record { same = λ k. got.stands.blocks (sound done) k };
       keeps =
-          keeps_store (λ (b : Behind g.row.D.Denot). b.store) c.args.self.now (record { store = new })
+          keeps_store (λ (b : Behind g.row.D.Denot). b.store) c.args.self.now _
           (record { units = units_same old.book new.book got.book; accessed = got.accessed });
       gets = record {
         reads = record { tables = got.book; rows = got.keeps };
