@@ -11,7 +11,7 @@ ghost use Rattle.ar_unit.specs.Unit.{IsWhole};
 ghost use Rattle.ar_core.specs.Quiet.{LooksAt};
 ghost use Rattle.ar_core.specs.Views.{level_at, home_of, use_of, HasRow, Shows};
 
-use crate::{Array, Class, Health, Slot};
+use crate::{Array, Class, Counters, Health, Slot};
 use ar_book::{Book, Level};
 use ar_disks::{Addr, Block, Disk, Geometry, Key, Place};
 use ar_extents::{DiskSet, Got};
@@ -108,6 +108,18 @@ impl<D: Disk> Array<D> {
         ensures kept { reserved self.now.store.book + result ≡ 3 * rows_of (geometry_of self.now) * (length self.now.store.book.groups - 1) }
     {
         self.blocks.book().room()
+    }
+
+    /// Returns what was counted since the start.
+    pub fn counters(&self) -> Counters {
+        self.blocks.counters()
+    }
+
+    /// Returns the number of cached blocks.
+    pub fn cached_blocks(&self) -> usize
+        ensures { result ≡ length self.now.cache.entries }
+    {
+        self.blocks.cached_blocks()
     }
 
     /// How many groups are free.
