@@ -67,10 +67,12 @@ listed_next groups i d p there =
     let many : length before ≡ i = simp length-take (omega arith) in
     let next : i + 1 ≡ suc i = omega arith in
     subst (λ n. listed (stands_on g.members p) n (group_at before p) ≡ group_at (take (i + 1) groups) p) many
-    (listed_more before g p ∙ ap (λ (xs : List Group). group_at xs p) (sym (take-suc groups i d there) ∙ ap (λ n. take n groups) (sym next)))
+    (listed_more before g p
+    ∙ ap (λ (xs : List Group). group_at xs p) (sym (take-suc groups i d there) ∙ ap (λ n. take n groups) (sym next)))
 
 -- the entry of an extent, one group further
-pub entry_next : (groups : List Group) (i : ℕ) (d : Group) (p : Place) (old new : Option (Option ℕ)) → i < length groups
+pub entry_next : (groups : List Group) (i : ℕ) (d : Group) (p : Place) (old new : Option (Option ℕ))
+    → i < length groups
     → new ≡ option_map (listed (stands_on (get_or groups i d).members p) i) old → old ≡ Some (group_at (take i groups) p)
     → new ≡ Some (group_at (take (i + 1) groups) p)
 entry_next groups i d p old new there made before =

@@ -17,7 +17,8 @@ returns g c =
     let groups = picture.groups.items in
     let scale = c.args.scale in
     let place = c.args.place in
-    let content = c.content_numbered-content.ensures ∙ ap (content_numbered groups) c.requires ∙ numbered_at groups place in
+    let content =
+    c.content_numbered-content.ensures ∙ ap (content_numbered groups) c.requires ∙ numbered_at groups place in
     let styled_text : Adds old styled (cell_svg scale place (style_of (content_at groups place))) =
     adds_as (ap (cell_svg scale place) (c.style_of.ensures ∙ ap style_of content)) c.in_ok-write_cell.ensures.text in
     let barred_text : Adds styled barred (bar_at scale picture place (group_at groups place)) =

@@ -7,6 +7,8 @@ pub loop-number-preserved : goal.loop-number-preserved
 loop-number-preserved c = λ extent below.
     let groups = c.args.self.now.groups.items in
     let same = c.deref-group-items.ensures.value in
-    let there : c.loop-number.number < length groups = subst (λ (xs : List Group). c.loop-number.number < length xs) same c.loop-number-test.true in
-    entry_next groups c.loop-number.number _ (record { disk = c.args.disk; extent = extent }) _ _ there
+    let number = c.loop-number.number in
+    let there : number < length groups =
+    subst (λ (xs : List Group). number < length xs) same c.loop-number-test.true in
+    entry_next groups number _ (record { disk = c.args.disk; extent = extent }) _ _ there
     (rw same at c.list_group.ensures extent) (c.loop-number.invariant extent below)
