@@ -19,5 +19,6 @@ pub use page::PAGE;
 pub use response::{Look, respond};
 pub use serve::{HEAD_MAX, Watched, serve_connection};
 pub use status::{
-    ArrayHealth, ArrayStatus, HostCounters, MaintenanceSteps, OperationCounters, ReplyCounters,
+    ArrayCounters, ArrayHealth, ArrayStatus, HostCounters, MaintenanceSteps, OperationCounters,
+    ReplyCounters,
 };

@@ -1,7 +1,8 @@
 // The metrics, in Prometheus' text format 0.0.4: of each the lines HELP and TYPE, and then its samples. A counter's name
 // ends in `_total`, and a unit is a part of the name.
 use crate::{
-    ArrayHealth, ArrayStatus, HostCounters, MaintenanceSteps, OperationCounters, ReplyCounters,
+    ArrayCounters, ArrayHealth, ArrayStatus, HostCounters, MaintenanceSteps, OperationCounters,
+    ReplyCounters,
 };
 use std::io;
 use std::io::Write;
@@ -11,7 +12,8 @@ pub fn write_metrics<W: Write>(out: &mut W, status: &ArrayStatus) -> io::Result<
     write_disks(out, status)?;
     write_blocks(out, status)?;
     write_hosts(out, &status.hosts)?;
-    write_steps(out, &status.steps)
+    write_steps(out, &status.steps)?;
+    write_counters(out, &status.counters)
 }
 
 // Writes the state of the array, as a sample for each that is 1 for the present one, and the health of each disk.
@@ -76,7 +78,7 @@ fn state_of(health: ArrayHealth) -> &'static str {
     }
 }
 
-// Writes groups, blocks and the history.
+// Writes groups, blocks, the cache and the history.
 fn write_blocks<W: Write>(out: &mut W, status: &ArrayStatus) -> io::Result<()> {
     let free = u64::from(status.free_groups);
     let (entries, bytes) = (status.history_entries, status.history_bytes);
@@ -87,6 +89,12 @@ fn write_blocks<W: Write>(out: &mut W, status: &ArrayStatus) -> io::Result<()> {
         "room_blocks",
         "Blocks that units may be given.",
         status.room_blocks,
+    )?;
+    write_gauge(
+        out,
+        "cached_blocks",
+        "Blocks in the cache.",
+        status.cached_blocks,
     )?;
     write_gauge(
         out,
@@ -212,6 +220,40 @@ fn write_steps<W: Write>(out: &mut W, steps: &MaintenanceSteps) -> io::Result<()
         )?;
     }
     Ok(())
+}
+
+// Writes what else the array did.
+fn write_counters<W: Write>(out: &mut W, counters: &ArrayCounters) -> io::Result<()> {
+    write_counter(
+        out,
+        "promotions_total",
+        "Writes that moved a block from a parity group to a mirrored one.",
+        counters.promotions,
+    )?;
+    write_counter(
+        out,
+        "squeezes_total",
+        "Mirrored groups that were moved to a parity group to make room for a write.",
+        counters.squeezes,
+    )?;
+    write_counter(
+        out,
+        "cache_hits_total",
+        "Blocks to be read that were in the cache.",
+        counters.cache_hits,
+    )?;
+    write_counter(
+        out,
+        "destages_total",
+        "Cached blocks that were written back.",
+        counters.destages,
+    )
+}
+
+// Writes a counter that the array has.
+fn write_counter<W: Write>(out: &mut W, name: &str, help: &str, value: u64) -> io::Result<()> {
+    write_head(out, name, "counter", help)?;
+    writeln!(out, "autoraid_{name} {value}")
 }
 
 // Writes a gauge.

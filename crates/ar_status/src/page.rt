@@ -126,12 +126,14 @@ function show(status, now) {
   at('health').textContent = words(status, now);
   rows(at('hosts'), rates(status, now));
   before = { hosts: status.hosts, now };
-  const { steps, room_blocks } = status;
+  const { steps, counters, room_blocks } = status;
   rows(at('array'), [
     ['room', `${count(room_blocks)} blocks, ${size(room_blocks * status.block_bytes)}`],
     ['free groups', count(status.free_groups)],
+    ['cache', `${count(status.cached_blocks)} blocks`],
     ['history', `${count(status.history_entries)} entries, ${size(status.history_bytes)}`],
     ...Object.keys(steps).map(kind => [`${kind} steps`, count(steps[kind])]),
+    ...Object.keys(counters).map(kind => [kind.replace('_', ' '), count(counters[kind])]),
     ['running for', span(status.uptime_seconds)],
   ]);
   at('events').replaceChildren(...status.events.map(event => {

@@ -22,6 +22,7 @@ pub struct ArrayStatus {
     pub block_bytes: u64,
     /// Blocks that units may still be given.
     pub room_blocks: u64,
+    pub cached_blocks: u64,
     /// Entries of the stored history.
     pub history_entries: u64,
     /// The memory that they take, at least, in bytes.
@@ -29,6 +30,7 @@ pub struct ArrayStatus {
     /// By host, 0 to 3.
     pub hosts: [HostCounters; 4],
     pub steps: MaintenanceSteps,
+    pub counters: ArrayCounters,
     pub events: RecentEvents,
 }
 
@@ -86,6 +88,19 @@ pub struct MaintenanceSteps {
     pub clean: u64,
     pub balance: u64,
     pub rebuild: u64,
+}
+
+/// What hosts' commands made the array do since the start. The numbers saturate.
+#[derive(Clone, Copy, Debug, PartialEq, Eq, Serialize)]
+pub struct ArrayCounters {
+    /// Writes that moved their block from a parity group to a mirrored one.
+    pub promotions: u64,
+    /// Mirrored groups that were moved to a parity group to make room for a write.
+    pub squeezes: u64,
+    /// Blocks to be read that were in the cache.
+    pub cache_hits: u64,
+    /// Cached blocks that were written back.
+    pub destages: u64,
 }
 
 impl ArrayHealth {

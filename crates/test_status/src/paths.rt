@@ -57,7 +57,8 @@ fn page_and_picture(rt: HostRuntime) {
 
 const JSON: &str = "\
 {\"uptime_seconds\":61,\"health\":{\"state\":\"rebuilding\",\"disk\":3,\"done\":12},\"disks\":5,\"extents\":64,\
-\"free_groups\":7,\"block_bytes\":1024,\"room_blocks\":18,\"history_entries\":9,\"history_bytes\":4096,\"hosts\":[\
+\"free_groups\":7,\"block_bytes\":1024,\"room_blocks\":18,\"cached_blocks\":10,\
+\"history_entries\":9,\"history_bytes\":4096,\"hosts\":[\
 {\"commands\":1,\"read_bytes\":2,\"written_bytes\":3,\"replies\":{\
 \"test_unit_ready\":{\"good\":100,\"check_condition\":101,\"busy\":102},\
 \"inquiry\":{\"good\":110,\"check_condition\":111,\"busy\":112},\
@@ -87,6 +88,7 @@ const JSON: &str = "\
 \"write\":{\"good\":340,\"check_condition\":341,\"busy\":342},\
 \"other\":{\"good\":350,\"check_condition\":351,\"busy\":352}}}],\
 \"steps\":{\"flush\":1,\"demote\":2,\"clean\":3,\"balance\":4,\"rebuild\":5},\
+\"counters\":{\"promotions\":11,\"squeezes\":12,\"cache_hits\":13,\"destages\":18446744073709551615},\
 \"events\":[{\"seconds\":60,\"kind\":\"disk_replaced\",\"disk\":3},\
 {\"seconds\":7,\"kind\":\"disk_failed\",\"disk\":3}]}";
 
@@ -144,6 +146,9 @@ autoraid_block_bytes 1024
 # HELP autoraid_room_blocks Blocks that units may be given.
 # TYPE autoraid_room_blocks gauge
 autoraid_room_blocks 18
+# HELP autoraid_cached_blocks Blocks in the cache.
+# TYPE autoraid_cached_blocks gauge
+autoraid_cached_blocks 10
 # HELP autoraid_history_entries Entries of the stored history.
 # TYPE autoraid_history_entries gauge
 autoraid_history_entries 9
@@ -243,6 +248,18 @@ autoraid_maintenance_steps_total{kind=\"demote\"} 2
 autoraid_maintenance_steps_total{kind=\"clean\"} 3
 autoraid_maintenance_steps_total{kind=\"balance\"} 4
 autoraid_maintenance_steps_total{kind=\"rebuild\"} 5
+# HELP autoraid_promotions_total Writes that moved a block from a parity group to a mirrored one.
+# TYPE autoraid_promotions_total counter
+autoraid_promotions_total 11
+# HELP autoraid_squeezes_total Mirrored groups that were moved to a parity group to make room for a write.
+# TYPE autoraid_squeezes_total counter
+autoraid_squeezes_total 12
+# HELP autoraid_cache_hits_total Blocks to be read that were in the cache.
+# TYPE autoraid_cache_hits_total counter
+autoraid_cache_hits_total 13
+# HELP autoraid_destages_total Cached blocks that were written back.
+# TYPE autoraid_destages_total counter
+autoraid_destages_total 18446744073709551615
 ";
 
 #[test]

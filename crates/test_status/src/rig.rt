@@ -1,7 +1,7 @@
 // An array that stands still, and connections to it.
 use ar_status::{
-    ArrayHealth, ArrayStatus, EventKind, HostCounters, Look, MaintenanceSteps, OperationCounters,
-    RecentEvent, RecentEvents, ReplyCounters, Watched, serve_connection,
+    ArrayCounters, ArrayHealth, ArrayStatus, EventKind, HostCounters, Look, MaintenanceSteps,
+    OperationCounters, RecentEvent, RecentEvents, ReplyCounters, Watched, serve_connection,
 };
 use std::alloc::{AllocError, Global};
 use std::hash::RandomState;
@@ -53,9 +53,16 @@ pub fn array_in(health: ArrayHealth) -> Still {
         free_groups: 7,
         block_bytes: 1024,
         room_blocks: 18,
+        cached_blocks: 10,
         history_entries: 9,
         history_bytes: 4096,
         hosts: hosts(),
+        counters: ArrayCounters {
+            promotions: 11,
+            squeezes: 12,
+            cache_hits: 13,
+            destages: u64::MAX,
+        },
         steps: MaintenanceSteps {
             flush: 1,
             demote: 2,
