@@ -7,6 +7,8 @@ mod calls;
 #[cfg(test)]
 mod churn;
 #[cfg(test)]
+mod counters;
+#[cfg(test)]
 mod first_run;
 #[cfg(test)]
 mod flushed;
