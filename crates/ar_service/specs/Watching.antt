@@ -6,6 +6,7 @@ use Rattle.ar_extents.specs.declared.health.Health.{Health}
 use Rattle.ar_extents.specs.declared.health.Health.TheVariants as health
 use Rattle.ar_book.specs.Tables.{free_groups, room}
 use Rattle.ar_volume.specs.Image.{ArrayState, geometry_of}
+use Rattle.ar_volume.specs.declared.blocks.Counters.{Counters}
 use Rattle.ar_history.specs.Kept.{KeptState}
 use Rattle.ar_history.specs.declared.counts.Counts.{Counts}
 use Rattle.ar_history.specs.declared.counts.HostCounts.{HostCounts}
@@ -19,6 +20,7 @@ use Rattle.ar_status.specs.Changes.{between, events_in, listed_with}
 use Rattle.ar_status.specs.declared.changes.EventLog.{EventLog}
 use Rattle.ar_status.specs.declared.events.EventKind.TheVariants.{DiskAdded}
 use Rattle.ar_status.specs.declared.events.RecentEvents.{RecentEvents}
+use Rattle.ar_status.specs.declared.status.ArrayCounters.{ArrayCounters}
 use Rattle.ar_status.specs.declared.status.ArrayHealth.{ArrayHealth}
 use Rattle.ar_status.specs.declared.status.ArrayHealth.TheVariants as watched
 use Rattle.ar_status.specs.declared.status.ArrayStatus.{ArrayStatus}
@@ -68,8 +70,17 @@ steps_watched counts = record {
   rebuild = counts.rebuilt;
 }
 
+-- what else the array did, as the pages have it
+abbrev pub counters_watched : Counters → ArrayCounters
+counters_watched counters = record {
+  promotions = counters.promotions;
+  squeezes = counters.squeezes;
+  cache_hits = counters.cache_hits;
+  destages = counters.destages;
+}
+
 -- The status is that of this array with these counts, `stored` entries of whose history are stored, at this second, with
--- these events. The memory of the history is not specified.
+-- these events. The memory of the history, and the counters of what else the array did, are not specified.
 pub record IsStatusOf (array : ArrayState) (counts : Counts) (stored seconds : ℕ) (latest : RecentEvents)
     (status : ArrayStatus) : Type 0 where
   pub uptime : status.uptime_seconds ≡ seconds
@@ -79,6 +90,7 @@ pub record IsStatusOf (array : ArrayState) (counts : Counts) (stored seconds : �
   pub free_groups : status.free_groups ≡ free_groups array.store.book
   pub block_bytes : status.block_bytes ≡ block_len_of (geometry_of array)
   pub room : status.room_blocks ≡ room array.store.book
+  pub cached : status.cached_blocks ≡ length array.cache.entries
   pub entries : status.history_entries ≡ stored
   pub hosts : status.hosts ≡ map host_watched counts.hosts
   pub steps : status.steps ≡ steps_watched counts.tasks

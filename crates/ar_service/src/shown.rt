@@ -4,16 +4,16 @@ ghost use Rattle.std.specs.List.{range_with_len};
 ghost use Rattle.ar_history.specs.Kept.{KeptState};
 ghost use Rattle.ar_history.specs.declared.counts.HostCounts.{HostCounts};
 ghost use Rattle.ar_script.specs.Pictures.{IsPicture};
-ghost use Rattle.ar_service.specs.Watching.{IsStatusOf, SeesArray, health_watched, host_watched, operations_watched, replies_watched, steps_watched};
+ghost use Rattle.ar_service.specs.Watching.{IsStatusOf, SeesArray, counters_watched, health_watched, host_watched, operations_watched, replies_watched, steps_watched};
 
-use ar_core::{Array, Health};
+use ar_core::{Array, Counters, Health};
 use ar_disks::Disk;
 use ar_history::{Counts, HostCounts, Kept, LiveArray, OperationCounts, ReplyCounts, TaskCounts};
 use ar_picture::Picture;
 use ar_script::picture_of;
 use ar_status::{
-    ArrayHealth, ArrayStatus, EventLog, HostCounters, MaintenanceSteps, OperationCounters,
-    RecentEvents, ReplyCounters,
+    ArrayCounters, ArrayHealth, ArrayStatus, EventLog, HostCounters, MaintenanceSteps,
+    OperationCounters, RecentEvents, ReplyCounters,
 };
 use std::alloc::{AllocError, Global};
 use std::sync::ledger::Ledger;
@@ -109,10 +109,12 @@ fn status_of<D: Disk>(
         free_groups: array.free_groups(),
         block_bytes: array.geometry().block_len() as u64,
         room_blocks: u64::from(array.free_room()),
+        cached_blocks: array.cached_blocks() as u64,
         history_entries: 0,
         history_bytes: 0,
         hosts: hosts_of(counts.hosts),
         steps: steps_of(counts.tasks),
+        counters: counters_of(array.counters()),
         events,
     }
 }
@@ -194,5 +196,17 @@ fn steps_of(counts: TaskCounts) -> MaintenanceSteps
         clean: counts.cleaned,
         balance: counts.balanced,
         rebuild: counts.rebuilt,
+    }
+}
+
+// What else the array did.
+fn counters_of(counters: Counters) -> ArrayCounters
+    ensures { result ≡ counters_watched counters }
+{
+    ArrayCounters {
+        promotions: counters.promotions,
+        squeezes: counters.squeezes,
+        cache_hits: counters.cache_hits,
+        destages: counters.destages,
     }
 }
