@@ -73,7 +73,8 @@ listed_next groups i d p there =
 -- the entry of an extent, one group further
 pub entry_next : (groups : List Group) (i : ℕ) (d : Group) (p : Place) (old new : Option (Option ℕ))
     → i < length groups
-    → new ≡ option_map (listed (stands_on (get_or groups i d).members p) i) old → old ≡ Some (group_at (take i groups) p)
+    → new ≡ option_map (listed (stands_on (get_or groups i d).members p) i) old
+    → old ≡ Some (group_at (take i groups) p)
     → new ≡ Some (group_at (take (i + 1) groups) p)
 entry_next groups i d p old new there made before =
     made ∙ ap (option_map (listed (stands_on (get_or groups i d).members p) i)) before

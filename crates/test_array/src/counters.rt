@@ -86,8 +86,8 @@ fn hits_and_destages_are_counted(rt: HostRuntime) {
     run(&rt, shape, &CACHED);
 }
 
-/// A block that was demoted is promoted by a WRITE of one of its sectors, and then overwritten in place. Without a cache
-/// no READ is a hit.
+/// A block that was demoted is promoted by a WRITE of one of its sectors, and then overwritten in place. Without a
+/// cache no READ is a hit.
 const PROMOTED: [Counted; 7] = [
     (Call::Make(0, 0, 8), Return::Done, NONE),
     (Call::Write(0, 0, 0, 2, 0xA0), Return::Good, NONE),
