@@ -1,3 +1,4 @@
+pub mod Attending
 pub mod Finding
 pub mod Given
 pub mod Names

@@ -10,13 +10,12 @@ taken_some (suc n) [] some long = absurd (omega arith)
 taken_some (suc n) (x ∷ xs) some long = λ e. cc
 
 -- what begins with a header
-header_some : (is_long has_descriptor : Bool) (rest : List ℕ) → 0 < length (mode_header is_long has_descriptor ++ rest)
-header_some false false rest = omega arith
-header_some false true rest = omega arith
-header_some true false rest = omega arith
-header_some true true rest = omega arith
+header_some :
+    (is_long : Bool) (descriptor pages : ℕ) (rest : List ℕ) → 0 < length (mode_header is_long descriptor pages ++ rest)
+header_some false descriptor pages rest = omega arith
+header_some true descriptor pages rest = omega arith
 
 -- mode data
 pub mode_data_some : (write_back : Bool) (sense : ModeSense) (last : ℕ) → 0 < length (mode_data write_back sense last)
 unfolding mode_data
-mode_data_some write_back sense last = header_some sense.is_long sense.has_descriptor _
+mode_data_some write_back sense last = header_some sense.is_long _ _ _

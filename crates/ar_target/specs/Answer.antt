@@ -6,23 +6,30 @@ use Rattle.ar_scsi.specs.declared.reply.Status.{Status}
 use Rattle.ar_scsi.specs.declared.reply.Status.TheVariants.{Good, CheckCondition, Busy}
 use Rattle.ar_scsi.specs.declared.sense.Sense.{Sense}
 use Rattle.ar_scsi.specs.Reply.{good, check}
-use Rattle.ar_scsi.specs.Sense.{fixed_sense}
+use Rattle.ar_scsi.specs.Sense.{fixed_sense, invalid_field_in_cdb}
 use Rattle.ar_frames.specs.Frame.{sense_bytes}
 use Rattle.ar_target.specs.declared.attributes.Attributes.{Attributes}
 use Rattle.ar_target.specs.declared.request.ModeSense.{ModeSense}
 use Rattle.ar_target.specs.declared.request.VpdPage.{VpdPage}
+use Rattle.ar_target.specs.declared.request.VpdPage.TheVariants.{SupportedPages}
 use Rattle.ar_target.specs.Mode.{mode_data}
 use Rattle.ar_target.specs.Told.{last_block, presence_of, handed_on, from_last_block}
-use Rattle.ar_target.specs.Vpd.{vpd_data}
+use Rattle.ar_target.specs.Vpd.{absent_pages, vpd_data}
 
 -- to a CDB that is refused with this sense: a unit that can't be asked for its capacity reports why first
 abbrev pub invalid_answer : Sense → Reply → Reply
 invalid_answer sense told = from_last_block (λ last. check sense) (last_block told) told
 
--- to INQUIRY of a VPD page, by whether there is a unit: without one it is the standard data, which report that
+-- to INQUIRY of a VPD page at a LUN without a unit: the list of the pages is the only page that is supported there
+-- (SPC-3, INQUIRY command)
+abbrev pub absent_page_answer : VpdPage → ℕ → Reply
+absent_page_answer SupportedPages len = good (take len absent_pages)
+absent_page_answer other len = check invalid_field_in_cdb
+
+-- to INQUIRY of a VPD page, by whether there is a unit
 abbrev pub vpd_answer_by : Option Bool → Attributes → ℕ → VpdPage → ℕ → Reply → Reply
 vpd_answer_by None attributes lun page len told = handed_on told
-vpd_answer_by (Some false) attributes lun page len told = good (take len told.payload)
+vpd_answer_by (Some false) attributes lun page len told = absent_page_answer page len
 vpd_answer_by (Some true) attributes lun page len told = good (take len (vpd_data attributes lun page))
 
 -- to INQUIRY of a VPD page (SPC-3, INQUIRY command)

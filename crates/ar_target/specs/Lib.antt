@@ -1,4 +1,5 @@
 pub mod Answer
+pub mod Attention
 pub mod DeviceServer
 pub mod FlushPort
 pub mod Laws

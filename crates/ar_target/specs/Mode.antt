@@ -2,16 +2,28 @@
 use Rattle.std.specs.Prelude.{ℕ, ◌+◌, ◌-◌, ◌^◌, min, Bool, true, false, ◌&&◌, not, if◌then◌else◌, List, [], ◌∷◌, ◌++◌}
 use Rattle.std.specs.Prelude.{replicate}
 use Rattle.std.specs.Int.{w32, to_be_bytes}
+use Rattle.ar_target.specs.declared.request.ModePages.{ModePages}
+use Rattle.ar_target.specs.declared.request.ModePages.TheVariants.{Caching, Control, All}
 use Rattle.ar_target.specs.declared.request.ModeSense.{ModeSense}
 
--- The mode parameter header, by whether it is the long one and whether a block descriptor follows (SPC-3, Mode
--- parameter header formats): MODE DATA LENGTH counts the bytes behind itself; no medium type; the device-specific
--- parameter has DPOFUA, and not WP (SBC-2, Mode parameter header); then the length of the descriptor, 8
-abbrev pub mode_header : Bool → Bool → List ℕ
-mode_header false false = 0x17 ∷ 0x00 ∷ 0x10 ∷ 0x00 ∷ []
-mode_header false true = 0x1F ∷ 0x00 ∷ 0x10 ∷ 0x08 ∷ []
-mode_header true false = 0x00 ∷ 0x1A ∷ 0x00 ∷ 0x10 ∷ 0x00 ∷ 0x00 ∷ 0x00 ∷ 0x00 ∷ []
-mode_header true true = 0x00 ∷ 0x22 ∷ 0x00 ∷ 0x10 ∷ 0x00 ∷ 0x00 ∷ 0x00 ∷ 0x08 ∷ []
+-- the length of the block descriptor, if it is returned (SBC-2, Short LBA mode parameter block descriptor)
+abbrev pub descriptor_len : Bool → ℕ
+descriptor_len has_descriptor = if has_descriptor then 8 else 0
+
+-- the length of the pages: a page has two bytes before those that its PAGE LENGTH counts (SPC-3, Mode page and subpage
+-- formats)
+abbrev pub pages_len : ModePages → ℕ
+pages_len Caching = 20
+pages_len Control = 12
+pages_len All = 32
+
+-- The mode parameter header, by whether it is the long one, and the lengths of what follows (SPC-3, Mode parameter
+-- header formats): MODE DATA LENGTH counts the bytes behind itself; no medium type; the device-specific parameter has
+-- DPOFUA, and not WP (SBC-2, Mode parameter header); then the length of the descriptor
+abbrev pub mode_header : Bool → ℕ → ℕ → List ℕ
+mode_header false descriptor pages = (3 + descriptor + pages) ∷ 0x00 ∷ 0x10 ∷ descriptor ∷ []
+mode_header true descriptor pages =
+    0x00 ∷ (6 + descriptor + pages) ∷ 0x00 ∷ 0x10 ∷ 0x00 ∷ 0x00 ∷ 0x00 ∷ descriptor ∷ []
 
 -- the block descriptor of a unit whose last block is `last`, if it is returned: the number of blocks, as far as four
 -- bytes hold it, and their length, 512 (SBC-2, Short LBA mode parameter block descriptor)
@@ -23,8 +35,19 @@ block_descriptors true last = to_be_bytes w32 (min (last + 1) (2 ^ 32 - 1)) ++ (
 abbrev pub caching_page : Bool → List ℕ
 caching_page write_cache = 0x08 ∷ 0x12 ∷ (if write_cache then 0x04 else 0x00) ∷ replicate 17 0
 
--- the mode data: the header, the block descriptor, the caching page; no bit of it can be changed
+-- the Control mode page (SPC-3, Control mode page): GLTSD, bit 1 of byte 2, as it is given: nothing saves log
+-- parameters; all else is 0: sense data of fixed format, one task set, commands in their order, no write protection
+abbrev pub control_page : Bool → List ℕ
+control_page no_log_saving = 0x0A ∷ 0x0A ∷ (if no_log_saving then 0x02 else 0x00) ∷ replicate 9 0
+
+-- the pages that are asked for, by ascending PAGE CODE; where changeable values are asked for, no bit can be changed
+abbrev pub mode_pages : ModePages → Bool → Bool → List ℕ
+mode_pages Caching write_back changeable = caching_page (write_back && not changeable)
+mode_pages Control write_back changeable = control_page (not changeable)
+mode_pages All write_back changeable = caching_page (write_back && not changeable) ++ control_page (not changeable)
+
+-- the mode data: the header, the block descriptor, the pages
 unfoldable pub mode_data : Bool → ModeSense → ℕ → List ℕ
 mode_data write_back sense last =
-    mode_header sense.is_long sense.has_descriptor
-    ++ (block_descriptors sense.has_descriptor last ++ caching_page (write_back && not sense.changeable))
+    mode_header sense.is_long (descriptor_len sense.has_descriptor) (pages_len sense.pages)
+    ++ (block_descriptors sense.has_descriptor last ++ mode_pages sense.pages write_back sense.changeable)

@@ -11,7 +11,8 @@ use Rattle.ar_scsi.specs.Sense.{invalid_field_in_cdb}
 use Rattle.ar_target.specs.declared.request.VpdPage.{VpdPage}
 use Rattle.ar_target.specs.declared.request.VpdPage.TheVariants.{SupportedPages, UnitSerialNumber, DeviceIdentification}
 use Rattle.ar_target.specs.declared.request.VpdPage.TheVariants.{BlockLimits, BlockDeviceCharacteristics}
-use Rattle.ar_target.specs.declared.request.ModeSense.{ModeSense}
+use Rattle.ar_target.specs.declared.request.ModePages.{ModePages}
+use Rattle.ar_target.specs.declared.request.ModePages.TheVariants.{Caching, Control, All}
 use Rattle.ar_target.specs.declared.request.Request.{Request}
 use Rattle.ar_target.specs.declared.request.Request.TheVariants as request
 
@@ -62,42 +63,42 @@ report_luns_request cdb =
 abbrev pub page_control : List ℕ → ℕ
 page_control cdb = byte 2 cdb / 2 ^ 6
 
--- PAGE CODE, bits 5 to 0 of byte 2, and SUBPAGE CODE: the caching page, or all pages with or without subpages (SPC-3,
--- Mode page and subpage codes)
-abbrev pub has_mode_page : List ℕ → Bool
-has_mode_page cdb =
-    if byte 2 cdb % 64 == 0x08 then byte 3 cdb == 0x00
-    else (if byte 2 cdb % 64 == 0x3F then (byte 3 cdb == 0x00) || (byte 3 cdb == 0xFF)
-    else false)
+-- PAGE CODE, bits 5 to 0 of byte 2, and SUBPAGE CODE: a page without subpages, or all pages with or without subpages
+-- (SPC-3, Mode page and subpage codes)
+abbrev pub mode_pages_of : List ℕ → Option ModePages
+mode_pages_of cdb =
+    if (byte 2 cdb % 64 == 0x08) && (byte 3 cdb == 0x00) then Some Caching
+    else (if (byte 2 cdb % 64 == 0x0A) && (byte 3 cdb == 0x00) then Some Control
+    else (if (byte 2 cdb % 64 == 0x3F) && ((byte 3 cdb == 0x00) || (byte 3 cdb == 0xFF)) then Some All
+    else None))
 
--- MODE SENSE with this CONTROL byte: saved values are refused (SPC-3, MODE SENSE (6) command)
-abbrev pub mode_sense_request : List ℕ → ℕ → ModeSense → Request
-mode_sense_request cdb control sense =
-    if (bit_at control 2 == 1) || not (has_mode_page cdb) then request.InvalidAtUnit invalid_field_in_cdb
+-- MODE SENSE of these pages, long or not, with this CONTROL byte and this allocation length: saved values are refused;
+-- DBD is bit 3 of byte 1 (SPC-3, MODE SENSE (6) command)
+abbrev pub mode_sense_of : Option ModePages → List ℕ → ℕ → Bool → ℕ → Request
+mode_sense_of None cdb control is_long len = request.InvalidAtUnit invalid_field_in_cdb
+mode_sense_of (Some pages) cdb control is_long len =
+    if bit_at control 2 == 1 then request.InvalidAtUnit invalid_field_in_cdb
     else (if page_control cdb == 3 then request.InvalidAtUnit saving_parameters_not_supported
-    else request.ModeSense sense)
-
--- MODE SENSE (6), 6 bytes: DBD is bit 3 of byte 1 (SPC-3, MODE SENSE (6) command)
-abbrev pub mode_sense_6_request : List ℕ → Request
-mode_sense_6_request cdb =
-    mode_sense_request cdb (byte 5 cdb)
+    else request.ModeSense
     (record {
-      is_long = false;
+      is_long = is_long;
       has_descriptor = not (bit 1 3 cdb == 1);
       changeable = page_control cdb == 1;
-      len = byte 4 cdb;
-    })
+      pages = pages;
+      len = len;
+    }))
+
+-- the same by the page that is asked for
+abbrev pub mode_sense_request : List ℕ → ℕ → Bool → ℕ → Request
+mode_sense_request cdb control is_long len = mode_sense_of (mode_pages_of cdb) cdb control is_long len
+
+-- MODE SENSE (6), 6 bytes (SPC-3, MODE SENSE (6) command)
+abbrev pub mode_sense_6_request : List ℕ → Request
+mode_sense_6_request cdb = mode_sense_request cdb (byte 5 cdb) false (byte 4 cdb)
 
 -- MODE SENSE (10), 10 bytes; LLBAA may be ignored (SPC-3, MODE SENSE (10) command)
 abbrev pub mode_sense_10_request : List ℕ → Request
-mode_sense_10_request cdb =
-    mode_sense_request cdb (byte 9 cdb)
-    (record {
-      is_long = true;
-      has_descriptor = not (bit 1 3 cdb == 1);
-      changeable = page_control cdb == 1;
-      len = number 7 2 cdb;
-    })
+mode_sense_10_request cdb = mode_sense_request cdb (byte 9 cdb) true (number 7 2 cdb)
 
 -- REQUEST SENSE, 6 bytes: DESC, bit 0 of byte 1, isn't supported (SPC-3, REQUEST SENSE command)
 abbrev pub request_sense_request : List ℕ → Request

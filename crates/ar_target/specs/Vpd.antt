@@ -28,6 +28,11 @@ serial_number array host lun = hex_digits (unit_name array host lun)
 abbrev pub supported_pages : List ℕ
 supported_pages = 0x00 ∷ 0x00 ∷ 0x00 ∷ 0x05 ∷ 0x00 ∷ 0x80 ∷ 0x83 ∷ 0xB0 ∷ 0xB1 ∷ []
 
+-- the same at a LUN without a unit: PERIPHERAL QUALIFIER 011b, PERIPHERAL DEVICE TYPE 1Fh, and this page alone (SPC-3,
+-- INQUIRY command and Standard INQUIRY data)
+abbrev pub absent_pages : List ℕ
+absent_pages = 0x7F ∷ 0x00 ∷ 0x00 ∷ 0x01 ∷ 0x00 ∷ []
+
 -- Unit Serial Number (SPC-3, Unit Serial Number VPD page)
 unfoldable pub unit_serial_number : ℕ → ℕ → ℕ → List ℕ
 unit_serial_number array host lun = (0x00 ∷ 0x80 ∷ 0x00 ∷ 0x0C ∷ []) ++ serial_number array host lun

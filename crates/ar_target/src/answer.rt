@@ -12,8 +12,8 @@ use crate::mode::mode_data;
 use crate::request::{ModeSense, VpdPage};
 use crate::told::{cut_reply, handed_on, last_block, presence};
 use crate::vpd::{
-    block_device_characteristics, block_limits, device_identification, supported_pages,
-    unit_serial_number,
+    absent_pages, block_device_characteristics, block_limits, device_identification,
+    supported_pages, unit_serial_number,
 };
 use ar_scsi::{Reply, Sense, Status, sense18};
 use byteorder::{BigEndian, ByteOrder};
@@ -53,8 +53,20 @@ pub(crate) fn answer_vpd(
 {
     match presence(&told) {
         Some(true) => page_reply(alloc, attributes, lun, page, usize::from(len)),
-        Some(false) => cut_reply(alloc, told.payload.as_slice(), usize::from(len)),
+        Some(false) => absent_page_reply(alloc, page, usize::from(len)),
         None => handed_on(told),
+    }
+}
+
+// The answer at a LUN without a unit.
+fn absent_page_reply(alloc: Global, page: VpdPage, len: usize) -> Reply
+    requires { len < 65536 }
+    ensures answer { IsReturned (answer.absent_page_answer page len) result }
+    ensures reply { IsReply result }
+{
+    match page {
+        VpdPage::SupportedPages => cut_reply(alloc, &absent_pages(), len),
+        _ => Reply::check(Sense::INVALID_FIELD_IN_CDB),
     }
 }
 

@@ -1,6 +1,7 @@
-// A port that answers what SPC-3 and SBC-2 ask of a device server beyond the array's commands.
+// A port that answers what initiators ask of a device server beyond the array's commands.
 ghost use Rattle.std.specs.Prelude.{◌≡◌};
 
+use crate::attention::{attention_reply, finds_unit, is_due, settle};
 use crate::attributes::Attributes;
 use crate::flush_port::FlushPort;
 use crate::request::request_of;
@@ -10,7 +11,8 @@ use ar_scsi::Reply;
 use bytes::Bytes;
 use std::alloc::Global;
 
-/// The device server of the units of one host. It answers by what the port below it tells, and holds nothing of a unit.
+/// The device server of the units of one host. It answers by what the port below it tells, and holds nothing
+/// of a unit but whether it has reported that the session is new.
 #[derive(Drop)]
 pub struct DeviceServer<P> {
     alloc: Global,
@@ -18,6 +20,8 @@ pub struct DeviceServer<P> {
     pub port: P,
     /// What is reported of the array and of the host, which is that of the latest login.
     pub attributes: Attributes,
+    // For LUNs 0 to 7, whether the unit hasn't reported yet that the session is new.
+    pending: [bool; 8],
 }
 
 impl<P> DeviceServer<P> {
@@ -30,6 +34,7 @@ impl<P> DeviceServer<P> {
             alloc,
             port,
             attributes,
+            pending: [true; 8],
         }
     }
 
@@ -46,20 +51,29 @@ impl<P: FlushPort> Port for DeviceServer<P> {
 
     ghost has_login = { λ server. P.has_login server.port };
 
-    ghost logins = { λ old host login new.
-        LogsInAs P.logins old.attributes old.port host login new.attributes new.port };
+    ghost logins = { λ old host login new. LogsInAs P.logins
+        (record { attributes = old.attributes; pending = old.pending; port = old.port }) host login
+        (record { attributes = new.attributes; pending = new.pending; port = new.port }) };
 
-    ghost commands = { λ old lun cdb payload reply new.
-        ServesAsDevice P.commands P.flushes old.attributes old.port lun cdb payload reply new.attributes new.port };
+    ghost commands = { λ old lun cdb payload reply new. ServesAsDevice P.commands P.flushes
+        (record { attributes = old.attributes; pending = old.pending; port = old.port }) lun cdb payload reply
+        (record { attributes = new.attributes; pending = new.pending; port = new.port }) };
 
     fn login(&mut self, host: u8) -> Login {
         self.attributes.host = host;
+        self.pending = [true; 8];
         self.port.login(host)
     }
 
     fn command(&mut self, lun: u8, cdb: &[u8; 16], payload: Bytes) -> Reply {
-        let attributes = self.attributes;
         let request = request_of(cdb);
+        if is_due(&self.pending, lun, request, cdb) {
+            if finds_unit(&mut self.port, lun) {
+                settle(&mut self.pending, lun);
+                return attention_reply(self.alloc, request);
+            }
+        }
+        let attributes = self.attributes;
         serve(
             self.alloc,
             &mut self.port,

@@ -1,11 +1,12 @@
-//! What SPC-3 and SBC-2 ask of a device server beyond the array's commands, as a `Port` over a `Port`: vital product
-//! data, REPORT LUNS, MODE SENSE, REQUEST SENSE, READ CAPACITY (16), SYNCHRONIZE CACHE, START STOP UNIT. Each answer is
+//! What initiators ask of a device server beyond the array's commands, as a `Port` over a `Port`: vital product data,
+//! REPORT LUNS, MODE SENSE, REQUEST SENSE, READ CAPACITY (16), SYNCHRONIZE CACHE, START STOP UNIT. Each answer is
 //! a function of what the port below tells. It uses no thread, no socket and no array.
 #![tactic(auto)]
 
 ghost use Rattle.ar_target.specs.Laws.{CommandsAreGiven, NamesDiffer, GoodIsFlushed};
 
 mod answer;
+mod attention;
 mod attributes;
 mod device_server;
 mod flush_port;
@@ -16,17 +17,20 @@ mod serve;
 mod told;
 mod vpd;
 
+pub use attention::RESET_OCCURRED;
 pub use attributes::Attributes;
 pub use device_server::DeviceServer;
 pub use flush_port::{FlushOutcome, FlushPort};
-pub use request::{ModeSense, Request, SAVING_PARAMETERS_NOT_SUPPORTED, VpdPage, request_of};
+pub use request::{
+    ModePages, ModeSense, Request, SAVING_PARAMETERS_NOT_SUPPORTED, VpdPage, request_of,
+};
 
 /// Law: each command block that the array executes is given to the port, untouched.
 pub fn commands_are_given()
     ensures { CommandsAreGiven }
 {}
 
-/// Law: units of different arrays, hosts or LUNs have different names.
+/// Law: units of different arrays, hosts or LUNs have different names, serial numbers and designators.
 pub fn names_differ()
     ensures { NamesDiffer }
 {}

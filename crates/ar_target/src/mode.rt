@@ -1,8 +1,8 @@
-// What MODE SENSE returns: a header, a block descriptor, and the caching page.
-ghost use Rattle.std.specs.Prelude.{◌≡◌, ◌++◌, IfOk, OnOk};
+// What MODE SENSE returns: a header, a block descriptor, and mode pages.
+ghost use Rattle.std.specs.Prelude.{◌≡◌, ◌≤◌, ◌++◌, IfOk, OnOk};
 ghost use Rattle.ar_target.specs.Mode as mode;
 
-use crate::request::ModeSense;
+use crate::request::{ModePages, ModeSense};
 use std::alloc::{AllocError, Global};
 
 /// The mode data of a unit whose last block is `last`, on an array that has a cache if `write_back`. `Err` if out of
@@ -16,22 +16,53 @@ pub(crate) fn mode_data(
 ) -> Result<Vec<u8>, AllocError>
     ensures { IfOk result (λ bytes. bytes.items ≡ mode.mode_data write_back sense last) }
 {
-    let mut bytes = Vec::with_capacity(alloc, 36)?;
-    put_header(&mut bytes, sense.is_long, sense.has_descriptor)?;
+    let mut bytes = Vec::with_capacity(alloc, 48)?;
+    put_header(
+        &mut bytes,
+        sense.is_long,
+        descriptor_len(sense.has_descriptor),
+        pages_len(sense.pages),
+    )?;
     put_descriptor(&mut bytes, sense.has_descriptor, last)?;
-    bytes.extend_from_slice(&caching_page(write_back && !sense.changeable))?;
+    put_pages(&mut bytes, write_back, sense)?;
     Ok(bytes)
 }
 
-// Appends the mode parameter header.
-fn put_header(bytes: &mut Vec<u8>, is_long: bool, has_descriptor: bool) -> Result<(), AllocError>
-    ensures { OnOk result (bytes.new.items ≡ bytes.old.items ++ mode.mode_header is_long has_descriptor) }
+// The length of the block descriptor.
+fn descriptor_len(has_descriptor: bool) -> u8
+    ensures is { result ≡ mode.descriptor_len has_descriptor }
+    ensures short { result ≤ 8 }
 {
-    match (is_long, has_descriptor) {
-        (false, false) => bytes.extend_from_slice(&[0x17, 0, 0x10, 0]),
-        (false, true) => bytes.extend_from_slice(&[0x1F, 0, 0x10, 8]),
-        (true, false) => bytes.extend_from_slice(&[0, 0x1A, 0, 0x10, 0, 0, 0, 0]),
-        (true, true) => bytes.extend_from_slice(&[0, 0x22, 0, 0x10, 0, 0, 0, 8]),
+    if has_descriptor { 8 } else { 0 }
+}
+
+// The length of the pages.
+fn pages_len(pages: ModePages) -> u8
+    ensures is { result ≡ mode.pages_len pages }
+    ensures short { result ≤ 32 }
+{
+    match pages {
+        ModePages::Caching => 20,
+        ModePages::Control => 12,
+        ModePages::All => 32,
+    }
+}
+
+// Appends the mode parameter header, by the lengths of the block descriptor and the pages.
+fn put_header(
+    bytes: &mut Vec<u8>,
+    is_long: bool,
+    descriptor: u8,
+    pages: u8,
+) -> Result<(), AllocError>
+    requires descriptor { descriptor ≤ 8 }
+    requires pages { pages ≤ 32 }
+    ensures { OnOk result (bytes.new.items ≡ bytes.old.items ++ mode.mode_header is_long descriptor pages) }
+{
+    if is_long {
+        bytes.extend_from_slice(&[0, 6 + descriptor + pages, 0, 0x10, 0, 0, 0, descriptor])
+    } else {
+        bytes.extend_from_slice(&[3 + descriptor + pages, 0, 0x10, descriptor])
     }
 }
 
@@ -46,6 +77,23 @@ fn put_descriptor(bytes: &mut Vec<u8>, has_descriptor: bool, last: u32) -> Resul
     bytes.extend_from_slice(&[blocks[0], blocks[1], blocks[2], blocks[3], 0, 0, 2, 0])
 }
 
+// Appends the mode pages, ascending. Where changeable values are asked for, none can be changed.
+fn put_pages(bytes: &mut Vec<u8>, write_back: bool, sense: ModeSense) -> Result<(), AllocError>
+    ensures { OnOk result (bytes.new.items ≡ bytes.old.items
+        ++ mode.mode_pages sense.pages write_back sense.changeable) }
+{
+    let caching = caching_page(write_back && !sense.changeable);
+    let control = control_page(!sense.changeable);
+    match sense.pages {
+        ModePages::Caching => bytes.extend_from_slice(&caching),
+        ModePages::Control => bytes.extend_from_slice(&control),
+        ModePages::All => {
+            bytes.extend_from_slice(&caching)?;
+            bytes.extend_from_slice(&control)
+        }
+    }
+}
+
 // The caching page, with WCE if `write_cache`.
 fn caching_page(write_cache: bool) -> [u8; 20]
     ensures { result ≡ mode.caching_page write_cache }
@@ -55,6 +103,19 @@ fn caching_page(write_cache: bool) -> [u8; 20]
     page[1] = 0x12;
     if write_cache {
         page[2] = 0x04;
+    }
+    page
+}
+
+// The Control mode page, with GLTSD if `no_log_saving`.
+fn control_page(no_log_saving: bool) -> [u8; 12]
+    ensures { result ≡ mode.control_page no_log_saving }
+{
+    let mut page = [0; 12];
+    page[0] = 0x0A;
+    page[1] = 0x0A;
+    if no_log_saving {
+        page[2] = 0x02;
     }
     page
 }

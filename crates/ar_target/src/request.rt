@@ -23,6 +23,17 @@ pub enum VpdPage {
     BlockDeviceCharacteristics,
 }
 
+/// The mode pages that a MODE SENSE asks for.
+#[derive(Clone, Copy, Debug, PartialEq, Eq)]
+pub enum ModePages {
+    /// 08h: whether the array has a cache.
+    Caching,
+    /// 0Ah: how commands are executed.
+    Control,
+    /// 3Fh: all pages.
+    All,
+}
+
 /// What a MODE SENSE asks for.
 #[derive(Clone, Copy, Debug, PartialEq, Eq)]
 pub struct ModeSense {
@@ -30,8 +41,9 @@ pub struct ModeSense {
     pub is_long: bool,
     /// A block descriptor is returned: DBD is 0.
     pub has_descriptor: bool,
-    /// Which bits of the page can be changed is returned in place of their values.
+    /// Which bits of the pages can be changed is returned in place of their values.
     pub changeable: bool,
+    pub pages: ModePages,
     /// ALLOCATION LENGTH in bytes.
     pub len: u16,
 }
@@ -51,7 +63,7 @@ pub enum Request {
     ReportLuns { len: u32 },
     /// REPORT LUNS of well known logical units, of which there are none.
     ReportWellKnown { len: u32 },
-    /// MODE SENSE (6) or (10) of the caching page or of all pages.
+    /// MODE SENSE (6) or (10) of one page or of all pages.
     ModeSense(ModeSense),
     /// REQUEST SENSE in fixed format.
     RequestSense { len: u8 },
@@ -189,52 +201,50 @@ fn report_luns(cdb: &[u8; 16]) -> Request
     }
 }
 
-// Whether the page is supported: the caching page or all, without subpages; or all with theirs.
-fn has_mode_page(cdb: &[u8; 16]) -> bool
-    ensures { result ≡ table.has_mode_page cdb.now }
+// The pages that are asked for, without subpages or, of all pages, with theirs. None: no such page.
+fn mode_pages_of(cdb: &[u8; 16]) -> Option<ModePages>
+    ensures { result ≡ table.mode_pages_of cdb.now }
 {
-    match cdb[2] % 64 {
-        0x08 => cdb[3] == 0x00,
-        0x3F => cdb[3] == 0x00 || cdb[3] == 0xFF,
-        _ => false,
+    match (cdb[2] % 64, cdb[3]) {
+        (0x08, 0x00) => Some(ModePages::Caching),
+        (0x0A, 0x00) => Some(ModePages::Control),
+        (0x3F, 0x00 | 0xFF) => Some(ModePages::All),
+        _ => None,
     }
 }
 
-// MODE SENSE of `sense`; `control` is the CONTROL byte.
-fn mode_sense(cdb: &[u8; 16], control: u8, sense: ModeSense) -> Request
-    ensures { result ≡ table.mode_sense_request cdb.now control sense }
+// MODE SENSE, long or not, with this CONTROL byte and this allocation length.
+fn mode_sense(cdb: &[u8; 16], control: u8, is_long: bool, len: u16) -> Request
+    ensures { result ≡ table.mode_sense_request cdb.now control is_long len }
 {
-    if naca(control) || !has_mode_page(cdb) {
+    let Some(pages) = mode_pages_of(cdb) else {
+        return Request::InvalidAtUnit(Sense::INVALID_FIELD_IN_CDB);
+    };
+    if naca(control) {
         return Request::InvalidAtUnit(Sense::INVALID_FIELD_IN_CDB);
     }
     if cdb[2] >> 6 == 3 {
         return Request::InvalidAtUnit(SAVING_PARAMETERS_NOT_SUPPORTED);
     }
-    Request::ModeSense(sense)
+    Request::ModeSense(ModeSense {
+        is_long,
+        has_descriptor: !flag(cdb[1], 3),
+        changeable: cdb[2] >> 6 == 1,
+        pages,
+        len,
+    })
 }
 
 fn mode_sense_6(cdb: &[u8; 16]) -> Request
     ensures { result ≡ table.mode_sense_6_request cdb.now }
 {
-    let sense = ModeSense {
-        is_long: false,
-        has_descriptor: !flag(cdb[1], 3),
-        changeable: cdb[2] >> 6 == 1,
-        len: u16::from(cdb[4]),
-    };
-    mode_sense(cdb, cdb[5], sense)
+    mode_sense(cdb, cdb[5], false, u16::from(cdb[4]))
 }
 
 fn mode_sense_10(cdb: &[u8; 16]) -> Request
     ensures { result ≡ table.mode_sense_10_request cdb.now }
 {
-    let sense = ModeSense {
-        is_long: true,
-        has_descriptor: !flag(cdb[1], 3),
-        changeable: cdb[2] >> 6 == 1,
-        len: number_16(cdb, 7),
-    };
-    mode_sense(cdb, cdb[9], sense)
+    mode_sense(cdb, cdb[9], true, number_16(cdb, 7))
 }
 
 fn request_sense(cdb: &[u8; 16]) -> Request

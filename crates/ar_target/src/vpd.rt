@@ -9,6 +9,13 @@ pub(crate) fn supported_pages() -> [u8; 9]
     [0x00, 0x00, 0x00, 0x05, 0x00, 0x80, 0x83, 0xB0, 0xB1]
 }
 
+/// Supported VPD pages at a LUN without a unit: this page alone.
+pub(crate) fn absent_pages() -> [u8; 5]
+    ensures { result ≡ page.absent_pages }
+{
+    [0x7F, 0x00, 0x00, 0x01, 0x00]
+}
+
 // A hexadecimal digit in ASCII.
 #[tactic(auto, unfolding(crate::specs::Vpd::hex_digit))]
 fn hex_digit(value: u8) -> u8

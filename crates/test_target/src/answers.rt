@@ -28,6 +28,8 @@ const DONE: Wanted = Good(&[]);
 
 const ATTENTION: Wanted = Check(0x06, 0x2A, 0x09);
 
+const NEW_SESSION: Wanted = Check(0x06, 0x29, 0x00);
+
 const NO_UNIT: Wanted = Check(0x05, 0x25, 0x00);
 
 const INVALID: Wanted = Check(0x05, 0x24, 0x00);
@@ -49,6 +51,23 @@ fn logged_in(rt: &impl Abort, alloc: Global, attention: bool) -> Server
         Login::Taken => server,
         login => panic!(rt; "{login:?}"),
     }
+}
+
+// The same, once each unit has reported that the session is new.
+fn settled(rt: &impl Abort, alloc: Global, attention: bool) -> Server
+    ensures { result.port.taken ≡ true }
+{
+    let mut server = logged_in(rt, alloc, attention);
+    play(
+        rt,
+        &mut server,
+        &[
+            (0, &[0x00], NEW_SESSION),
+            (3, &[0x00], NEW_SESSION),
+            (5, &[0x00], NEW_SESSION),
+        ],
+    );
+    server
 }
 
 // A command block, padded to 16 bytes.
@@ -92,6 +111,9 @@ fn play(rt: &impl Abort, server: &mut Server, rows: &[Row])
     }
 }
 
+// The standard INQUIRY data of a unit.
+static STANDARD: &[u8] = b"\x00\x00\x05\x02\x1F\x00\x00\x00AUTORAIDTWO LEVEL ARRAY 0001";
+
 // The Device Identification page of host 2's LUN 3.
 static NAMES: &[u8] = &[
     0x00, 0x83, 0x00, 0x24, // 36 bytes of designators
@@ -104,7 +126,7 @@ static NAMES: &[u8] = &[
 
 #[test]
 fn pages_of_vital_product_data(rt: HostRuntime) {
-    let mut server = logged_in(&rt, rt.alloc(), false);
+    let mut server = settled(&rt, rt.alloc(), false);
     play(
         &rt,
         &mut server,
@@ -139,7 +161,8 @@ fn pages_of_vital_product_data(rt: HostRuntime) {
             (0, &[0x12, 1, 0xB2, 0, 255], INVALID),
             (0, &[0x12, 0, 0x80, 0, 255], INVALID),
             (0, &[0x12, 1, 0x00, 0, 255, 0x04], INVALID),
-            (7, &[0x12, 1, 0x80, 0, 5], Good(&[0x7F, 0, 5, 2, 0x1F])),
+            (7, &[0x12, 1, 0x00, 0, 255], Good(&[0x7F, 0, 0, 1, 0x00])),
+            (7, &[0x12, 1, 0x80, 0, 255], INVALID),
             (9, &[0x12, 1, 0x80, 0, 5], FAILED),
         ],
     );
@@ -153,7 +176,7 @@ static LUNS: &[u8] = &[
 
 #[test]
 fn logical_units_are_listed(rt: HostRuntime) {
-    let mut server = logged_in(&rt, rt.alloc(), false);
+    let mut server = settled(&rt, rt.alloc(), false);
     play(
         &rt,
         &mut server,
@@ -170,7 +193,7 @@ fn logical_units_are_listed(rt: HostRuntime) {
 
 #[test]
 fn mode_data(rt: HostRuntime) {
-    let mut server = logged_in(&rt, rt.alloc(), false);
+    let mut server = settled(&rt, rt.alloc(), false);
     play(
         &rt,
         &mut server,
@@ -183,8 +206,21 @@ fn mode_data(rt: HostRuntime) {
             ),
             (
                 0,
-                &[0x1A, 8, 0x3F, 0xFF, 7],
-                Good(&[0x17, 0, 0x10, 0, 8, 0x12, 4]),
+                &[0x1A, 8, 0x0A, 0, 255],
+                Good(&[0x0F, 0, 0x10, 0, 0x0A, 0x0A, 2, 0, 0, 0, 0, 0, 0, 0, 0, 0]),
+            ),
+            (
+                0,
+                &[0x1A, 8, 0x4A, 0, 255],
+                Good(&[0x0F, 0, 0x10, 0, 0x0A, 0x0A, 0, 0, 0, 0, 0, 0, 0, 0, 0, 0]),
+            ),
+            (
+                0,
+                &[0x1A, 8, 0x3F, 0xFF, 255],
+                Good(&[
+                    0x23, 0, 0x10, 0, 8, 0x12, 4, 0, 0, 0, 0, 0, 0, 0, 0, 0, 0, 0, 0, 0, 0, 0, 0, 0,
+                    0x0A, 0x0A, 2, 0, 0, 0, 0, 0, 0, 0, 0, 0,
+                ]),
             ),
             (
                 0,
@@ -197,8 +233,9 @@ fn mode_data(rt: HostRuntime) {
                 Good(&[0x17, 0, 0x10, 0, 8, 0x12, 4]),
             ),
             (0, &[0x1A, 8, 0xC8, 0, 7], Check(0x05, 0x39, 0x00)),
-            (0, &[0x1A, 8, 0x0A, 0, 7], INVALID),
+            (0, &[0x1A, 8, 0x1C, 0, 7], INVALID),
             (0, &[0x1A, 8, 0x08, 1, 7], INVALID),
+            (0, &[0x1A, 8, 0x0A, 1, 7], INVALID),
             (0, &[0x1A, 8, 0x08, 0, 0], DONE),
             (
                 0,
@@ -208,10 +245,10 @@ fn mode_data(rt: HostRuntime) {
             (
                 0,
                 &[0x5A, 0, 0x3F, 0, 0, 0, 0, 0, 16],
-                Good(&[0, 0x22, 0, 0x10, 0, 0, 0, 8, 0, 0, 3, 0xE8, 0, 0, 2, 0]),
+                Good(&[0, 0x2E, 0, 0x10, 0, 0, 0, 8, 0, 0, 3, 0xE8, 0, 0, 2, 0]),
             ),
             (7, &[0x1A, 8, 0x08, 0, 4], NO_UNIT),
-            (7, &[0x1A, 8, 0x0A, 0, 4], NO_UNIT),
+            (7, &[0x1A, 8, 0x1C, 0, 4], NO_UNIT),
         ],
     );
     drop(server);
@@ -219,7 +256,7 @@ fn mode_data(rt: HostRuntime) {
 
 #[test]
 fn capacities_of_eight_bytes(rt: HostRuntime) {
-    let mut server = logged_in(&rt, rt.alloc(), false);
+    let mut server = settled(&rt, rt.alloc(), false);
     play(
         &rt,
         &mut server,
@@ -256,7 +293,7 @@ fn capacities_of_eight_bytes(rt: HostRuntime) {
 
 #[test]
 fn sense_is_returned_as_data(rt: HostRuntime) {
-    let mut server = logged_in(&rt, rt.alloc(), false);
+    let mut server = settled(&rt, rt.alloc(), false);
     play(
         &rt,
         &mut server,
@@ -289,7 +326,7 @@ fn sense_is_returned_as_data(rt: HostRuntime) {
 
 #[test]
 fn caches_are_synchronized(rt: HostRuntime) {
-    let mut server = logged_in(&rt, rt.alloc(), false);
+    let mut server = settled(&rt, rt.alloc(), false);
     play(
         &rt,
         &mut server,
@@ -331,8 +368,39 @@ fn flushed(rt: &impl Abort, server: Server, count: u64) {
 }
 
 #[test]
-fn request_sense_reports_a_unit_attention(rt: HostRuntime) {
+fn each_unit_reports_a_new_session_once(rt: HostRuntime) {
     let mut server = logged_in(&rt, rt.alloc(), true);
+    play(
+        &rt,
+        &mut server,
+        &[
+            (0, &[0x12, 1, 0x80, 0, 4], Good(&[0, 0x80, 0, 0x0C])),
+            (0, &[0x12, 0, 0, 0, 36], Good(STANDARD)),
+            (0, &[0xA0, 0, 0, 0, 0, 0, 0, 0, 0, 16], Good(&LUNS[..16])),
+            (0, &[0x03, 1, 0, 0, 18], INVALID),
+            (0, &[0x00], NEW_SESSION),
+            (0, &[0x00], ATTENTION),
+            (0, &[0x00], DONE),
+            (
+                3,
+                &[0x03, 0, 0, 0, 18],
+                Good(&[
+                    0x70, 0, 6, 0, 0, 0, 0, 0x0A, 0, 0, 0, 0, 0x29, 0, 0, 0, 0, 0,
+                ]),
+            ),
+            (3, &[0x25], Good(&[0, 0, 3, 0xE7, 0, 0, 2, 0])),
+            (5, &[0x1A, 8, 0x1C, 0, 4], NEW_SESSION),
+            (5, &[0x1A, 8, 0x1C, 0, 4], INVALID),
+            (7, &[0x00], NO_UNIT),
+            (7, &[0x28, 0, 0, 0, 0, 0, 0, 0, 1], NO_UNIT),
+        ],
+    );
+    drop(server);
+}
+
+#[test]
+fn request_sense_reports_a_unit_attention(rt: HostRuntime) {
+    let mut server = settled(&rt, rt.alloc(), true);
     play(
         &rt,
         &mut server,
@@ -354,7 +422,7 @@ fn request_sense_reports_a_unit_attention(rt: HostRuntime) {
 
 #[test]
 fn a_unit_attention_comes_before_a_flush(rt: HostRuntime) {
-    let mut server = logged_in(&rt, rt.alloc(), true);
+    let mut server = settled(&rt, rt.alloc(), true);
     play(
         &rt,
         &mut server,
@@ -368,13 +436,13 @@ fn a_unit_attention_comes_before_a_flush(rt: HostRuntime) {
 
 #[test]
 fn a_unit_attention_comes_before_other_faults(rt: HostRuntime) {
-    let mut server = logged_in(&rt, rt.alloc(), true);
+    let mut server = settled(&rt, rt.alloc(), true);
     play(
         &rt,
         &mut server,
         &[
-            (0, &[0x1A, 8, 0x0A, 0, 4], ATTENTION),
-            (0, &[0x1A, 8, 0x0A, 0, 4], INVALID),
+            (0, &[0x1A, 8, 0x1C, 0, 4], ATTENTION),
+            (0, &[0x1A, 8, 0x1C, 0, 4], INVALID),
         ],
     );
     drop(server);
@@ -382,7 +450,7 @@ fn a_unit_attention_comes_before_other_faults(rt: HostRuntime) {
 
 #[test]
 fn other_commands_are_the_ports(rt: HostRuntime) {
-    let mut server = logged_in(&rt, rt.alloc(), false);
+    let mut server = settled(&rt, rt.alloc(), false);
     play(
         &rt,
         &mut server,
@@ -390,11 +458,7 @@ fn other_commands_are_the_ports(rt: HostRuntime) {
             (0, &[0x00], DONE),
             (0, &[0x25], Good(&[0, 0, 3, 0xE7, 0, 0, 2, 0])),
             (0, &[0x28, 0, 0, 0, 0, 0, 0, 0, 1], Good(&[0x5A; 512])),
-            (
-                0,
-                &[0x12, 0, 0, 0, 36],
-                Good(b"\x00\x00\x05\x02\x1F\x00\x00\x00AUTORAIDTWO LEVEL ARRAY 0001"),
-            ),
+            (0, &[0x12, 0, 0, 0, 36], Good(STANDARD)),
             (0, &[0xA3, 0x0C], Check(0x05, 0x20, 0x00)),
         ],
     );
@@ -404,7 +468,7 @@ fn other_commands_are_the_ports(rt: HostRuntime) {
 // The bytes of a WRITE come to the port.
 #[test]
 fn the_data_of_a_write_are_the_ports(rt: HostRuntime) {
-    let mut server = logged_in(&rt, rt.alloc(), false);
+    let mut server = settled(&rt, rt.alloc(), false);
     writes(&rt, rt.alloc(), &mut server);
     given(&rt, server, 512);
 }
