@@ -35,8 +35,8 @@ reports (request.ReportWellKnown len) cdb = false
 reports other cdb = true
 
 -- a command has to report it, if there is a unit
-abbrev pub is_due : List Bool → ℕ → Request → List ℕ → Bool
-is_due pending lun request cdb = is_pending pending lun && reports request cdb
+abbrev pub owes_report : List Bool → ℕ → Request → List ℕ → Bool
+owes_report pending lun request cdb = is_pending pending lun && reports request cdb
 
 -- the unit at a LUN has reported it
 abbrev pub settled : List Bool → ℕ → List Bool

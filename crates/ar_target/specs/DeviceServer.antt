@@ -5,7 +5,7 @@ use Rattle.ar_frames.specs.declared.port.Login.{Login}
 use Rattle.ar_frames.specs.Conversation.{Commands}
 use Rattle.ar_frames.specs.Port.{Logins}
 use Rattle.ar_target.specs.declared.attributes.Attributes.{Attributes}
-use Rattle.ar_target.specs.Attention.{SeeksUnit, all_pending, attention_reply, is_due, settled}
+use Rattle.ar_target.specs.Attention.{SeeksUnit, all_pending, attention_reply, owes_report, settled}
 use Rattle.ar_target.specs.FlushPort.{UnitFlushes}
 use Rattle.ar_target.specs.Request.{request_of}
 use Rattle.ar_target.specs.Serving.{MeetsCommand}
@@ -31,16 +31,16 @@ pub record LogsInAs {P : Type 0} (logins : Logins P) (old : ServerState P) (host
 pub data ServesAsDevice {P : Type 0} (commands : Commands P) (flushes : UnitFlushes P) (old : ServerState P) (lun : ℕ)
     (cdb payload : List ℕ) : Reply → ServerState P → Type 0 where
   nothing_due :
-      (reply : Reply) (port : P) → is_due old.pending lun (request_of cdb) cdb ≡ false
+      (reply : Reply) (port : P) → owes_report old.pending lun (request_of cdb) cdb ≡ false
       → MeetsCommand commands flushes old.attributes old.port lun cdb payload reply port
       → ServesAsDevice commands flushes old lun cdb payload reply (record old { port = port })
   no_unit :
-      (reply : Reply) (mid port : P) → is_due old.pending lun (request_of cdb) cdb ≡ true
+      (reply : Reply) (mid port : P) → owes_report old.pending lun (request_of cdb) cdb ≡ true
       → SeeksUnit commands old.port lun false mid
       → MeetsCommand commands flushes old.attributes mid lun cdb payload reply port
       → ServesAsDevice commands flushes old lun cdb payload reply (record old { port = port })
   reported :
-      (reply : Reply) (port : P) → is_due old.pending lun (request_of cdb) cdb ≡ true
+      (reply : Reply) (port : P) → owes_report old.pending lun (request_of cdb) cdb ≡ true
       → SeeksUnit commands old.port lun true port → IsReturned (attention_reply (request_of cdb)) reply
       → ServesAsDevice commands flushes old lun cdb payload reply
       (record { attributes = old.attributes; pending = settled old.pending lun; port = port })

@@ -18,8 +18,8 @@ pub const RESET_OCCURRED: Sense = Sense {
 };
 
 /// Whether a command at `lun` has to report that the session is new, if there is a unit.
-pub(crate) fn is_due(pending: &[bool; 8], lun: u8, request: Request, cdb: &[u8; 16]) -> bool
-    ensures { result ≡ attention.is_due pending.now lun request cdb.now }
+pub(crate) fn owes_report(pending: &[bool; 8], lun: u8, request: Request, cdb: &[u8; 16]) -> bool
+    ensures { result ≡ attention.owes_report pending.now lun request cdb.now }
 {
     is_pending(pending, lun) && reports(request, cdb)
 }

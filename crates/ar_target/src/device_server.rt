@@ -1,7 +1,7 @@
 // A port that answers what initiators ask of a device server beyond the array's commands.
 ghost use Rattle.std.specs.Prelude.{◌≡◌};
 
-use crate::attention::{attention_reply, finds_unit, is_due, settle};
+use crate::attention::{attention_reply, finds_unit, owes_report, settle};
 use crate::attributes::Attributes;
 use crate::flush_port::FlushPort;
 use crate::request::request_of;
@@ -67,7 +67,7 @@ impl<P: FlushPort> Port for DeviceServer<P> {
 
     fn command(&mut self, lun: u8, cdb: &[u8; 16], payload: Bytes) -> Reply {
         let request = request_of(cdb);
-        if is_due(&self.pending, lun, request, cdb) {
+        if owes_report(&self.pending, lun, request, cdb) {
             if finds_unit(&mut self.port, lun) {
                 settle(&mut self.pending, lun);
                 return attention_reply(self.alloc, request);
