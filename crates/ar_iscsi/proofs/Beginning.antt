@@ -8,30 +8,84 @@ use Rattle.ar_iscsi.specs.declared.login_phase.LoginEnd.{LoginEnd}
 use Rattle.ar_iscsi.specs.declared.negotiation.Limits.{Limits}
 use Rattle.ar_iscsi.specs.declared.negotiation.Negotiation.{Negotiation}
 use Rattle.ar_iscsi.specs.declared.session.FeatureEnd.{FeatureEnd}
+use Rattle.ar_iscsi.specs.declared.waiting_pdu.WaitingPdu.{WaitingPdu}
+use Rattle.ar_iscsi.specs.Arrival.{FeatureSpot}
 use Rattle.ar_iscsi.specs.LoginPhase.{RunsLogin}
 use Rattle.ar_iscsi.specs.LoginTurn.{LoginSpot}
 use Rattle.ar_iscsi.specs.Negotiation.{at_first}
 use Rattle.ar_iscsi.specs.Phase.{Place}
 use Rattle.ar_iscsi.specs.Session.{RunsFeature}
 use Rattle.ar_iscsi.specs.Target.{login_start}
-use Rattle.ar_iscsi.specs.Turn.{Spot}
 
--- without collected data
-pub feature_from : {P : Type 0} (commands : Commands P) (address : List ℕ) (limits : Limits) (source : SourceState) (sink : SinkState) (flow : Flow)
-    (bytes : List ℕ) (port : P) (reason : FeatureEnd) (new : Place Spot P) → bytes ≡ []
-    → RunsFeature commands address limits (record { source = source; sink = sink; spot = record { flow = flow; bytes = bytes }; port = port }) reason new
-    → RunsFeature commands address limits (record { source = source; sink = sink; spot = record { flow = flow; bytes = [] }; port = port }) reason new
-feature_from commands address limits source sink flow bytes port reason new none runs =
-    subst (λ (l : List ℕ). RunsFeature commands address limits (record { source = source; sink = sink; spot = record { flow = flow; bytes = l }; port = port }) reason new) none runs
+-- without collected data, and with none that wait
+pub feature_from :
+    {P : Type 0} (commands : Commands P) (address : List ℕ) (limits : Limits) (source : SourceState) (sink : SinkState)
+    (flow : Flow) (bytes : List ℕ) (waiting : List WaitingPdu) (port : P) (reason : FeatureEnd)
+    (new : Place FeatureSpot P) → bytes ≡ [] → waiting ≡ []
+    → RunsFeature commands address limits
+    (record {
+      source = source;
+      sink = sink;
+      spot = record { spot = record { flow = flow; bytes = bytes }; waiting = waiting };
+      port = port;
+    })
+    reason new
+    → RunsFeature commands address limits
+    (record {
+      source = source;
+      sink = sink;
+      spot = record { spot = record { flow = flow; bytes = [] }; waiting = [] };
+      port = port;
+    })
+    reason new
+feature_from commands address limits source sink flow bytes waiting port reason new no_bytes none runs =
+    subst (λ (l : List ℕ). RunsFeature commands address limits
+    (record {
+      source = source;
+      sink = sink;
+      spot = record { spot = record { flow = flow; bytes = l }; waiting = [] };
+      port = port;
+    })
+    reason new) no_bytes
+    (subst (λ (w : List WaitingPdu). RunsFeature commands address limits
+    (record {
+      source = source;
+      sink = sink;
+      spot = record { spot = record { flow = flow; bytes = bytes }; waiting = w };
+      port = port;
+    })
+    reason new) none runs)
 
 -- with nothing negotiated, and without text
-pub login_from : {P : Type 0} (logins : Logins P) (source : SourceState) (sink : SinkState) (so_far : Negotiation) (text : List ℕ) (port : P)
+pub login_from : {P : Type 0} (logins : Logins P) (source : SourceState) (sink : SinkState) (so_far : Negotiation)
+    (text : List ℕ) (port : P)
     (reason : LoginEnd) (new : Place LoginSpot P) → so_far ≡ at_first → text ≡ []
     → RunsLogin logins
-    (record { source = source; sink = sink; spot = record { state = record { stage = None; so_far = so_far; stat_sn = 0; cmd_sn = 0 }; text = text }; port = port }) reason new
+    (record {
+      source = source;
+      sink = sink;
+      spot = record
+          { state = record { stage = None; so_far = so_far; stat_sn = 0; cmd_sn = 0 }; text = text };
+      port = port;
+    }) reason
+    new
     → RunsLogin logins (record { source = source; sink = sink; spot = login_start; port = port }) reason new
 login_from logins source sink so_far text port reason new first none runs =
     subst (λ (l : List ℕ). RunsLogin logins
-    (record { source = source; sink = sink; spot = record { state = record { stage = None; so_far = at_first; stat_sn = 0; cmd_sn = 0 }; text = l }; port = port }) reason new) none
+    (record {
+      source = source;
+      sink = sink;
+      spot = record
+          { state = record { stage = None; so_far = at_first; stat_sn = 0; cmd_sn = 0 }; text = l };
+      port = port;
+    }) reason
+    new) none
     (subst (λ (n : Negotiation). RunsLogin logins
-    (record { source = source; sink = sink; spot = record { state = record { stage = None; so_far = n; stat_sn = 0; cmd_sn = 0 }; text = text }; port = port }) reason new) first runs)
+    (record {
+      source = source;
+      sink = sink;
+      spot = record
+          { state = record { stage = None; so_far = n; stat_sn = 0; cmd_sn = 0 }; text = text };
+      port = port;
+    }) reason new)
+    first runs)

@@ -1,5 +1,6 @@
 -- A text item by item: the first one ends at the first zero byte, and the last one is what no zero byte is behind.
-use Rattle.std.proofs.Common.{◌≡◌, ◌∙◌, ℕ, ◌+◌, ◌<◌, ◌≤◌, Bool, true, false, cond, ltb, List, [], ◌∷◌, ◌++◌, refl, sym, ap, append-nil, append_assoc, length, take, drop, arith, Some, None, unwrap_or}
+use Rattle.std.proofs.Common.{◌≡◌, ◌∙◌, ℕ, ◌+◌, ◌<◌, ◌≤◌, Bool, true, false, cond, ltb, List, [], ◌∷◌, ◌++◌, refl, sym}
+use Rattle.std.proofs.Common.{ap, append-nil, append_assoc, length, take, drop, arith, Some, None, unwrap_or}
 use Rattle.std.specs.Prelude.{◌==◌, ◌||◌, bytes_eq, codes}
 use Rattle.std.specs.List.{position_or_len, slice_split, list_any}
 use Rattle.std.proofs.lemmas.List.Splits.{slice_split_none, slice_split_first}
@@ -28,10 +29,12 @@ split_first byte text end at within =
 split_last : (byte : ℕ) (text : List ℕ) (end : ℕ) → end ≡ position_or_len (λ b. b == byte) text → length text ≤ end
     → slice_split (λ b. b == byte) text ≡ text ∷ []
 split_last byte text end at whole =
-    slice_split_none (λ b. b == byte) text (λ k d l. fails_before_first (λ b. b == byte) text k d (omega (arith, whole, at)))
+    slice_split_none (λ b. b == byte) text
+    (λ k d l. fails_before_first (λ b. b == byte) text k d (omega (arith, whole, at)))
 
 -- the answers to what came and to what is left, one item further
-pub answer_more : (out out' all text rest : List ℕ) (end : ℕ) → rest ≡ drop (end + 1) text → end ≡ position_or_len (λ b. b == 0) text → end < length text
+pub answer_more : (out out' all text rest : List ℕ) (end : ℕ) → rest ≡ drop (end + 1) text
+    → end ≡ position_or_len (λ b. b == 0) text → end < length text
     → out' ≡ out ++ item_answer (take end text) → out ++ text_answer text ≡ all → out' ++ text_answer rest ≡ all
 answer_more out out' all text rest end is at within e h =
     ap (λ (l : List ℕ). out' ++ text_answer l) is ∙ ap (λ (l : List ℕ). l ++ text_answer (drop (end + 1) text)) e
@@ -41,34 +44,43 @@ answer_more out out' all text rest end is at within e h =
 pub answer_last : (out out' all text : List ℕ) (end : ℕ) → end ≡ position_or_len (λ b. b == 0) text → length text ≤ end
     → out' ≡ out ++ item_answer text → out ++ text_answer text ≡ all → out' ≡ all
 answer_last out out' all text end at whole e h =
-    e ∙ ap (λ (l : List ℕ). out ++ l) (sym (append-nil (item_answer text)) ∙ sym (ap items_answer (split_last 0 text end at whole))) ∙ h
+    e ∙ ap (λ (l : List ℕ). out ++ l) (sym (append-nil (item_answer text))
+    ∙ sym (ap items_answer (split_last 0 text end at whole))) ∙ h
 
 -- the same for what is negotiated
-pub negotiated_more : (old new all : Negotiation) (text rest : List ℕ) (end : ℕ) → rest ≡ drop (end + 1) text → end ≡ position_or_len (λ b. b == 0) text → end < length text
+pub negotiated_more : (old new all : Negotiation) (text rest : List ℕ) (end : ℕ) → rest ≡ drop (end + 1) text
+    → end ≡ position_or_len (λ b. b == 0) text → end < length text
     → new ≡ after_item old (take end text) → negotiated old text ≡ all → negotiated new rest ≡ all
 negotiated_more old new all text rest end is at within e h =
-    ap (λ (l : List ℕ). negotiated new l) is ∙ ap (λ (n : Negotiation). negotiated n (drop (end + 1) text)) e ∙ sym (ap (after_items old) (split_first 0 text end at within)) ∙ h
+    ap (λ (l : List ℕ). negotiated new l) is ∙ ap (λ (n : Negotiation). negotiated n (drop (end + 1) text)) e
+    ∙ sym (ap (after_items old) (split_first 0 text end at within)) ∙ h
 
-pub negotiated_last : (old all : Negotiation) (text : List ℕ) (end : ℕ) → end ≡ position_or_len (λ b. b == 0) text → length text ≤ end
+pub negotiated_last : (old all : Negotiation) (text : List ℕ) (end : ℕ) → end ≡ position_or_len (λ b. b == 0) text
+    → length text ≤ end
     → negotiated old text ≡ all → after_item old text ≡ all
 negotiated_last old all text end at whole h = sym (ap (after_items old) (split_last 0 text end at whole)) ∙ h
 
 -- the same for the targets that are asked for
-pub targets_more : (address out out' all text rest : List ℕ) (end : ℕ) → rest ≡ drop (end + 1) text → end ≡ position_or_len (λ b. b == 0) text → end < length text
+pub targets_more : (address out out' all text rest : List ℕ) (end : ℕ) → rest ≡ drop (end + 1) text
+    → end ≡ position_or_len (λ b. b == 0) text → end < length text
     → out' ≡ out ++ asked_answer address (take end text) → out ++ targets_answer address text ≡ all
     → out' ++ targets_answer address rest ≡ all
 targets_more address out out' all text rest end is at within e h =
-    ap (λ (l : List ℕ). out' ++ targets_answer address l) is ∙ ap (λ (l : List ℕ). l ++ targets_answer address (drop (end + 1) text)) e
+    ap (λ (l : List ℕ). out' ++ targets_answer address l) is
+    ∙ ap (λ (l : List ℕ). l ++ targets_answer address (drop (end + 1) text)) e
     ∙ append_assoc out (asked_answer address (take end text)) (targets_answer address (drop (end + 1) text))
     ∙ ap (λ (l : List ℕ). out ++ l) (sym (ap (asked_answers address) (split_first 0 text end at within))) ∙ h
 
-pub targets_last : (address out out' all text : List ℕ) (end : ℕ) → end ≡ position_or_len (λ b. b == 0) text → length text ≤ end
+pub targets_last : (address out out' all text : List ℕ) (end : ℕ) → end ≡ position_or_len (λ b. b == 0) text
+    → length text ≤ end
     → out' ≡ out ++ asked_answer address text → out ++ targets_answer address text ≡ all → out' ≡ all
 targets_last address out out' all text end at whole e h =
-    e ∙ ap (λ (l : List ℕ). out ++ l) (sym (append-nil (asked_answer address text)) ∙ sym (ap (asked_answers address) (split_last 0 text end at whole))) ∙ h
+    e ∙ ap (λ (l : List ℕ). out ++ l) (sym (append-nil (asked_answer address text))
+    ∙ sym (ap (asked_answers address) (split_last 0 text end at whole))) ∙ h
 
 -- the members of a list of methods: the first and those of the rest
-pub none_more : (text rest : List ℕ) (end : ℕ) → rest ≡ drop (end + 1) text → end ≡ position_or_len (λ b. b == 44) text → end < length text
+pub none_more : (text rest : List ℕ) (end : ℕ) → rest ≡ drop (end + 1) text → end ≡ position_or_len (λ b. b == 44) text
+    → end < length text
     → has_none text ≡ (bytes_eq (take end text) (codes "None") || has_none rest)
 none_more text rest end is at within =
     ap (list_any (λ v. bytes_eq v (codes "None"))) (split_first 44 text end at within)
@@ -77,10 +89,12 @@ none_more text rest end is at within =
 -- the first is None
 pub none_found : (text : List ℕ) (end : ℕ) → end ≡ position_or_len (λ b. b == 44) text → end < length text
     → bytes_eq (take end text) (codes "None") ≡ true → has_none text ≡ true
-none_found text end at within e = none_more text (drop (end + 1) text) end refl at within ∙ ap (λ (b : Bool). b || has_none (drop (end + 1) text)) e
+none_found text end at within e =
+    none_more text (drop (end + 1) text) end refl at within ∙ ap (λ (b : Bool). b || has_none (drop (end + 1) text)) e
 
 -- the first is another
-pub none_passed : (text rest : List ℕ) (end : ℕ) → rest ≡ drop (end + 1) text → end ≡ position_or_len (λ b. b == 44) text → end < length text
+pub none_passed : (text rest : List ℕ) (end : ℕ) → rest ≡ drop (end + 1) text
+    → end ≡ position_or_len (λ b. b == 44) text → end < length text
     → bytes_eq (take end text) (codes "None") ≡ false → has_none rest ≡ has_none text
 none_passed text rest end is at within e =
     sym (none_more text rest end is at within ∙ ap (λ (b : Bool). b || has_none rest) e)
@@ -88,4 +102,6 @@ none_passed text rest end is at within e =
 -- the last is the one left
 pub none_last : (text : List ℕ) (end : ℕ) → end ≡ position_or_len (λ b. b == 44) text → length text ≤ end
     → has_none text ≡ bytes_eq text (codes "None")
-none_last text end at whole = ap (list_any (λ v. bytes_eq v (codes "None"))) (split_last 44 text end at whole) ∙ or_false (bytes_eq text (codes "None"))
+none_last text end at whole =
+    ap (list_any (λ v. bytes_eq v (codes "None"))) (split_last 44 text end at whole)
+    ∙ or_false (bytes_eq text (codes "None"))

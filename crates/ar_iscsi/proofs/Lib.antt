@@ -3,6 +3,7 @@ pub mod DataIn
 pub mod Headers
 pub mod Items
 pub mod LoggingIn
+pub mod Managing
 pub mod Oks
 pub mod Pdus
 pub mod Receiving

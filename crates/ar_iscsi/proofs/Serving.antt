@@ -1,5 +1,5 @@
 -- How the PDUs of a phase join, and what becomes of a full feature phase.
-use Rattle.std.proofs.Common.{ℕ, ◌+◌, List, [], refl, subst, take, Option, Some, None}
+use Rattle.std.proofs.Common.{◌≡◌, ℕ, ◌+◌, false, List, [], refl, subst, take, Option, Some, None}
 use Rattle.std.proofs.Math.Numerals.{suc-eq-add-one}
 use Rattle.ar_frames.specs.Conversation.{Commands}
 use Rattle.ar_frames.specs.Stream.{SourceState, SinkState}
@@ -12,31 +12,40 @@ use Rattle.ar_iscsi.specs.declared.turn.TurnEnd.TheVariants.{Next, LoggedOut, Br
 use Rattle.ar_iscsi.specs.Pdu.{segment_len}
 use Rattle.ar_iscsi.specs.Receive.{ReadsPdu}
 use Rattle.ar_iscsi.specs.Task.{MayGive}
-use Rattle.ar_iscsi.specs.Turn.{Spot, FeatureTurn}
-use Rattle.ar_iscsi.specs.Phase.{Turns, Place, ServesPdu, ServesPdus, HasNoAnswer, AnswersPdu, turned, unanswered, most_segment}
-use Rattle.ar_iscsi.specs.Session.{NextIsServed, EndsFeature, RunsFeature, result_of_turn, result_of_answer}
+use Rattle.ar_iscsi.specs.Turn.{Spot}
+use Rattle.ar_iscsi.specs.Waiting.{is_next_waiting}
+use Rattle.ar_iscsi.specs.declared.waiting_pdu.WaitingPdu.{WaitingPdu}
+use Rattle.ar_iscsi.specs.Arrival.{FeatureSpot, ArrivalTurn}
+use Rattle.ar_iscsi.specs.Phase.{Turns, PhaseSteps, Place, ServesPdu, ServesPdus, HasNoAnswer, AnswersPdu, turned}
+use Rattle.ar_iscsi.specs.Phase.{unanswered, most_segment}
+use Rattle.ar_iscsi.specs.Session.{NextIsServed, EndsFeature, RunsFeature, FeatureStep, of_waiting, of_arrival}
+use Rattle.ar_iscsi.specs.Session.{TakesWaiting, WaitingTurn}
+use Rattle.ar_iscsi.specs.Session.{read_lacks, waiting_lacks, result_of_turn, result_of_answer}
 
 -- a PDU that was read, and what it did: it was served, or has no answer
-abbrev pub IsHandled : {S P E : Type 0} → Turns S P E → (P → P → Type 0) → Place S P → Place S P → Option (E × Sent) → Type 0
+abbrev pub IsHandled : {S P E : Type 0} → Turns S P E → (P → P → Type 0) → Place S P → Place S P → Option (E × Sent)
+    → Type 0
 IsHandled turns may old new (Some answered) = ServesPdu turns old new answered.0 answered.1
 IsHandled turns may old new None = HasNoAnswer may old new
 
-pub handled : {S P E : Type 0} (turns : Turns S P E) (may : P → P → Type 0) (source source' : SourceState) (sink sink' : SinkState) (spot spot' : S) (port port' : P)
+pub handled : {S P E : Type 0} (turns : Turns S P E) (may : P → P
+    → Type 0) (source source' : SourceState) (sink sink' : SinkState) (spot spot' : S) (port port' : P)
     (header buffer : List ℕ) (answered : Option (E × Sent)) → ReadsPdu [] most_segment source source' header buffer
     → AnswersPdu turns may header (take (segment_len header) buffer) sink spot port answered sink' spot' port'
     → IsHandled turns may (record { source = source; sink = sink; spot = spot; port = port })
     (record { source = source'; sink = sink'; spot = spot'; port = port' }) answered
-handled turns may source source' sink sink' spot spot' port port' header buffer _ reads (turned left sent out _ _ _ turn sending) = record {
-  header = header;
-  carried = take (segment_len header) buffer;
-  bytes = reads.rest;
-  out = out;
-  is_pdu = reads.is_pdu;
-  within = reads.within;
-  read = reads.read;
-  turn = turn;
-  sending = sending;
-}
+handled turns may source source' sink sink' spot spot' port port' header buffer _ reads
+    (turned left sent out _ _ _ turn sending) = record {
+      header = header;
+      carried = take (segment_len header) buffer;
+      bytes = reads.rest;
+      out = out;
+      is_pdu = reads.is_pdu;
+      within = reads.within;
+      read = reads.read;
+      turn = turn;
+      sending = sending;
+    }
 handled turns may source source' sink sink' spot spot' port port' header buffer _ reads (unanswered _ _ done) = record {
   header = header;
   carried = take (segment_len header) buffer;
@@ -48,29 +57,60 @@ handled turns may source source' sink sink' spot spot' port port' header buffer 
 }
 
 -- one more PDU
-pub served_more : {S P E : Type 0} (turns : Turns S P E) (next : E) (count : ℕ) (old between new : Place S P) → ServesPdus turns next count old between
-    → ServesPdu turns between new next Whole → ServesPdus turns next (count + 1) old new
-served_more turns next count old between new served serves =
-    subst (λ (n : ℕ). ServesPdus turns next n old new) (suc-eq-add-one count) (between, served, serves)
+pub served_more :
+    {S P E : Type 0} (steps : PhaseSteps S P E) (next : E) (count : ℕ) (old between new : Place S P)
+    → ServesPdus steps next count old between → steps between new next Whole
+    → ServesPdus steps next (count + 1) old new
+served_more steps next count old between new served serves =
+    subst (λ (n : ℕ). ServesPdus steps next n old new) (suc-eq-add-one count) (between, served, serves)
 
 module _ {P : Type 0} (commands : Commands P) (address : List ℕ) (limits : Limits) where
   -- by how the turn left the session, and how far its answer was written
-  by_turn : (old new : Place Spot P) (left : TurnEnd) (sent : Sent) → ServesPdu (FeatureTurn commands address limits) old new left sent
+  by_step :
+      (old new : Place FeatureSpot P) (left : TurnEnd) (sent : Sent)
+      → FeatureStep commands address limits old new left sent
       → NextIsServed commands address limits old (result_of_turn left sent) new
-  by_turn old new Next Whole serves = serves
-  by_turn old new LoggedOut Whole serves = λ count. serves
-  by_turn old new BrokenData Whole serves = λ count. serves
-  by_turn old new Next (Part n) serves = λ count. record { left = Next; count = n; serves = serves }
-  by_turn old new LoggedOut (Part n) serves = λ count. record { left = LoggedOut; count = n; serves = serves }
-  by_turn old new BrokenData (Part n) serves = λ count. record { left = BrokenData; count = n; serves = serves }
+  by_step old new Next Whole step = step
+  by_step old new LoggedOut Whole step = λ count. step
+  by_step old new BrokenData Whole step = λ count. step
+  by_step old new Next (Part n) step = λ count. record { left = Next; count = n; serves = step }
+  by_step old new LoggedOut (Part n) step = λ count. record { left = LoggedOut; count = n; serves = step }
+  by_step old new BrokenData (Part n) step = λ count. record { left = BrokenData; count = n; serves = step }
 
-  pub next_served : (old new : Place Spot P) (answered : Option (TurnEnd × Sent)) → IsHandled (FeatureTurn commands address limits) (MayGive commands) old new answered
+  -- a PDU that was read
+  pub arrival_served :
+      (old new : Place FeatureSpot P) (answered : Option (TurnEnd × Sent))
+      → is_next_waiting old.spot.spot.flow old.spot.waiting ≡ false
+      → IsHandled (ArrivalTurn commands address limits) (MayGive commands) old new answered
       → NextIsServed commands address limits old (result_of_answer answered) new
-  next_served old new (Some (left, sent)) serves = by_turn old new left sent serves
-  next_served old new None none = λ count. none
+  arrival_served old new (Some (left, sent)) none_next serves =
+      by_step old new left sent (of_arrival (record { none_next = none_next; serves = serves }))
+  arrival_served old new None none_next none = λ count. read_lacks none
+
+  -- a PDU that waited
+  pub waiting_served :
+      (source : SourceState) (sink sink' : SinkState) (spot spot' : Spot) (waiting waiting' : List WaitingPdu)
+      (port port' : P) (pdu : WaitingPdu) (answered : Option (TurnEnd × Sent))
+      → TakesWaiting spot.flow waiting (Some pdu) waiting'
+      → AnswersPdu (WaitingTurn commands address limits pdu.is_dropped) (MayGive commands) pdu.header pdu.carried sink
+      spot port answered sink' spot' port'
+      → NextIsServed commands address limits
+      (record { source = source; sink = sink; spot = record { spot = spot; waiting = waiting }; port = port })
+      (result_of_answer answered)
+      (record { source = source; sink = sink'; spot = record { spot = spot'; waiting = waiting' }; port = port' })
+  waiting_served source sink sink' spot spot' waiting waiting' port port' pdu _ taken
+      (turned left sent out _ _ _ turn sending) =
+      by_step _ _ left sent
+      (of_waiting
+      (record { pdu = pdu; out = out; oldest = taken; turn = turn; source = refl; sending = sending }))
+  waiting_served source sink sink' spot spot' waiting waiting' port port' pdu _ taken (unanswered _ _ done) =
+      λ count. waiting_lacks refl refl done
 
   -- the end
-  pub feature_ended : (count : ℕ) (old between new : Place Spot P) (reason : FeatureEnd)
-      → ServesPdus (FeatureTurn commands address limits) Next count old between
-      → EndsFeature commands address limits count between reason new → RunsFeature commands address limits old reason new
-  feature_ended count old between new reason served ends = record { count = count; between = between; served = served; ends = ends }
+  pub feature_ended :
+      (count : ℕ) (old between new : Place FeatureSpot P) (reason : FeatureEnd)
+      → ServesPdus (FeatureStep commands address limits) Next count old between
+      → EndsFeature commands address limits count between reason new
+      → RunsFeature commands address limits old reason new
+  feature_ended count old between new reason served ends =
+      record { count = count; between = between; served = served; ends = ends }

@@ -1,5 +1,6 @@
 -- Where a session is in the full feature phase (RFC 7143, 4.2.2). Sequence numbers count modulo 2^32.
-use Rattle.std.specs.Prelude.{ℕ, ◌+◌, ◌-◌, ◌/◌, ◌%◌, ◌^◌, ◌==◌, Bool, true, false, ◌&&◌, ◌||◌, if◌then◌else◌, Option, Some, None}
+use Rattle.std.specs.Prelude.{ℕ, ◌+◌, ◌/◌, ◌%◌, ◌^◌, ◌==◌, Bool, true, false, ◌&&◌, ◌||◌, if◌then◌else◌, Option, Some}
+use Rattle.std.specs.Prelude.{None}
 use Rattle.ar_iscsi.specs.declared.flow.Flow.{Flow}
 use Rattle.ar_iscsi.specs.declared.flow.Collecting.{Collecting}
 use Rattle.ar_iscsi.specs.declared.request.Lun.{Lun}
@@ -10,24 +11,24 @@ use Rattle.ar_iscsi.specs.declared.response.SequenceNumbers.{SequenceNumbers}
 abbrev pub next_sn : ℕ → ℕ
 next_sn n = (n + 1) % 2 ^ 32
 
--- the serial number before another
-abbrev pub last_sn : ℕ → ℕ
-last_sn n = (n + (2 ^ 32 - 1)) % 2 ^ 32
-
--- no data are collected, so that the window is open for one command
+-- no data are collected, so that the next command is done
 abbrev pub is_open : Option Collecting → Bool
 is_open None = true
 is_open (Some c) = false
 
--- MaxCmdSN: the expected CmdSN, or while data are collected the one before it
-abbrev pub max_cmd_sn_of : Flow → ℕ
-max_cmd_sn_of flow = if is_open flow.collecting then flow.exp_cmd_sn else last_sn flow.exp_cmd_sn
+-- MaxCmdSN: the last of the 16 commands of the window, which begins with the expected one (RFC 7143, 4.2.2.1)
+abbrev pub last_in_window : ℕ → ℕ
+last_in_window exp_cmd_sn = (exp_cmd_sn + 15) % 2 ^ 32
 
 -- the sequence numbers of a PDU that is sent now
 abbrev pub numbers_of : Flow → SequenceNumbers
-numbers_of flow = record { stat_sn = flow.stat_sn; exp_cmd_sn = flow.exp_cmd_sn; max_cmd_sn = max_cmd_sn_of flow }
+numbers_of flow = record {
+  stat_sn = flow.stat_sn;
+  exp_cmd_sn = flow.exp_cmd_sn;
+  max_cmd_sn = last_in_window flow.exp_cmd_sn;
+}
 
--- a request is accepted: it is immediate, or has the expected CmdSN while the window is open
+-- a request is done now: it is immediate, or has the expected CmdSN while no data are collected
 abbrev pub is_accepted : Flow → Bool → ℕ → Bool
 is_accepted flow immediate cmd_sn = immediate || (is_open flow.collecting && (cmd_sn == flow.exp_cmd_sn))
 
@@ -51,7 +52,8 @@ answered flow = record {
 
 -- no data are collected any more
 abbrev pub reopened : Flow → Flow
-reopened flow = record { stat_sn = flow.stat_sn; exp_cmd_sn = flow.exp_cmd_sn; next_tag = flow.next_tag; collecting = None }
+reopened flow =
+    record { stat_sn = flow.stat_sn; exp_cmd_sn = flow.exp_cmd_sn; next_tag = flow.next_tag; collecting = None }
 
 -- the next data of the same R2T are awaited
 abbrev pub awaiting : Flow → Collecting → Flow
@@ -85,7 +87,8 @@ asking flow command wanted asked burst_end = record {
   });
 }
 
--- a LUN of a single level: by peripheral device addressing, 00h LUN 00h .., or flat, 40h LUN 00h .. (SAM-3, LUN structure)
+-- a LUN of a single level: by peripheral device addressing, 00h LUN 00h .., or flat, 40h LUN 00h .. (SAM-3, LUN
+-- structure)
 abbrev pub lun_number : Lun → Option ℕ
 lun_number lun =
     if (lun.low == 0) && ((lun.high % 65536 == 0) && ((lun.high / 16777216 == 0x00) || (lun.high / 16777216 == 0x40)))

@@ -1,3 +1,4 @@
+pub mod Arrival
 pub mod Flow
 pub mod LoginPhase
 pub mod LoginTurn
@@ -16,3 +17,4 @@ pub mod Task
 pub mod Text
 pub mod Turn
 pub mod Verdict
+pub mod Waiting

@@ -19,7 +19,7 @@ EndsLogin logins count old end.Entered new = ServesPdu (LoginTurn logins) old ne
 -- the last request was refused with this status
 EndsLogin logins count old (end.Refused code) new = ServesPdu (LoginTurn logins) old new (Refused code) Whole
 EndsLogin logins count old (end.Unread reason) new = IsLeftAlone old new reason
-EndsLogin logins count old end.Write new = IsAnswerLost (LoginTurn logins) old new
+EndsLogin logins count old end.Write new = IsAnswerLost (ServesPdu (LoginTurn logins)) old new
 EndsLogin logins count old end.NoMemory new = HasNoAnswer (MayLogIn logins) old new
 EndsLogin logins count old end.Bound new = (count ≡ most_pdus) × (new ≡ old)
 
@@ -41,8 +41,9 @@ result_of_request None = Ended end.NoMemory
 result_of_request (Some answered) = result_of_login_turn answered.0 answered.1
 
 -- A login phase: requests were read, each did what its turn says and was answered, in order, and then its end came.
-pub record RunsLogin {P : Type 0} (logins : Logins P) (old : Place LoginSpot P) (reason : LoginEnd) (new : Place LoginSpot P) : Type 0 where
+pub record RunsLogin {P : Type 0} (logins : Logins P) (old : Place LoginSpot P) (reason : LoginEnd)
+    (new : Place LoginSpot P) : Type 0 where
   pub count : ℕ
   pub between : Place LoginSpot P
-  pub served : ServesPdus (LoginTurn logins) Next count old between
+  pub served : ServesPdus (ServesPdu (LoginTurn logins)) Next count old between
   pub ends : EndsLogin logins count between reason new

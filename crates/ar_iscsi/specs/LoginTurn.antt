@@ -1,5 +1,6 @@
 -- A turn of the login phase: a login request, what it makes of the login, and the response (RFC 7143, 6 and 11.12).
-use Rattle.std.specs.Prelude.{◌≡◌, ◌⊎◌, ◌==◌, ℕ, nat_le, if◌then◌else◌, MatchBool, List, [], ◌++◌, length, Option, Some, None, is_some, unwrap_or, Result, Ok, Err}
+use Rattle.std.specs.Prelude.{◌≡◌, ◌⊎◌, ◌==◌, ℕ, nat_le, if◌then◌else◌, MatchBool, List, [], ◌++◌, length, Option, Some}
+use Rattle.std.specs.Prelude.{None, is_some, unwrap_or, Result, Ok, Err}
 use Rattle.ar_frames.specs.Port.{Logins}
 use Rattle.ar_frames.specs.declared.port.Login.{Login}
 use Rattle.ar_frames.specs.declared.port.Login.TheVariants.{Taken, BadHost, InUse}
@@ -21,7 +22,7 @@ use Rattle.ar_iscsi.specs.declared.verdict.LoginStatus.{LoginStatus}
 use Rattle.ar_iscsi.specs.declared.verdict.LoginStatus.TheVariants as status
 use Rattle.ar_iscsi.specs.declared.verdict.LoginStep.{LoginStep}
 use Rattle.ar_iscsi.specs.declared.verdict.LoginStep.TheVariants as step
-use Rattle.ar_iscsi.specs.Flow.{next_sn}
+use Rattle.ar_iscsi.specs.Flow.{last_in_window, next_sn}
 use Rattle.ar_iscsi.specs.Negotiation.{negotiated}
 use Rattle.ar_iscsi.specs.Request.{opcode, login_request}
 use Rattle.ar_iscsi.specs.Text.{text_answer}
@@ -57,21 +58,29 @@ login_reply request at next tsih code =
       status_detail = (status_code code).1;
     })
 
--- the sequence numbers of a login response: a login request isn't counted, and the next command has its CmdSN
+-- the sequence numbers of a login response: a login request isn't counted, and the window begins with its CmdSN
 abbrev pub login_numbers : LoginState → LoginRequest → SequenceNumbers
-login_numbers state request = record { stat_sn = state.stat_sn; exp_cmd_sn = request.cmd_sn; max_cmd_sn = request.cmd_sn }
+login_numbers state request = record {
+  stat_sn = state.stat_sn;
+  exp_cmd_sn = request.cmd_sn;
+  max_cmd_sn = last_in_window request.cmd_sn;
+}
 
 -- a request is refused with this status, and without text
-pub record RefusesLogin (request : LoginRequest) (code : LoginStatus) (state : LoginState) (out : List ℕ) (ended : LoginResult) : Type 0 where
+pub record RefusesLogin (request : LoginRequest) (code : LoginStatus) (state : LoginState) (out : List ℕ)
+    (ended : LoginResult) : Type 0 where
   pub out_same :
-      out ≡ target_pdu (login_reply request (unwrap_or (stage_named request.stage) stage.SecurityNegotiation) None 0 code)
+      out ≡ target_pdu
+      (login_reply request (unwrap_or (stage_named request.stage) stage.SecurityNegotiation) None 0 code)
       (login_numbers state request) []
   pub ended_same : ended ≡ result.Refused code
 
 -- a request is answered with this text, and the login goes on in the stage that the response names
-pub record AnswersLogin (request : LoginRequest) (at : LoginStage) (next : Option LoginStage) (tsih : ℕ) (segment : List ℕ) (so_far : Negotiation)
+pub record AnswersLogin (request : LoginRequest) (at : LoginStage) (next : Option LoginStage) (tsih : ℕ)
+    (segment : List ℕ) (so_far : Negotiation)
     (text : List ℕ) (state : LoginState) (out : List ℕ) (new : LoginSpot) : Type 0 where
-  pub out_same : out ≡ target_pdu (login_reply request at next tsih status.Success) (login_numbers state request) segment
+  pub out_same : out
+      ≡ target_pdu (login_reply request at next tsih status.Success) (login_numbers state request) segment
   pub state_same :
       new.state ≡ record {
         stage = Some (unwrap_or next at);
@@ -101,7 +110,8 @@ abbrev pub MayLogIn : {P : Type 0} → Logins P → P → P → Type 0
 MayLogIn logins port port' = (port' ≡ port) ⊎ ((host : ℕ) × (said : Login) × logins port host said port')
 
 -- the login has its host admitted, and enters the full feature phase with TSIH 1, or is refused
-pub data EntersLogin {P : Type 0} (logins : Logins P) (request : LoginRequest) (at : LoginStage) (segment : List ℕ) (so_far : Negotiation)
+pub data EntersLogin {P : Type 0} (logins : Logins P) (request : LoginRequest) (at : LoginStage) (segment : List ℕ)
+    (so_far : Negotiation)
     (state : LoginState) (port : P) (out : List ℕ) (new : LoginSpot) (port' : P) (ended : LoginResult) : Type 0 where
   entered :
       Admits logins so_far.kind so_far.target port status.Success port'
@@ -113,17 +123,20 @@ pub data EntersLogin {P : Type 0} (logins : Logins P) (request : LoginRequest) (
       → EntersLogin logins request at segment so_far state port out new port' ended
 
 -- where a request leads whose text is whole and in order
-abbrev pub StepsLogin : {P : Type 0} → Logins P → LoginRequest → LoginStage → LoginStep → List ℕ → Negotiation → LoginState → P → List ℕ → LoginSpot → P
+abbrev pub StepsLogin : {P : Type 0} → Logins P → LoginRequest → LoginStage → LoginStep → List ℕ → Negotiation
+    → LoginState → P → List ℕ → LoginSpot → P
     → LoginResult → Type 0
 StepsLogin logins request at step.Stays segment so_far state port out new port' ended =
     AnswersLogin request at None 0 segment so_far [] state out new × (ended ≡ result.Next) × (port' ≡ port)
 StepsLogin logins request at step.Advances segment so_far state port out new port' ended =
-    AnswersLogin request at (Some stage.OperationalNegotiation) 0 segment so_far [] state out new × (ended ≡ result.Next) × (port' ≡ port)
+    AnswersLogin request at (Some stage.OperationalNegotiation) 0 segment so_far [] state out new
+    × (ended ≡ result.Next) × (port' ≡ port)
 StepsLogin logins request at step.Enters segment so_far state port out new port' ended =
     EntersLogin logins request at segment so_far state port out new port' ended
 
 -- what a request does whose text is whole, and what was negotiated with it
-abbrev pub JudgesText : {P : Type 0} → Logins P → LoginRequest → LoginStage → LoginStep → List ℕ → Negotiation → LoginState → P → List ℕ → LoginSpot → P
+abbrev pub JudgesText : {P : Type 0} → Logins P → LoginRequest → LoginStage → LoginStep → List ℕ → Negotiation
+    → LoginState → P → List ℕ → LoginSpot → P
     → LoginResult → LoginStatus → Type 0
 JudgesText logins request at which text so_far state port out new port' ended code =
     MatchBool (is_success code)
@@ -133,12 +146,14 @@ JudgesText logins request at which text so_far state port out new port' ended co
     (RefusesLogin request code state out ended × (port' ≡ port))
 
 -- What a request in order does, once the text is `text`: if it goes on, it is kept; otherwise it is judged.
-abbrev pub TakesText : {P : Type 0} → Logins P → LoginRequest → LoginStage → LoginStep → List ℕ → LoginState → P → List ℕ → LoginSpot → P → LoginResult
+abbrev pub TakesText : {P : Type 0} → Logins P → LoginRequest → LoginStage → LoginStep → List ℕ → LoginState → P
+    → List ℕ → LoginSpot → P → LoginResult
     → Type 0
 TakesText logins request at which text state port out new port' ended =
     MatchBool request.continues
     (AnswersLogin request at None 0 [] state.so_far text state out new × (ended ≡ result.Next) × (port' ≡ port))
-    (JudgesText logins request at which text (negotiated state.so_far text) state port out new port' ended (judged (negotiated state.so_far text)))
+    (JudgesText logins request at which text (negotiated state.so_far text) state port out new port' ended
+    (judged (negotiated state.so_far text)))
 
 -- a stage, and where a request leads from it
 abbrev pub map_step : LoginStage → Result LoginStep LoginStatus → Result (LoginStage × LoginStep) LoginStatus
@@ -151,19 +166,23 @@ step_in request None = Err status.InitiatorError
 step_in request (Some at) = map_step at (step_of request at)
 
 -- what a login request does
-abbrev pub RequestTurn : {P : Type 0} → Logins P → LoginRequest → List ℕ → Result (LoginStage × LoginStep) LoginStatus → LoginSpot → P → List ℕ → LoginSpot
+abbrev pub RequestTurn : {P : Type 0} → Logins P → LoginRequest → List ℕ → Result (LoginStage × LoginStep) LoginStatus
+    → LoginSpot → P → List ℕ → LoginSpot
     → P → LoginResult → Type 0
-RequestTurn logins request carried (Err code) old port out new port' ended = RefusesLogin request code old.state out ended × (port' ≡ port)
+RequestTurn logins request carried (Err code) old port out new port' ended =
+    RefusesLogin request code old.state out ended × (port' ≡ port)
 RequestTurn logins request carried (Ok step) old port out new port' ended =
     MatchBool (nat_le (length (old.text ++ carried)) most_text)
     (TakesText logins request step.0 step.1 (old.text ++ carried) old.state port out new port' ended)
     (RefusesLogin request status.OutOfResources old.state out ended × (port' ≡ port))
 
--- A turn of a login: a PDU with this header and this data segment was answered by `out`. One that is no login request is
--- refused.
-abbrev pub LoginTurn : {P : Type 0} → Logins P → List ℕ → List ℕ → LoginSpot → P → List ℕ → LoginSpot → P → LoginResult → Type 0
+-- A turn of a login: a PDU with this header and this data segment was answered by `out`. One that is no login request
+-- is refused.
+abbrev pub LoginTurn : {P : Type 0} → Logins P → List ℕ → List ℕ → LoginSpot → P → List ℕ → LoginSpot → P → LoginResult
+    → Type 0
 LoginTurn logins header carried old port out new port' ended =
     MatchBool (opcode header == 0x03)
     (RequestTurn logins (login_request header) carried
-    (step_in (login_request header) (stage_in old.state.stage (login_request header).stage)) old port out new port' ended)
+    (step_in (login_request header) (stage_in old.state.stage (login_request header).stage)) old port out new port'
+    ended)
     (RefusesLogin (login_request header) status.InvalidDuringLogin old.state out ended × (port' ≡ port))

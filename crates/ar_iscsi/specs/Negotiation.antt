@@ -1,5 +1,6 @@
 -- What the items of a login's text say of the session (RFC 7143, 6 and 13).
-use Rattle.std.specs.Prelude.{ℕ, ◌-◌, ◌==◌, nat_le, Bool, true, false, not, ◌&&◌, if◌then◌else◌, List, [], ◌∷◌, length, take, slice_index, codes, bytes_eq, Option, Some, None}
+use Rattle.std.specs.Prelude.{ℕ, ◌-◌, ◌==◌, nat_le, Bool, true, false, not, ◌&&◌, if◌then◌else◌, List, [], ◌∷◌, length}
+use Rattle.std.specs.Prelude.{take, slice_index, codes, bytes_eq, Option, Some, None}
 use Rattle.std.specs.Char.{is_ascii_digit}
 use Rattle.std.specs.List.{slice_split}
 use Rattle.ar_iscsi.specs.declared.keys.Key.{Key}
@@ -26,7 +27,9 @@ at_first = record {
 
 -- the kind of a session (RFC 7143, 13.21)
 abbrev pub kind_of : List ℕ → SessionKind
-kind_of name = if bytes_eq name (codes "Normal") then Normal else (if bytes_eq name (codes "Discovery") then Discovery else Unsupported)
+kind_of name =
+    if bytes_eq name
+    (codes "Normal") then Normal else (if bytes_eq name (codes "Discovery") then Discovery else Unsupported)
 
 -- the names of the targets without their last digit
 abbrev pub target_prefix : List ℕ
@@ -36,7 +39,8 @@ target_prefix = codes "iqn.2026-11.example.autoraid:host"
 abbrev pub target_of : List ℕ → TargetChoice
 target_of name =
     if not (length name == 34) then Unknown
-    else (if bytes_eq (take 33 name) target_prefix && is_ascii_digit (slice_index name 33) then OfHost (slice_index name 33 - 48) else Unknown)
+    else (if bytes_eq (take 33 name) target_prefix && is_ascii_digit (slice_index name 33) then OfHost
+    (slice_index name 33 - 48) else Unknown)
 
 -- an answer is Reject
 abbrev pub is_reject : KeyAnswer → Bool

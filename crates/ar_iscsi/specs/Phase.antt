@@ -15,8 +15,8 @@ most_segment = 262144
 abbrev pub most_pdus : ℕ
 most_pdus = 18446744073709551615
 
--- What a turn of a phase may be: the header and the data segment of a PDU, the state and the port before, the answer, the
--- state and the port after, and how it leaves the phase.
+-- What a turn of a phase may be: the header and the data segment of a PDU, the state and the port before, the answer,
+-- the state and the port after, and how it leaves the phase.
 abbrev pub Turns : Type 0 → Type 0 → Type 0 → Type 1
 Turns S P E = List ℕ → List ℕ → S → P → List ℕ → S → P → E → Type 0
 
@@ -27,9 +27,10 @@ pub record Place (S P : Type 0) : Type 0 where
   pub spot : S
   pub port : P
 
--- A whole PDU was read, and nothing behind it; it did what a turn says, and the answer was written, whole or up to a write
--- fault.
-pub record ServesPdu {S P E : Type 0} (turns : Turns S P E) (old new : Place S P) (left : E) (sent : Sent) : Type 0 where
+-- A whole PDU was read, and nothing behind it; it did what a turn says, and the answer was written, whole or up to a
+-- write fault.
+pub record ServesPdu {S P E : Type 0} (turns : Turns S P E) (old new : Place S P) (left : E) (sent : Sent)
+    : Type 0 where
   pub header : List ℕ
   pub carried : List ℕ
   pub bytes : List ℕ
@@ -40,12 +41,17 @@ pub record ServesPdu {S P E : Type 0} (turns : Turns S P E) (old new : Place S P
   pub turn : turns header carried old.spot old.port out new.spot new.port left
   pub sending : Sending old.sink new.sink out sent
 
--- these many PDUs were read and answered whole, each from the moment that the one before left; `next` says that a phase
--- goes on
-abbrev pub ServesPdus : {S P E : Type 0} → Turns S P E → E → ℕ → Place S P → Place S P → Type 0
-ServesPdus turns next zero old new = new ≡ old
-ServesPdus {S = S} {P = P} turns next (suc n) old new =
-    (between : Place S P) × ServesPdus turns next n old between × ServesPdu turns between new next Whole
+-- what a step of a phase may be: the moment before, the moment behind it, how it leaves the phase, and how far its
+-- answer was written
+abbrev pub PhaseSteps : Type 0 → Type 0 → Type 0 → Type 1
+PhaseSteps S P E = Place S P → Place S P → E → Sent → Type 0
+
+-- these many PDUs were served and answered whole, each from the moment that the one before left; `next` says that a
+-- phase goes on
+abbrev pub ServesPdus : {S P E : Type 0} → PhaseSteps S P E → E → ℕ → Place S P → Place S P → Type 0
+ServesPdus steps next zero old new = new ≡ old
+ServesPdus {S = S} {P = P} steps next (suc n) old new =
+    (between : Place S P) × ServesPdus steps next n old between × steps between new next Whole
 
 -- no whole PDU was read, for this reason; all else is as it was
 pub record IsLeftAlone {S P : Type 0} (old new : Place S P) (reason : ReceiveEnd) : Type 0 where
@@ -65,16 +71,20 @@ pub record HasNoAnswer {S P : Type 0} (may : P → P → Type 0) (old new : Plac
   pub port : may old.port new.port
 
 -- the answer to the last PDU wasn't written whole
-pub record IsAnswerLost {S P E : Type 0} (turns : Turns S P E) (old new : Place S P) : Type 0 where
+pub record IsAnswerLost {S P E : Type 0} (steps : PhaseSteps S P E) (old new : Place S P) : Type 0 where
   pub left : E
   pub count : ℕ
-  pub serves : ServesPdu turns old new left (Part count)
+  pub serves : steps old new left (Part count)
 
--- What a PDU did, once it was read: it did what a turn says, and was answered this far; or memory for the answer ran out,
--- and nothing was written.
-pub data AnswersPdu {S P E : Type 0} (turns : Turns S P E) (may : P → P → Type 0) (header carried : List ℕ) (sink : SinkState) (spot : S) (port : P)
+-- What a PDU did, once it was read: it did what a turn says, and was answered this far; or memory for the answer ran
+-- out, and nothing was written.
+pub data AnswersPdu {S P E : Type 0} (turns : Turns S P E) (may : P → P
+    → Type 0) (header carried : List ℕ) (sink : SinkState) (spot : S) (port : P)
     : Option (E × Sent) → SinkState → S → P → Type 0 where
   turned :
-      (left : E) (sent : Sent) (out : List ℕ) (sink' : SinkState) (spot' : S) (port' : P) → turns header carried spot port out spot' port' left
-      → Sending sink sink' out sent → AnswersPdu turns may header carried sink spot port (Some (left, sent)) sink' spot' port'
-  unanswered : (spot' : S) (port' : P) → may port port' → AnswersPdu turns may header carried sink spot port None sink spot' port'
+      (left : E) (sent : Sent) (out : List ℕ) (sink' : SinkState) (spot' : S) (port' : P)
+      → turns header carried spot port out spot' port' left
+      → Sending sink sink' out sent
+      → AnswersPdu turns may header carried sink spot port (Some (left, sent)) sink' spot' port'
+  unanswered : (spot' : S) (port' : P) → may port port'
+      → AnswersPdu turns may header carried sink spot port None sink spot' port'

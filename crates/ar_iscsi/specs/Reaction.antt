@@ -3,7 +3,8 @@ use Rattle.std.specs.Prelude.{ℕ, ◌==◌, Bool, false, not, ◌&&◌, ◌||�
 use Rattle.ar_iscsi.specs.declared.flow.Flow.{Flow}
 use Rattle.ar_iscsi.specs.declared.flow.Collecting.{Collecting}
 use Rattle.ar_iscsi.specs.declared.reaction.Reaction.{Reaction}
-use Rattle.ar_iscsi.specs.declared.reaction.Reaction.TheVariants.{Ignores, Counts, Answers, Echoes, AnswersText, Drops, Closes, Rejects}
+use Rattle.ar_iscsi.specs.declared.reaction.Reaction.TheVariants.{Ignores, Counts, Answers, Echoes, AnswersText, Drops}
+use Rattle.ar_iscsi.specs.declared.reaction.Reaction.TheVariants.{Closes, Rejects}
 use Rattle.ar_iscsi.specs.declared.request.Lun.{Lun}
 use Rattle.ar_iscsi.specs.declared.request.NopOut.{NopOut}
 use Rattle.ar_iscsi.specs.declared.request.TextRequest.{TextRequest}
@@ -23,7 +24,8 @@ to_nop_out flow nop =
 abbrev pub to_text : Flow → TextRequest → Reaction
 to_text flow request =
     if not (is_accepted flow request.immediate request.cmd_sn) then Ignores
-    else (if request.continues || not request.is_final then Rejects 0x05 else AnswersText (pdu.TextResponse request.task_tag))
+    else (if request.continues || not request.is_final then Rejects 0x05 else AnswersText
+    (pdu.TextResponse request.task_tag))
 
 -- Logout by its reason: the session or its one connection is closed; 2 is recovery, which isn't supported (RFC 7143,
 -- 11.14 and 11.15); 09h is INVALID PDU FIELD (11.17.1)
@@ -43,7 +45,8 @@ abbrev pub is_of_unit : Option Collecting → Lun → Bool
 is_of_unit None lun = false
 is_of_unit (Some c) lun = (c.command.lun.high == lun.high) && (c.command.lun.low == lun.low)
 
--- a task management response (RFC 7143, 11.6.1): 0 complete, 1 no such task, 4 no reassignment, 5 not supported, 255 rejected
+-- a task management response (RFC 7143, 11.6.1): 0 complete, 1 no such task, 4 no reassignment, 5 not supported, 255
+-- rejected
 abbrev pub task_answer : TaskManagement → ℕ → Reaction
 task_answer request response = Answers (pdu.TaskManagementResponse request.task_tag response)
 
@@ -51,12 +54,13 @@ task_answer request response = Answers (pdu.TaskManagementResponse request.task_
 abbrev pub task_drop : TaskManagement → Reaction
 task_drop request = Drops (pdu.TaskManagementResponse request.task_tag 0)
 
--- A task management request that is accepted, by its function (RFC 7143, 11.5.1). The only task that there can be is the
--- WRITE whose data are collected.
+-- A task management request that is accepted, by its function (RFC 7143, 11.5.1). The only task that there can be is
+-- the WRITE whose data are collected.
 abbrev pub managed : Flow → TaskManagement → Reaction
 managed flow request =
     -- ABORT TASK
-    if request.function == 1 then (if is_task flow.collecting request.referenced_tag then task_drop request else task_answer request 1)
+    if request.function ==
+    1 then (if is_task flow.collecting request.referenced_tag then task_drop request else task_answer request 1)
     -- ABORT TASK SET, CLEAR TASK SET, LOGICAL UNIT RESET
     else (if (request.function == 2) || ((request.function == 4) || (request.function == 5))
     then (if is_of_unit flow.collecting request.lun then task_drop request else task_answer request 0)
@@ -68,4 +72,5 @@ managed flow request =
 
 -- a task management request
 abbrev pub to_task_management : Flow → TaskManagement → Reaction
-to_task_management flow request = if is_accepted flow request.immediate request.cmd_sn then managed flow request else Ignores
+to_task_management flow request =
+    if is_accepted flow request.immediate request.cmd_sn then managed flow request else Ignores

@@ -1,5 +1,6 @@
 -- The answer to a SCSI command (RFC 7143, 11.4 and 11.7).
-use Rattle.std.specs.Prelude.{◌≡◌, ◌<◌, ◌≤◌, ◌+◌, ◌-◌, ◌*◌, ◌%◌, ◌^◌, ◌||◌, ℕ, nat_lt, if◌then◌else◌, List, [], ◌∷◌, ◌++◌, length, take, Option, Some, None, Result, Ok, Err}
+use Rattle.std.specs.Prelude.{◌≡◌, ◌<◌, ◌≤◌, ◌+◌, ◌-◌, ◌*◌, ◌%◌, ◌^◌, ◌||◌, ℕ, nat_lt, if◌then◌else◌, List, [], ◌∷◌}
+use Rattle.std.specs.Prelude.{◌++◌, length, take, Option, Some, None, Result, Ok, Err}
 use Rattle.ar_scsi.specs.declared.command.Command.{Command}
 use Rattle.ar_scsi.specs.declared.command.Command.TheVariants.{TestReady, Inquiry, Capacity, Read, Write}
 use Rattle.ar_scsi.specs.declared.reply.Reply.{Reply}
@@ -13,17 +14,19 @@ use Rattle.ar_iscsi.specs.declared.response.SequenceNumbers.{SequenceNumbers}
 use Rattle.ar_iscsi.specs.declared.response.TargetPdu.TheVariants as pdu
 use Rattle.ar_iscsi.specs.Response.{target_pdu}
 
--- The bytes are `count` Data-In PDUs of this task that carry these data, each at its offset, and at most `most` bytes of
--- them. Their DataSN counts from 0.
+-- The bytes are `count` Data-In PDUs of this task that carry these data, each at its offset, and at most `most` bytes
+-- of them. Their DataSN counts from 0.
 pub data AreDataIn (tag : ℕ) (numbers : SequenceNumbers) (most : ℕ) : ℕ → List ℕ → List ℕ → Type 0 where
   none_in : AreDataIn tag numbers most 0 [] []
   more_in :
       (count : ℕ) (carried bytes piece : List ℕ) → AreDataIn tag numbers most count carried bytes → 0 < length piece
       → length piece ≤ most
-      → AreDataIn tag numbers most (count + 1) (carried ++ piece) (bytes ++ target_pdu (pdu.DataIn tag count (length carried)) numbers piece)
+      → AreDataIn tag numbers most (count + 1) (carried ++ piece)
+      (bytes ++ target_pdu (pdu.DataIn tag count (length carried)) numbers piece)
 
 -- such PDUs were appended
-pub record PutsDataIn (tag : ℕ) (numbers : SequenceNumbers) (most : ℕ) (carried : List ℕ) (count : ℕ) (old new : List ℕ) : Type 0 where
+pub record PutsDataIn (tag : ℕ) (numbers : SequenceNumbers) (most : ℕ) (carried : List ℕ) (count : ℕ) (old new : List ℕ)
+    : Type 0 where
   pub bytes : List ℕ
   pub appended : new ≡ old ++ bytes
   pub are : AreDataIn tag numbers most count carried bytes
@@ -65,13 +68,15 @@ sense_segment None = []
 sense_segment (Some sense) = 0x00 ∷ 0x12 ∷ sense
 
 -- The answer to a command was appended: its data in Data-In PDUs, and then its status. `asked` R2Ts were sent for it.
-pub record PutsReply (command : ScsiCommand) (numbers : SequenceNumbers) (most asked : ℕ) (reply : Reply) (old new : List ℕ) : Type 0 where
+pub record PutsReply (command : ScsiCommand) (numbers : SequenceNumbers) (most asked : ℕ) (reply : Reply)
+    (old new : List ℕ) : Type 0 where
   pub count : ℕ
   pub data_in : List ℕ
   pub are : AreDataIn command.task_tag numbers most count (returned command reply.payload) data_in
   pub appended :
       new ≡ old ++ (
       data_in ++ target_pdu
-      (pdu.ScsiResponse command.task_tag (status_byte reply.status) (residual_of (expected_len command) (moved_by command reply.payload)) ((asked + count) % 2 ^ 32))
+      (pdu.ScsiResponse command.task_tag (status_byte reply.status)
+      (residual_of (expected_len command) (moved_by command reply.payload)) ((asked + count) % 2 ^ 32))
       numbers (sense_segment reply.sense)
       )

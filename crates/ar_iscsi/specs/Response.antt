@@ -8,7 +8,8 @@ use Rattle.ar_iscsi.specs.declared.response.SequenceNumbers.{SequenceNumbers}
 use Rattle.ar_iscsi.specs.declared.response.Residual.{Residual}
 use Rattle.ar_iscsi.specs.declared.response.Residual.TheVariants.{Exact, Underflow, Overflow}
 use Rattle.ar_iscsi.specs.declared.response.LoginStage.{LoginStage}
-use Rattle.ar_iscsi.specs.declared.response.LoginStage.TheVariants.{SecurityNegotiation, OperationalNegotiation, FullFeature}
+use Rattle.ar_iscsi.specs.declared.response.LoginStage.TheVariants.{SecurityNegotiation, OperationalNegotiation}
+use Rattle.ar_iscsi.specs.declared.response.LoginStage.TheVariants.{FullFeature}
 use Rattle.ar_iscsi.specs.declared.response.LoginResponse.{LoginResponse}
 use Rattle.ar_iscsi.specs.declared.response.TargetPdu.{TargetPdu}
 use Rattle.ar_iscsi.specs.declared.response.TargetPdu.TheVariants as pdu
@@ -53,12 +54,13 @@ login_flags login = (if login.transit then 0x80 else 0x00) + 4 * stage_code logi
 abbrev pub no_lun : Lun
 no_lun = record { high = 0; low = 0 }
 
--- a header by its columns: the DataSegmentLength, the LUN in words 2 and 3, the Initiator Task Tag, word 5, the sequence
--- numbers in words 6 to 8, and words 9 to 11
+-- a header by its columns: the DataSegmentLength, the LUN in words 2 and 3, the Initiator Task Tag, word 5, the
+-- sequence numbers in words 6 to 8, and words 9 to 11
 abbrev pub header_by : List ℕ → ℕ → Lun → ℕ → ℕ → SequenceNumbers → ℕ → ℕ → ℕ → List ℕ
 header_by first len lun tag fifth numbers ninth tenth last =
     header_of first
-    (len ∷ lun.high ∷ lun.low ∷ tag ∷ fifth ∷ numbers.stat_sn ∷ numbers.exp_cmd_sn ∷ numbers.max_cmd_sn ∷ ninth ∷ tenth ∷ last ∷ [])
+    (len ∷ lun.high ∷ lun.low ∷ tag ∷ fifth ∷ numbers.stat_sn ∷ numbers.exp_cmd_sn ∷ numbers.max_cmd_sn ∷ ninth ∷ tenth
+    ∷ last ∷ [])
 
 -- Login Response (RFC 7143, 11.13): Version-max and Version-active are 0; words 2 and 3 have the ISID and the TSIH
 abbrev pub login_header : LoginResponse → SequenceNumbers → ℕ → List ℕ
@@ -70,16 +72,19 @@ login_header login numbers len =
 -- the header of a PDU whose data segment has `len` bytes
 abbrev pub target_header : TargetPdu → SequenceNumbers → ℕ → List ℕ
 -- NOP-In (RFC 7143, 11.19)
-target_header (pdu.NopIn lun tag) numbers len = header_by (0x20 ∷ 0x80 ∷ 0x00 ∷ 0x00 ∷ []) len lun tag no_tag numbers 0 0 0
+target_header (pdu.NopIn lun tag) numbers len =
+    header_by (0x20 ∷ 0x80 ∷ 0x00 ∷ 0x00 ∷ []) len lun tag no_tag numbers 0 0 0
 -- SCSI Response (RFC 7143, 11.4): the command was completed at the target
 target_header (pdu.ScsiResponse tag status residual exp_data_sn) numbers len =
-    header_by (0x21 ∷ (0x80 + residual_flag residual) ∷ 0x00 ∷ status ∷ []) len no_lun tag 0 numbers exp_data_sn 0 (residual_count residual)
+    header_by (0x21 ∷ (0x80 + residual_flag residual) ∷ 0x00 ∷ status ∷ []) len no_lun tag 0 numbers exp_data_sn 0
+    (residual_count residual)
 -- Task Management Function Response (RFC 7143, 11.6)
 target_header (pdu.TaskManagementResponse tag response) numbers len =
     header_by (0x22 ∷ 0x80 ∷ response ∷ 0x00 ∷ []) len no_lun tag 0 numbers 0 0 0
 target_header (pdu.Login login) numbers len = login_header login numbers len
 -- Text Response (RFC 7143, 11.11): the answer is whole
-target_header (pdu.TextResponse tag) numbers len = header_by (0x24 ∷ 0x80 ∷ 0x00 ∷ 0x00 ∷ []) len no_lun tag no_tag numbers 0 0 0
+target_header (pdu.TextResponse tag) numbers len =
+    header_by (0x24 ∷ 0x80 ∷ 0x00 ∷ 0x00 ∷ []) len no_lun tag no_tag numbers 0 0 0
 -- SCSI Data-In (RFC 7143, 11.7): the last of its sequence, without status, so that the StatSN is reserved
 target_header (pdu.DataIn tag data_sn offset) numbers len =
     header_by (0x25 ∷ 0x80 ∷ 0x00 ∷ 0x00 ∷ []) len no_lun tag no_tag
@@ -91,7 +96,8 @@ target_header (pdu.LogoutResponse tag response) numbers len =
 target_header (pdu.ReadyToTransfer lun tag transfer_tag r2t_sn offset wanted) numbers len =
     header_by (0x31 ∷ 0x80 ∷ 0x00 ∷ 0x00 ∷ []) len lun tag transfer_tag numbers r2t_sn offset wanted
 -- Reject (RFC 7143, 11.17)
-target_header (pdu.Reject reason) numbers len = header_by (0x3F ∷ 0x80 ∷ reason ∷ 0x00 ∷ []) len no_lun no_tag 0 numbers 0 0 0
+target_header (pdu.Reject reason) numbers len =
+    header_by (0x3F ∷ 0x80 ∷ reason ∷ 0x00 ∷ []) len no_lun no_tag 0 numbers 0 0 0
 
 -- the padding of `len` bytes
 abbrev pub padding : ℕ → List ℕ
@@ -99,7 +105,8 @@ padding len = replicate len 0
 
 -- a whole PDU: its header, its data segment, and zeros up to a whole word
 abbrev pub target_pdu : TargetPdu → SequenceNumbers → List ℕ → List ℕ
-target_pdu which numbers segment = target_header which numbers (length segment) ++ (segment ++ padding (padding_len (length segment)))
+target_pdu which numbers segment =
+    target_header which numbers (length segment) ++ (segment ++ padding (padding_len (length segment)))
 
 -- a response is a PDU, with its header and its data
 abbrev pub ResponsesArePdus : Type 0

@@ -1,8 +1,10 @@
 -- The full feature phase of a normal session.
-use Rattle.std.specs.Prelude.{◌≡◌, ℕ, List, Option, Some, None}
+use Rattle.std.specs.Prelude.{◌≡◌, ℕ, Bool, true, false, List, [], ◌∷◌, Option, Some, None}
 use Rattle.ar_frames.specs.Conversation.{Commands}
+use Rattle.ar_frames.specs.Stream.{Sending}
 use Rattle.ar_frames.specs.declared.fill.Sent.{Sent}
 use Rattle.ar_frames.specs.declared.fill.Sent.TheVariants.{Whole, Part}
+use Rattle.ar_iscsi.specs.declared.flow.Flow.{Flow}
 use Rattle.ar_iscsi.specs.declared.negotiation.Limits.{Limits}
 use Rattle.ar_iscsi.specs.declared.session.FeatureEnd.{FeatureEnd}
 use Rattle.ar_iscsi.specs.declared.session.FeatureEnd.TheVariants as end
@@ -10,23 +12,78 @@ use Rattle.ar_iscsi.specs.declared.session.PduResult.{PduResult}
 use Rattle.ar_iscsi.specs.declared.session.PduResult.TheVariants.{Served, Ended}
 use Rattle.ar_iscsi.specs.declared.turn.TurnEnd.{TurnEnd}
 use Rattle.ar_iscsi.specs.declared.turn.TurnEnd.TheVariants.{Next, LoggedOut, BrokenData}
+use Rattle.ar_iscsi.specs.declared.waiting_pdu.WaitingPdu.{WaitingPdu}
+use Rattle.ar_iscsi.specs.Arrival.{FeatureSpot, ArrivalTurn}
 use Rattle.ar_iscsi.specs.Phase.{Place, ServesPdu, ServesPdus, IsLeftAlone, HasNoAnswer, IsAnswerLost, most_pdus}
 use Rattle.ar_iscsi.specs.Task.{MayGive}
-use Rattle.ar_iscsi.specs.Turn.{Spot, FeatureTurn}
+use Rattle.ar_iscsi.specs.Turn.{Spot, AnswersBy, FeatureTurn}
+use Rattle.ar_iscsi.specs.Flow.{is_open, received}
+use Rattle.ar_iscsi.specs.Waiting.{is_next_waiting}
+
+-- what a PDU that waited does: what its turn says or, if it was dropped, it is counted and not answered
+abbrev pub WaitingTurn : {P : Type 0} → Commands P → List ℕ → Limits → Bool → List ℕ → List ℕ → Spot → P → List ℕ → Spot
+    → P → TurnEnd → Type 0
+WaitingTurn commands address limits true header carried old port out new port' end =
+    AnswersBy out new end [] (received old.flow false) old.bytes Next × (port' ≡ port)
+WaitingTurn commands address limits false header carried old port out new port' end =
+    FeatureTurn commands address limits header carried old port out new port' end
+
+-- what is taken from those that wait: the oldest, once no data are collected
+abbrev pub TakesWaiting : Flow → List WaitingPdu → Option WaitingPdu → List WaitingPdu → Type 0
+TakesWaiting flow old None new = (is_next_waiting flow old ≡ false) × (new ≡ old)
+TakesWaiting flow old (Some pdu) new = (is_open flow.collecting ≡ true) × (old ≡ pdu ∷ new)
+
+-- the oldest PDU that waited took its turn, once no data are collected, and was answered; nothing was read
+pub record ServesWaiting {P : Type 0} (commands : Commands P) (address : List ℕ) (limits : Limits)
+    (old new : Place FeatureSpot P) (left : TurnEnd) (sent : Sent) : Type 0 where
+  pub pdu : WaitingPdu
+  pub out : List ℕ
+  pub oldest : TakesWaiting old.spot.spot.flow old.spot.waiting (Some pdu) new.spot.waiting
+  pub turn :
+      WaitingTurn commands address limits pdu.is_dropped pdu.header pdu.carried old.spot.spot old.port out
+      new.spot.spot new.port left
+  pub source : new.source ≡ old.source
+  pub sending : Sending old.sink new.sink out sent
+
+-- none that waits is next, and a PDU was read, did what its turn says, and was answered
+pub record ServesArrival {P : Type 0} (commands : Commands P) (address : List ℕ) (limits : Limits)
+    (old new : Place FeatureSpot P) (left : TurnEnd) (sent : Sent) : Type 0 where
+  pub none_next : is_next_waiting old.spot.spot.flow old.spot.waiting ≡ false
+  pub serves : ServesPdu (ArrivalTurn commands address limits) old new left sent
+
+-- a step of the phase
+pub data FeatureStep {P : Type 0} (commands : Commands P) (address : List ℕ) (limits : Limits)
+    (old new : Place FeatureSpot P) (left : TurnEnd) (sent : Sent) : Type 0 where
+  of_waiting : ServesWaiting commands address limits old new left sent
+      → FeatureStep commands address limits old new left sent
+  of_arrival : ServesArrival commands address limits old new left sent
+      → FeatureStep commands address limits old new left sent
+
+-- memory for the answer to a PDU that was read, or waited, ran out: nothing was written, and the port was given at most
+-- one command
+pub data LacksAnswer {P : Type 0} (commands : Commands P) (old new : Place FeatureSpot P) : Type 0 where
+  read_lacks : HasNoAnswer (MayGive commands) old new → LacksAnswer commands old new
+  waiting_lacks :
+      new.source ≡ old.source → new.sink ≡ old.sink → MayGive commands old.port new.port → LacksAnswer commands old new
 
 -- when each end comes, after `count` PDUs, from the last moment between two of them
-abbrev pub EndsFeature : {P : Type 0} → Commands P → List ℕ → Limits → ℕ → Place Spot P → FeatureEnd → Place Spot P → Type 0
+abbrev pub EndsFeature : {P : Type 0} → Commands P → List ℕ → Limits → ℕ → Place FeatureSpot P → FeatureEnd
+    → Place FeatureSpot P → Type 0
 EndsFeature commands address limits count old (end.Unread reason) new = IsLeftAlone old new reason
-EndsFeature commands address limits count old end.Write new = IsAnswerLost (FeatureTurn commands address limits) old new
-EndsFeature commands address limits count old end.LoggedOut new = ServesPdu (FeatureTurn commands address limits) old new LoggedOut Whole
-EndsFeature commands address limits count old end.BrokenData new = ServesPdu (FeatureTurn commands address limits) old new BrokenData Whole
-EndsFeature commands address limits count old end.NoMemory new = HasNoAnswer (MayGive commands) old new
+EndsFeature commands address limits count old end.Write new = IsAnswerLost (FeatureStep commands address limits) old new
+EndsFeature commands address limits count old end.LoggedOut new =
+    FeatureStep commands address limits old new LoggedOut Whole
+EndsFeature commands address limits count old end.BrokenData new =
+    FeatureStep commands address limits old new BrokenData Whole
+EndsFeature commands address limits count old end.NoMemory new = LacksAnswer commands old new
 EndsFeature commands address limits count old end.Bound new = (count ≡ most_pdus) × (new ≡ old)
 
 -- one more PDU was served, or the phase has ended, after however many PDUs
-abbrev pub NextIsServed : {P : Type 0} → Commands P → List ℕ → Limits → Place Spot P → PduResult → Place Spot P → Type 0
-NextIsServed commands address limits old Served new = ServesPdu (FeatureTurn commands address limits) old new Next Whole
-NextIsServed commands address limits old (Ended reason) new = (count : ℕ) → EndsFeature commands address limits count old reason new
+abbrev pub NextIsServed : {P : Type 0} → Commands P → List ℕ → Limits → Place FeatureSpot P → PduResult
+    → Place FeatureSpot P → Type 0
+NextIsServed commands address limits old Served new = FeatureStep commands address limits old new Next Whole
+NextIsServed commands address limits old (Ended reason) new =
+    (count : ℕ) → EndsFeature commands address limits count old reason new
 
 -- what becomes of the session after a turn whose answer was written this far
 abbrev pub result_of_turn : TurnEnd → Sent → PduResult
@@ -40,10 +97,10 @@ abbrev pub result_of_answer : Option (TurnEnd × Sent) → PduResult
 result_of_answer None = Ended end.NoMemory
 result_of_answer (Some answered) = result_of_turn answered.0 answered.1
 
--- A full feature phase: PDUs were read, each did what its turn says and was answered, in order, and then its end came.
-pub record RunsFeature {P : Type 0} (commands : Commands P) (address : List ℕ) (limits : Limits) (old : Place Spot P) (reason : FeatureEnd)
-    (new : Place Spot P) : Type 0 where
+-- A full feature phase: PDUs were served in order, each did what its turn says and was answered, and then its end came.
+pub record RunsFeature {P : Type 0} (commands : Commands P) (address : List ℕ) (limits : Limits)
+    (old : Place FeatureSpot P) (reason : FeatureEnd) (new : Place FeatureSpot P) : Type 0 where
   pub count : ℕ
-  pub between : Place Spot P
-  pub served : ServesPdus (FeatureTurn commands address limits) Next count old between
+  pub between : Place FeatureSpot P
+  pub served : ServesPdus (FeatureStep commands address limits) Next count old between
   pub ends : EndsFeature commands address limits count between reason new

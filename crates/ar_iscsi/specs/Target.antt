@@ -13,12 +13,12 @@ use Rattle.ar_iscsi.specs.declared.session.FeatureEnd.{FeatureEnd}
 use Rattle.ar_iscsi.specs.declared.target.IscsiEnd.{IscsiEnd}
 use Rattle.ar_iscsi.specs.declared.target.IscsiEnd.TheVariants as end
 use Rattle.ar_iscsi.specs.declared.target.NoUnits.{NoUnits}
+use Rattle.ar_iscsi.specs.Arrival.{FeatureSpot}
 use Rattle.ar_iscsi.specs.LoginPhase.{RunsLogin}
 use Rattle.ar_iscsi.specs.LoginTurn.{LoginSpot}
 use Rattle.ar_iscsi.specs.Negotiation.{at_first}
 use Rattle.ar_iscsi.specs.Phase.{Place}
 use Rattle.ar_iscsi.specs.Session.{RunsFeature}
-use Rattle.ar_iscsi.specs.Turn.{Spot}
 
 -- a port without units: each command is answered that there is no such unit
 abbrev pub no_units : Commands NoUnits
@@ -29,14 +29,18 @@ abbrev pub login_start : LoginSpot
 login_start = record { state = record { stage = None; so_far = at_first; stat_sn = 0; cmd_sn = 0 }; text = [] }
 
 -- where a full feature phase begins, after the last response of the login: its numbers count on
-abbrev pub feature_start : LoginState → Spot
+abbrev pub feature_start : LoginState → FeatureSpot
 feature_start state = record {
-  flow = record { stat_sn = state.stat_sn; exp_cmd_sn = state.cmd_sn; next_tag = 0; collecting = None };
-  bytes = [];
+  spot = record {
+    flow = record { stat_sn = state.stat_sn; exp_cmd_sn = state.cmd_sn; next_tag = 0; collecting = None };
+    bytes = [];
+  };
+  waiting = [];
 }
 
 -- a login that ended without a full feature phase
-pub record IsLoginAlone {P : Type 0} (logins : Logins P) (source source' : SourceState) (sink sink' : SinkState) (port port' : P) (reason : LoginEnd)
+pub record IsLoginAlone {P : Type 0} (logins : Logins P) (source source' : SourceState) (sink sink' : SinkState)
+    (port port' : P) (reason : LoginEnd)
     : Type 0 where
   pub spot : LoginSpot
   pub runs :
@@ -44,28 +48,34 @@ pub record IsLoginAlone {P : Type 0} (logins : Logins P) (source source' : Sourc
       (record { source = source'; sink = sink'; spot = spot; port = port' })
 
 -- a full feature phase after a login: in a normal session at the port, in one for discovery at no units
-pub data IsFeature {P : Type 0} (commands : Commands P) (address : List ℕ) (state : LoginState) (source source' : SourceState)
+pub data IsFeature {P : Type 0} (commands : Commands P) (address : List ℕ) (state : LoginState)
+    (source source' : SourceState)
     (sink sink' : SinkState) (port port' : P) (reason : FeatureEnd) : Type 0 where
   at_port :
-      (spot : Spot) → state.so_far.kind ≡ Normal
-      → RunsFeature commands address state.so_far.limits (record { source = source; sink = sink; spot = feature_start state; port = port }) reason
+      (spot : FeatureSpot) → state.so_far.kind ≡ Normal
+      → RunsFeature commands address state.so_far.limits
+      (record { source = source; sink = sink; spot = feature_start state; port = port }) reason
       (record { source = source'; sink = sink'; spot = spot; port = port' })
       → IsFeature commands address state source source' sink sink' port port' reason
   at_no_units :
-      (spot : Spot) (idle idle' : NoUnits) → (state.so_far.kind ≡ Normal → ⊥)
-      → RunsFeature no_units address state.so_far.limits (record { source = source; sink = sink; spot = feature_start state; port = idle }) reason
+      (spot : FeatureSpot) (idle idle' : NoUnits) → (state.so_far.kind ≡ Normal → ⊥)
+      → RunsFeature no_units address state.so_far.limits
+      (record { source = source; sink = sink; spot = feature_start state; port = idle }) reason
       (record { source = source'; sink = sink'; spot = spot; port = idle' }) → port' ≡ port
       → IsFeature commands address state source source' sink sink' port port' reason
 
 -- a login, and the full feature phase behind it
-pub record IsWholeSession {P : Type 0} (logins : Logins P) (commands : Commands P) (address : List ℕ) (source source' : SourceState)
+pub record IsWholeSession {P : Type 0} (logins : Logins P) (commands : Commands P) (address : List ℕ)
+    (source source' : SourceState)
     (sink sink' : SinkState) (port port' : P) (reason : FeatureEnd) : Type 0 where
   pub middle : Place LoginSpot P
   pub login : RunsLogin logins (record { source = source; sink = sink; spot = login_start; port = port }) Entered middle
-  pub feature : IsFeature commands address middle.spot.state middle.source source' middle.sink sink' middle.port port' reason
+  pub feature : IsFeature commands address middle.spot.state middle.source source' middle.sink sink' middle.port port'
+      reason
 
 -- A session with a target whose address is `address`, by its end.
-abbrev pub TargetSession : {P : Type 0} → Logins P → Commands P → List ℕ → SourceState → SourceState → SinkState → SinkState → P → P → IscsiEnd → Type 0
+abbrev pub TargetSession : {P : Type 0} → Logins P → Commands P → List ℕ → SourceState → SourceState → SinkState
+    → SinkState → P → P → IscsiEnd → Type 0
 TargetSession logins commands address source source' sink sink' port port' end.NoBuffer =
     (source' ≡ source) × (sink' ≡ sink) × (port' ≡ port)
 TargetSession logins commands address source source' sink sink' port port' (end.Login reason) =

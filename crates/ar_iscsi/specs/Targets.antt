@@ -37,7 +37,8 @@ target_chosen address (OfHost host) = host_target address host
 -- the targets that a value of `SendTargets` asks for: all, or the one of this name
 abbrev pub chosen : List ℕ → List ℕ → List ℕ
 chosen address wanted =
-    if (length wanted == 0) || bytes_eq wanted (codes "All") then all_targets address else target_chosen address (target_of wanted)
+    if (length wanted == 0) || bytes_eq wanted (codes "All") then all_targets address else target_chosen address
+    (target_of wanted)
 
 -- the answer to an item of this key
 abbrev pub answer_by_key : List ℕ → Key → List ℕ → List ℕ

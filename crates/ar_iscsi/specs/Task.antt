@@ -1,6 +1,7 @@
 -- SCSI commands in the full feature phase (RFC 7143, 4.2.5 and 11.3 to 11.8): when a command is given to the port, when
 -- its data are asked for, and what answers it.
-use Rattle.std.specs.Prelude.{◌≡◌, ◌⊎◌, ◌<◌, ◌≤◌, ◌+◌, ◌-◌, ◌==◌, ⊤, ℕ, nat_le, min, max, Bool, not, ◌&&◌, ◌||◌, if◌then◌else◌, List, [], ◌++◌, MatchOption, Option, Some, None}
+use Rattle.std.specs.Prelude.{◌≡◌, ◌⊎◌, ◌<◌, ◌≤◌, ◌+◌, ◌-◌, ◌==◌, ⊤, ℕ, nat_le, min, max, Bool, not, ◌&&◌, ◌||◌}
+use Rattle.std.specs.Prelude.{if◌then◌else◌, List, [], ◌++◌, MatchOption, Option, Some, None}
 use Rattle.ar_scsi.specs.declared.reply.Reply.{Reply}
 use Rattle.ar_scsi.specs.Reply.{check, busy}
 use Rattle.ar_scsi.specs.Sense.{logical_unit_not_supported}
@@ -27,15 +28,17 @@ may_carry limits len = (len == 0) || (limits.immediate_data && nat_le len limits
 abbrev pub wanted_len : ScsiCommand → ℕ
 wanted_len command = if command.writes then min (data_out_len command.cdb) command.expected else 0
 
--- What is done with a command that carries `len` bytes. 05h is COMMAND NOT SUPPORTED: it reads and writes. 04h is PROTOCOL
--- ERROR: unsolicited data follow it, though R2T was agreed on, or it carries more than it may (RFC 7143, 11.17.1).
+-- What is done with a command that carries `len` bytes. 05h is COMMAND NOT SUPPORTED: it reads and writes. 04h is
+-- PROTOCOL ERROR: unsolicited data follow it, though R2T was agreed on, or it carries more than it may (RFC 7143,
+-- 11.17.1).
 abbrev pub command_step : Flow → Limits → ScsiCommand → ℕ → CommandStep
 command_step flow limits command len =
     if not (is_accepted flow command.immediate command.cmd_sn) then step.Ignores
     else (if command.reads && command.writes then step.Rejects 0x05
     else (if not command.is_final || not (may_carry limits len) then step.Rejects 0x04
     else (if not (is_open flow.collecting) then step.Refuses
-    else (if nat_le (wanted_len command) len then step.Runs (wanted_len command) else step.Collects (wanted_len command)))))
+    else (if nat_le (wanted_len command) len then step.Runs (wanted_len command) else step.Collects
+    (wanted_len command)))))
 
 -- a step that suits a command with `len` bytes: it runs with some of them, or more are collected
 abbrev pub SuitsData : ℕ → CommandStep → Type 0
@@ -73,8 +76,8 @@ SuitsBurst all (steps.Takes c) = all ≤ c.burst_end
 abbrev pub data_step : Flow → DataOut → ℕ → ℕ → DataStep
 data_step flow data_out have len = data_step_for flow.collecting data_out have len
 
--- A command was given to the port once, with its block and these data. One for a LUN of another form is not: there is no
--- such unit.
+-- A command was given to the port once, with its block and these data. One for a LUN of another form is not: there is
+-- no such unit.
 abbrev pub IsGivenTo : {P : Type 0} → Commands P → ScsiCommand → List ℕ → P → Reply → P → Type 0
 IsGivenTo commands command payload old reply new =
     MatchOption (lun_number command.lun) ((reply ≡ check logical_unit_not_supported) × (new ≡ old))
@@ -96,7 +99,8 @@ abbrev pub most_in : Limits → ℕ
 most_in limits = max (min (min limits.max_segment limits.max_burst) 16777215) 512
 
 -- a command with all its data was given to the port, and answered
-pub record Completes {P : Type 0} (commands : Commands P) (flow : Flow) (limits : Limits) (command : ScsiCommand) (payload : List ℕ)
+pub record Completes {P : Type 0} (commands : Commands P) (flow : Flow) (limits : Limits) (command : ScsiCommand)
+    (payload : List ℕ)
     (asked : ℕ) (port port' : P) (out out' : List ℕ) (after : Flow) : Type 0 where
   pub reply : Reply
   pub given : IsGivenTo commands command payload port reply port'
@@ -104,7 +108,8 @@ pub record Completes {P : Type 0} (commands : Commands P) (flow : Flow) (limits 
   pub after_is : after ≡ answered flow
 
 -- a command was answered BUSY, without the port
-pub record GetsBusy (flow : Flow) (limits : Limits) (command : ScsiCommand) (asked : ℕ) (out out' : List ℕ) (after : Flow) : Type 0 where
+pub record GetsBusy (flow : Flow) (limits : Limits) (command : ScsiCommand) (asked : ℕ) (out out' : List ℕ)
+    (after : Flow) : Type 0 where
   pub puts : PutsReply command (numbers_of flow) (most_in limits) asked busy out out'
   pub after_is : after ≡ answered flow
 
@@ -113,8 +118,10 @@ abbrev pub burst_len : Limits → ℕ → ℕ → ℕ
 burst_len limits wanted have = min (wanted - have) (max limits.max_burst 512)
 
 -- R2T number `asked`, counted from 0, was sent for the bytes behind `have`
-pub record AsksFrom (flow : Flow) (limits : Limits) (command : ScsiCommand) (wanted have asked : ℕ) (out out' : List ℕ) (after : Flow) : Type 0 where
+pub record AsksFrom (flow : Flow) (limits : Limits) (command : ScsiCommand) (wanted have asked : ℕ) (out out' : List ℕ)
+    (after : Flow) : Type 0 where
   pub after_is : after ≡ asking flow command wanted (next_sn asked) (have + burst_len limits wanted have)
   pub appended :
       out' ≡ out ++ target_pdu
-      (pdu.ReadyToTransfer command.lun command.task_tag flow.next_tag asked have (burst_len limits wanted have)) (numbers_of after) []
+      (pdu.ReadyToTransfer command.lun command.task_tag flow.next_tag asked have (burst_len limits wanted have))
+      (numbers_of after) []

@@ -1,6 +1,7 @@
 -- Text of login and text PDUs: items of the form `Name=value`, each ended by a zero byte (RFC 7143, 6.1), and what a
 -- target answers to each key (RFC 7143, 13).
-use Rattle.std.specs.Prelude.{ℕ, ◌+◌, ◌-◌, ◌*◌, ◌==◌, nat_lt, nat_le, min, max, Bool, ◌&&◌, if◌then◌else◌, List, [], ◌∷◌, ◌++◌, length, codes, bytes_eq, Option, Some, None}
+use Rattle.std.specs.Prelude.{ℕ, ◌+◌, ◌-◌, ◌*◌, ◌==◌, nat_lt, nat_le, min, max, Bool, ◌&&◌, if◌then◌else◌, List, []}
+use Rattle.std.specs.Prelude.{◌∷◌, ◌++◌, length, codes, bytes_eq, Option, Some, None}
 use Rattle.std.specs.List.{list_any, slice_split, before_first, after_first}
 use Rattle.std.specs.Char.{is_ascii_digit}
 use Rattle.std.specs.Fmt.{decimal}
@@ -141,7 +142,9 @@ answer_item name says.PortalGroup = text_item (codes "TargetPortalGroupTag") (co
 
 -- the answer to an item; an empty one has none
 abbrev pub item_answer : List ℕ → List ℕ
-item_answer item = if length item == 0 then [] else answer_item (item_name item) (key_answer (key_named (item_name item)) (item_value item))
+item_answer item =
+    if length item == 0 then [] else answer_item (item_name item)
+    (key_answer (key_named (item_name item)) (item_value item))
 
 -- the answers to items, in order
 abbrev pub items_answer : List (List ℕ) → List ℕ

@@ -5,7 +5,8 @@ use Rattle.ar_iscsi.specs.declared.flow.Flow.{Flow}
 use Rattle.ar_iscsi.specs.declared.flow.Collecting.{Collecting}
 use Rattle.ar_iscsi.specs.declared.negotiation.Limits.{Limits}
 use Rattle.ar_iscsi.specs.declared.reaction.Reaction.{Reaction}
-use Rattle.ar_iscsi.specs.declared.reaction.Reaction.TheVariants.{Ignores, Counts, Answers, Echoes, AnswersText, Drops, Closes, Rejects}
+use Rattle.ar_iscsi.specs.declared.reaction.Reaction.TheVariants.{Ignores, Counts, Answers, Echoes, AnswersText, Drops}
+use Rattle.ar_iscsi.specs.declared.reaction.Reaction.TheVariants.{Closes, Rejects}
 use Rattle.ar_iscsi.specs.declared.request.ScsiCommand.{ScsiCommand}
 use Rattle.ar_iscsi.specs.declared.request.InitiatorPdu.{InitiatorPdu}
 use Rattle.ar_iscsi.specs.declared.request.InitiatorPdu.TheVariants as asks
@@ -30,7 +31,8 @@ pub record Spot : Type 0 where
   pub bytes : List ℕ
 
 -- a turn is answered by these bytes, and leads there
-pub record AnswersBy (out : List ℕ) (new : Spot) (end : TurnEnd) (out_is : List ℕ) (flow_is : Flow) (bytes_is : List ℕ) (end_is : TurnEnd)
+pub record AnswersBy (out : List ℕ) (new : Spot) (end : TurnEnd) (out_is : List ℕ) (flow_is : Flow) (bytes_is : List ℕ)
+    (end_is : TurnEnd)
     : Type 0 where
   pub out_same : out ≡ out_is
   pub flow_same : new.flow ≡ flow_is
@@ -44,7 +46,8 @@ StaysSilent old out new end = AnswersBy out new end [] old.flow old.bytes Next
 -- a PDU is rejected for this reason, with its header, and isn't counted (RFC 7143, 11.17)
 abbrev pub IsRejected : List ℕ → ℕ → Spot → List ℕ → Spot → TurnEnd → Type 0
 IsRejected header reason old out new end =
-    AnswersBy out new end (target_pdu (pdu.Reject reason) (numbers_of old.flow) header) (answered old.flow) old.bytes Next
+    AnswersBy out new end (target_pdu (pdu.Reject reason) (numbers_of old.flow) header) (answered old.flow) old.bytes
+    Next
 
 -- a response is sent in this state
 abbrev pub Responds : Flow → TargetPdu → List ℕ → List ℕ → List ℕ → Spot → TurnEnd → TurnEnd → Type 0
@@ -54,24 +57,30 @@ Responds flow response segment bytes out new end end_is =
 -- a text is answered; an answer that is longer than the initiator receives is COMMAND NOT SUPPORTED
 abbrev pub RespondsText : List ℕ → List ℕ → ℕ → Flow → TargetPdu → Spot → List ℕ → Spot → TurnEnd → Type 0
 RespondsText header answer most flow response old out new end =
-    MatchBool (nat_le (length answer) most) (Responds flow response answer old.bytes out new end Next) (IsRejected header 0x05 old out new end)
+    MatchBool (nat_le (length answer) most) (Responds flow response answer old.bytes out new end Next)
+    (IsRejected header 0x05 old out new end)
 
 -- what a request does that needs no port, by its reaction; `flow` counts the request
 abbrev pub ReactionTurn : List ℕ → Limits → List ℕ → List ℕ → Flow → Reaction → Spot → List ℕ → Spot → TurnEnd → Type 0
 ReactionTurn address limits header carried flow Ignores old out new end = StaysSilent old out new end
 ReactionTurn address limits header carried flow Counts old out new end = AnswersBy out new end [] flow old.bytes Next
-ReactionTurn address limits header carried flow (Answers response) old out new end = Responds flow response [] old.bytes out new end Next
+ReactionTurn address limits header carried flow (Answers response) old out new end =
+    Responds flow response [] old.bytes out new end Next
 ReactionTurn address limits header carried flow (Echoes response) old out new end =
     Responds flow response (take (most_in limits) carried) old.bytes out new end Next
 ReactionTurn address limits header carried flow (AnswersText response) old out new end =
     RespondsText header (targets_answer address carried) (most_in limits) flow response old out new end
-ReactionTurn address limits header carried flow (Drops response) old out new end = Responds (reopened flow) response [] [] out new end Next
-ReactionTurn address limits header carried flow (Closes response) old out new end = Responds flow response [] old.bytes out new end LoggedOut
-ReactionTurn address limits header carried flow (Rejects reason) old out new end = IsRejected header reason old out new end
+ReactionTurn address limits header carried flow (Drops response) old out new end =
+    Responds (reopened flow) response [] [] out new end Next
+ReactionTurn address limits header carried flow (Closes response) old out new end =
+    Responds flow response [] old.bytes out new end LoggedOut
+ReactionTurn address limits header carried flow (Rejects reason) old out new end =
+    IsRejected header reason old out new end
 
--- A command that is complete was given to the port once and answered or, out of memory for its data, it got BUSY without
--- the port. No data are collected any more.
-abbrev pub IsDone : {P : Type 0} → Commands P → Limits → Flow → ScsiCommand → List ℕ → ℕ → P → P → List ℕ → Flow → Type 0
+-- A command that is complete was given to the port once and answered or, out of memory for its data, it got BUSY
+-- without the port. No data are collected any more.
+abbrev pub IsDone : {P : Type 0} → Commands P → Limits → Flow → ScsiCommand → List ℕ → ℕ → P → P → List ℕ → Flow
+    → Type 0
 IsDone commands limits flow command payload asked port port' out after =
     Completes commands flow limits command payload asked port port' [] out after
     ⊎ ((0 < length payload) × (port' ≡ port) × GetsBusy flow limits command asked [] out after)
@@ -79,32 +88,40 @@ IsDone commands limits flow command payload asked port port' out after =
 -- Data are asked for behind those that a command carries or, out of memory for them, it got BUSY.
 abbrev pub StartsData : Limits → Flow → ScsiCommand → ℕ → List ℕ → List ℕ → Spot → Type 0
 StartsData limits flow command wanted carried out new =
-    (AsksFrom flow limits command wanted (length carried) 0 [] out new.flow × (new.bytes ≡ carried)) ⊎ GetsBusy flow limits command 0 [] out new.flow
+    (AsksFrom flow limits command wanted (length carried) 0 [] out new.flow × (new.bytes ≡ carried))
+    ⊎ GetsBusy flow limits command 0 [] out new.flow
 
 -- what a command does that carries these data, by its step
-abbrev pub CommandTurn : {P : Type 0} → Commands P → Limits → ScsiCommand → List ℕ → List ℕ → CommandStep → Spot → P → List ℕ → Spot → P → TurnEnd
+abbrev pub CommandTurn : {P : Type 0} → Commands P → Limits → ScsiCommand → List ℕ → List ℕ → CommandStep → Spot → P
+    → List ℕ → Spot → P → TurnEnd
     → Type 0
-CommandTurn commands limits command header carried step.Ignores old port out new port' end = StaysSilent old out new end × (port' ≡ port)
+CommandTurn commands limits command header carried step.Ignores old port out new port' end =
+    StaysSilent old out new end × (port' ≡ port)
 CommandTurn commands limits command header carried (step.Rejects reason) old port out new port' end =
     IsRejected header reason old out new end × (port' ≡ port)
 CommandTurn commands limits command header carried step.Refuses old port out new port' end =
-    GetsBusy (received old.flow command.immediate) limits command 0 [] out new.flow × (new.bytes ≡ old.bytes) × (port' ≡ port) × (end ≡ Next)
+    GetsBusy (received old.flow command.immediate) limits command 0 [] out new.flow × (new.bytes ≡ old.bytes)
+    × (port' ≡ port) × (end ≡ Next)
 CommandTurn commands limits command header carried (step.Runs wanted) old port out new port' end =
-    IsDone commands limits (received old.flow command.immediate) command (take wanted carried) 0 port port' out new.flow × (end ≡ Next)
+    IsDone commands limits (received old.flow command.immediate) command (take wanted carried) 0 port port' out new.flow
+    × (end ≡ Next)
 CommandTurn commands limits command header carried (step.Collects wanted) old port out new port' end =
-    StartsData limits (received old.flow command.immediate) command wanted carried out new × (port' ≡ port) × (end ≡ Next)
+    StartsData limits (received old.flow command.immediate) command wanted carried out new × (port' ≡ port)
+    × (end ≡ Next)
 
 -- What data do that are the next ones of a WRITE, once they are `all`: more of the R2T are awaited, or the next R2T is
 -- sent, or the command is complete.
 abbrev pub TakesData : {P : Type 0} → Commands P → Limits → Collecting → List ℕ → Flow → P → List ℕ → Spot → P → Type 0
 TakesData commands limits c all flow port out new port' =
-    MatchBool (nat_lt (length all) c.burst_end) ((out ≡ []) × (new.flow ≡ awaiting flow c) × (new.bytes ≡ all) × (port' ≡ port))
+    MatchBool (nat_lt (length all) c.burst_end) ((out ≡ []) × (new.flow ≡ awaiting flow c) × (new.bytes ≡ all)
+    × (port' ≡ port))
     (MatchBool (nat_lt (length all) c.wanted)
     (AsksFrom flow limits c.command c.wanted (length all) c.asked [] out new.flow × (new.bytes ≡ all) × (port' ≡ port))
     (IsDone commands limits (reopened flow) c.command all c.asked port port' out new.flow))
 
 -- what a Data-Out PDU does that carries these data, by its step
-abbrev pub DataTurn : {P : Type 0} → Commands P → Limits → List ℕ → DataStep → Spot → P → List ℕ → Spot → P → TurnEnd → Type 0
+abbrev pub DataTurn : {P : Type 0} → Commands P → Limits → List ℕ → DataStep → Spot → P → List ℕ → Spot → P → TurnEnd
+    → Type 0
 DataTurn commands limits carried steps.Ignores old port out new port' end = StaysSilent old out new end × (port' ≡ port)
 DataTurn commands limits carried steps.Breaks old port out new port' end =
     AnswersBy out new end [] old.flow old.bytes BrokenData × (port' ≡ port)
@@ -112,20 +129,27 @@ DataTurn commands limits carried (steps.Takes c) old port out new port' end =
     TakesData commands limits c (old.bytes ++ carried) old.flow port out new port' × (end ≡ Next)
 
 -- what a PDU does, by its header's fields
-abbrev pub TurnFor : {P : Type 0} → Commands P → List ℕ → Limits → List ℕ → List ℕ → InitiatorPdu → Spot → P → List ℕ → Spot → P → TurnEnd → Type 0
+abbrev pub TurnFor : {P : Type 0} → Commands P → List ℕ → Limits → List ℕ → List ℕ → InitiatorPdu → Spot → P → List ℕ
+    → Spot → P → TurnEnd → Type 0
 TurnFor commands address limits header carried (asks.ScsiCommand command) old port out new port' end =
-    CommandTurn commands limits command header carried (command_step old.flow limits command (length carried)) old port out new port' end
+    CommandTurn commands limits command header carried (command_step old.flow limits command (length carried)) old port
+    out new port' end
 TurnFor commands address limits header carried (asks.DataOut data_out) old port out new port' end =
-    DataTurn commands limits carried (data_step old.flow data_out (length old.bytes) (length carried)) old port out new port' end
+    DataTurn commands limits carried (data_step old.flow data_out (length old.bytes) (length carried)) old port out new
+    port' end
 TurnFor commands address limits header carried (asks.NopOut nop) old port out new port' end =
-    ReactionTurn address limits header carried (received old.flow nop.immediate) (to_nop_out old.flow nop) old out new end × (port' ≡ port)
+    ReactionTurn address limits header carried (received old.flow nop.immediate) (to_nop_out old.flow nop) old out new
+    end × (port' ≡ port)
 TurnFor commands address limits header carried (asks.Text request) old port out new port' end =
-    ReactionTurn address limits header carried (received old.flow request.immediate) (to_text old.flow request) old out new end × (port' ≡ port)
+    ReactionTurn address limits header carried (received old.flow request.immediate) (to_text old.flow request) old out
+    new end × (port' ≡ port)
 TurnFor commands address limits header carried (asks.Logout request) old port out new port' end =
-    ReactionTurn address limits header carried (received old.flow request.immediate) (to_logout old.flow request) old out new end
+    ReactionTurn address limits header carried (received old.flow request.immediate) (to_logout old.flow request) old
+    out new end
     × (port' ≡ port)
 TurnFor commands address limits header carried (asks.TaskManagement request) old port out new port' end =
-    ReactionTurn address limits header carried (received old.flow request.immediate) (to_task_management old.flow request) old out new end
+    ReactionTurn address limits header carried (received old.flow request.immediate)
+    (to_task_management old.flow request) old out new end
     × (port' ≡ port)
 -- a login in the full feature phase is PROTOCOL ERROR, another opcode COMMAND NOT SUPPORTED
 TurnFor commands address limits header carried (asks.Login request) old port out new port' end =
@@ -133,8 +157,9 @@ TurnFor commands address limits header carried (asks.Login request) old port out
 TurnFor commands address limits header carried (asks.Unknown opcode) old port out new port' end =
     IsRejected header 0x05 old out new end × (port' ≡ port)
 
--- A turn of a normal session: a PDU with this header and this data segment was answered by `out`. The target's address is
--- `address`.
-abbrev pub FeatureTurn : {P : Type 0} → Commands P → List ℕ → Limits → List ℕ → List ℕ → Spot → P → List ℕ → Spot → P → TurnEnd → Type 0
+-- A turn of a normal session: a PDU with this header and this data segment was answered by `out`. The target's address
+-- is `address`.
+abbrev pub FeatureTurn : {P : Type 0} → Commands P → List ℕ → Limits → List ℕ → List ℕ → Spot → P → List ℕ → Spot → P
+    → TurnEnd → Type 0
 FeatureTurn commands address limits header carried old port out new port' end =
     TurnFor commands address limits header carried (initiator_pdu header) old port out new port' end

@@ -34,7 +34,8 @@ is_success other = false
 -- the stage that a login request may be of (RFC 7143, 11.12.3)
 abbrev pub stage_named : ℕ → Option LoginStage
 stage_named code =
-    if code == 0 then Some stage.SecurityNegotiation else (if code == 1 then Some stage.OperationalNegotiation else None)
+    if code == 0 then Some
+    stage.SecurityNegotiation else (if code == 1 then Some stage.OperationalNegotiation else None)
 
 -- where T and this NSG lead from a stage
 abbrev pub next_step : LoginStage → ℕ → Result LoginStep LoginStatus

@@ -1,10 +1,13 @@
-// A session's numbers in the full feature phase, and the WRITE whose data it collects. The window for commands is open
-// for one: it closes while data are collected, so that commands are done in CmdSN's order. Numbers count modulo 2^32.
+// A session's numbers in the full feature phase, and the WRITE whose data it collects. The window has 16 commands; they
+// are done one at a time, in CmdSN's order. Numbers count modulo 2^32.
 ghost use Rattle.std.specs.Prelude.{◌≡◌, ◌==◌};
 ghost use Rattle.ar_iscsi.specs.Flow as state;
 
 use crate::request::{Lun, ScsiCommand};
 use crate::response::SequenceNumbers;
+
+/// The number of commands in the window, those that an initiator may send ahead.
+pub const WINDOW: usize = 16;
 
 /// A WRITE whose data are collected.
 #[derive(Clone, Copy, Debug, PartialEq, Eq)]
@@ -42,21 +45,11 @@ impl Flow {
         SequenceNumbers {
             stat_sn: self.stat_sn,
             exp_cmd_sn: self.exp_cmd_sn,
-            max_cmd_sn: self.max_cmd_sn(),
+            max_cmd_sn: last_in_window(self.exp_cmd_sn),
         }
     }
 
-    // The last CmdSN that is accepted: the expected one, or while data are collected the one before it.
-    fn max_cmd_sn(&self) -> u32
-        ensures { result ≡ state.max_cmd_sn_of self.now }
-    {
-        match self.collecting {
-            Some(_) => self.exp_cmd_sn.wrapping_sub(1),
-            None => self.exp_cmd_sn,
-        }
-    }
-
-    /// Whether a request is accepted: it is immediate, or has the expected CmdSN while the window is open.
+    /// Whether a request is done now: it is immediate, or has the expected CmdSN while no data are collected.
     pub fn accepts(&self, immediate: bool, cmd_sn: u32) -> bool
         ensures { result ≡ state.is_accepted self.now immediate cmd_sn }
     {
@@ -127,6 +120,13 @@ impl Flow {
             ..self
         }
     }
+}
+
+/// MaxCmdSN: the last CmdSN of the window that begins with the expected one.
+pub(crate) fn last_in_window(exp_cmd_sn: u32) -> u32
+    ensures { result ≡ state.last_in_window exp_cmd_sn }
+{
+    exp_cmd_sn.wrapping_add(WINDOW as u32 - 1)
 }
 
 /// The number of a LUN of single-level form, 0 to 255 (SAM-3, 4.9): peripheral device addressing, or flat space.

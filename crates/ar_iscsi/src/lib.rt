@@ -4,6 +4,7 @@
 ghost use Rattle.ar_iscsi.specs.Pdu.{NoPduBeginsAnother};
 ghost use Rattle.ar_iscsi.specs.Response.{ResponsesArePdus};
 
+mod arrival;
 mod flow;
 mod keys;
 mod login;
@@ -22,8 +23,10 @@ mod text;
 mod transfer;
 mod turn;
 mod verdict;
+mod waiting;
+mod waiting_pdu;
 
-pub use flow::{Collecting, Flow, lun_number};
+pub use flow::{Collecting, Flow, WINDOW, lun_number};
 pub use keys::{Key, KeyAnswer, key_answer, key_named, numeral};
 pub use login::{LoginResult, LoginState, LoginWork, login_turn};
 pub use login_phase::{LoginEnd, log_in};
@@ -46,6 +49,7 @@ pub use task::{CommandStep, DataStep, ask, command_step, complete, data_step, re
 pub use text::answer_text;
 pub use turn::{TurnEnd, Work, take_turn};
 pub use verdict::{LoginStatus, LoginStep, judged, stage_of, status_code, step_of};
+pub use waiting_pdu::WaitingPdu;
 
 /// Lemma: no PDU is a proper prefix of another, and its bytes determine its header and its data.
 pub fn no_pdu_begins_another()

@@ -3,6 +3,7 @@
 ghost use Rattle.std.specs.Prelude.{◌≡◌, ◌≤◌, false, true, [], IfOk, OnOk, length};
 ghost use Rattle.ar_iscsi.specs.LoginTurn as login;
 
+use crate::flow::last_in_window;
 use crate::negotiation::{Negotiation, SessionKind, TargetChoice, negotiated};
 use crate::request::{LoginRequest, login_request};
 use crate::response::{LoginResponse, LoginStage, SequenceNumbers, TargetPdu, put_pdu, stage_code};
@@ -77,7 +78,7 @@ fn login_numbers(state: &LoginState, request: &LoginRequest) -> SequenceNumbers
     SequenceNumbers {
         stat_sn: state.stat_sn,
         exp_cmd_sn: request.cmd_sn,
-        max_cmd_sn: request.cmd_sn,
+        max_cmd_sn: last_in_window(request.cmd_sn),
     }
 }
 

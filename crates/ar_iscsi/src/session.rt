@@ -1,16 +1,20 @@
 // The full feature phase of a session: PDUs are read, each does what its turn says, and its answer is written.
-ghost use Rattle.std.specs.Prelude.{◌≡◌, ◌≤◌, true, [], OnSome, length};
-ghost use Rattle.ar_iscsi.specs.Pdu.{IsPdu, segment_len};
+ghost use Rattle.std.specs.Prelude.{◌≡◌, false, true, [], IfOk, OnSome, length};
+ghost use Rattle.ar_iscsi.specs.Arrival.{ArrivalTurn};
 ghost use Rattle.ar_iscsi.specs.Phase as phase;
 ghost use Rattle.ar_iscsi.specs.Session as session;
 ghost use Rattle.ar_iscsi.specs.Task.{MayGive};
-ghost use Rattle.ar_iscsi.specs.Turn.{FeatureTurn};
+ghost use Rattle.ar_iscsi.specs.Waiting.{is_next_waiting};
 
+use crate::arrival::take_arrival;
+use crate::flow::Flow;
 use crate::receive::{ReceiveEnd, Received, receive_pdu};
 use crate::request::segment_len;
 use crate::turn::{TurnEnd, Work, take_turn};
+use crate::waiting::is_next_waiting;
+use crate::waiting_pdu::WaitingPdu;
 use ar_frames::{Port, Sent, Sink, Source, send};
-use std::alloc::Global;
+use std::alloc::{AllocError, Global};
 
 /// The longest data segment that is received, in bytes: the target's MaxRecvDataSegmentLength.
 pub const MOST_SEGMENT: usize = 262_144;
@@ -41,7 +45,7 @@ pub(crate) enum PduResult {
 }
 
 /// Serves a normal session from its login to its end. `buffer` receives data segments; `address` is the target's, as
-/// `127.0.0.1:3260`.
+/// `127.0.0.1:3260`. `waiting`, empty before, holds the PDUs that wait for the data of a WRITE.
 pub fn serve_feature<R: Source, W: Sink, P: Port>(
     alloc: Global,
     reader: &mut R,
@@ -49,6 +53,7 @@ pub fn serve_feature<R: Source, W: Sink, P: Port>(
     port: &mut P,
     address: &[u8],
     work: &mut Work,
+    waiting: &mut Vec<WaitingPdu>,
     buffer: &mut [u8],
 ) -> FeatureEnd
     requires logged { P.has_login port.old ≡ true }
@@ -58,19 +63,25 @@ pub fn serve_feature<R: Source, W: Sink, P: Port>(
         (record {
           source = R.state reader.old;
           sink = W.state writer.old;
-          spot = record { flow = work.old.flow; bytes = work.old.collected.items };
+          spot = record {
+            spot = record { flow = work.old.flow; bytes = work.old.collected.items };
+            waiting = waiting.old.items;
+          };
           port = port.old;
         })
         result
         (record {
           source = R.state reader.new;
           sink = W.state writer.new;
-          spot = record { flow = work.new.flow; bytes = work.new.collected.items };
+          spot = record {
+            spot = record { flow = work.new.flow; bytes = work.new.collected.items };
+            waiting = waiting.new.items;
+          };
           port = port.new;
         }) }
 {
     for _ in 0..u64::MAX {
-        match serve_pdu(alloc, reader, writer, port, address, work, buffer) {
+        match serve_pdu(alloc, reader, writer, port, address, work, waiting, buffer) {
             PduResult::Served => {}
             PduResult::Ended(reason) => return reason,
         }
@@ -78,7 +89,7 @@ pub fn serve_feature<R: Source, W: Sink, P: Port>(
     FeatureEnd::Bound
 }
 
-// Reads a PDU, does what it asks for, and writes the answer.
+// Serves the oldest PDU that waits, once no data are collected, and otherwise one that is read.
 fn serve_pdu<R: Source, W: Sink, P: Port>(
     alloc: Global,
     reader: &mut R,
@@ -86,6 +97,7 @@ fn serve_pdu<R: Source, W: Sink, P: Port>(
     port: &mut P,
     address: &[u8],
     work: &mut Work,
+    waiting: &mut Vec<WaitingPdu>,
     buffer: &mut [u8],
 ) -> PduResult
     requires logged { P.has_login port.old ≡ true }
@@ -95,14 +107,79 @@ fn serve_pdu<R: Source, W: Sink, P: Port>(
         (record {
           source = R.state reader.old;
           sink = W.state writer.old;
-          spot = record { flow = work.old.flow; bytes = work.old.collected.items };
+          spot = record {
+            spot = record { flow = work.old.flow; bytes = work.old.collected.items };
+            waiting = waiting.old.items;
+          };
           port = port.old;
         })
         result
         (record {
           source = R.state reader.new;
           sink = W.state writer.new;
-          spot = record { flow = work.new.flow; bytes = work.new.collected.items };
+          spot = record {
+            spot = record { flow = work.new.flow; bytes = work.new.collected.items };
+            waiting = waiting.new.items;
+          };
+          port = port.new;
+        }) }
+    ensures stays { P.has_login port.new ≡ true }
+    ensures limits { work.new.limits ≡ work.old.limits }
+    ensures emptied { result ≡ PduResult.Served → work.new.out.items ≡ [] }
+{
+    match take_waiting(&work.flow, waiting) {
+        Some(pdu) => {
+            let answered = answer_waiting(alloc, writer, port, address, work, &pdu);
+            result_of_answer(answered)
+        }
+        None => serve_arrival(alloc, reader, writer, port, address, work, waiting, buffer),
+    }
+}
+
+// Takes the oldest PDU that waits, if no data are collected.
+fn take_waiting(flow: &Flow, waiting: &mut Vec<WaitingPdu>) -> Option<WaitingPdu>
+    ensures { session.TakesWaiting flow.now waiting.old.items result waiting.new.items }
+{
+    if is_next_waiting(flow, waiting) {
+        Some(waiting.remove(0))
+    } else {
+        None
+    }
+}
+
+// Reads a PDU, does what it asks for, and writes the answer.
+fn serve_arrival<R: Source, W: Sink, P: Port>(
+    alloc: Global,
+    reader: &mut R,
+    writer: &mut W,
+    port: &mut P,
+    address: &[u8],
+    work: &mut Work,
+    waiting: &mut Vec<WaitingPdu>,
+    buffer: &mut [u8],
+) -> PduResult
+    requires none_next { is_next_waiting work.old.flow waiting.old.items ≡ false }
+    requires logged { P.has_login port.old ≡ true }
+    requires room { length buffer.old ≡ phase.most_segment }
+    requires empty { work.old.out.items ≡ [] }
+    ensures next { session.NextIsServed P.commands address.now work.old.limits
+        (record {
+          source = R.state reader.old;
+          sink = W.state writer.old;
+          spot = record {
+            spot = record { flow = work.old.flow; bytes = work.old.collected.items };
+            waiting = waiting.old.items;
+          };
+          port = port.old;
+        })
+        result
+        (record {
+          source = R.state reader.new;
+          sink = W.state writer.new;
+          spot = record {
+            spot = record { flow = work.new.flow; bytes = work.new.collected.items };
+            waiting = waiting.new.items;
+          };
           port = port.new;
         }) }
     ensures stays { P.has_login port.new ≡ true }
@@ -113,35 +190,45 @@ fn serve_pdu<R: Source, W: Sink, P: Port>(
         Received::Pdu(header) => {
             let len = segment_len(&header) as usize;
             let carried = &buffer[..len];
-            let answered = answer_pdu(alloc, writer, port, address, work, &header, carried);
+            let answered = answer_arrival(
+                alloc, writer, port, address, work, waiting, &header, carried,
+            );
             result_of_answer(answered)
         }
         Received::Nothing(reason) => PduResult::Ended(FeatureEnd::Unread(reason)),
     }
 }
 
-// Does what a PDU asks for, and writes the answer. None: memory for it ran out.
-fn answer_pdu<W: Sink, P: Port>(
+// Does what a PDU that was read asks for, and writes the answer. None: memory for it ran out.
+fn answer_arrival<W: Sink, P: Port>(
     alloc: Global,
     writer: &mut W,
     port: &mut P,
     address: &[u8],
     work: &mut Work,
+    waiting: &mut Vec<WaitingPdu>,
     header: &[u8; 48],
     carried: &[u8],
 ) -> Option<(TurnEnd, Sent)>
     requires logged { P.has_login port.old ≡ true }
-    requires short { length carried.now ≤ phase.most_segment }
     requires empty { work.old.out.items ≡ [] }
-    ensures answers { phase.AnswersPdu (FeatureTurn P.commands address.now work.old.limits) (MayGive P.commands)
-        header.now carried.now
-        (W.state writer.old) (record { flow = work.old.flow; bytes = work.old.collected.items }) port.old result
-        (W.state writer.new) (record { flow = work.new.flow; bytes = work.new.collected.items }) port.new }
+    ensures answers { phase.AnswersPdu (ArrivalTurn P.commands address.now work.old.limits) (MayGive P.commands)
+        header.now carried.now (W.state writer.old)
+        (record {
+          spot = record { flow = work.old.flow; bytes = work.old.collected.items };
+          waiting = waiting.old.items;
+        })
+        port.old result (W.state writer.new)
+        (record {
+          spot = record { flow = work.new.flow; bytes = work.new.collected.items };
+          waiting = waiting.new.items;
+        })
+        port.new }
     ensures stays { P.has_login port.new ≡ true }
     ensures limits { work.new.limits ≡ work.old.limits }
     ensures emptied { OnSome result (work.new.out.items ≡ []) }
 {
-    match take_turn(work, alloc, port, address, header, carried) {
+    match take_arrival(work, waiting, alloc, port, address, header, carried) {
         Ok(turned) => {
             let sent = send(writer, &work.out);
             work.out.clear();
@@ -149,6 +236,67 @@ fn answer_pdu<W: Sink, P: Port>(
         }
         Err(_) => None,
     }
+}
+
+// Does what a PDU that waited asks for, and writes the answer. None: memory for it ran out.
+fn answer_waiting<W: Sink, P: Port>(
+    alloc: Global,
+    writer: &mut W,
+    port: &mut P,
+    address: &[u8],
+    work: &mut Work,
+    pdu: &WaitingPdu,
+) -> Option<(TurnEnd, Sent)>
+    requires logged { P.has_login port.old ≡ true }
+    requires empty { work.old.out.items ≡ [] }
+    ensures answers { phase.AnswersPdu (session.WaitingTurn P.commands address.now work.old.limits pdu.now.is_dropped)
+        (MayGive P.commands) pdu.now.header pdu.now.carried
+        (W.state writer.old) (record { flow = work.old.flow; bytes = work.old.collected.items }) port.old result
+        (W.state writer.new) (record { flow = work.new.flow; bytes = work.new.collected.items }) port.new }
+    ensures stays { P.has_login port.new ≡ true }
+    ensures limits { work.new.limits ≡ work.old.limits }
+    ensures emptied { OnSome result (work.new.out.items ≡ []) }
+{
+    match turn_waiting(work, alloc, port, address, pdu) {
+        Ok(turned) => {
+            let sent = send(writer, &work.out);
+            work.out.clear();
+            Some((turned, sent))
+        }
+        Err(_) => None,
+    }
+}
+
+// Does what a PDU that waited asks for; one that was dropped is counted.
+fn turn_waiting<P: Port>(
+    work: &mut Work,
+    alloc: Global,
+    port: &mut P,
+    address: &[u8],
+    pdu: &WaitingPdu,
+) -> Result<TurnEnd, AllocError>
+    requires logged { P.has_login port.old ≡ true }
+    requires empty { work.old.out.items ≡ [] }
+    ensures turn { IfOk result (λ ended. session.WaitingTurn P.commands address.now work.old.limits
+        pdu.now.is_dropped pdu.now.header pdu.now.carried
+        (record { flow = work.old.flow; bytes = work.old.collected.items }) port.old work.new.out.items
+        (record { flow = work.new.flow; bytes = work.new.collected.items }) port.new ended) }
+    ensures once { MayGive P.commands port.old port.new }
+    ensures stays { P.has_login port.new ≡ true }
+    ensures limits { work.new.limits ≡ work.old.limits }
+{
+    if pdu.is_dropped {
+        work.flow = work.flow.received(false);
+        return Ok(TurnEnd::Next);
+    }
+    take_turn(
+        work,
+        alloc,
+        port,
+        address,
+        &pdu.header,
+        pdu.carried.as_slice(),
+    )
 }
 
 // What becomes of the session after an answer.

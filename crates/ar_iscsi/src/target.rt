@@ -54,7 +54,8 @@ impl Port for NoUnits {
 }
 
 /// Serves one connection to the target: a login, and a normal session or one for discovery behind it. It holds a buffer
-/// of 256 KiB, the data of one WRITE and one answer at a time. `address` is the target's own, as `127.0.0.1:3260`.
+/// of 256 KiB, the data of one WRITE, one answer at a time, and up to 16 PDUs that wait, of up to 256 KiB each.
+/// `address` is the target's own, as `127.0.0.1:3260`.
 pub fn serve_target<R: Source, W: Sink, P: Port>(
     alloc: Global,
     reader: &mut R,
@@ -143,13 +144,30 @@ fn serve_entered<R: Source, W: Sink, P: Port>(
         collected: Vec::new(alloc),
         out: Vec::new(alloc),
     };
+    let mut waiting = Vec::new(alloc);
     match state.so_far.kind {
-        SessionKind::Normal => {
-            serve_feature(alloc, reader, writer, port, address, &mut work, buffer)
-        }
+        SessionKind::Normal => serve_feature(
+            alloc,
+            reader,
+            writer,
+            port,
+            address,
+            &mut work,
+            &mut waiting,
+            buffer,
+        ),
         _ => {
             let mut idle = NoUnits { has_login: true };
-            serve_feature(alloc, reader, writer, &mut idle, address, &mut work, buffer)
+            serve_feature(
+                alloc,
+                reader,
+                writer,
+                &mut idle,
+                address,
+                &mut work,
+                &mut waiting,
+                buffer,
+            )
         }
     }
 }

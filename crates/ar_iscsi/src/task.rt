@@ -43,7 +43,7 @@ pub enum DataStep {
 }
 
 /// What is done with a command that carries `len` bytes of immediate data.
-pub fn command_step(flow: &Flow, limits: &Limits, command: &ScsiCommand, len: u32) -> CommandStep
+pub fn command_step(flow: &Flow, limits: &Limits, command: &ScsiCommand, len: usize) -> CommandStep
     ensures is { result ≡ task.command_step flow.now limits.now command.now len }
     ensures suits { task.SuitsData len result }
 {
@@ -60,7 +60,7 @@ pub fn command_step(flow: &Flow, limits: &Limits, command: &ScsiCommand, len: u3
         return CommandStep::Refuses;
     }
     let wanted = wanted_len(command);
-    if wanted <= len {
+    if wanted as usize <= len {
         CommandStep::Runs { wanted }
     } else {
         CommandStep::Collects { wanted }
@@ -68,10 +68,10 @@ pub fn command_step(flow: &Flow, limits: &Limits, command: &ScsiCommand, len: u3
 }
 
 // Whether a command may carry this many bytes of data.
-fn may_carry(limits: &Limits, len: u32) -> bool
+fn may_carry(limits: &Limits, len: usize) -> bool
     ensures { result ≡ task.may_carry limits.now len }
 {
-    len == 0 || (limits.immediate_data && len <= limits.first_burst)
+    len == 0 || (limits.immediate_data && len <= limits.first_burst as usize)
 }
 
 /// The number of bytes that a command is given: what its block takes, as far as it is expected.

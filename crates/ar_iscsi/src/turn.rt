@@ -1,6 +1,7 @@
 // A turn of the full feature phase: what a PDU of the initiator does, and the bytes that answer it. `Err`: an answer
 // can't be allocated.
-ghost use Rattle.std.specs.Prelude.{◌≡◌, ◌<◌, ◌≤◌, ◌+◌, ◌++◌, ◌^◌, true, [], IfOk, IfSome, IfNone, IsTrue, OnOk, length, take};
+ghost use Rattle.std.specs.Prelude.{◌≡◌, ◌<◌, ◌≤◌, ◌+◌, ◌++◌, ◌^◌, true, [], IfOk, IfSome, IfNone, IsTrue, OnOk};
+ghost use Rattle.std.specs.Prelude.{length, take};
 ghost use Rattle.ar_iscsi.specs.Turn as turn;
 ghost use Rattle.ar_iscsi.specs.Flow.{received, reopened};
 ghost use Rattle.ar_iscsi.specs.Task.{AsksFrom, Completes, GetsBusy, MayGive, SuitsBurst, SuitsData, most_in};
@@ -44,8 +45,8 @@ pub struct Work {
 }
 
 /// Does what a PDU with this header and this data segment asks for, and puts the answer into `out`, which is empty
-/// before. `address` is the target's address, as `127.0.0.1:3260`. `Err`: an answer can't be allocated, and the port may
-/// have done one command.
+/// before. `address` is the target's address, as `127.0.0.1:3260`. `Err`: an answer can't be allocated, and the port
+/// may have done one command.
 pub fn take_turn<P: Port>(
     work: &mut Work,
     alloc: Global,
@@ -56,7 +57,6 @@ pub fn take_turn<P: Port>(
 ) -> Result<TurnEnd, AllocError>
     requires logged { P.has_login port.old ≡ true }
     requires empty { work.old.out.items ≡ [] }
-    requires short { length carried.now < 2 ^ 32 }
     ensures turn { IfOk result (λ ended. turn.FeatureTurn P.commands address.now work.old.limits header.now carried.now
         (record { flow = work.old.flow; bytes = work.old.collected.items }) port.old work.new.out.items
         (record { flow = work.new.flow; bytes = work.new.collected.items }) port.new ended) }
@@ -66,7 +66,7 @@ pub fn take_turn<P: Port>(
 {
     match initiator_pdu(header) {
         InitiatorPdu::ScsiCommand(command) => {
-            let step = command_step(&work.flow, &work.limits, &command, carried.len() as u32);
+            let step = command_step(&work.flow, &work.limits, &command, carried.len());
             command_turn(work, alloc, port, &command, header, carried, step)
         }
         InitiatorPdu::DataOut(pdu) => {
@@ -98,8 +98,8 @@ pub fn take_turn<P: Port>(
     }
 }
 
-// Sends a response in this state.
-fn respond(
+/// Sends a response in this state.
+pub(crate) fn respond(
     work: &mut Work,
     flow: Flow,
     pdu: TargetPdu,
@@ -322,7 +322,7 @@ fn refuse_done(
 }
 
 // The data in a buffer of their own. None: the allocation failed.
-fn shared_copy(alloc: Global, payload: &[u8]) -> Option<Bytes>
+pub(crate) fn shared_copy(alloc: Global, payload: &[u8]) -> Option<Bytes>
     ensures same { IfSome result (λ bytes. bytes ≡ payload.now) }
     ensures some { IfNone result (0 < length payload.now) }
 {

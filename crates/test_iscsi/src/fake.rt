@@ -1,18 +1,22 @@
 // A port that is no array.
-ghost use Rattle.std.specs.Prelude.{◌≡◌, false};
+ghost use Rattle.std.specs.Prelude.{◌≡◌, ◌≤◌, false, length};
 ghost use Rattle.ar_frames.specs.Frame.{IsReply};
 
 use ar_frames::{Login, Port};
-use ar_scsi::{Reply, Sense};
+use ar_scsi::{Reply, Sense, capacity_data, inquiry_data};
+use ar_target::{FlushOutcome, FlushPort};
 use bytes::Bytes;
 use std::alloc::Global;
 
-// At LUN 0 a READ returns 1,100 bytes of 5Ah, and a WRITE is GOOD if it comes with 1,024 bytes; at others no unit is.
-// Host 2 is in use.
+// At LUN 0 is a unit of 1,000 blocks. A READ of it returns 1,100 bytes of 5Ah, and a WRITE is GOOD if it comes with
+// 1,024 bytes; at others no unit is. Host 2 is in use.
 #[derive(Drop)]
 pub struct Fake {
     alloc: Global,
-    taken: bool,
+    pub taken: bool,
+    // How many commands were given, and how many bytes of data with them.
+    pub given: usize,
+    pub bytes: usize,
 }
 
 impl Fake {
@@ -22,15 +26,18 @@ impl Fake {
         Fake {
             alloc,
             taken: false,
+            given: 0,
+            bytes: 0,
         }
     }
 }
 
-// The reply to a READ.
-fn read(alloc: Global) -> Reply
+// GOOD with these bytes.
+fn good(alloc: Global, bytes: &[u8]) -> Reply
+    requires { length bytes.now ≤ 1100 }
     ensures { IsReply result }
 {
-    match Bytes::copy_from_slice(alloc, &[0x5A; 1100]) {
+    match Bytes::copy_from_slice(alloc, bytes) {
         Ok(payload) => Reply::good(payload),
         Err(_) => Reply::busy(),
     }
@@ -55,10 +62,29 @@ impl Port for Fake {
     }
 
     fn command(&mut self, lun: u8, cdb: &[u8; 16], payload: Bytes) -> Reply {
-        match (lun, cdb[0]) {
-            (0, 0x28) => read(self.alloc),
-            (0, 0x2A) if payload.len() == 1024 => Reply::good(Bytes::new()),
-            _ => Reply::check(Sense::LOGICAL_UNIT_NOT_SUPPORTED),
-        }
+        self.given = self.given.saturating_add(1);
+        self.bytes = self.bytes.saturating_add(payload.len());
+        reply_at(self.alloc, lun, cdb[0], payload.len())
+    }
+}
+
+// The reply to a command with `len` bytes of data.
+fn reply_at(alloc: Global, lun: u8, code: u8, len: usize) -> Reply
+    ensures { IsReply result }
+{
+    match (lun, code) {
+        (0, 0x12) => good(alloc, &inquiry_data(true)),
+        (0, 0x25) => good(alloc, &capacity_data(1000)),
+        (0, 0x28) => good(alloc, &[0x5A; 1100]),
+        (0, 0x2A) if len == 1024 => Reply::good(Bytes::new()),
+        _ => Reply::check(Sense::LOGICAL_UNIT_NOT_SUPPORTED),
+    }
+}
+
+impl FlushPort for Fake {
+    ghost flushes = { λ old lun outcome new. Unit {0} };
+
+    fn flush(&mut self, _lun: u8) -> FlushOutcome {
+        FlushOutcome::Done
     }
 }

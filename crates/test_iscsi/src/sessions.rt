@@ -24,16 +24,16 @@ fn plays(rt: &impl Abort, alloc: Global, input: &[&[u8]], end: IscsiEnd, output:
     wrote(rt, writer.written(), &output);
 }
 
-fn ends(rt: &impl Abort, end: IscsiEnd, wanted: IscsiEnd) {
+pub fn ends(rt: &impl Abort, end: IscsiEnd, wanted: IscsiEnd) {
     assert!(rt; end == wanted, "{end:?} in place of {wanted:?}");
 }
 
-fn wrote(rt: &impl Abort, written: &[u8], wanted: &[u8]) {
+pub fn wrote(rt: &impl Abort, written: &[u8], wanted: &[u8]) {
     assert!(rt; written == wanted, "{written:?} in place of {wanted:?}");
 }
 
 // These pieces one after the other.
-fn joined(rt: &impl Abort, alloc: Global, pieces: &[&[u8]]) -> Vec<u8> {
+pub fn joined(rt: &impl Abort, alloc: Global, pieces: &[&[u8]]) -> Vec<u8> {
     let mut all = Vec::new(alloc);
     for piece in pieces {
         all.extend_from_slice(piece).expect(rt, "memory");
@@ -93,6 +93,101 @@ fn a_whole_session(rt: HostRuntime) {
         pdus::LOGGED_OUT,
     ];
     plays(&rt, alloc, &input, LEFT, &output);
+}
+
+const ALL: &[u8] = &[0xA5; 1024];
+
+// Commands that come while the data of a WRITE are collected are done behind it, in order; one with a CmdSN that isn't
+// the next, and one outside the window, are dropped.
+#[test]
+fn commands_are_sent_ahead(rt: HostRuntime) {
+    let alloc = rt.alloc();
+    let input = [
+        pdus::LOGIN,
+        pdus::WRITE_AHEAD,
+        pdus::READ_BEHIND,
+        pdus::PING_BEHIND,
+        pdus::READ_GAP,
+        pdus::READ_OUTSIDE,
+        pdus::DATA_AHEAD_HEAD,
+        ALL,
+    ];
+    let output = [
+        pdus::LOGGED_IN,
+        pdus::R2T_AHEAD,
+        pdus::WRITTEN_AHEAD,
+        pdus::READ_BEHIND_HEAD_0,
+        READ_BYTES,
+        pdus::READ_BEHIND_HEAD_1,
+        READ_BYTES,
+        pdus::READ_BEHIND_DONE,
+        pdus::PONG_BEHIND,
+    ];
+    plays(&rt, alloc, &input, ENDED, &output);
+}
+
+// Of 17 that are sent ahead, the last is dropped: the next answer has its CmdSN as the expected one.
+#[test]
+fn the_window_has_16_commands(rt: HostRuntime) {
+    let alloc = rt.alloc();
+    let input = [
+        pdus::LOGIN,
+        pdus::WRITE_AHEAD,
+        pdus::SILENT_PINGS,
+        pdus::DATA_AHEAD_HEAD,
+        ALL,
+        pdus::LAST_PING,
+    ];
+    let output = [
+        pdus::LOGGED_IN,
+        pdus::R2T_AHEAD,
+        pdus::WRITTEN_AHEAD,
+        pdus::LAST_PONG,
+    ];
+    plays(&rt, alloc, &input, ENDED, &output);
+}
+
+#[test]
+fn a_command_that_waits_is_aborted(rt: HostRuntime) {
+    let alloc = rt.alloc();
+    let input = [
+        pdus::LOGIN,
+        pdus::WRITE_AHEAD,
+        pdus::READ_BEHIND,
+        pdus::PING_BEHIND,
+        pdus::ABORT_READ,
+        pdus::DATA_AHEAD_HEAD,
+        ALL,
+    ];
+    let output = [
+        pdus::LOGGED_IN,
+        pdus::R2T_AHEAD,
+        pdus::ABORTED_READ,
+        pdus::WRITTEN_AFTER_ABORT,
+        pdus::PONG_BEHIND,
+    ];
+    plays(&rt, alloc, &input, ENDED, &output);
+}
+
+#[test]
+fn a_reset_drops_the_commands_of_its_unit(rt: HostRuntime) {
+    let alloc = rt.alloc();
+    let input = [
+        pdus::LOGIN,
+        pdus::WRITE_AHEAD,
+        pdus::READ_BEHIND,
+        pdus::PING_BEHIND,
+        pdus::RESET_UNIT,
+        pdus::DATA_AHEAD_HEAD,
+        ALL,
+    ];
+    let output = [
+        pdus::LOGGED_IN,
+        pdus::R2T_AHEAD,
+        pdus::UNIT_RESET,
+        pdus::PONG_AFTER_RESET,
+    ];
+    plays(&rt, alloc, &input, ENDED, &output);
 }
 
 #[test]

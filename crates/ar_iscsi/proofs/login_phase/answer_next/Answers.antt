@@ -12,11 +12,18 @@ pub returns-in-Pdu-clause-next : goal.returns-in-Pdu-clause-next
 returns-in-Pdu-clause-next g c =
     let room : length c.receive_pdu.new.buffer ≡ 262144 = c.receive_pdu.auto.buffer ∙ c.requires.room in
     let reads =
-    subst (λ (n : ℕ). ReadsPdu [] n (g.R.Source.state c.args.reader.now) (g.R.Source.state c.receive_pdu.new.reader) c.in-Pdu.header c.receive_pdu.new.buffer) room c.in-Pdu.ensures in
+    subst (λ (n : ℕ). ReadsPdu [] n (g.R.Source.state c.args.reader.now) (g.R.Source.state c.receive_pdu.new.reader)
+    c.in-Pdu.header c.receive_pdu.new.buffer) room c.in-Pdu.ensures in
     let answers =
-    subst (λ (n : ℕ). AnswersPdu (LoginTurn g.P.Port.logins) (MayLogIn g.P.Port.logins) c.in-Pdu.header (take n c.receive_pdu.new.buffer)
-    (g.W.Sink.state c.args.writer.now) (record { state = c.args.work.now.state; text = c.args.work.now.text.items }) c.args.port.now c.answer_request-answered.result
-    (g.W.Sink.state c.answer_request-answered.new.writer) (record { state = c.answer_request-answered.new.work.state; text = c.answer_request-answered.new.work.text.items })
+    subst (λ (n : ℕ). AnswersPdu (LoginTurn g.P.Port.logins) (MayLogIn g.P.Port.logins) c.in-Pdu.header
+    (take n c.receive_pdu.new.buffer)
+    (g.W.Sink.state c.args.writer.now) (record { state = c.args.work.now.state; text = c.args.work.now.text.items })
+    c.args.port.now c.answer_request-answered.result
+    (g.W.Sink.state c.answer_request-answered.new.writer)
+    (record {
+      state = c.answer_request-answered.new.work.state;
+      text = c.answer_request-answered.new.work.text.items;
+    })
     c.answer_request-answered.new.port) c.segment_len-len.ensures c.answer_request-answered.ensures.answers in
     subst (λ (r : RequestResult). NextRequest g.P.Port.logins
     (record {
@@ -29,8 +36,12 @@ returns-in-Pdu-clause-next g c =
     (record {
       source = g.R.Source.state c.receive_pdu.new.reader;
       sink = g.W.Sink.state c.answer_request-answered.new.writer;
-      spot = record { state = c.answer_request-answered.new.work.state; text = c.answer_request-answered.new.work.text.items };
+      spot = record {
+        state = c.answer_request-answered.new.work.state;
+        text = c.answer_request-answered.new.work.text.items;
+      };
       port = c.answer_request-answered.new.port;
     })) (sym c.result_of_request.ensures.is)
     (next_request g.P.Port.logins _ _ c.answer_request-answered.result
-    (handled (LoginTurn g.P.Port.logins) (MayLogIn g.P.Port.logins) _ _ _ _ _ _ _ _ c.in-Pdu.header c.receive_pdu.new.buffer c.answer_request-answered.result reads answers))
+    (handled (LoginTurn g.P.Port.logins) (MayLogIn g.P.Port.logins) _ _ _ _ _ _ _ _ c.in-Pdu.header
+    c.receive_pdu.new.buffer c.answer_request-answered.result reads answers))

@@ -6,7 +6,8 @@ use Rattle.ar_iscsi.proofs.login_phase.answer_request.Goals as goal
 pub returns-in-Ok-clause-answers : goal.returns-in-Ok-clause-answers
 returns-in-Ok-clause-answers g c =
     turned c.in-Ok.left c.send-sent.result c.login_turn.new.work.out.items _ _ _ c.in-Ok.ensures.turn
-    (subst (λ (l : List ℕ). Sending (g.W.Sink.state c.args.writer.now) (g.W.Sink.state c.send-sent.new.writer) l c.send-sent.result) c.deref.ensures.value c.send-sent.ensures)
+    (subst (λ (l : List ℕ). Sending (g.W.Sink.state c.args.writer.now) (g.W.Sink.state c.send-sent.new.writer) l
+    c.send-sent.result) c.deref.ensures.value c.send-sent.ensures)
 
 pub returns-in-Err-clause-answers : goal.returns-in-Err-clause-answers
 returns-in-Err-clause-answers g c = unanswered _ _ c.in-Err.ensures.once

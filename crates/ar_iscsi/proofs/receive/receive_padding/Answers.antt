@@ -1,4 +1,5 @@
-use Rattle.std.proofs.Common.{◌≡◌, ◌<◌, ◌++◌, ◌∙◌, length, ap, length-append, sym, length-take-le, take, arith, append_assoc, subst, List, ℕ}
+use Rattle.std.proofs.Common.{◌≡◌, ◌<◌, ◌++◌, ◌∙◌, length, ap, length-append, sym, length-take-le, take, arith}
+use Rattle.std.proofs.Common.{append_assoc, subst, List, ℕ}
 use Rattle.ar_iscsi.specs.Pdu.{padding_len, segment_len}
 use Rattle.ar_iscsi.specs.declared.receive.ReceiveEnd.TheVariants as end
 use Rattle.ar_iscsi.specs.Receive.{ReadsNoPdu}
@@ -12,11 +13,15 @@ returns-in-Ended g c = λ ahs ahs_is.
     let payload = take c.args.len c.args.buffer.now in
     let came = c.in-Ended.ensures in
     let size : length payload ≡ c.args.len = length-take-le c.args.len c.args.buffer.now c.requires.within in
-    let wanted : length came.piece ≡ padding_len (segment_len header) = came.piece_is ∙ ap padding_len c.requires.len_is in
-    let part : length (take n came.piece) < padding_len (segment_len header) = omega (arith, length-take-le n came.piece (omega (arith, came.comes.short.0)), came.comes.short.0, wanted) in
-    subst (λ (l : List ℕ). ReadsNoPdu l (length c.args.buffer.now) (g.R.Source.state c.args.reader.now) (g.R.Source.state c.skip.new.reader) end.Cut)
+    let wanted : length came.piece ≡ padding_len (segment_len header) =
+    came.piece_is ∙ ap padding_len c.requires.len_is in
+    let part : length (take n came.piece) < padding_len (segment_len header) =
+    omega (arith, length-take-le n came.piece (omega (arith, came.comes.short.0)), came.comes.short.0, wanted) in
+    subst (λ (l : List ℕ). ReadsNoPdu l (length c.args.buffer.now) (g.R.Source.state c.args.reader.now)
+    (g.R.Source.state c.skip.new.reader) end.Cut)
     (sym (append_assoc header ahs payload))
-    (stops_cut _ _ _ header (ahs ++ payload) (take n came.piece) (padding_len (segment_len header)) c.told-header (omega (arith, c.requires.within, c.requires.len_is))
+    (stops_cut _ _ _ header (ahs ++ payload) (take n came.piece) (padding_len (segment_len header)) c.told-header
+    (omega (arith, c.requires.within, c.requires.len_is))
     (omega (arith, length-append ahs payload, ahs_is, size, c.requires.len_is)) part came.comes.read came.comes.short.1)
 
 pub returns-in-Failed : goal.returns-in-Failed
@@ -26,9 +31,13 @@ returns-in-Failed g c = λ ahs ahs_is.
     let payload = take c.args.len c.args.buffer.now in
     let came = c.in-Failed.ensures in
     let size : length payload ≡ c.args.len = length-take-le c.args.len c.args.buffer.now c.requires.within in
-    let wanted : length came.piece ≡ padding_len (segment_len header) = came.piece_is ∙ ap padding_len c.requires.len_is in
-    let part : length (take n came.piece) < padding_len (segment_len header) = omega (arith, length-take-le n came.piece (omega (arith, came.comes.short)), came.comes.short, wanted) in
-    subst (λ (l : List ℕ). ReadsNoPdu l (length c.args.buffer.now) (g.R.Source.state c.args.reader.now) (g.R.Source.state c.skip.new.reader) end.Read)
+    let wanted : length came.piece ≡ padding_len (segment_len header) =
+    came.piece_is ∙ ap padding_len c.requires.len_is in
+    let part : length (take n came.piece) < padding_len (segment_len header) =
+    omega (arith, length-take-le n came.piece (omega (arith, came.comes.short)), came.comes.short, wanted) in
+    subst (λ (l : List ℕ). ReadsNoPdu l (length c.args.buffer.now) (g.R.Source.state c.args.reader.now)
+    (g.R.Source.state c.skip.new.reader) end.Read)
     (sym (append_assoc header ahs payload))
-    (stops_read _ _ _ header (ahs ++ payload) (take n came.piece) (padding_len (segment_len header)) c.told-header (omega (arith, c.requires.within, c.requires.len_is))
+    (stops_read _ _ _ header (ahs ++ payload) (take n came.piece) (padding_len (segment_len header)) c.told-header
+    (omega (arith, c.requires.within, c.requires.len_is))
     (omega (arith, length-append ahs payload, ahs_is, size, c.requires.len_is)) part came.comes.read)

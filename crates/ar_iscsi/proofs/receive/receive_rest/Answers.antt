@@ -6,7 +6,9 @@ use Rattle.ar_iscsi.proofs.Receiving.{receives_front, stops_cut, stops_read}
 use Rattle.ar_iscsi.proofs.receive.receive_rest.Goals as goal
 
 pub returns-in-All : goal.returns-in-All
-returns-in-All g c = receives_front _ _ _ c.args.header.now _ _ _ c.receive_segment.result c.in-All.ensures.comes.read (c.receive_segment.ensures c.in-All.ensures.piece c.in-All.ensures.piece_is)
+returns-in-All g c =
+    receives_front _ _ _ c.args.header.now _ _ _ c.receive_segment.result c.in-All.ensures.comes.read
+    (c.receive_segment.ensures c.in-All.ensures.piece c.in-All.ensures.piece_is)
 
 pub returns-in-Ended : goal.returns-in-Ended
 returns-in-Ended g c =
@@ -14,7 +16,8 @@ returns-in-Ended g c =
     let header = c.args.header.now in
     let came = c.in-Ended.ensures in
     let short : n < length came.piece = came.comes.short.0 in
-    subst (λ (l : List ℕ). ReadsNoPdu l (length c.args.buffer.now) (g.R.Source.state c.args.reader.now) (g.R.Source.state c.skip.new.reader) end.Cut)
+    subst (λ (l : List ℕ). ReadsNoPdu l (length c.args.buffer.now) (g.R.Source.state c.args.reader.now)
+    (g.R.Source.state c.skip.new.reader) end.Cut)
     (append-nil header)
     (stops_cut _ _ _ header [] (take n came.piece) (ahs_len header) c.told-header (omega arith) (omega arith)
     (omega (arith, length-take-le n came.piece (omega arith), short, came.piece_is)) came.comes.read came.comes.short.1)
@@ -25,7 +28,8 @@ returns-in-Failed g c =
     let header = c.args.header.now in
     let came = c.in-Failed.ensures in
     let short : n < length came.piece = came.comes.short in
-    subst (λ (l : List ℕ). ReadsNoPdu l (length c.args.buffer.now) (g.R.Source.state c.args.reader.now) (g.R.Source.state c.skip.new.reader) end.Read)
+    subst (λ (l : List ℕ). ReadsNoPdu l (length c.args.buffer.now) (g.R.Source.state c.args.reader.now)
+    (g.R.Source.state c.skip.new.reader) end.Read)
     (append-nil header)
     (stops_read _ _ _ header [] (take n came.piece) (ahs_len header) c.told-header (omega arith) (omega arith)
     (omega (arith, length-take-le n came.piece (omega arith), short, came.piece_is)) came.comes.read)

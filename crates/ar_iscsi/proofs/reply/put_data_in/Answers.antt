@@ -18,6 +18,7 @@ loop-at-preserved c =
     record {
       within = within;
       counted = omega (arith, c.loop-at.invariant.counted, some);
-      puts = data_in_more c.args.task_tag c.args.numbers c.args.most c.args.data_in.now c.args.out.now.items c.loop-at.out.items c.put_pdu.new.out.items at end c.loop-at.count
+      puts = data_in_more c.args.task_tag c.args.numbers c.args.most c.args.data_in.now c.args.out.now.items
+          c.loop-at.out.items c.put_pdu.new.out.items at end c.loop-at.count
           c.loop-at.invariant.puts some within (omega (arith, c.min-end.ensures)) c.in_ok-put_pdu.ensures;
     }

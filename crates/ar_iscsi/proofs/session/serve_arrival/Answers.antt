@@ -1,37 +1,60 @@
 use Rattle.std.proofs.Common.{◌≡◌, ◌∙◌, ℕ, [], length, subst, sym, take}
 use Rattle.ar_iscsi.specs.declared.session.PduResult.{PduResult}
-use Rattle.ar_iscsi.specs.Receive.{ReadsPdu}
+use Rattle.ar_iscsi.specs.Arrival.{ArrivalTurn}
 use Rattle.ar_iscsi.specs.Phase.{AnswersPdu}
-use Rattle.ar_iscsi.specs.Task.{MayGive}
-use Rattle.ar_iscsi.specs.Turn.{FeatureTurn}
+use Rattle.ar_iscsi.specs.Receive.{ReadsPdu}
 use Rattle.ar_iscsi.specs.Session.{NextIsServed}
-use Rattle.ar_iscsi.proofs.Serving.{handled, next_served}
-use Rattle.ar_iscsi.proofs.session.serve_pdu.Goals as goal
+use Rattle.ar_iscsi.specs.Task.{MayGive}
+use Rattle.ar_iscsi.proofs.Serving.{handled, arrival_served}
+use Rattle.ar_iscsi.proofs.session.serve_arrival.Goals as goal
 
 pub returns-in-Pdu-clause-next : goal.returns-in-Pdu-clause-next
 returns-in-Pdu-clause-next g c =
     let room : length c.receive_pdu.new.buffer ≡ 262144 = c.receive_pdu.auto.buffer ∙ c.requires.room in
     let reads =
-    subst (λ (n : ℕ). ReadsPdu [] n (g.R.Source.state c.args.reader.now) (g.R.Source.state c.receive_pdu.new.reader) c.in-Pdu.header c.receive_pdu.new.buffer) room c.in-Pdu.ensures in
+    subst (λ (n : ℕ). ReadsPdu [] n (g.R.Source.state c.args.reader.now) (g.R.Source.state c.receive_pdu.new.reader)
+    c.in-Pdu.header c.receive_pdu.new.buffer) room c.in-Pdu.ensures in
     let answers =
-    subst (λ (n : ℕ). AnswersPdu (FeatureTurn g.P.Port.commands c.args.address.now c.args.work.now.limits) (MayGive g.P.Port.commands) c.in-Pdu.header (take n c.receive_pdu.new.buffer)
-    (g.W.Sink.state c.args.writer.now) (record { flow = c.args.work.now.flow; bytes = c.args.work.now.collected.items }) c.args.port.now c.answer_pdu-answered.result
-    (g.W.Sink.state c.answer_pdu-answered.new.writer) (record { flow = c.answer_pdu-answered.new.work.flow; bytes = c.answer_pdu-answered.new.work.collected.items })
-    c.answer_pdu-answered.new.port) c.segment_len-len.ensures c.answer_pdu-answered.ensures.answers in
+    subst (λ (n : ℕ). AnswersPdu (ArrivalTurn g.P.Port.commands c.args.address.now c.args.work.now.limits)
+    (MayGive g.P.Port.commands) c.in-Pdu.header (take n c.receive_pdu.new.buffer) (g.W.Sink.state c.args.writer.now)
+    (record {
+      spot = record { flow = c.args.work.now.flow; bytes = c.args.work.now.collected.items };
+      waiting = c.args.waiting.now.items;
+    })
+    c.args.port.now c.answer_arrival-answered.result (g.W.Sink.state c.answer_arrival-answered.new.writer)
+    (record {
+      spot = record {
+        flow = c.answer_arrival-answered.new.work.flow;
+        bytes = c.answer_arrival-answered.new.work.collected.items;
+      };
+      waiting = c.answer_arrival-answered.new.waiting.items;
+    })
+    c.answer_arrival-answered.new.port) c.segment_len-len.ensures c.answer_arrival-answered.ensures.answers in
     subst (λ (r : PduResult). NextIsServed g.P.Port.commands c.args.address.now c.args.work.now.limits
     (record {
       source = g.R.Source.state c.args.reader.now;
       sink = g.W.Sink.state c.args.writer.now;
-      spot = record { flow = c.args.work.now.flow; bytes = c.args.work.now.collected.items };
+      spot = record {
+        spot = record { flow = c.args.work.now.flow; bytes = c.args.work.now.collected.items };
+        waiting = c.args.waiting.now.items;
+      };
       port = c.args.port.now;
     })
     r
     (record {
       source = g.R.Source.state c.receive_pdu.new.reader;
-      sink = g.W.Sink.state c.answer_pdu-answered.new.writer;
-      spot = record { flow = c.answer_pdu-answered.new.work.flow; bytes = c.answer_pdu-answered.new.work.collected.items };
-      port = c.answer_pdu-answered.new.port;
+      sink = g.W.Sink.state c.answer_arrival-answered.new.writer;
+      spot = record {
+        spot = record {
+          flow = c.answer_arrival-answered.new.work.flow;
+          bytes = c.answer_arrival-answered.new.work.collected.items;
+        };
+        waiting = c.answer_arrival-answered.new.waiting.items;
+      };
+      port = c.answer_arrival-answered.new.port;
     })) (sym c.result_of_answer.ensures)
-    (next_served g.P.Port.commands c.args.address.now c.args.work.now.limits _ _ c.answer_pdu-answered.result
-    (handled (FeatureTurn g.P.Port.commands c.args.address.now c.args.work.now.limits) (MayGive g.P.Port.commands) _ _ _ _ _ _ _ _ c.in-Pdu.header c.receive_pdu.new.buffer
-    c.answer_pdu-answered.result reads answers))
+    (arrival_served g.P.Port.commands c.args.address.now c.args.work.now.limits _ _ c.answer_arrival-answered.result
+    c.requires.none_next
+    (handled (ArrivalTurn g.P.Port.commands c.args.address.now c.args.work.now.limits) (MayGive g.P.Port.commands) _ _ _
+    _
+    _ _ _ _ c.in-Pdu.header c.receive_pdu.new.buffer c.answer_arrival-answered.result reads answers))

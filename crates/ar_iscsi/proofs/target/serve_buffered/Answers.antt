@@ -9,6 +9,7 @@ returns-in-Entered g c = record {
     spot = record { state = c.log_in.new.work.state; text = c.log_in.new.work.text.items };
     port = c.log_in.new.port;
   };
-  login = login_from g.P.Port.logins _ _ c.new.result c.new-2.result.items _ _ _ c.new.ensures c.new-2.ensures.items c.in-Entered.ensures.runs;
+  login = login_from g.P.Port.logins _ _ c.new.result c.new-2.result.items _ _ _ c.new.ensures c.new-2.ensures.items
+      c.in-Entered.ensures.runs;
   feature = c.serve_entered-reason.ensures;
 }

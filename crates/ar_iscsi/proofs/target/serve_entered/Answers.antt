@@ -5,10 +5,25 @@ use Rattle.ar_iscsi.proofs.target.serve_entered.Goals as goal
 
 pub returns-in-Normal : goal.returns-in-Normal
 returns-in-Normal g c =
-    at_port (record { flow = c.serve_feature.new.work.flow; bytes = c.serve_feature.new.work.collected.items }) c.in-Normal.is
-    (feature_from g.P.Port.commands _ _ _ _ _ c.new.result.items _ _ _ c.new.ensures.items c.serve_feature.ensures)
+    at_port
+    (record {
+      spot = record { flow = c.serve_feature.new.work.flow; bytes = c.serve_feature.new.work.collected.items };
+      waiting = c.serve_feature.new.waiting.items;
+    })
+    c.in-Normal.is
+    (feature_from g.P.Port.commands _ _ _ _ _ c.new.result.items c.new-waiting.result.items _ _ _ c.new.ensures.items
+    c.new-waiting.ensures.items c.serve_feature.ensures)
 
 pub returns : goal.returns
 returns g c =
-    at_no_units (record { flow = c.serve_feature-in_default.new.work.flow; bytes = c.serve_feature-in_default.new.work.collected.items }) _ _ c.in_default.not-Normal
-    (feature_from no_units _ _ _ _ _ c.new.result.items _ _ _ c.new.ensures.items c.serve_feature-in_default.ensures) refl
+    at_no_units
+    (record {
+      spot = record {
+        flow = c.serve_feature-in_default.new.work.flow;
+        bytes = c.serve_feature-in_default.new.work.collected.items;
+      };
+      waiting = c.serve_feature-in_default.new.waiting.items;
+    })
+    _ _ c.in_default.not-Normal
+    (feature_from no_units _ _ _ _ _ c.new.result.items c.new-waiting.result.items _ _ _ c.new.ensures.items
+    c.new-waiting.ensures.items c.serve_feature-in_default.ensures) refl

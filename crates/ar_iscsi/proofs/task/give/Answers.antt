@@ -10,7 +10,9 @@ returns-in-Some-clause-once g c =
       command = c.args.command.now;
       payload = c.args.payload;
       reply = c.command.result;
-      given = subst (λ (o : Option ℕ). MatchOption o ((c.command.result ≡ check logical_unit_not_supported) × (c.command.new.self ≡ c.args.port.now))
-          (λ lun. g.P.Port.commands c.args.port.now lun c.args.command.now.cdb c.args.payload c.command.result c.command.new.self))
+      given = subst (λ (o : Option ℕ). MatchOption o ((c.command.result ≡ check logical_unit_not_supported)
+          × (c.command.new.self ≡ c.args.port.now))
+          (λ lun. g.P.Port.commands c.args.port.now lun c.args.command.now.cdb c.args.payload c.command.result
+          c.command.new.self))
           (sym (sym c.lun_number.ensures ∙ c.in-Some.is)) c.command.ensures.command;
     })

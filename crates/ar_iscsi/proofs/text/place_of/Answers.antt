@@ -11,8 +11,10 @@ pub returns-clause-first : goal.returns-clause-first
 returns-clause-first c =
     let text = c.args.text.now in
     let byte = c.args.byte in
-    let found = position_from_yields_List (λ b. b == byte) _ _ _ c.position.ensures.ran (YieldsList-from_slice text c.iter.ensures.rest) (λ x r q k. search (rules, tests)) in
-    c.unwrap_or.ensures ∙ ap (λ o. unwrap_or o (length text)) found ∙ found_place (position_or_len (λ b. b == byte) text) (length text) (prefix_len-le-length _ text)
+    let found = position_from_yields_List (λ b. b == byte) _ _ _ c.position.ensures.ran
+    (YieldsList-from_slice text c.iter.ensures.rest) (λ x r q k. search (rules, tests)) in
+    c.unwrap_or.ensures ∙ ap (λ o. unwrap_or o (length text)) found
+    ∙ found_place (position_or_len (λ b. b == byte) text) (length text) (prefix_len-le-length _ text)
 
 pub returns-clause-within : goal.returns-clause-within
 returns-clause-within c =

@@ -1,0 +1,132 @@
+// PDUs that wait: while the data of a WRITE are collected, those behind it in CmdSN's order are kept unopened, as if
+// they hadn't been read, and are done in order once the WRITE is. They aren't counted before that, so that MaxCmdSN
+// bounds how many there are.
+ghost use Rattle.std.specs.Prelude.{◌≡◌, ◌<◌, ◌++◌, ◌∷◌, [], OnOk, map};
+ghost use Rattle.ar_iscsi.specs.Waiting as rule;
+
+use crate::flow::{Flow, WINDOW};
+use crate::request::{InitiatorPdu, Lun, ScsiCommand, TaskManagement, initiator_pdu};
+use crate::turn::shared_copy;
+use crate::waiting_pdu::WaitingPdu;
+use std::alloc::{AllocError, Global};
+
+/// Whether a PDU that has been read waits behind `count` others.
+pub(crate) fn waits(flow: &Flow, count: usize, pdu: &InitiatorPdu) -> bool
+    ensures { result ≡ rule.waits flow.now count pdu.now }
+{
+    match ordered_sn(pdu) {
+        Some(cmd_sn) => flow.collecting.is_some()
+            && count < WINDOW
+            && cmd_sn == sn_behind(flow, count),
+        None => false,
+    }
+}
+
+// The CmdSN that is expected behind `count` PDUs that wait.
+fn sn_behind(flow: &Flow, count: usize) -> u32
+    requires { count < 16 }
+    ensures { result ≡ rule.sn_behind flow.now count }
+{
+    flow.exp_cmd_sn.wrapping_add(count as u32)
+}
+
+// The CmdSN of a PDU that is done in CmdSN's order.
+fn ordered_sn(pdu: &InitiatorPdu) -> Option<u32>
+    ensures { result ≡ rule.ordered_sn pdu.now }
+{
+    match pdu {
+        InitiatorPdu::ScsiCommand(c) => unless(c.immediate, c.cmd_sn),
+        InitiatorPdu::NopOut(c) => unless(c.immediate, c.cmd_sn),
+        InitiatorPdu::Text(c) => unless(c.immediate, c.cmd_sn),
+        InitiatorPdu::Logout(c) => unless(c.immediate, c.cmd_sn),
+        InitiatorPdu::TaskManagement(c) => unless(c.immediate, c.cmd_sn),
+        InitiatorPdu::DataOut(_) | InitiatorPdu::Login(_) | InitiatorPdu::Unknown(_) => None,
+    }
+}
+
+fn unless(immediate: bool, cmd_sn: u32) -> Option<u32>
+    ensures { result ≡ rule.unless immediate cmd_sn }
+{
+    if immediate { None } else { Some(cmd_sn) }
+}
+
+/// Whether the oldest PDU that waits is the next one to be done: no data are collected any more.
+pub(crate) fn is_next_waiting(flow: &Flow, waiting: &[WaitingPdu]) -> bool
+    ensures { result ≡ rule.is_next_waiting flow.now waiting.now }
+{
+    flow.collecting.is_none() && !waiting.is_empty()
+}
+
+/// Keeps a PDU behind the others that wait.
+pub(crate) fn keep(
+    waiting: &mut Vec<WaitingPdu>,
+    alloc: Global,
+    header: &[u8; 48],
+    carried: &[u8],
+) -> Result<(), AllocError>
+    ensures { OnOk result (waiting.new.items ≡ waiting.old.items ++ rule.kept header.now carried.now ∷ []) }
+{
+    let Some(carried) = shared_copy(alloc, carried) else {
+        return Err(AllocError);
+    };
+    waiting.push(WaitingPdu {
+        header: *header,
+        carried,
+        is_dropped: false,
+    })?;
+    Ok(())
+}
+
+/// Whether a task management request names a command that waits, as an ABORT TASK does.
+pub(crate) fn names_waiting(request: &TaskManagement, waiting: &[WaitingPdu]) -> bool
+    ensures { result ≡ rule.names_waiting request.now waiting.now }
+{
+    let mut named = false;
+    for pdu in waiting {
+        named = named || drops(request, pdu);
+    }
+    request.function == 1 && named
+}
+
+/// Drops the commands that wait and are meant by a task management request.
+pub(crate) fn drop_waiting(request: &TaskManagement, waiting: &mut Vec<WaitingPdu>)
+    ensures { waiting.new.items ≡ map (rule.managed_by request.now) waiting.old.items }
+{
+    for pdu in waiting.iter_mut() {
+        manage(request, pdu);
+    }
+}
+
+// Drops a command if it is meant by a task management request.
+fn manage(request: &TaskManagement, pdu: &mut WaitingPdu)
+    ensures { pdu.new ≡ rule.managed_by request.now pdu.old }
+{
+    pdu.is_dropped = pdu.is_dropped || drops(request, pdu);
+}
+
+// Whether a task management request means a command that waits.
+fn drops(request: &TaskManagement, pdu: &WaitingPdu) -> bool
+    ensures { result ≡ rule.drops request.now pdu.now }
+{
+    match initiator_pdu(&pdu.header) {
+        InitiatorPdu::ScsiCommand(command) => means(request, &command),
+        _ => false,
+    }
+}
+
+// Whether a task management request means this command: by its task tag, or by its unit.
+fn means(request: &TaskManagement, command: &ScsiCommand) -> bool
+    ensures { result ≡ rule.means request.now command.now }
+{
+    match request.function {
+        1 => command.task_tag == request.referenced_tag,
+        2 | 4 | 5 => same_lun(command.lun, request.lun),
+        _ => false,
+    }
+}
+
+fn same_lun(lun: Lun, other: Lun) -> bool
+    ensures { result ≡ rule.same_lun lun other }
+{
+    lun.high == other.high && lun.low == other.low
+}
