@@ -8,7 +8,7 @@ use Rattle.ar_frames.specs.declared.fill.Sent.TheVariants.{Whole, Part}
 use Rattle.ar_iscsi.specs.declared.negotiation.Limits.{Limits}
 use Rattle.ar_iscsi.specs.declared.session.FeatureEnd.{FeatureEnd}
 use Rattle.ar_iscsi.specs.declared.turn.TurnEnd.{TurnEnd}
-use Rattle.ar_iscsi.specs.declared.turn.TurnEnd.TheVariants.{Next, LoggedOut, BrokenData}
+use Rattle.ar_iscsi.specs.declared.turn.TurnEnd.TheVariants.{Next, LoggedOut, BrokenData, Rejected}
 use Rattle.ar_iscsi.specs.Pdu.{segment_len}
 use Rattle.ar_iscsi.specs.Receive.{ReadsPdu}
 use Rattle.ar_iscsi.specs.Task.{MayGive}
@@ -73,9 +73,11 @@ module _ {P : Type 0} (commands : Commands P) (address : List ℕ) (limits : Lim
   by_step old new Next Whole step = step
   by_step old new LoggedOut Whole step = λ count. step
   by_step old new BrokenData Whole step = λ count. step
+  by_step old new Rejected Whole step = λ count. step
   by_step old new Next (Part n) step = λ count. record { left = Next; count = n; serves = step }
   by_step old new LoggedOut (Part n) step = λ count. record { left = LoggedOut; count = n; serves = step }
   by_step old new BrokenData (Part n) step = λ count. record { left = BrokenData; count = n; serves = step }
+  by_step old new Rejected (Part n) step = λ count. record { left = Rejected; count = n; serves = step }
 
   -- a PDU that was read
   pub arrival_served :

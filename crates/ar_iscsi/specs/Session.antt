@@ -11,7 +11,7 @@ use Rattle.ar_iscsi.specs.declared.session.FeatureEnd.TheVariants as end
 use Rattle.ar_iscsi.specs.declared.session.PduResult.{PduResult}
 use Rattle.ar_iscsi.specs.declared.session.PduResult.TheVariants.{Served, Ended}
 use Rattle.ar_iscsi.specs.declared.turn.TurnEnd.{TurnEnd}
-use Rattle.ar_iscsi.specs.declared.turn.TurnEnd.TheVariants.{Next, LoggedOut, BrokenData}
+use Rattle.ar_iscsi.specs.declared.turn.TurnEnd.TheVariants.{Next, LoggedOut, BrokenData, Rejected}
 use Rattle.ar_iscsi.specs.declared.waiting_pdu.WaitingPdu.{WaitingPdu}
 use Rattle.ar_iscsi.specs.Arrival.{FeatureSpot, ArrivalTurn}
 use Rattle.ar_iscsi.specs.Phase.{Place, ServesPdu, ServesPdus, IsLeftAlone, HasNoAnswer, IsAnswerLost, most_pdus}
@@ -75,6 +75,8 @@ EndsFeature commands address limits count old end.LoggedOut new =
     FeatureStep commands address limits old new LoggedOut Whole
 EndsFeature commands address limits count old end.BrokenData new =
     FeatureStep commands address limits old new BrokenData Whole
+EndsFeature commands address limits count old end.Rejected new =
+    FeatureStep commands address limits old new Rejected Whole
 EndsFeature commands address limits count old end.NoMemory new = LacksAnswer commands old new
 EndsFeature commands address limits count old end.Bound new = (count ≡ most_pdus) × (new ≡ old)
 
@@ -91,6 +93,7 @@ result_of_turn turned (Part n) = Ended end.Write
 result_of_turn Next Whole = Served
 result_of_turn LoggedOut Whole = Ended end.LoggedOut
 result_of_turn BrokenData Whole = Ended end.BrokenData
+result_of_turn Rejected Whole = Ended end.Rejected
 
 -- the same, or memory for the answer ran out
 abbrev pub result_of_answer : Option (TurnEnd × Sent) → PduResult

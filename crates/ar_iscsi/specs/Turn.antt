@@ -1,5 +1,6 @@
 -- A turn of the full feature phase: a PDU of the initiator, what it does, and the bytes that answer it (RFC 7143, 11).
-use Rattle.std.specs.Prelude.{◌≡◌, ◌<◌, ◌⊎◌, ℕ, nat_lt, nat_le, MatchBool, List, [], ◌++◌, length, take}
+use Rattle.std.specs.Prelude.{◌≡◌, ◌<◌, ◌⊎◌, ◌==◌, ◌||◌, ◌%◌, ℕ, Bool, nat_lt, nat_le, if◌then◌else◌, MatchBool, List, [], ◌++◌}
+use Rattle.std.specs.Prelude.{length, slice_index_or, take}
 use Rattle.ar_frames.specs.Conversation.{Commands}
 use Rattle.ar_iscsi.specs.declared.flow.Flow.{Flow}
 use Rattle.ar_iscsi.specs.declared.flow.Collecting.{Collecting}
@@ -17,7 +18,7 @@ use Rattle.ar_iscsi.specs.declared.task.CommandStep.TheVariants as step
 use Rattle.ar_iscsi.specs.declared.task.DataStep.{DataStep}
 use Rattle.ar_iscsi.specs.declared.task.DataStep.TheVariants as steps
 use Rattle.ar_iscsi.specs.declared.turn.TurnEnd.{TurnEnd}
-use Rattle.ar_iscsi.specs.declared.turn.TurnEnd.TheVariants.{Next, LoggedOut, BrokenData}
+use Rattle.ar_iscsi.specs.declared.turn.TurnEnd.TheVariants.{Next, LoggedOut, BrokenData, Rejected}
 use Rattle.ar_iscsi.specs.Response.{target_pdu}
 use Rattle.ar_iscsi.specs.Request.{initiator_pdu}
 use Rattle.ar_iscsi.specs.Flow.{numbers_of, received, answered, reopened, awaiting}
@@ -43,11 +44,21 @@ pub record AnswersBy (out : List ℕ) (new : Spot) (end : TurnEnd) (out_is : Lis
 abbrev pub StaysSilent : Spot → List ℕ → Spot → TurnEnd → Type 0
 StaysSilent old out new end = AnswersBy out new end [] old.flow old.bytes Next
 
+-- a PDU with these opcode and I bits takes a CmdSN: NOP-Out, SCSI Command, Task Management, Text or Logout Request that
+-- isn't immediate (RFC 7143, 4.2.2.1 and 11.2.1.2)
+abbrev pub is_numbered : ℕ → Bool
+is_numbered code = (code == 0x00) || ((code == 0x01) || ((code == 0x02) || ((code == 0x04) || (code == 0x06))))
+
+-- behind the Reject of a numbered PDU the session ends, as ErrorRecoveryLevel 0 has it: its CmdSN doesn't count as
+-- received, so it leaves a gap in front of those that were sent behind it (RFC 7143, 7.3)
+abbrev pub rejected_end : List ℕ → TurnEnd
+rejected_end header = if is_numbered (slice_index_or header 0 0 % 128) then Rejected else Next
+
 -- a PDU is rejected for this reason, with its header, and isn't counted (RFC 7143, 11.17)
 abbrev pub IsRejected : List ℕ → ℕ → Spot → List ℕ → Spot → TurnEnd → Type 0
 IsRejected header reason old out new end =
     AnswersBy out new end (target_pdu (pdu.Reject reason) (numbers_of old.flow) header) (answered old.flow) old.bytes
-    Next
+    (rejected_end header)
 
 -- a response is sent in this state
 abbrev pub Responds : Flow → TargetPdu → List ℕ → List ℕ → List ℕ → Spot → TurnEnd → TurnEnd → Type 0

@@ -30,6 +30,8 @@ pub enum FeatureEnd {
     LoggedOut,
     /// A WRITE's data came out of order.
     BrokenData,
+    /// A PDU with a CmdSN was rejected.
+    Rejected,
     /// An answer couldn't be allocated.
     NoMemory,
     /// 2^64 - 1 PDUs were served.
@@ -317,5 +319,6 @@ fn result_of_turn(turned: TurnEnd, sent: Sent) -> PduResult
         (TurnEnd::Next, Sent::Whole) => PduResult::Served,
         (TurnEnd::LoggedOut, Sent::Whole) => PduResult::Ended(FeatureEnd::LoggedOut),
         (TurnEnd::BrokenData, Sent::Whole) => PduResult::Ended(FeatureEnd::BrokenData),
+        (TurnEnd::Rejected, Sent::Whole) => PduResult::Ended(FeatureEnd::Rejected),
     }
 }

@@ -31,6 +31,8 @@ pub enum TurnEnd {
     LoggedOut,
     /// A WRITE's data came out of order.
     BrokenData,
+    /// A PDU with a CmdSN was rejected.
+    Rejected,
 }
 
 /// A session's state between two PDUs.
@@ -118,7 +120,8 @@ pub(crate) fn respond(
     Ok(end)
 }
 
-// Rejects a PDU for a reason, with its header. It isn't counted.
+// Rejects a PDU for a reason, with its header. It isn't counted, so that one with a CmdSN leaves a gap in front of those
+// that were sent behind it: the session ends.
 fn reject(work: &mut Work, header: &[u8; 48], reason: u8) -> Result<TurnEnd, AllocError>
     requires empty { work.old.out.items ≡ [] }
     ensures rejected { IfOk result (λ ended. turn.IsRejected header.now reason
@@ -127,13 +130,21 @@ fn reject(work: &mut Work, header: &[u8; 48], reason: u8) -> Result<TurnEnd, All
     ensures limits { work.new.limits ≡ work.old.limits }
 {
     let flow = work.flow;
-    respond(
-        work,
-        flow,
-        TargetPdu::Reject { reason },
-        header,
-        TurnEnd::Next,
-    )
+    let end = rejected_end(header);
+    respond(work, flow, TargetPdu::Reject { reason }, header, end)
+}
+
+// How a session goes on behind a Reject.
+fn rejected_end(header: &[u8; 48]) -> TurnEnd
+    ensures { result ≡ turn.rejected_end header.now }
+{
+    let code = header[0] % 128;
+    let is_numbered = code == 0x00 || code == 0x01 || code == 0x02 || code == 0x04 || code == 0x06;
+    if is_numbered {
+        TurnEnd::Rejected
+    } else {
+        TurnEnd::Next
+    }
 }
 
 // Answers a text request in this state.

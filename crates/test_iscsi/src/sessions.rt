@@ -215,6 +215,16 @@ fn data_with_a_gap_end_the_session(rt: HostRuntime) {
     plays(&rt, alloc, &input, end, &output);
 }
 
+// A command that is rejected isn't counted (RFC 7143, 7.3), so those behind it could never be: the session ends.
+#[test]
+fn a_rejected_command_ends_the_session(rt: HostRuntime) {
+    let alloc = rt.alloc();
+    let input = [pdus::LOGIN, pdus::READ_AND_WRITE, pdus::READ];
+    let output = [pdus::LOGGED_IN, pdus::REJECTED_COMMAND];
+    let end = IscsiEnd::Feature(FeatureEnd::Rejected);
+    plays(&rt, alloc, &input, end, &output);
+}
+
 #[test]
 fn discovery(rt: HostRuntime) {
     let alloc = rt.alloc();
