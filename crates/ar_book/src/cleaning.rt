@@ -1,12 +1,13 @@
 // Cleaning's choice: the group with the fewest blocks is emptied, if they fit in the holes of its class's other groups.
 //
-// One walk over the groups finds it. Kept in the search tree it would be found in none, but each write to a new slot, and
-// each move, would climb to the root for it, and took up to 1.8 times as many instructions.
+// One walk over the groups finds it. Kept in the search tree it would be found in none, but each write to a new slot,
+// and each move, would climb to the root for it, and took up to 1.8 times as many instructions.
 ghost use Rattle.std.specs.Prelude.{◌≡◌, ◌+◌, ◌*◌, ◌<◌, ◌≤◌, ℕ, true, false, length, IfSome, IfNone};
 ghost use Rattle.ar_disks.specs.Geometry.{rows_of};
 ghost use Rattle.ar_book.specs.Book.{TablesAgree};
 ghost use Rattle.ar_book.specs.Tables.{used, group_in};
-ghost use Rattle.ar_book.specs.Cleaning.{holes_in, CanBeEmptied, IsEmptiest, IsEmptiestBelow, IsInUse, IsFirstBlock, IsOpenBut, IsOpenBeside, IsLowestHoleBeside};
+ghost use Rattle.ar_book.specs.Cleaning.{holes_in, CanBeEmptied, IsEmptiest, IsEmptiestBelow, IsInUse, IsFirstBlock};
+ghost use Rattle.ar_book.specs.Cleaning.{IsOpenBut, IsOpenBeside, IsLowestHoleBeside};
 
 use crate::group::slots_of;
 use crate::{Book, Class, Slot};

@@ -20,7 +20,8 @@ impl Book {
         requires slot { HasSlot self.old slot }
         requires empty { key_at self.old slot ≡ None }
         ensures assigned { self.new ≡ assigned self.old key slot }
-        ensures few { length self.old.groups ≤ 4096 → steps.new.count ≤ steps.old.count + (6 * rows_of self.old.geometry + 24) }
+        ensures few { length self.old.groups ≤ 4096 → steps.new.count ≤ steps.old.count
+            + (6 * rows_of self.old.geometry + 24) }
         // Half of that if the block had no home.
         ensures first { home self.old key ≡ None → length self.old.groups ≤ 4096
             → steps.new.count ≤ steps.old.count + (3 * rows_of self.old.geometry + 12) }
@@ -48,8 +49,8 @@ impl Book {
         set_home(&mut self.units, key, Some(slot));
     }
 
-    /// Makes an empty slot the home of a unit's block, empties the home that it had, and gives it the next write sequence
-    /// number.
+    /// Makes an empty slot the home of a unit's block, empties the home that it had, and gives it the next write
+    /// sequence number.
     pub fn place(&mut self, key: Key, slot: Slot, steps: &mut Steps)
         requires block { HasBlock self.old key }
         requires slot { HasSlot self.old slot }
@@ -72,7 +73,8 @@ impl Book {
         requires { HasBlock self.old key }
         ensures released { self.new ≡ released self.old key }
         ensures still { home self.old key ≡ None → steps.new.count ≡ steps.old.count }
-        ensures few { length self.old.groups ≤ 4096 → steps.new.count ≤ steps.old.count + (3 * rows_of self.old.geometry + 12) }
+        ensures few { length self.old.groups ≤ 4096 → steps.new.count ≤ steps.old.count
+            + (3 * rows_of self.old.geometry + 12) }
         ensures on { steps.old.count ≤ steps.new.count }
     {
         let home = home_in(&self.units, key);
@@ -96,7 +98,8 @@ impl Book {
         ensures still { ForSome (home self.old key) (λ slot. KeepsOldest (oldest_in self.old slot.group) key self.new.puts)
             → steps.new.count ≡ steps.old.count }
         ensures unlooked { level self.old key ≢ Mirrored → steps.new.count ≡ steps.old.count }
-        ensures few { length self.old.groups ≤ 4096 → steps.new.count ≤ steps.old.count + (3 * rows_of self.old.geometry + 12) }
+        ensures few { length self.old.groups ≤ 4096 → steps.new.count ≤ steps.old.count
+            + (3 * rows_of self.old.geometry + 12) }
         ensures on { steps.old.count ≤ steps.new.count }
     {
         self.puts = self.puts.saturating_add(1);

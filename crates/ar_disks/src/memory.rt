@@ -63,7 +63,7 @@ impl MemDisk {
         Ok(MemDisk::new(geometry, extents, bytes))
     }
 
-    /// Counts an access without making it, for a disk over this one that refuses it. No code over `Disk` can call this.
+    /// Counts an access that a disk over this one has refused, and makes none. No code over `Disk` can call this.
     pub fn count_access(&mut self)
         ensures { self.new ≡ accessed self.old (self.old.accesses + 1) }
     {

@@ -1,5 +1,6 @@
 -- A turn of the full feature phase: a PDU of the initiator, what it does, and the bytes that answer it (RFC 7143, 11).
-use Rattle.std.specs.Prelude.{◌≡◌, ◌<◌, ◌⊎◌, ◌==◌, ◌||◌, ◌%◌, ℕ, Bool, nat_lt, nat_le, if◌then◌else◌, MatchBool, List, [], ◌++◌}
+use Rattle.std.specs.Prelude.{◌≡◌, ◌<◌, ◌⊎◌, ◌==◌, ◌||◌, ◌%◌, ℕ, Bool, nat_lt, nat_le, if◌then◌else◌, MatchBool, List}
+use Rattle.std.specs.Prelude.{[], ◌++◌}
 use Rattle.std.specs.Prelude.{length, slice_index_or, take}
 use Rattle.ar_frames.specs.Conversation.{Commands}
 use Rattle.ar_iscsi.specs.declared.flow.Flow.{Flow}

@@ -120,8 +120,8 @@ pub(crate) fn respond(
     Ok(end)
 }
 
-// Rejects a PDU for a reason, with its header. It isn't counted, so that one with a CmdSN leaves a gap in front of those
-// that were sent behind it: the session ends.
+// Rejects a PDU for a reason, with its header. It isn't counted, so that one with a CmdSN leaves a gap in front of
+// those that were sent behind it: the session ends.
 fn reject(work: &mut Work, header: &[u8; 48], reason: u8) -> Result<TurnEnd, AllocError>
     requires empty { work.old.out.items ≡ [] }
     ensures rejected { IfOk result (λ ended. turn.IsRejected header.now reason

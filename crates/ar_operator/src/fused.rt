@@ -100,8 +100,8 @@ impl<'a> FusedDisk<'a> {
         }
     }
 
-    // Uses up one access of the fuse, or fails the disk and counts an access and a fault if none is left or it had failed
-    // before.
+    // Uses up one access of the fuse, or fails the disk and counts an access and a fault if none is left or it had
+    // failed before.
     fn passes(&mut self) -> bool
         ensures passed { OnTrue result (self.new ≡ self.old) }
         ensures there { IsTrue result → self.old.gone ≡ false }

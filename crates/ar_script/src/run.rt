@@ -59,7 +59,8 @@ pub fn run_script<R: Read + Drop, W: Write + Drop>(
     // The output is exactly the text of the answers to the lines of the input: to all of them or, at a fault other than
     // a write fault, to those before it.
     ensures answers { result.end ≢ Err Fault.Start → IfSome result.writer (λ written.
-        HasAnswered (disks_of setup) setup.cache (lines_of (R.remaining reader)) result.end (W.contents writer) (W.contents written)) }
+        HasAnswered (disks_of setup) setup.cache (lines_of (R.remaining reader)) result.end
+        (W.contents writer) (W.contents written)) }
     ensures played { result.end ≢ Err Fault.Start
         → HasPlayed (disks_of setup) setup.cache (lines_of (R.remaining reader)) result.end }
     ensures begun { result.end ≢ Err Fault.Start → (setup.cache ≤ 65536) × (start_fault (disks_of setup) ≡ None) }
@@ -87,7 +88,8 @@ pub fn run_on<R: Read + Drop, W: Write + Drop>(
     writer: W,
 ) -> Ended<W>
     ensures answers { IfSome result.writer (λ written.
-        AnswersScript (lines_of (R.remaining reader)) result.end runner.old runner.new (W.contents writer) (W.contents written)) }
+        AnswersScript (lines_of (R.remaining reader)) result.end runner.old runner.new
+        (W.contents writer) (W.contents written)) }
     ensures plays { PlaysScript (lines_of (R.remaining reader)) result.end runner.old runner.new }
     ensures lost { result.writer ≡ None → (result.end ≡ Err (Fault.Line 1 FaultKind.NoMemory))
         × (runner.new ≡ runner.old) }
@@ -114,7 +116,8 @@ fn write_answers<R: Read + Drop, W: Write + Drop>(
 ) -> Ended<W>
     requires fresh { IsFresh lines.old }
     ensures answers { IfSome result.writer (λ written.
-        AnswersScript (lines_left lines.old) result.end runner.old runner.new (W.contents writer) (W.contents written)) }
+        AnswersScript (lines_left lines.old) result.end runner.old runner.new
+        (W.contents writer) (W.contents written)) }
     ensures plays { PlaysScript (lines_left lines.old) result.end runner.old runner.new }
     ensures lost { result.writer ≡ None → (result.end ≡ Err (Fault.Line 1 FaultKind.NoMemory))
         × (runner.new ≡ runner.old) }
@@ -158,8 +161,8 @@ fn answer_all<R: Read + Drop, W: Write + Drop>(
     // Unless a write fault is reported, all answers are written, in order, behind what the writer had: to all lines, or
     // to those before the fault.
     ensures written { tells_write_fault result ≡ false → writer_buffer out.new ≡ [] }
-    ensures grows { AnswersScript (lines_left lines.old) result runner.old runner.new (writer_contents W.contents out.old)
-        (writer_contents W.contents out.new) }
+    ensures grows { AnswersScript (lines_left lines.old) result runner.old runner.new
+        (writer_contents W.contents out.old) (writer_contents W.contents out.new) }
 {
     let done = run_lines(alloc, runner, lines, out);
     finish(out, lines.number(), done)
@@ -192,8 +195,8 @@ fn run_lines<R: Read + Drop, W: Write + Drop>(
     ensures told { IfErr result (IsToldAt lines.new) }
     ensures numbered { IfErr result IsNumbered }
     // Each answer is appended to those before it: to all lines, or to those before a fault that isn't a write fault.
-    ensures grows { AnswersScript (lines_left lines.old) result runner.old runner.new (writer_contents W.contents out.old)
-        (writer_contents W.contents out.new) }
+    ensures grows { AnswersScript (lines_left lines.old) result runner.old runner.new
+        (writer_contents W.contents out.old) (writer_contents W.contents out.new) }
 {
     for _ in 0..u32::MAX {
         if !next_line(lines, out)? {

@@ -79,8 +79,8 @@ counters_watched counters = record {
   destages = counters.destages;
 }
 
--- The status is that of this array with these counts, `stored` entries of whose history are stored, at this second, with
--- these events. The memory of the history, and the counters of what else the array did, are not specified.
+-- The status is that of this array with these counts, `stored` entries of whose history are stored, at this second,
+-- with these events. The memory of the history, and the counters of what else the array did, are not specified.
 pub record IsStatusOf (array : ArrayState) (counts : Counts) (stored seconds : ℕ) (latest : RecentEvents)
     (status : ArrayStatus) : Type 0 where
   pub uptime : status.uptime_seconds ≡ seconds

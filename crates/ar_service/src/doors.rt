@@ -113,8 +113,8 @@ fn seconds_since<R: Clock>(rt: &R, since: Instant) -> u64 {
 }
 
 /// Serves the connections that the doors open, beside a thread that runs background maintenance, and returns once all
-/// have ended. If the hosts' door is for any number of connections, an operator's `stop` ends the service; otherwise the
-/// last of its connections does, too. At `NoMemory`, which also means that a thread couldn't be started, no host's
+/// have ended. If the hosts' door is for any number of connections, an operator's `stop` ends the service; otherwise
+/// the last of its connections does, too. At `NoMemory`, which also means that a thread couldn't be started, no host's
 /// connection was opened.
 pub fn run_operated<
     R: Threads + Wait + Clock + Log + Net<Listener = TcpListener, Stream = TcpStream> + Sync,
@@ -234,7 +234,8 @@ impl<O: Door + Drop, T> SideDoor<O, T> {
     }
 }
 
-// Serves hosts by the foreground beside the threads of the other doors and of a monitor, and returns once all have ended.
+// Serves hosts by the foreground beside the threads of the other doors and of a monitor, and returns once all have
+// ended.
 fn serve_beside<
     R: Threads + Wait + Clock + Net<Listener = TcpListener, Stream = TcpStream> + Sync,
     O: Door + Drop + Send,

@@ -1,5 +1,5 @@
-// Initiators over iSCSI. Each connection is a session with the target of one host, or for discovery. A session with a target
-// takes the host's seat, as one over the array's own frames does, and returns it at its end.
+// Initiators over iSCSI. Each connection is a session with the target of one host, or for discovery. A session with a
+// target takes the host's seat, as one over the array's own frames does, and returns it at its end.
 ghost use Rattle.std.specs.Prelude.{◌≡◌};
 
 use crate::doors::OperatedArray;
@@ -28,8 +28,8 @@ const LOOK_PAUSE: u64 = 10;
 pub struct IscsiPort {
     /// The TCP port to listen at, on 127.0.0.1.
     pub port: u16,
-    /// Distinguishes the array from others in the names of its units. Nothing outlives the program, so that it has to be
-    /// another one at each start.
+    /// Distinguishes the array from others in the names of its units. Nothing outlives the program, so that it has to
+    /// be another one at each start.
     pub array: u32,
     /// Whether a WRITE may be GOOD before its blocks are on the disks: the array has a cache.
     pub write_back: bool,
@@ -73,8 +73,8 @@ fn address_of(alloc: Global, port: u16) -> Result<Vec<u8>, AllocError> {
     Ok(address)
 }
 
-// A port whose login waits for up to a second while another session has the host's seat: an initiator may log in again as
-// soon as it has logged out, and its last session is still being closed then.
+// A port whose login waits for up to a second while another session has the host's seat: an initiator may log in again
+// as soon as it has logged out, and its last session is still being closed then.
 #[derive(Drop)]
 struct PatientPort<'a, R: Wait, L: Ledger, P: Drop> {
     rt: &'a R,

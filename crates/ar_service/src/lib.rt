@@ -1,5 +1,6 @@
-//! A served array as a whole: its units, the doors of hosts, operators and HTTP clients, sessions and maintenance, and the
-//! audit at the end. An operator's order is executed under the array's lock (`LockController`), as a host's command is.
+//! A served array as a whole: its units, the doors of hosts, operators and HTTP clients, sessions and maintenance, and
+//! the audit at the end. An operator's order is executed under the array's lock (`LockController`), as a host's command
+//! is.
 #![tactic(auto)]
 
 mod control;

@@ -1,5 +1,5 @@
-// The operators' door. Threads take turns at it, as those of a pool do: all but one may converse, and the last is there to
-// refuse one operator more.
+// The operators' door. Threads take turns at it, as those of a pool do: all but one may converse, and the last is there
+// to refuse one operator more.
 use crate::control::LockController;
 use crate::doors::OperatedArray;
 use crate::shown::ShownArray;
@@ -83,7 +83,8 @@ impl<
     S: Source + Drop,
     W: Sink + Drop,
 > Handler<S, W> for OperatorHandler<'a, R, A, L, M, S, W> {
-    // Converses with an operator, unless four do already. One whose `stop` is accepted is kept until it can be answered.
+    // Converses with an operator, unless four do already. One whose `stop` is accepted is kept until it can be
+    // answered.
     fn handle(&self, _number: u64, mut reader: S, mut writer: W) {
         let others = self.open.fetch_add(1, Ordering::SeqCst);
         let end = if others < MOST_OPERATORS {
@@ -137,7 +138,7 @@ impl<S: Drop, W: Sink + Drop> PendingStops<S, W> {
         }
     }
 
-    /// None, with a place for each of so many threads.
+    /// No pending stop, with capacity for one of each of `threads` threads. Fails if out of memory.
     pub fn with_room(alloc: Global, threads: u32) -> Result<PendingStops<S, W>, AllocError> {
         Ok(PendingStops {
             streams: Vec::with_capacity(alloc, threads as usize)?,

@@ -34,7 +34,8 @@ pub type TcpStops<'a, R> = PendingStops<TcpReader<'a, R>, TcpWriter<'a, R>>;
 /// The seconds for which an operator may be silent.
 const OPERATOR_IDLE: u32 = 600;
 
-/// The seconds for which an initiator may be silent, if hosts have no limit. Initiators send a NOP-Out every few seconds.
+/// The seconds for which an initiator may be silent, if hosts have no limit. Initiators send a NOP-Out every few
+/// seconds.
 const INITIATOR_IDLE: u32 = 600;
 
 /// The seconds that an HTTP connection may last.
@@ -199,8 +200,8 @@ pub fn serve_unaudited<
     }
 }
 
-// Serves an array behind a lock by a plan, if its units were created. Returns the operators that wait for the end, what came
-// of the service, and the hosts' seats.
+// Serves an array behind a lock by a plan, if its units were created. Returns the operators that wait for the end, what
+// came of the service, and the hosts' seats.
 fn serve_made<
     's,
     A: OperableArray<M>

@@ -4,7 +4,8 @@ ghost use Rattle.std.specs.List.{range_with_len};
 ghost use Rattle.ar_history.specs.Kept.{KeptState};
 ghost use Rattle.ar_history.specs.declared.counts.HostCounts.{HostCounts};
 ghost use Rattle.ar_script.specs.Pictures.{IsPicture};
-ghost use Rattle.ar_service.specs.Watching.{IsStatusOf, SeesArray, counters_watched, health_watched, host_watched, operations_watched, replies_watched, steps_watched};
+ghost use Rattle.ar_service.specs.Watching.{IsStatusOf, SeesArray, counters_watched, health_watched, host_watched};
+ghost use Rattle.ar_service.specs.Watching.{operations_watched, replies_watched, steps_watched};
 
 use ar_core::{Array, Counters, Health};
 use ar_disks::Disk;

@@ -36,8 +36,10 @@ impl<D: Disk> Space<D> {
 
         ensures stand { AllStand (store_in self.old) (store_in self.new) }
         ensures beside { BesideHold (store_in self.old) (store_in self.new) to }
-        ensures asks { (from : Slot) → home self.old.book key ≡ Some from → AsksSlots from to (store_in self.old) (store_in self.new) }
-        ensures steps { (from : Slot) → home self.old.book key ≡ Some from → ReadsThenWrites from to (store_in self.old) (store_in self.new) }
+        ensures asks { (from : Slot) → home self.old.book key ≡ Some from
+            → AsksSlots from to (store_in self.old) (store_in self.new) }
+        ensures steps { (from : Slot) → home self.old.book key ≡ Some from
+            → ReadsThenWrites from to (store_in self.old) (store_in self.new) }
         ensures stays { Stays self.old self.new }
         ensures len { length block.new ≡ length block.old }
     {
@@ -144,7 +146,8 @@ impl<D: Disk> Space<D> {
         ensures here { result ≡ Completion.Done → stands (store_in self.new) key ≡ from.now }
         ensures others { OthersStand (store_in self.old) (store_in self.new) key }
         ensures beside { BesideHold (store_in self.old) (store_in self.new) vacant }
-        ensures asks { AsksSlot (class_in (store_in self.old) vacant.group) vacant (store_in self.old) (store_in self.new) }
+        ensures asks { AsksSlot (class_in (store_in self.old) vacant.group) vacant
+            (store_in self.old) (store_in self.new) }
         ensures stays { Stays self.old self.new }
     {
         match self.write_at(vacant, from) {

@@ -42,8 +42,9 @@ pub enum ServeFault {
     NoMemory,
 }
 
-/// Creates the array and its units, listens, and serves hosts, operators, initiators and HTTP clients. Then it compares the hosts' transcripts with
-/// the history, unless none is stored. Operators that have asked for the end are answered last.
+/// Creates the array and its units, listens, and serves hosts, operators, initiators and HTTP clients. Then it compares
+/// the hosts' transcripts with the history, unless none is stored. Operators that have asked for the end are answered
+/// last.
 pub fn run_server<
     R: Threads
         + Wait
@@ -59,8 +60,8 @@ pub fn run_server<
     conclude(rt, alloc, service, stops, served)
 }
 
-// Serves a new array on disks with these fuses. Returns the operators that wait for the end, and the number of commands of
-// each host.
+// Serves a new array on disks with these fuses. Returns the operators that wait for the end, and the number of commands
+// of each host.
 fn serve<
     's,
     R: Threads
@@ -150,8 +151,8 @@ fn tell(
     }
 }
 
-// Prints the number of commands of each host, and how the service ended: `closed ok` says that the transcripts agree with
-// the history, `closed` that nothing was compared.
+// Prints the number of commands of each host, and how the service ended: `closed ok` says that the transcripts agree
+// with the history, `closed` that nothing was compared.
 fn tell_commands(rt: &impl Print, audit: Audit, commands: [u64; 4]) -> io::Result<()> {
     for (host, commands) in commands.iter().enumerate() {
         println!(rt; "host {host} commands {commands}")?;

@@ -70,8 +70,8 @@ impl Bare {
         }
     }
 
-    // The moves of one operation. Each read, and each write of a block that wasn't read, is at a block of its own, as
-    // long as there are so many.
+    // The moves of one operation. Each read, and each write of a block that wasn't read, is at a block of its own,
+    // while the workload has as many.
     fn turn(&mut self, moves: Moves, turn: usize) {
         let span = moves.times as usize;
         self.take(moves.taken, turn);

@@ -131,8 +131,7 @@ impl Round {
         }
     }
 
-    // So many writes at the parity level: block and parity are read, the parity is changed, and the data and the parity
-    // are written.
+    // `times` writes at the parity level: each reads block and parity, updates the parity, and writes both.
     fn updated(self, times: u32) -> Moves {
         Moves {
             times,

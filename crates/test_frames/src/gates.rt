@@ -1,5 +1,4 @@
-// What a gate is told of a session's commands, and how far each of them has come by then. No clause says that it is
-// told only once each time.
+// Which calls a session makes of a gate, and how far each command has come by then.
 ghost use Rattle.std.specs.Prelude.{◌≡◌, false, None};
 
 use crate::sessions::{ABSENT, joined};

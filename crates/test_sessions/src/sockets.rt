@@ -116,8 +116,8 @@ fn visit<R: Threads + Abort + Net<Listener = TcpListener, Stream = TcpStream> + 
     }
 }
 
-// A session of a host: so many writes, each read back, or else one TEST UNIT READY. It leaves once the server has let
-// it go.
+// A session of a host: `count` writes, each read back, or one TEST UNIT READY if that is 0. It closes once the server
+// has closed.
 fn talk<R: Abort + Net<Listener = TcpListener, Stream = TcpStream>>(
     rt: &R,
     alloc: Global,

@@ -27,7 +27,7 @@ pub enum Call {
     Place(Unit, u32, Class),
     /// The same, and stamps the block.
     Put(Unit, u32, Class),
-    /// Gives such a hole to each of so many blocks of a unit from one on; tells the last hole.
+    /// The same for a number of blocks of a unit, from one on; returns the last hole.
     PlaceAll(Unit, u32, u32, Class),
     Release(Unit, u32),
     Stamp(Unit, u32),
