@@ -6,7 +6,7 @@ ghost use Rattle.ar_extents.specs.Set.{HasExtent, content};
 ghost use Rattle.ar_extents.specs.Follows.{LeavesDisks};
 ghost use Rattle.ar_balance.specs.Copies.{IsExtentCopied, IsRowCopied, IsCutShort, IsStopped, AsksInTurn};
 
-use ar_disks::{Block, Disk, Place};
+use ar_disks::{Disk, Place};
 use ar_extents::{DiskSet, Got, Put};
 
 // Copies all rows of an extent to another on healthy disks, by way of `block`. False if one of the two disks faulted.
@@ -14,7 +14,7 @@ pub(crate) fn copy_extent<D: Disk>(
     set: &mut DiskSet<D>,
     from: Place,
     to: Place,
-    block: &mut Block,
+    block: &mut [u8],
 ) -> bool
     requires whole { set.old.health ≡ Whole }
     requires from { HasExtent set.old from }
@@ -24,7 +24,6 @@ pub(crate) fn copy_extent<D: Disk>(
     ensures copied { IsTrue result → IsExtentCopied set.old set.new from to }
     ensures cut { result ≡ false → IsCutShort set.old set.new from to }
     ensures stopped { result ≡ false → IsStopped set.old set.new from to }
-    ensures len { length block.new ≡ length block.old }
 {
     for row in 0..set.geometry().rows() {
         if !copy_row(set, from, to, row, block) {
@@ -40,7 +39,7 @@ fn copy_row<D: Disk>(
     from: Place,
     to: Place,
     row: u16,
-    block: &mut Block,
+    block: &mut [u8],
 ) -> bool
     requires whole { set.old.health ≡ Whole }
     requires from { HasExtent set.old from }
@@ -54,10 +53,9 @@ fn copy_row<D: Disk>(
     ensures unread { result ≡ false → set.new.health ≢ Out to.disk → content set.new to row ≡ content set.old to row }
     ensures turn { IsTrue result → AsksInTurn from to set.old set.new }
     ensures untouched { result ≡ false → set.new.health ≢ Out to.disk → LeavesDisks (λ d. d ≢ from.disk) set.old set.new }
-    ensures len { length block.new ≡ length block.old }
 {
     match set.get(from, row, block) {
-        Got::Read => match set.put(to, row, block.bytes()) {
+        Got::Read => match set.put(to, row, block) {
             Put::Written => true,
             Put::Missing | Put::Broken => false,
         },

@@ -78,7 +78,7 @@ fn fill<D: Disk>(space: &mut Space<D>, shift: Shift, block: &mut Block) -> bool
     match space.book.class(shift.group) {
         Class::Free => true,
         Class::Mirrored | Class::Parity => {
-            copy_extent(&mut space.disks, shift.from, shift.to, block)
+            copy_extent(&mut space.disks, shift.from, shift.to, block.bytes_mut())
         }
     }
 }

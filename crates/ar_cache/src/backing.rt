@@ -5,7 +5,7 @@ ghost use Rattle.ar_disks.specs.declared.address.Key.{Key};
 ghost use Rattle.ar_disks.specs.declared.geometry.Geometry.{Geometry};
 ghost use Rattle.ar_cache.specs.Backing.{stored, KeepsBacking, SameBlocks, WritesKey};
 
-use ar_disks::{Block, Completion, Key};
+use ar_disks::{Completion, Key};
 
 /// A store of blocks by key, to which a cache destages.
 ///
@@ -37,12 +37,11 @@ pub trait Backing {
     ghost breaks: { Self → Key → Self → Type 0 };
 
     /// Reads the block of a key that the backing knows. After `Broken` the contents of `into` are unspecified.
-    fn get(&mut self, key: Key, into: &mut Block) -> Completion
+    fn get(&mut self, key: Key, into: &mut [u8]) -> Completion
         requires known { IsTrue (knows self.old key) }
         requires whole { length into.old ≡ block_len_of (geometry self.old) }
         ensures answer { result ≡ stored (is_broken self.new) }
         ensures content { result ≡ Completion.Done → into.new ≡ block_at self.old key }
-        ensures len { length into.new ≡ length into.old }
         ensures blocks { result ≡ Completion.Done → SameBlocks (block_at self.old) (block_at self.new) }
         ensures keeps { KeepsBacking geometry knows is_broken follows self.old self.new }
         ensures gets { gets self.old key self.new };

@@ -93,13 +93,12 @@ impl Cache {
 
     /// Reads the block of `key`: the cached one, without access to the backing, else the backing's. After `Broken` the
     /// contents of `into` are unspecified.
-    pub fn get<B: Backing>(&self, key: Key, into: &mut Block, backing: &mut B) -> Completion
+    pub fn get<B: Backing>(&self, key: Key, into: &mut [u8], backing: &mut B) -> Completion
         requires geometry { B.geometry backing.old ≡ self.now.geometry }
         requires known { IsTrue (B.knows backing.old key) }
         requires whole { length into.old ≡ block_len_of self.now.geometry }
 
         ensures content { result ≡ Completion.Done → into.new ≡ seen self.now (B.block_at backing.old) key }
-        ensures len { length into.new ≡ length into.old }
 
         ensures blocks { result ≡ Completion.Done
             → SameBlocks (B.block_at backing.old) (B.block_at backing.new) }
@@ -113,7 +112,7 @@ impl Cache {
     {
         match self.entries.peek(&key) {
             Some(block) => {
-                into.copy_from(block);
+                into.copy_from_slice(block.bytes());
                 Completion::Done
             }
             None => backing.get(key, into),

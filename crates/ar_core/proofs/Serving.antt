@@ -15,6 +15,7 @@ use Rattle.ar_disks.proofs.Sectors.{sectors_at_is}
 use Rattle.ar_scsi.specs.declared.command.Command.{Command}
 use Rattle.ar_scsi.specs.declared.command.Command.TheVariants.{Read, Write}
 use Rattle.ar_scsi.specs.declared.reply.Reply.{Reply}
+use Rattle.ar_scsi.specs.declared.reply.Status.{Status}
 use Rattle.ar_scsi.specs.declared.reply.Status.TheVariants.{Good, CheckCondition, Busy}
 use Rattle.ar_scsi.specs.declared.sense.Sense.{Sense}
 use Rattle.ar_scsi.specs.Reply.{good, check, busy}
@@ -31,8 +32,6 @@ use Rattle.ar_volume.specs.Seen.{IsUnit, SamePlaces, SameSeen, WritesSectors, pr
 use Rattle.ar_core.specs.Served.{Serves, Settles}
 use Rattle.ar_volume.specs.Seen.{IsForced}
 use Rattle.ar_volume.specs.Storing.{ReadsBlock, ReadsFirst, StopsStoring, StoresBlocks}
-use Rattle.ar_volume.specs.declared.transfer.Transfer.{Transfer}
-use Rattle.ar_volume.specs.declared.transfer.Transfer.TheVariants.{Done, Broken, NoMemory}
 use Rattle.ar_disks.specs.declared.completion.Completion.{Completion}
 use Rattle.ar_disks.specs.declared.completion.Completion.TheVariants.{Done as Kept, Broken as Lost}
 use Rattle.ar_disks.proofs.Addresses.{addr_tells}
@@ -185,42 +184,44 @@ lost_broken true is = refl
 lost_broken false is = absurd (cc)
 
 -- how a READ ends
-pub serves_read : (old new : ArrayState) (addr : Addr) (lba count : ℕ) (transfer : Transfer) (out : List ℕ) (reply : Reply)
-    → ArrayFollows old new → (transfer ≢ Broken → SameSeen old new) → sectors_read old addr lba count ≢ []
-    → (transfer ≢ Broken → is_broken new ≡ false) → (transfer ≡ Broken → IsTrue (is_broken new))
-    → (transfer ≡ Done → out ≡ sectors_read old addr lba count)
-    → (transfer ≡ Done → IsGiven (good out) reply) → (transfer ≡ Broken → reply ≡ check internal_target_failure) → (transfer ≡ NoMemory → reply ≡ busy)
+pub serves_read : (old new : ArrayState) (addr : Addr) (lba count : ℕ) (reply : Reply) (status : Status) → reply.status ≡ status
+    → ArrayFollows old new → sectors_read old addr lba count ≢ []
+    → (reply.status ≢ CheckCondition → SameSeen old new) → (reply.status ≢ CheckCondition → is_broken new ≡ false)
+    → (reply.status ≡ CheckCondition → IsTrue (is_broken new))
+    → (reply.status ≡ Good → reply ≡ good (sectors_read old addr lba count)) → (reply.status ≡ Busy → reply ≡ busy)
+    → (reply.status ≡ CheckCondition → reply ≡ check internal_target_failure)
     → Serves old addr (leaving (present_at old addr) (good (sectors_read old addr lba count))) (check internal_target_failure) reply new
-serves_read old new addr lba count Broken out reply follows blocks some sound broken bytes done lost refused = record {
+serves_read old new addr lba count reply CheckCondition is follows some seen sound broken done refused failed = record {
   follows = follows;
-  sound = λ now. (let gone = broken refl in absurd (cc));
-  others = λ now. (let gone = broken refl in absurd (cc));
-  broken = λ now. subst (λ (r : Reply). IsGiven (check internal_target_failure) r) (sym (lost refl)) (given_check internal_target_failure);
+  sound = λ now. (let gone = broken is in absurd (cc));
+  others = λ now. (let gone = broken is in absurd (cc));
+  broken = λ now. subst (λ (r : Reply). IsGiven (check internal_target_failure) r) (sym (failed is)) (given_check internal_target_failure);
 }
-serves_read old new addr lba count Done out reply follows blocks some sound broken bytes done lost refused =
-    let seen : SameSeen old new = blocks (λ e. cc) in
-    let same = unit_read old new addr follows seen in
+serves_read old new addr lba count reply Good is follows some seen sound broken done refused failed =
+    let here : SameSeen old new = seen (λ e. cc) in
+    let same = unit_read old new addr follows here in
     record {
       follows = follows;
       sound = λ now. record {
-        given = subst (λ (b : List ℕ). IsGiven (good b) reply) (bytes refl) (done refl);
+        given = subst (λ (r : Reply). IsGiven (good (sectors_read old addr lba count)) r) (sym (done is))
+            (given_same (good (sectors_read old addr lba count)) (λ e. cc));
         left = λ _. same;
         unchanged = λ _. same;
       };
-      others = λ now k _. seen.same k;
+      others = λ now k _. here.same k;
       broken = λ now. (let still = sound (λ e. cc) in absurd (cc));
     }
-serves_read old new addr lba count NoMemory out reply follows blocks some sound broken bytes done lost refused =
-    let seen : SameSeen old new = blocks (λ e. cc) in
-    let same = unit_read old new addr follows seen in
+serves_read old new addr lba count reply Busy is follows some seen sound broken done refused failed =
+    let here : SameSeen old new = seen (λ e. cc) in
+    let same = unit_read old new addr follows here in
     record {
       follows = follows;
       sound = λ now. record {
-        given = subst (λ (r : Reply). IsGiven (good (sectors_read old addr lba count)) r) (sym (refused refl)) (given_busy (sectors_read old addr lba count) some);
+        given = subst (λ (r : Reply). IsGiven (good (sectors_read old addr lba count)) r) (sym (refused is)) (given_busy (sectors_read old addr lba count) some);
         left = λ _. same;
         unchanged = λ _. same;
       };
-      others = λ now k _. seen.same k;
+      others = λ now k _. here.same k;
       broken = λ now. (let still = sound (λ e. cc) in absurd (cc));
     }
 
@@ -323,13 +324,6 @@ got_same addr lba count l n old new is got =
     subst (λ k. InTurn ReadsBlock (keys_in (geometry_of old) addr l k) old new) many
     (subst (λ k. InTurn ReadsBlock (keys_in (geometry_of old) addr k count) old new) at got)
 
--- a READ that had room for its sectors and is BUSY has moved them all
-pub moved_all : (transfer : Transfer) (reply : Reply) → reply.status ≡ Busy → (transfer ≡ Broken → reply ≡ check internal_target_failure)
-    → transfer ≢ NoMemory → transfer ≡ Done
-moved_all Done reply status broken room = refl
-moved_all Broken reply status broken room = (let told = sym (ap (λ (r : Reply). r.status) (broken refl)) ∙ status in absurd (cc))
-moved_all NoMemory reply status broken room = absurd (room refl)
-
 -- a READ that was not refused
 pub settles_read : (old new : ArrayState) (addr : Addr) (lba count : ℕ) (reply : Reply) → is_broken old ≡ false
     → ReadsFirst ReadsBlock (geometry_of old) addr lba count old new
@@ -414,10 +408,6 @@ writes_then old mid new addr lba count bytes w seen = record {
   where
     same : (i : ℕ) → sector_in (geometry_of old) (unit_block (seen_at new) addr) i ≡ sector_in (geometry_of old) (unit_block (seen_at mid) addr) i
     same i = ap (λ b. sectors_at b (i % sectors_of (geometry_of old)) 1) (seen.same (key_of addr (i / sectors_of (geometry_of old))))
-
--- a transfer ends broken only on a broken array
-pub transfer_sound : (transfer : Transfer) (broken : Bool) → (transfer ≡ Broken → IsTrue broken) → broken ≡ false → transfer ≢ Broken
-transfer_sound transfer broken lost now is = let gone = lost is in cc
 
 abbrev write_of : ℕ → ℕ → Bool → Result Command Sense
 write_of lba count fua = Ok (Write lba count fua)

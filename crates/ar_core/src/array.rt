@@ -18,6 +18,8 @@ pub struct Array<D: Disk> {
     pub(crate) blocks: Blocks<D>,
     // The buffer of block transfers.
     pub(crate) block: Block,
+    // Memory for the data of a READ, lent from outside. No contract sees it.
+    pub(crate) spare: Vec<u8>,
 }
 
 impl<D: Disk> Model for Array<D> {
@@ -56,7 +58,22 @@ impl<D: Disk> Array<D> {
             return Err((StartFault::NoMemory, disks));
         };
         let blocks = Blocks::start(alloc, disks, cache)?;
-        Ok(Array { blocks, block })
+        Ok(Array {
+            blocks,
+            block,
+            spare: Vec::new(alloc),
+        })
+    }
+}
+
+impl<D: Disk> Array<D> {
+    /// Lends memory for the data of a READ, so that a caller that shares the array allocates, and touches, it before it
+    /// waits for the array. The next READ of exactly as many bytes overwrites them all and returns them as its payload;
+    /// memory that was lent before and not used is freed.
+    pub fn lend_memory(&mut self, memory: Vec<u8>)
+        ensures { self.new ≡ self.old }
+    {
+        self.spare = memory;
     }
 }
 

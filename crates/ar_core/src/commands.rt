@@ -1,6 +1,6 @@
 // Commands to units. The checks come in this order: presence, UNIT ATTENTION, CDB, range, data length, health; a disk
 // is accessed only after all of them. BUSY replaces only a reply with bytes.
-ghost use Rattle.std.specs.Prelude.{◌≡◌, ◌≢◌, ◌⊎◌, ℕ, ◌+◌, ◌-◌, ◌*◌, ◌/◌, ◌≤◌, ◌<◌, ◌==◌, not, false, true, IsTrue, Ok, nat_lt, if◌then◌else◌, length, []};
+ghost use Rattle.std.specs.Prelude.{◌≡◌, ◌≢◌, ◌⊎◌, ℕ, ◌+◌, ◌-◌, ◌*◌, ◌/◌, ◌≤◌, ◌<◌, ◌==◌, not, false, true, IfOk, IsTrue, Ok, nat_lt, if◌then◌else◌, length, []};
 ghost use Rattle.ar_disks.specs.declared.address.Key.{Key};
 ghost use Rattle.ar_disks.specs.Geometry.{block_len_of, sectors_of};
 ghost use Rattle.ar_scsi.specs.declared.reply.Status.TheVariants.{Good, CheckCondition, Busy};
@@ -25,9 +25,9 @@ use crate::{Array, Completion};
 use ar_disks::{Addr, Block, Disk, Geometry};
 use ar_scsi::{Command, Reply, Sense, decode, is_inquiry};
 use ar_unit::{absent, capacity, inquiry, is_past_end};
-use ar_volume::{Backing, Transfer, read_sectors, write_sectors};
+use ar_volume::{Backing, read_sectors, write_sectors};
 use bytes::Bytes;
-use std::alloc::Global;
+use std::alloc::{AllocError, Global};
 
 impl<D: Disk> Array<D> {
     // Executes a command to the unit at `addr`, present or not.
@@ -171,6 +171,7 @@ impl<D: Disk> Array<D> {
             lba,
             count,
             &mut self.block,
+            &mut self.spare,
         )
     }
 
@@ -308,6 +309,7 @@ fn fetch_sectors<B: Backing>(
     lba: u32,
     count: u32,
     block: &mut Block,
+    spare: &mut Vec<u8>,
 ) -> Reply
     requires sound { B.is_broken blocks.old ≡ false }
     requires shape { geometry ≡ B.geometry blocks.old }
@@ -331,29 +333,37 @@ fn fetch_sectors<B: Backing>(
     ensures few { length result.payload ≤ 65535 * 512 }
     ensures len { length block.new ≡ length block.old }
 {
-    let Ok(mut out) = Vec::with_capacity(alloc, count as usize * 512) else {
+    let Ok(mut out) = memory_for(alloc, count as usize * 512, spare) else {
         return Reply::busy();
     };
-    let transfer = read_sectors(blocks, geometry, addr, lba, count, block, &mut out);
-    reply_to_read(transfer, out)
+    let read = read_sectors(blocks, geometry, addr, lba, count, block, &mut out);
+    reply_to_read(read, out)
+}
+
+// Memory of `len` bytes: what was lent if it has this length, else a new allocation.
+fn memory_for(alloc: Global, len: usize, spare: &mut Vec<u8>) -> Result<Vec<u8>, AllocError>
+    ensures { IfOk result (λ memory. length memory.items ≡ len) }
+{
+    if spare.len() == len {
+        return Ok(std::mem::replace(spare, Vec::new(alloc)));
+    }
+    vec![in alloc; 0; len]
 }
 
 // The reply to a READ whose transfer ended so, with these bytes.
-fn reply_to_read(transfer: Transfer, bytes: Vec<u8>) -> Reply
-    requires some { transfer ≡ Transfer.Done → bytes.items ≢ [] }
-    requires few { transfer ≡ Transfer.Done → length bytes.items ≤ 65535 * 512 }
+fn reply_to_read(read: Completion, bytes: Vec<u8>) -> Reply
+    requires some { read ≡ Completion.Done → bytes.items ≢ [] }
+    requires few { read ≡ Completion.Done → length bytes.items ≤ 65535 * 512 }
     ensures few { length result.payload ≤ 65535 * 512 }
-    ensures done { transfer ≡ Transfer.Done → IsGiven (good bytes.items) result }
-    ensures broken { transfer ≡ Transfer.Broken → result ≡ check internal_target_failure }
-    ensures memory { transfer ≡ Transfer.NoMemory → result ≡ busy }
-    ensures whole { result.status ≡ Good → transfer ≡ Transfer.Done }
-    ensures lost { result.status ≡ CheckCondition → transfer ≡ Transfer.Broken }
+    ensures done { read ≡ Completion.Done → IsGiven (good bytes.items) result }
+    ensures broken { read ≡ Completion.Broken → result ≡ check internal_target_failure }
+    ensures whole { result.status ≡ Good → read ≡ Completion.Done }
+    ensures lost { result.status ≡ CheckCondition → read ≡ Completion.Broken }
     ensures failed { result.status ≡ CheckCondition → result ≡ check internal_target_failure }
 {
-    match transfer {
-        Transfer::Done => good_with(bytes),
-        Transfer::Broken => Reply::check(Sense::INTERNAL_TARGET_FAILURE),
-        Transfer::NoMemory => Reply::busy(),
+    match read {
+        Completion::Done => good_with(bytes),
+        Completion::Broken => Reply::check(Sense::INTERNAL_TARGET_FAILURE),
     }
 }
 

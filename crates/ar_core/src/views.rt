@@ -162,7 +162,7 @@ impl<D: Disk> Array<D> {
         if !has_row(self.blocks.disks(), place, row) {
             return Shown::Outside;
         }
-        match self.blocks.read_place(place, row, into) {
+        match self.blocks.read_place(place, row, into.bytes_mut()) {
             Got::Read => Shown::Bytes,
             Got::Missing => Shown::Missing,
             Got::Broken => Shown::Broken,

@@ -74,3 +74,15 @@ xor_first-more zero (x ∷ xs) (y ∷ ys) lx ly = refl
 xor_first-more (suc i) (x ∷ xs) (y ∷ ys) lx ly = ap (λ l. bit_xor x y ∷ l) (xor_first-more i xs ys (omega arith) (omega arith))
 xor_first-more i [] ys lx ly = absurd (omega arith)
 xor_first-more i xs [] lx ly = absurd (omega arith)
+
+-- one more byte of two blocks at once
+pub xor_both-more : (i : ℕ) (xs ys zs : List ℕ) → i < length xs → i < length ys → i < length zs
+    → set (xor_first i (xor_first i xs ys) zs) i
+    (bit_xor (bit_xor (get_or (xor_first i (xor_first i xs ys) zs) i 0) (get_or ys i 0)) (get_or zs i 0))
+    ≡ xor_first (suc i) (xor_first (suc i) xs ys) zs
+xor_both-more zero (x ∷ xs) (y ∷ ys) (z ∷ zs) lx ly lz = refl
+xor_both-more (suc i) (x ∷ xs) (y ∷ ys) (z ∷ zs) lx ly lz =
+    ap (λ l. bit_xor (bit_xor x y) z ∷ l) (xor_both-more i xs ys zs (omega arith) (omega arith) (omega arith))
+xor_both-more i [] ys zs lx ly lz = absurd (omega arith)
+xor_both-more i xs [] zs lx ly lz = absurd (omega arith)
+xor_both-more i xs ys [] lx ly lz = absurd (omega arith)

@@ -4,5 +4,6 @@ pub mod Disk
 pub mod Endings
 pub mod Fuse
 pub mod Geometry
+pub mod Lending
 pub mod Members
 pub mod Memory

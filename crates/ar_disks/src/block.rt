@@ -1,9 +1,9 @@
 // A relocation block: a byte buffer that no call resizes.
 ghost use Rattle.std.specs.Prelude.{◌≡◌, ◌+◌, ◌*◌, ◌≤◌, ◌<◌, length, IfOk, List, ℕ};
 ghost use Rattle.ar_disks.specs.Geometry.{block_len_of};
-ghost use Rattle.ar_disks.specs.Block.{zeros, xor, sectors_at, with_sectors};
+ghost use Rattle.ar_disks.specs.Block.{zeros, sectors_at, with_sectors};
 
-use crate::bytes::{add_into, overwrite};
+use crate::bytes::{overwrite, zero};
 use crate::geometry::{Geometry, SECTOR_LEN};
 use std::alloc::{AllocError, Global};
 use std::marker::Model;
@@ -23,6 +23,9 @@ impl Model for Block {
 }
 
 impl Block {
+    ghost use Rattle.std.specs.Borrow.{sem};
+    ghost use Rattle.ar_disks.specs.Lending.{LendsBytes};
+
     #[tactic(auto, unfolding(crate::specs::Block::zeros))]
     /// A block of `geometry.block_len()` zero bytes. Fails if out of memory.
     pub fn new(alloc: Global, geometry: Geometry) -> Result<Block, AllocError>
@@ -40,21 +43,20 @@ impl Block {
         &self.bytes
     }
 
-    #[tactic(auto, unfolding(crate::specs::Block::zeros))]
+    /// The bytes, to be overwritten in place: the block then has the last bytes behind the result.
+    pub fn bytes_mut(&mut self) -> &mut [u8]
+        ensures* writes_back { sem 𝓛 (LendsBytes self.entry result) }
+        ensures value { result.now ≡ self.old }
+    {
+        self.bytes.as_mut_slice()
+    }
+
     /// Sets every byte to zero.
     pub fn zero(&mut self)
         ensures zero { self.new ≡ zeros (length self.old) }
         ensures len { length self.new ≡ length self.old }
     {
-        self.bytes.fill(0);
-    }
-
-    /// Copies the bytes of `other`, a block of the same length.
-    pub fn copy_from(&mut self, other: &Block)
-        requires { length other.now ≡ length self.old }
-        ensures { self.new ≡ other.now }
-    {
-        self.bytes.copy_from_slice(&other.bytes);
+        zero(&mut self.bytes);
     }
 
     /// Copies `bytes`, which are as long as the block.
@@ -63,24 +65,6 @@ impl Block {
         ensures { self.new ≡ bytes.now }
     {
         self.bytes.copy_from_slice(bytes);
-    }
-
-    /// XORs this block into `target`, a block of the same length.
-    pub fn xor_into(&self, target: &mut Block)
-        requires { length target.old ≡ length self.now }
-        ensures sum { target.new ≡ xor target.old self.now }
-        ensures len { length target.new ≡ length target.old }
-    {
-        target.add(&self.bytes);
-    }
-
-    /// XORs `bytes`, which are as long as the block, into this block.
-    pub fn add(&mut self, bytes: &[u8])
-        requires { length bytes.now ≡ length self.old }
-        ensures sum { self.new ≡ xor self.old bytes.now }
-        ensures len { length self.new ≡ length self.old }
-    {
-        add_into(bytes, &mut self.bytes);
     }
 
     /// Sector `index`: 512 bytes.

@@ -4,7 +4,7 @@ ghost use Rattle.std.specs.Prelude.{◌≡◌, length};
 ghost use Rattle.ar_disks.specs.Geometry.{block_len_of};
 ghost use Rattle.ar_disks.specs.Disk.{DiskState, HasPlace, Reads, Writes};
 
-use crate::{Block, Geometry};
+use crate::Geometry;
 
 /// A disk of equal extents, each of `geometry().rows()` rows. A row is as long as a block.
 ///
@@ -24,11 +24,10 @@ pub trait Disk {
 
     /// Reads the block at row `row` of extent `ext` into `into`. Returns false if the disk faults in this call or had
     /// failed before; `into` then has unspecified bytes.
-    fn read(&mut self, ext: u16, row: u16, into: &mut Block) -> bool
+    fn read(&mut self, ext: u16, row: u16, into: &mut [u8]) -> bool
         requires place { HasPlace (state self.old) ext row }
         requires whole { length into.old ≡ block_len_of (state self.old).geometry }
-        ensures read { Reads (state self.old) (state self.new) ext row result into.new }
-        ensures len { length into.new ≡ length into.old };
+        ensures read { Reads (state self.old) (state self.new) ext row result into.new };
 
     /// Writes the block `from` to row `row` of extent `ext`, and to no other place. Returns false if the disk faults in
     /// this call or had failed before; the place then has unspecified bytes.

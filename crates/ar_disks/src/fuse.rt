@@ -4,7 +4,7 @@ ghost use Rattle.std.specs.Bool.{OnTrue, OnFalse};
 ghost use Rattle.ar_disks.specs.Geometry.{block_len_of};
 ghost use Rattle.ar_disks.specs.Disk.{HasPlace, Reads, Writes};
 
-use crate::{Block, Disk, Geometry, MemDisk};
+use crate::{Disk, Geometry, MemDisk};
 use std::marker::Model;
 
 /// A disk in memory that passes `left` reads and writes and fails at the next one.
@@ -81,11 +81,10 @@ impl Disk for FuseDisk {
         self.disk.extents()
     }
 
-    fn read(&mut self, ext: u16, row: u16, into: &mut Block) -> bool
+    fn read(&mut self, ext: u16, row: u16, into: &mut [u8]) -> bool
         requires place { HasPlace self.old.disk ext row }
         requires whole { length into.old ≡ block_len_of self.old.disk.geometry }
         ensures read { Reads self.old.disk self.new.disk ext row result into.new }
-        ensures len { length into.new ≡ length into.old }
         // It passes `left` accesses. The next one fails the disk and counts a fault; the bytes stay.
         ensures fuse { IsTrue result ↔ (0 < self.old.left) }
         ensures left { self.new.left ≡ self.old.left - 1 }

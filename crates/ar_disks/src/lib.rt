@@ -17,6 +17,7 @@ mod scratch;
 pub use accesses::AccessCount;
 pub use address::{Addr, Host, Key, Members, Place};
 pub use block::Block;
+pub use bytes::{add_both_into, add_into, zero};
 pub use completion::Completion;
 pub use disk::Disk;
 pub use fuse::FuseDisk;

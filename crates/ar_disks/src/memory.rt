@@ -7,7 +7,7 @@ ghost use Rattle.ar_disks.specs.Geometry.{extent_len_of, block_len_of};
 ghost use Rattle.ar_disks.specs.Disk.{HasPlace, Reads, Writes, offset_of};
 
 use crate::bytes::overwrite;
-use crate::{AccessCount, Block, Disk, Geometry};
+use crate::{AccessCount, Disk, Geometry};
 use std::alloc::{AllocError, Global};
 use std::marker::Model;
 
@@ -82,11 +82,10 @@ impl Disk for MemDisk {
         self.extents
     }
 
-    fn read(&mut self, ext: u16, row: u16, into: &mut Block) -> bool
+    fn read(&mut self, ext: u16, row: u16, into: &mut [u8]) -> bool
         requires place { HasPlace self.old ext row }
         requires whole { length into.old ≡ block_len_of self.old.geometry }
         ensures read { Reads self.old self.new ext row result into.new }
-        ensures len { length into.new ≡ length into.old }
         // It never faults.
         ensures sound { IsTrue result }
     {

@@ -61,7 +61,7 @@ fn copy_row<D: Disk>(set: &mut DiskSet<D>, from: Place, row: u16, block: &mut Bl
     ensures follows { Follows set.old set.new }
     ensures len { length block.new ≡ length block.old }
 {
-    match set.get(from, row, block) {
+    match set.get(from, row, block.bytes_mut()) {
         Got::Read => match set.put_new(row, block.bytes()) {
             PutNew::Written => RowOutcome::Done,
             PutNew::GivenUp => RowOutcome::GivenUp,

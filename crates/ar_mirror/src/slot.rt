@@ -10,7 +10,7 @@ ghost use Rattle.ar_mirror.specs.Holds.{Holds};
 ghost use Rattle.ar_mirror.specs.Calls.{ReadsSlot, OtherMirrorSlotsHold, OtherGroupsHold};
 
 use crate::pair::pair_of;
-use ar_disks::{Block, Completion, Disk, Members};
+use ar_disks::{Completion, Disk, Members};
 use ar_extents::{DiskSet, Got, Put};
 
 /// Reads slot `slot`, below twice the rows of an extent, into `into`, a block of the set's length. It reads the first
@@ -20,7 +20,7 @@ pub fn get<D: Disk>(
     set: &mut DiskSet<D>,
     members: &Members,
     slot: u16,
-    into: &mut Block,
+    into: &mut [u8],
 ) -> Completion
     requires group { IsGroup set.old members.now }
     requires slot { slot < mirror_slots_of set.old.geometry }
@@ -31,7 +31,6 @@ pub fn get<D: Disk>(
 
     // Exactly these accesses are made.
     ensures plan { CarriesOut (mirror_read set.old.geometry members.now slot) set.old set.new }
-    ensures len { length into.new ≡ length into.old }
 {
     let pair = pair_of(set.geometry(), members, slot);
     match set.get(pair.one, pair.row, into) {

@@ -10,7 +10,7 @@ ghost use Rattle.ar_script.specs.Setups.{disks_of, new_disk};
 
 use crate::DiskMaker;
 use ar_core::{Array, CAPACITY_LIMIT};
-use ar_disks::{Block, Disk, Geometry, MemDisk};
+use ar_disks::{Disk, Geometry, MemDisk};
 use ar_language::Fault;
 use ar_script::{Setup, new_disk};
 use std::alloc::{AllocError, Global};
@@ -129,11 +129,10 @@ impl<'a> Disk for FusedDisk<'a> {
         self.disk.extents()
     }
 
-    fn read(&mut self, ext: u16, row: u16, into: &mut Block) -> bool
+    fn read(&mut self, ext: u16, row: u16, into: &mut [u8]) -> bool
         requires place { HasPlace self.old ext row }
         requires whole { length into.old ≡ block_len_of self.old.geometry }
         ensures read { Reads self.old self.new ext row result into.new }
-        ensures len { length into.new ≡ length into.old }
     {
         self.passes() && self.disk.read(ext, row, into)
     }

@@ -15,7 +15,7 @@ ghost use Rattle.ar_parity.specs.Call.{ReportsFailure};
 
 use crate::slots::{another, highest_beside, lowest_beside};
 use crate::steps::{add_beside, read_beside};
-use ar_disks::{Block, Completion, Disk, Members};
+use ar_disks::{Completion, Disk, Members};
 use ar_extents::DiskSet;
 
 // Computes the XOR of the two blocks of a stripe that are neither at `lost` nor at `beside`.
@@ -25,8 +25,8 @@ pub(crate) fn sum_of_two<D: Disk>(
     lost: u8,
     beside: u8,
     row: u16,
-    into: &mut Block,
-    spare: &mut Block,
+    into: &mut [u8],
+    spare: &mut [u8],
 ) -> Completion
     requires group { IsGroup set.old members.now }
     requires lost_below { lost < 4 }
@@ -45,9 +45,6 @@ pub(crate) fn sum_of_two<D: Disk>(
 
     ensures keeps { Keeps Anywhere set.old set.new }
     ensures works { WorksOn (IsMember members.now) set.old set.new }
-
-    ensures len { length into.new ≡ length into.old }
-    ensures spare_len { length spare.new ≡ length spare.old }
 {
     let low = lowest_beside(lost, beside);
     let high = highest_beside(lost, beside);
@@ -63,8 +60,8 @@ pub(crate) fn sum_of_three<D: Disk>(
     members: &Members,
     lost: u8,
     row: u16,
-    into: &mut Block,
-    spare: &mut Block,
+    into: &mut [u8],
+    spare: &mut [u8],
 ) -> Completion
     requires group { IsGroup set.old members.now }
     requires below { lost < 4 }
@@ -81,9 +78,6 @@ pub(crate) fn sum_of_three<D: Disk>(
 
     ensures keeps { Keeps Anywhere set.old set.new }
     ensures works { WorksOn (IsMember members.now) set.old set.new }
-
-    ensures len { length into.new ≡ length into.old }
-    ensures spare_len { length spare.new ≡ length spare.old }
 {
     let third = another(lost);
     match sum_of_two(set, members, lost, third, row, into, spare) {

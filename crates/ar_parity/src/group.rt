@@ -15,7 +15,7 @@ use crate::degraded::sum_of_three;
 use crate::slots::{data_at, row_of_slot};
 use crate::update::change;
 use crate::zero::zero_row;
-use ar_disks::{Block, Completion, Disk, Members, Scratch};
+use ar_disks::{Completion, Disk, Members, Scratch};
 use ar_extents::{DiskSet, Got};
 
 /// Writes zeros to every row of the members that aren't missing, in order of the rows: every slot then holds zeros.
@@ -59,7 +59,7 @@ pub fn get<D: Disk>(
     set: &mut DiskSet<D>,
     members: &Members,
     slot: u16,
-    into: &mut Block,
+    into: &mut [u8],
     scratch: &mut Scratch,
 ) -> Completion
     requires group { IsGroup set.old members.now }
@@ -72,14 +72,13 @@ pub fn get<D: Disk>(
     // Exactly these accesses are made.
     ensures plan { CarriesOut (parity_read members.now slot) set.old set.new }
 
-    ensures len { length into.new ≡ length into.old }
     ensures scratch { scratch.new.geometry ≡ scratch.old.geometry }
 {
     let row = row_of_slot(slot);
     let position = data_at(slot);
     match set.get(members.at(position), row, into) {
         Got::Read => Completion::Done,
-        Got::Missing => sum_of_three(set, members, position, row, into, &mut scratch.first),
+        Got::Missing => sum_of_three(set, members, position, row, into, scratch.first.bytes_mut()),
         Got::Broken => Completion::Broken,
     }
 }

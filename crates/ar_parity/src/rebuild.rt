@@ -47,8 +47,8 @@ pub fn rebuild_row<D: Disk>(
         members,
         position,
         row,
-        &mut scratch.first,
-        &mut scratch.second,
+        scratch.first.bytes_mut(),
+        scratch.second.bytes_mut(),
     ) {
         Completion::Done => {}
         Completion::Broken => return RowOutcome::Broken,

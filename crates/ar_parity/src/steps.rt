@@ -13,7 +13,7 @@ ghost use Rattle.ar_parity.specs.Group.{Stands};
 ghost use Rattle.ar_disks.specs.Endings.{OnDone};
 ghost use Rattle.ar_parity.specs.Call.{ReportsFailure};
 
-use ar_disks::{Block, Completion, Disk, Members};
+use ar_disks::{Completion, Disk, Members, add_into};
 use ar_extents::{DiskSet, Got, Put};
 
 // Writes a row of the member at `position`, unless it is missing.
@@ -47,7 +47,7 @@ pub(crate) fn read_beside<D: Disk>(
     lost: u8,
     position: u8,
     row: u16,
-    into: &mut Block,
+    into: &mut [u8],
 ) -> Completion
     requires group { IsGroup set.old members.now }
     requires lost_below { lost < 4 }
@@ -64,7 +64,6 @@ pub(crate) fn read_beside<D: Disk>(
 
     ensures keeps { Keeps Anywhere set.old set.new }
     ensures works { WorksOn (IsPlace (member members.now position)) set.old set.new }
-    ensures len { length into.new ≡ length into.old }
 {
     match set.get(members.at(position), row, into) {
         Got::Read => Completion::Done,
@@ -79,8 +78,8 @@ pub(crate) fn add_beside<D: Disk>(
     lost: u8,
     position: u8,
     row: u16,
-    into: &mut Block,
-    spare: &mut Block,
+    into: &mut [u8],
+    spare: &mut [u8],
 ) -> Completion
     requires group { IsGroup set.old members.now }
     requires lost_below { lost < 4 }
@@ -99,13 +98,10 @@ pub(crate) fn add_beside<D: Disk>(
 
     ensures keeps { Keeps Anywhere set.old set.new }
     ensures works { WorksOn (IsPlace (member members.now position)) set.old set.new }
-
-    ensures len { length into.new ≡ length into.old }
-    ensures spare_len { length spare.new ≡ length spare.old }
 {
     match read_beside(set, members, lost, position, row, spare) {
         Completion::Done => {
-            spare.xor_into(into);
+            add_into(spare, into);
             Completion::Done
         }
         Completion::Broken => Completion::Broken,

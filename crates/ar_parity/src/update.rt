@@ -14,7 +14,7 @@ ghost use Rattle.ar_parity.specs.Call.{ReportsFailure, UpdatesStripe, WritesInTu
 use crate::degraded::sum_of_two;
 use crate::slots::parity_at;
 use crate::steps::write;
-use ar_disks::{Block, Completion, Disk, Members, Scratch};
+use ar_disks::{Completion, Disk, Members, Scratch, add_both_into, add_into};
 use ar_extents::{DiskSet, Got};
 
 // Writes a data block, and then the parity of its stripe, each unless its member is missing.
@@ -59,8 +59,8 @@ fn update<D: Disk>(
     position: u8,
     row: u16,
     from: &[u8],
-    before: &Block,
-    sum: &mut Block,
+    before: &[u8],
+    sum: &mut [u8],
 ) -> Completion
     requires group { IsGroup set.old members.now }
     requires below { position < 4 }
@@ -78,14 +78,12 @@ fn update<D: Disk>(
     ensures order { WritesInTurn (member members.now position) (member members.now (parity_position row))
         set.old set.new }
     ensures plan { CarriesOut (write_known members.now position (parity_position row) row) set.old set.new }
-    ensures sum_len { length sum.new ≡ length sum.old }
 {
     let parity = parity_at(row);
     match set.get(members.at(parity), row, sum) {
         Got::Read => {
-            before.xor_into(sum);
-            sum.add(from);
-            write_both(set, members, position, parity, row, from, sum.bytes())
+            add_both_into(before, from, sum);
+            write_both(set, members, position, parity, row, from, sum)
         }
         Got::Missing => write(set, members, position, row, from),
         Got::Broken => Completion::Broken,
@@ -100,8 +98,8 @@ fn put_lost<D: Disk>(
     position: u8,
     row: u16,
     from: &[u8],
-    sum: &mut Block,
-    spare: &mut Block,
+    sum: &mut [u8],
+    spare: &mut [u8],
 ) -> Completion
     requires group { IsGroup set.old members.now }
     requires below { position < 4 }
@@ -119,15 +117,12 @@ fn put_lost<D: Disk>(
     ensures keeps { KeepsButRow members.now row set.old set.new }
     ensures works { WorksOn (IsMember members.now) set.old set.new }
     ensures plan { CarriesOut (write_lost members.now position (parity_position row) row) set.old set.new }
-
-    ensures sum_len { length sum.new ≡ length sum.old }
-    ensures spare_len { length spare.new ≡ length spare.old }
 {
     let parity = parity_at(row);
     match sum_of_two(set, members, position, parity, row, sum, spare) {
         Completion::Done => {
-            sum.add(from);
-            write(set, members, parity, row, sum.bytes())
+            add_into(from, sum);
+            write(set, members, parity, row, sum)
         }
         Completion::Broken => Completion::Broken,
     }
@@ -157,10 +152,11 @@ fn change_by_reading<D: Disk>(
     ensures plan { CarriesOut (write_by_reading members.now position (parity_position row) row) set.old set.new }
     ensures scratch { scratch.new.geometry ≡ scratch.old.geometry }
 {
-    let sum = &mut scratch.second;
-    match set.get(members.at(position), row, &mut scratch.first) {
-        Got::Read => update(set, members, position, row, from, &scratch.first, sum),
-        Got::Missing => put_lost(set, members, position, row, from, sum, &mut scratch.first),
+    let old = scratch.first.bytes_mut();
+    let sum = scratch.second.bytes_mut();
+    match set.get(members.at(position), row, old) {
+        Got::Read => update(set, members, position, row, from, old, sum),
+        Got::Missing => put_lost(set, members, position, row, from, sum, old),
         Got::Broken => Completion::Broken,
     }
 }

@@ -1,7 +1,7 @@
 // Disk failure, addition and replacement, and raw reads of rows: none of them changes the contents of a block.
 
 use crate::Store;
-use ar_disks::{Block, Disk, Place};
+use ar_disks::{Disk, Place};
 use ar_extents::{DiskRefusal, Got};
 
 impl<D: Disk> Store<D> {
@@ -50,7 +50,7 @@ impl<D: Disk> Store<D> {
     /// Reads row `row` of the extent `place` from its disk into `into`, a block of the store's length, whatever the
     /// extent is used for. Unless it returns `Read`, the contents of `into` are unspecified. A missing extent isn't
     /// accessed.
-    pub fn read_place(&mut self, place: Place, row: u16, into: &mut Block) -> Got
+    pub fn read_place(&mut self, place: Place, row: u16, into: &mut [u8]) -> Got
         requires place { HasExtent self.old.disks place }
         requires row { row < rows_of self.old.disks.geometry }
         requires whole { length into.old ≡ block_len_of self.old.disks.geometry }
@@ -62,7 +62,6 @@ impl<D: Disk> Store<D> {
         ensures book { self.new.book ≡ self.old.book }
         ensures stands { AllStand self.old self.new }
         ensures accessed { IsAccessed self.old.disks self.new.disks }
-        ensures len { length into.new ≡ length into.old }
     {
         self.space.disks.get(place, row, into)
     }

@@ -46,8 +46,9 @@ impl<D: Disk> Space<D> {
         let Some(from) = self.book.home(key) else {
             unreachable!()
         };
-        match self.read_at(from, block) {
-            Completion::Done => self.fill(key, to, block.bytes()),
+        let bytes = block.bytes_mut();
+        match self.read_at(from, bytes) {
+            Completion::Done => self.fill(key, to, bytes),
             Completion::Broken => Completion::Broken,
         }
     }

@@ -2,7 +2,7 @@
 
 use crate::space::Space;
 use ar_book::{Class, Slot};
-use ar_disks::{Block, Completion, Disk};
+use ar_disks::{Completion, Disk};
 
 impl<D: Disk> Space<D> {
     ghost use Rattle.std.specs.Prelude.{◌≡◌, ℕ, List, length};
@@ -17,7 +17,7 @@ impl<D: Disk> Space<D> {
     ghost use Rattle.ar_store.specs.Spaces.{store_in, IsReady, Stays};
 
     /// Reads a slot. No row of any disk changes.
-    pub(crate) fn read_at(&mut self, slot: Slot, into: &mut Block) -> Completion
+    pub(crate) fn read_at(&mut self, slot: Slot, into: &mut [u8]) -> Completion
         requires ready { IsReady self.old }
         requires slot { HasSlot self.old.book slot }
         requires whole { length into.old ≡ block_len_of self.old.disks.geometry }
@@ -30,7 +30,6 @@ impl<D: Disk> Space<D> {
         ensures keeps { Keeps Anywhere self.old.disks self.new.disks }
         ensures stand { AllStand (store_in self.old) (store_in self.new) }
         ensures stays { Stays self.old self.new }
-        ensures len { length into.new ≡ length into.old }
     {
         let members = self.book.members(slot.group);
         match self.book.class(slot.group) {

@@ -5,7 +5,7 @@ use crate::Opening;
 use crate::space::Space;
 use crate::way::Way;
 use ar_book::{Book, Class, Slot};
-use ar_disks::{Block, Completion, Disk, Key};
+use ar_disks::{Block, Completion, Disk, Key, zero};
 use ar_extents::{DiskSet, Health};
 use std::marker::Model;
 
@@ -93,7 +93,7 @@ impl<D: Disk> Store<D> {
     /// (`AsksFor`). No row of any disk changes. Returns `Broken` exactly if the array has failed after the call, with
     /// or without a home; the contents of `into` are then unspecified, and an array that had failed before is
     /// unchanged.
-    pub fn get(&mut self, key: Key, into: &mut Block) -> Completion
+    pub fn get(&mut self, key: Key, into: &mut [u8]) -> Completion
         requires whole { length into.old ≡ block_len_of self.old.disks.geometry }
 
         ensures outcome { result ≡ outcome_of self.new.disks.health }
@@ -106,14 +106,13 @@ impl<D: Disk> Store<D> {
         ensures book { self.new.book ≡ self.old.book }
         ensures accessed { IsAccessed self.old.disks self.new.disks }
         ensures broken { self.old.disks.health ≡ Health.Broken → self.new ≡ self.old }
-        ensures len { length into.new ≡ length into.old }
     {
         match self.space.disks.health() {
             Health::Broken => Completion::Broken,
             _ => match self.space.book.home(key) {
                 Some(slot) => self.space.read_at(slot, into),
                 None => {
-                    into.zero();
+                    zero(into);
                     Completion::Done
                 }
             },

@@ -1,20 +1,20 @@
 -- Runs of sectors, within a block and over blocks.
-use Rattle.std.proofs.Common.{◌≡◌, ◌≢◌, ◌⊎◌, Bool, true, false, ℕ, zero, suc, ◌+◌, ◌-◌, ◌*◌, ◌/◌, ◌%◌, ◌<◌, ◌≤◌, List, ◌++◌, take, drop, min, refl, sym, ap, ◌∙◌, inl, inr, lit<, mod-lt, arith}
+use Rattle.std.proofs.Common.{◌≡◌, ◌≢◌, ◌⊎◌, Bool, true, false, ℕ, zero, suc, ◌+◌, ◌-◌, ◌*◌, ◌/◌, ◌%◌, ◌<◌, ◌≤◌, List, ◌++◌, length, take, drop, min, refl, sym, ap, ◌∙◌, inl, inr, lit<, mod-lt, arith}
 use Rattle.std.specs.List.{concat}
 use Rattle.std.proofs.lemmas.Bool.{cases_eq, cases_lt}
+use Rattle.std.proofs.Math.Seq.{take-append_seam}
 use Rattle.std.proofs.lemmas.List.{append_assoc}
 use Rattle.std.proofs.lemmas.Nat.{div-mul-add, mod-mul-add, div-add-mod'}
 use Rattle.ar_disks.specs.declared.geometry.Geometry.{Geometry}
 use Rattle.ar_disks.specs.declared.geometry.Geometry.TheVariants.{Paper, Small}
 use Rattle.ar_disks.specs.Geometry.{sectors_of}
+use Rattle.ar_disks.specs.Lending.{refilled}
 use Rattle.ar_disks.specs.Block.{sectors_at}
 use Rattle.ar_disks.proofs.Sectors.{sectors_at_is, sectors_at-none, sectors_at-add, sectors_at-sectors_at}
 use Rattle.ar_disks.specs.declared.address.Addr.{Addr}
 use Rattle.ar_disks.specs.declared.address.Key.{Key}
 use Rattle.ar_cache.specs.Backing.{stored}
 use Rattle.ar_disks.specs.declared.completion.Completion.TheVariants.{Done as Kept}
-use Rattle.ar_volume.specs.declared.transfer.Transfer.{Transfer}
-use Rattle.ar_volume.specs.declared.transfer.Transfer.TheVariants.{Done, Broken}
 use Rattle.ar_volume.specs.Sectors.{sector_in, sectors_in, key_of}
 
 -- sector f of block r
@@ -58,19 +58,23 @@ sectors_in-piece g blocks at n within =
     let split : at / sectors_of g * sectors_of g + at % sectors_of g ≡ at = div-add-mod' at (sectors_of g) in
     ap (λ k. concat (sectors_in g blocks k n)) (sym split) ∙ sectors_in-block g blocks (at / sectors_of g) (at % sectors_of g) n within
 
+-- a block over all of whose bytes others were written is these
+pub refilled_is : (block bytes : List ℕ) → length bytes ≡ length block → refilled block bytes ≡ bytes
+refilled_is block bytes same =
+    ap (λ n. take n (bytes ++ drop (length bytes) block)) (sym same) ∙ take-append_seam bytes (drop (length bytes) block)
+
 -- one more part of a transfer
-pub sectors_in-more : (g : Geometry) (blocks : ℕ → List ℕ) (lba at part : ℕ) (before out piece : List ℕ) → lba ≤ at → at % sectors_of g + part ≤ sectors_of g
-    → out ≡ before ++ concat (sectors_in g blocks lba (at - lba)) → piece ≡ sectors_at (blocks (at / sectors_of g)) (at % sectors_of g) part
-    → out ++ piece ≡ before ++ concat (sectors_in g blocks lba (at + part - lba))
-sectors_in-more g blocks lba at part before out piece from within so_far is =
+pub sectors_in-more : (g : Geometry) (blocks : ℕ → List ℕ) (lba at part : ℕ) (begun piece : List ℕ) → lba ≤ at → at % sectors_of g + part ≤ sectors_of g
+    → begun ≡ concat (sectors_in g blocks lba (at - lba)) → piece ≡ sectors_at (blocks (at / sectors_of g)) (at % sectors_of g) part
+    → begun ++ piece ≡ concat (sectors_in g blocks lba (at + part - lba))
+sectors_in-more g blocks lba at part begun piece from within so_far is =
     let here : lba + (at - lba) ≡ at = omega arith in
     let count : at - lba + part ≡ at + part - lba = omega arith in
     let done : List ℕ = concat (sectors_in g blocks lba (at - lba)) in
     ap (λ l. l ++ piece) so_far
-    ∙ append_assoc before done piece
-    ∙ ap (λ l. before ++ (done ++ l)) (is ∙ sym (sectors_in-piece g blocks at part within) ∙ ap (λ k. concat (sectors_in g blocks k part)) (sym here))
-    ∙ ap (λ l. before ++ l) (sym (sectors_in-add g blocks lba (at - lba) part))
-    ∙ ap (λ k. before ++ concat (sectors_in g blocks lba k)) count
+    ∙ ap (λ l. done ++ l) (is ∙ sym (sectors_in-piece g blocks at part within) ∙ ap (λ k. concat (sectors_in g blocks k part)) (sym here))
+    ∙ sym (sectors_in-add g blocks lba (at - lba) part)
+    ∙ ap (λ k. concat (sectors_in g blocks lba k)) count
 
 -- a part of what is left of a range has some sector
 pub part-some : (g : Geometry) (at left part : ℕ) → part ≡ min (sectors_of g - at % sectors_of g) left → 0 < left → 0 < part
@@ -173,6 +177,3 @@ other_unit k key other = λ same. other (ap (λ (k : Key). k.addr) same)
 pub stored_done : (broken : Bool) → stored broken ≡ Kept → broken ≡ false
 stored_done false done = refl
 stored_done true done = let told = done in absurd (cc)
-
-pub done_not_broken : {transfer : Transfer} → transfer ≡ Done → transfer ≢ Broken
-done_not_broken done broken = let told = sym done ∙ broken in cc

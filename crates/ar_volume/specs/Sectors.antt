@@ -1,5 +1,5 @@
 -- How the sectors of a unit lie in its blocks: block rb has sectors rb * n to rb * n + n - 1, n sectors a block.
-use Rattle.std.specs.Prelude.{◌≡◌, ℕ, ◌+◌, ◌-◌, ◌/◌, ◌%◌, ◌≤◌, ◌==◌, ◌&&◌, ◌++◌, if◌then◌else◌, Bool, List, [], map}
+use Rattle.std.specs.Prelude.{◌≡◌, ℕ, ◌+◌, ◌-◌, ◌/◌, ◌%◌, ◌==◌, ◌&&◌, ◌++◌, if◌then◌else◌, Bool, List, [], map}
 use Rattle.std.specs.List.{concat, range_with_len}
 use Rattle.ar_disks.specs.declared.address.Addr.{Addr}
 use Rattle.ar_disks.specs.declared.address.Key.{Key}
@@ -41,9 +41,3 @@ sector_in g blocks i = sectors_at (blocks (i / sectors_of g)) (i % sectors_of g)
 -- its `count` sectors from `first` on
 abbrev pub sectors_in : Geometry → (ℕ → List ℕ) → ℕ → ℕ → List (List ℕ)
 sectors_in g blocks first count = map (sector_in g blocks) (range_with_len first count)
-
--- the first `many` of `count` sectors of a unit from `lba` on were appended, and nothing else
-pub record AppendsFirst (g : Geometry) (blocks : ℕ → List ℕ) (lba count : ℕ) (old new : List ℕ) : Type 0 where
-  pub many : ℕ
-  pub within : many ≤ count
-  pub bytes : new ≡ old ++ concat (sectors_in g blocks lba many)

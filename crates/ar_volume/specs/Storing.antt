@@ -38,11 +38,11 @@ pub record FailsReading {S : Type 0} (gets : S → Key → S → Type 0) (broken
   pub sound : broken next ≡ false
   pub last : gets next (key_of addr ((lba + many) / sectors_of g)) new
 
--- The same, and the first sectors were returned, but none of the block at which it failed.
+-- The same, and the bytes begin with the sectors of the blocks before the one at which it failed.
 pub record StopsReading {S : Type 0} (gets : S → Key → S → Type 0) (broken : S → Bool) (g : Geometry) (blocks : ℕ → List ℕ) (addr : Addr)
-    (lba count : ℕ) (old new : S) (given after : List ℕ) : Type 0 where
+    (lba count : ℕ) (old new : S) (bytes : List ℕ) : Type 0 where
   pub fails : FailsReading gets broken g addr lba count old new
-  pub bytes : after ≡ given ++ concat (sectors_in g blocks lba fails.many)
+  pub begun : take (512 * fails.many) bytes ≡ concat (sectors_in g blocks lba fails.many)
 
 -- the keys whose blocks a put of this one writes to the disks: the one that it evicts, and its own if it was written
 -- through

@@ -7,7 +7,7 @@ ghost use Rattle.ar_volume.specs.Following.{StoreFollows, ReadsStored, PutsStore
 ghost use Rattle.ar_volume.specs.Laws.{store_refl, store_then};
 
 use ar_cache::Backing;
-use ar_disks::{Block, Completion, Disk, Key};
+use ar_disks::{Completion, Disk, Key};
 use ar_store::Store;
 
 /// The store behind the cache. It knows the keys of units' blocks.
@@ -35,7 +35,7 @@ impl<D: Disk> Backing for Behind<D> {
 
     ghost breaks = { λ old key new. BreaksStored old.store key new.store };
 
-    fn get(&mut self, key: Key, into: &mut Block) -> Completion {
+    fn get(&mut self, key: Key, into: &mut [u8]) -> Completion {
         self.reads = self.reads.saturating_add(1);
         self.store.get(key, into)
     }

@@ -18,7 +18,7 @@ use crate::behind::Behind;
 use crate::{Flush, Refusal};
 use ar_book::Book;
 use ar_cache::{Backing, Cache};
-use ar_disks::{Addr, Block, Completion, Disk, Geometry, Key, Place};
+use ar_disks::{Addr, Completion, Disk, Geometry, Key, Place};
 use ar_extents::{DiskSet, Got, Health, StartFault, fault_of};
 use ar_store::Store;
 use std::alloc::Global;
@@ -73,7 +73,7 @@ impl<D: Disk> Backing for Blocks<D> {
 
     ghost breaks = { BreaksBlock };
 
-    fn get(&mut self, key: Key, into: &mut Block) -> Completion {
+    fn get(&mut self, key: Key, into: &mut [u8]) -> Completion {
         if self.is_broken() {
             return Completion::Broken;
         }
@@ -261,7 +261,7 @@ impl<D: Disk> Blocks<D> {
 
     /// Reads row `row` of the extent `place` from its disk, past the cache. Unless it returns `Read`, the contents of
     /// `into` are unspecified.
-    pub fn read_place(&mut self, place: Place, row: u16, into: &mut Block) -> Got
+    pub fn read_place(&mut self, place: Place, row: u16, into: &mut [u8]) -> Got
         requires place { HasExtent self.old.store.disks place }
         requires row { row < rows_of (geometry_of self.old) }
         requires whole { length into.old ≡ block_len_of (geometry_of self.old) }
@@ -273,7 +273,6 @@ impl<D: Disk> Blocks<D> {
         ensures places { SamePlaces self.old self.new }
         ensures seen { is_broken self.new ≡ false → SameSeen self.old self.new }
         ensures follows { ArrayFollows self.old self.new }
-        ensures len { length into.new ≡ length into.old }
     {
         self.behind.store.read_place(place, row, into)
     }

@@ -25,4 +25,4 @@ pub use blocks::{Blocks, Counters};
 pub use flush::UnitFlush;
 pub use new_disk::NewDisk;
 pub use refusal::Refusal;
-pub use transfer::{Transfer, read_sectors, write_sectors};
+pub use transfer::{read_sectors, write_sectors};

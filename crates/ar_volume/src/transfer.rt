@@ -1,63 +1,56 @@
 // READ and WRITE, block by block in ascending order. A block that is overwritten as a whole is never read.
-ghost use Rattle.std.specs.Prelude.{◌≡◌, ◌≢◌, ◌⊎◌, ◌+◌, ◌*◌, ◌-◌, ◌/◌, ◌%◌, ◌<◌, ◌≤◌, ◌==◌, ◌++◌, ℕ, false, IsTrue, length, vec_len, vec_capacity};
+ghost use Rattle.std.specs.Prelude.{◌≡◌, ◌≢◌, ◌⊎◌, ◌+◌, ◌*◌, ◌-◌, ◌/◌, ◌%◌, ◌<◌, ◌≤◌, ◌==◌, ℕ, false, IsTrue, length};
 ghost use Rattle.std.specs.List.{concat};
 ghost use Rattle.ar_disks.specs.declared.address.Key.{Key};
 ghost use Rattle.ar_disks.specs.Geometry.{sectors_of, block_len_of};
 ghost use Rattle.ar_disks.specs.Block.{sectors_at};
 ghost use Rattle.ar_cache.specs.Backing.{stored, InTurn, StopsInTurn, KeepsBacking, SameBlocks};
-ghost use Rattle.ar_volume.specs.Sectors.{sector_in, sectors_in, AppendsFirst, key_of, keys_in, unit_block};
+ghost use Rattle.ar_volume.specs.Sectors.{sector_in, sectors_in, key_of, keys_in, unit_block};
 ghost use Rattle.ar_volume.specs.Storing.{Overwrites, ReadsFirst, Replaces, StopsOver, StopsReading, StopsReplacing};
 
 use ar_cache::Backing;
 use ar_disks::{Addr, Block, Completion, Geometry, Key, SECTOR_LEN};
 
-/// How a READ ended.
-#[derive(Clone, Copy, Debug, PartialEq, Eq)]
-pub enum Transfer {
-    Done,
-    Broken,
-    NoMemory,
-}
-
-// Appends sectors of one block to `out`.
+#[tactic(auto, unfolding(ar_disks::specs::Block::sectors_at))]
+// Reads sectors of one block into `out`: a whole block without a copy on the way, part of one by way of `block`.
 fn read_part<B: Backing>(
     blocks: &mut B,
     key: Key,
     first: usize,
     count: usize,
     block: &mut Block,
-    out: &mut Vec<u8>,
-) -> Transfer
+    out: &mut [u8],
+) -> Completion
     requires known { IsTrue (B.knows blocks.old key) }
     requires whole { length block.old ≡ block_len_of (B.geometry blocks.old) }
+    requires sectors { length out.old ≡ 512 * count }
     requires within { first + count ≤ sectors_of (B.geometry blocks.old) }
 
-    ensures done { result ≡ Transfer.Done → out.new.items ≡ out.old.items ++ sectors_at (B.block_at blocks.old key) first count }
-    ensures many { result ≡ Transfer.Done → length out.new.items ≡ length out.old.items + 512 * count }
-    ensures broken { result ≡ Transfer.Broken → IsTrue (B.is_broken blocks.new) }
-    ensures failed { result ≢ Transfer.Done → out.new.items ≡ out.old.items }
-
-    ensures sound { result ≢ Transfer.Broken → B.is_broken blocks.new ≡ false }
-    ensures blocks { result ≢ Transfer.Broken → SameBlocks (B.block_at blocks.old) (B.block_at blocks.new) }
-    ensures keeps { KeepsBacking B.geometry B.knows B.is_broken B.follows blocks.old blocks.new }
+    ensures done { result ≡ Completion.Done → out.new ≡ sectors_at (B.block_at blocks.old key) first count }
+    ensures many { length out.new ≡ 512 * count }
+    ensures blocks { result ≡ Completion.Done → SameBlocks (B.block_at blocks.old) (B.block_at blocks.new) }
     ensures gets { B.gets blocks.old key blocks.new }
 
-    ensures room { vec_len out.old + 512 * count ≤ vec_capacity out.old → result ≢ Transfer.NoMemory }
-    ensures capacity { vec_capacity out.old ≤ vec_capacity out.new }
+    ensures answer { result ≡ stored (B.is_broken blocks.new) }
+    ensures keeps { KeepsBacking B.geometry B.knows B.is_broken B.follows blocks.old blocks.new }
     ensures len { length block.new ≡ length block.old }
 {
-    match blocks.get(key, block) {
-        Completion::Broken => Transfer::Broken,
-        Completion::Done => match out.extend_from_slice(block.sectors(first, count)) {
-            Ok(()) => Transfer::Done,
-            Err(_) => Transfer::NoMemory,
-        },
+    let scratch = block.bytes_mut();
+    if out.len() == scratch.len() {
+        return blocks.get(key, out);
+    }
+    match blocks.get(key, scratch) {
+        Completion::Done => {
+            out.copy_from_slice(&scratch[first * SECTOR_LEN..(first + count) * SECTOR_LEN]);
+            Completion::Done
+        }
+        broken => broken,
     }
 }
 
-/// Appends sectors `lba` to `lba + count - 1` of a unit, all below 1,048,576, to `out`. Reads each of their blocks
-/// once, in ascending order, until one fails. `NoMemory`: `out` lacked capacity and couldn't grow. After any result
-/// `out` is what it was, followed by a prefix of these sectors.
+/// Reads sectors `lba` to `lba + count - 1` of a unit, all below 1,048,576, into `out`, which has as many bytes. Reads
+/// each of their blocks once, in ascending order, until one fails. After `Broken`, `out` begins with the sectors of the
+/// blocks that were read; the bytes behind them are unspecified.
 pub fn read_sectors<B: Backing>(
     blocks: &mut B,
     geometry: Geometry,
@@ -65,29 +58,26 @@ pub fn read_sectors<B: Backing>(
     lba: u32,
     count: u32,
     block: &mut Block,
-    out: &mut Vec<u8>,
-) -> Transfer
+    out: &mut [u8],
+) -> Completion
     requires sound { B.is_broken blocks.old ≡ false }
     requires shape { geometry ≡ B.geometry blocks.old }
     requires whole { length block.old ≡ block_len_of geometry }
     requires known { (rb : ℕ) → rb * sectors_of geometry < lba + count → IsTrue (B.knows blocks.old (key_of addr rb)) }
     requires small { lba + count ≤ 1048576 }
+    requires sectors { length out.old ≡ 512 * count }
 
-    ensures done { result ≡ Transfer.Done → out.new.items ≡ out.old.items
-        ++ concat (sectors_in geometry (unit_block (B.block_at blocks.old) addr) lba count) }
-    ensures many { result ≡ Transfer.Done → length out.new.items ≡ length out.old.items + 512 * count }
-    ensures broken { result ≡ Transfer.Broken → IsTrue (B.is_broken blocks.new) }
-    ensures first { AppendsFirst geometry (unit_block (B.block_at blocks.old) addr) lba count out.old.items out.new.items }
+    ensures done { result ≡ Completion.Done
+        → out.new ≡ concat (sectors_in geometry (unit_block (B.block_at blocks.old) addr) lba count) }
+    ensures all { result ≡ Completion.Done → InTurn B.gets (keys_in geometry addr lba count) blocks.old blocks.new }
+    ensures blocks { result ≡ Completion.Done → SameBlocks (B.block_at blocks.old) (B.block_at blocks.new) }
 
-    ensures sound { result ≢ Transfer.Broken → B.is_broken blocks.new ≡ false }
-    ensures blocks { result ≢ Transfer.Broken → SameBlocks (B.block_at blocks.old) (B.block_at blocks.new) }
-    ensures keeps { KeepsBacking B.geometry B.knows B.is_broken B.follows blocks.old blocks.new }
     ensures gets { ReadsFirst B.gets geometry addr lba count blocks.old blocks.new }
-    ensures all { result ≡ Transfer.Done → InTurn B.gets (keys_in geometry addr lba count) blocks.old blocks.new }
-    ensures stopped { result ≢ Transfer.Done → StopsReading B.gets B.is_broken geometry (unit_block (B.block_at blocks.old) addr) addr lba count
-        blocks.old blocks.new out.old.items out.new.items }
+    ensures stopped { result ≡ Completion.Broken → StopsReading B.gets B.is_broken geometry
+        (unit_block (B.block_at blocks.old) addr) addr lba count blocks.old blocks.new out.new }
 
-    ensures room { vec_len out.old + 512 * count ≤ vec_capacity out.old → result ≢ Transfer.NoMemory }
+    ensures answer { result ≡ stored (B.is_broken blocks.new) }
+    ensures keeps { KeepsBacking B.geometry B.knows B.is_broken B.follows blocks.old blocks.new }
     ensures len { length block.new ≡ length block.old }
 {
     let sectors = geometry.sectors();
@@ -100,12 +90,14 @@ pub fn read_sectors<B: Backing>(
             addr,
             rb: at / sectors,
         };
-        match read_part(blocks, key, first as usize, part as usize, block, out) {
-            Transfer::Done => at += part,
-            failed => return failed,
+        let begin = (at - lba) as usize * SECTOR_LEN;
+        let piece = &mut out[begin..begin + part as usize * SECTOR_LEN];
+        match read_part(blocks, key, first as usize, part as usize, block, piece) {
+            Completion::Done => at += part,
+            broken => return broken,
         }
     }
-    Transfer::Done
+    Completion::Done
 }
 
 // Overwrites sectors of one block; a block that they cover in part is read first.
@@ -140,7 +132,7 @@ fn write_part<B: Backing>(
     if bytes.len() == geometry.block_len() {
         return blocks.put(key, bytes);
     }
-    match blocks.get(key, block) {
+    match blocks.get(key, block.bytes_mut()) {
         Completion::Broken => Completion::Broken,
         Completion::Done => {
             block.set_sectors(first, bytes);

@@ -75,6 +75,9 @@ impl Bare {
     fn turn(&mut self, moves: Moves, turn: usize) {
         let span = moves.times as usize;
         self.take(moves.taken, turn);
+        for number in 0..moves.fetched {
+            self.fetch(turn.wrapping_add(span.wrapping_mul(number as usize)));
+        }
         for number in 0..moves.reads {
             self.read(
                 number,
@@ -100,6 +103,13 @@ impl Bare {
         let from = place(self.geometry, DATA_BLOCKS, turn);
         let len = len.min(self.geometry.block_len());
         overwrite(&mut self.block, &self.source[from..from + len]);
+    }
+
+    // A block is copied into the answer.
+    fn fetch(&mut self, at: usize) {
+        let len = self.geometry.block_len();
+        let from = place(self.geometry, self.count, at);
+        overwrite(&mut self.answer, &self.disks[from..from + len]);
     }
 
     // The first block that is read goes to one place, the others to another.

@@ -9,7 +9,9 @@ pub struct Moves {
     pub times: u32,
     /// Bytes that come with a command and are copied into a block, whose other sectors stay.
     pub taken: usize,
-    /// Blocks that are copied from disks.
+    /// Blocks that are copied from disks into the answer.
+    pub fetched: u32,
+    /// Blocks that are copied from disks into blocks of their own.
     pub reads: u32,
     /// Of these, how many stay as they are, the first ones: the others are written, too.
     pub kept: u32,
@@ -28,6 +30,7 @@ impl Moves {
     pub const NONE: Moves = Moves {
         times: 0,
         taken: 0,
+        fetched: 0,
         reads: 0,
         kept: 0,
         sums: 0,
@@ -90,9 +93,13 @@ impl Round {
                 writes: 2,
                 ..Moves::NONE
             }),
-            Workload::Read | Workload::SmallRead | Workload::ParityRead => {
-                alone(self.read(times, 1))
-            }
+            Workload::Read | Workload::ParityRead => alone(fetched(times)),
+            Workload::SmallRead => alone(Moves {
+                times,
+                reads: 1,
+                given: self.payload(),
+                ..Moves::NONE
+            }),
             Workload::DegradedRead => self.degraded_read(),
             Workload::DegradedWrite => self.degraded_write(),
             Workload::Demote => self.demoted(),
@@ -117,16 +124,6 @@ impl Round {
             times,
             writes,
             sent: writes,
-            ..Moves::NONE
-        }
-    }
-
-    // So many reads, each of so many blocks and then of the data.
-    fn read(self, times: u32, reads: u32) -> Moves {
-        Moves {
-            times,
-            reads,
-            given: self.payload(),
             ..Moves::NONE
         }
     }
@@ -215,10 +212,12 @@ impl Round {
         let lost = self.operations() / 4;
         let sound = self.operations().saturating_sub(lost);
         let summed = Moves {
+            times: lost,
+            reads: 3,
             sums: 2,
-            ..self.read(lost, 3)
+            ..Moves::NONE
         };
-        [self.read(sound, 1), summed, Moves::NONE, Moves::NONE]
+        [fetched(sound), summed, Moves::NONE, Moves::NONE]
     }
 
     // Half of the blocks have one of their two copies on the disk that is out.
@@ -231,6 +230,15 @@ impl Round {
             Moves::NONE,
             Moves::NONE,
         ]
+    }
+}
+
+// So many whole blocks are read, each without a copy on the way.
+fn fetched(times: u32) -> Moves {
+    Moves {
+        times,
+        fetched: 1,
+        ..Moves::NONE
     }
 }
 

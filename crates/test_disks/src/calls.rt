@@ -7,7 +7,7 @@ ghost use Rattle.ar_extents.specs.Set.{HasExtent};
 use crate::fixtures::{Shape, byte_of, filled, fused_disk};
 use crate::rig::Group;
 use crate::slots::{open_group, read_slot, rebuild, write_slot};
-use ar_disks::{Block, Disk, FuseDisk, Geometry, Place};
+use ar_disks::{Disk, FuseDisk, Geometry, Place};
 use ar_extents::{DiskRefusal, DiskSet, Got, Health, Put, PutNew};
 use std::alloc::{AllocError, Global};
 use std::process::Abort;
@@ -123,8 +123,8 @@ pub fn make_call(
 }
 
 /// What a read of a block met.
-pub fn read(block: &Block) -> Answer {
-    match byte_of(block.bytes()) {
+pub fn read(bytes: &[u8]) -> Answer {
+    match byte_of(bytes) {
         Some(byte) => Answer::Byte(byte),
         None => Answer::Mixed,
     }
@@ -147,8 +147,8 @@ fn get(
     if !has_row(set, place, row) {
         return Ok(Answer::Unfit);
     }
-    Ok(match set.get(place, row, &mut into) {
-        Got::Read => read(&into),
+    Ok(match set.get(place, row, into.bytes_mut()) {
+        Got::Read => read(into.bytes()),
         Got::Missing => Answer::Missing,
         Got::Broken => Answer::Broken,
     })

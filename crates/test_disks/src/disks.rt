@@ -4,7 +4,7 @@ ghost use Rattle.ar_disks.specs.Geometry.{block_len_of};
 
 use crate::calls::{Answer, Call, Step, compare, read};
 use crate::fixtures::{Shape, byte_of, filled, fused_disk};
-use ar_disks::{Block, Disk, FuseDisk, Geometry, Host, MemDisk, Members, Place, Scratch};
+use ar_disks::{Block, Disk, FuseDisk, Geometry, Host, MemDisk, Members, Place, Scratch, add_into};
 use std::alloc::{AllocError, Global};
 use std::process::Abort;
 use std::test::Fail;
@@ -133,11 +133,11 @@ fn several_sectors_are_put_at_once(rt: HostRuntime) -> Result<(), Fail> {
 fn sums(rt: &impl Abort, five: &Block, sum: &mut Block, len: usize)
     requires { length sum.old ≡ length five.now }
 {
-    five.xor_into(sum);
+    add_into(five.bytes(), sum.bytes_mut());
     bytes_are(rt, "the sum of 5 and 3", sum.bytes(), len, 6);
-    five.xor_into(sum);
+    add_into(five.bytes(), sum.bytes_mut());
     bytes_are(rt, "the sum with 5 once more", sum.bytes(), len, 3);
-    sum.copy_from(five);
+    sum.copy_from_slice(five.bytes());
     bytes_are(rt, "a copy of 5", sum.bytes(), len, 5);
     sum.zero();
     bytes_are(rt, "a block set to zero", sum.bytes(), len, 0);
@@ -155,7 +155,7 @@ fn a_sum_taken_twice_is_undone(rt: HostRuntime) -> Result<(), Fail> {
 }
 
 // Reads a row.
-fn get<D: Disk>(disk: &mut D, into: &mut Block, ext: u16, row: u16) -> Answer
+fn get<D: Disk>(disk: &mut D, into: &mut [u8], ext: u16, row: u16) -> Answer
     requires { length into.old ≡ block_len_of (D.state disk.old).geometry }
 {
     if ext >= disk.extents() || row >= disk.geometry().rows() {
@@ -200,7 +200,7 @@ fn make_call<D: Disk>(disk: &mut D, alloc: Global, call: Call) -> Result<Answer,
     Ok(match call {
         Call::Get(place, row) => {
             let mut into = filled(alloc, disk.geometry(), 0xDD)?;
-            get(disk, &mut into, place.extent, row)
+            get(disk, into.bytes_mut(), place.extent, row)
         }
         Call::Put(place, row, byte) => {
             let from = filled(alloc, disk.geometry(), byte)?;

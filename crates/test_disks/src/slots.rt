@@ -10,7 +10,7 @@ ghost use Rattle.ar_extents.specs.Health.{IsRebuilding};
 use crate::calls::{Answer, read};
 use crate::fixtures::filled;
 use crate::rig::Group;
-use ar_disks::{Block, Completion, FuseDisk, Members, Place, Scratch};
+use ar_disks::{Completion, FuseDisk, Members, Place, Scratch};
 use ar_extents::{DiskSet, Health, RowOutcome};
 use std::alloc::{AllocError, Global};
 
@@ -100,17 +100,17 @@ pub fn read_slot(
 ) -> Result<Answer, AllocError> {
     let mut into = filled(alloc, set.geometry(), 0xDD)?;
     let met = match group {
-        Group::Mirrored => read_mirrored(set, slot, &mut into),
-        Group::Parity => read_parity(set, alloc, slot, &mut into)?,
+        Group::Mirrored => read_mirrored(set, slot, into.bytes_mut()),
+        Group::Parity => read_parity(set, alloc, slot, into.bytes_mut())?,
         Group::Absent => Answer::Unfit,
     };
     Ok(match met {
-        Answer::Done => read(&into),
+        Answer::Done => read(into.bytes()),
         _ => met,
     })
 }
 
-fn read_mirrored(set: &mut DiskSet<FuseDisk>, slot: u16, into: &mut Block) -> Answer
+fn read_mirrored(set: &mut DiskSet<FuseDisk>, slot: u16, into: &mut [u8]) -> Answer
     requires { length into.old ≡ block_len_of set.old.geometry }
 {
     let members = members_of(set);
@@ -124,7 +124,7 @@ fn read_parity(
     set: &mut DiskSet<FuseDisk>,
     alloc: Global,
     slot: u16,
-    into: &mut Block,
+    into: &mut [u8],
 ) -> Result<Answer, AllocError>
     requires { length into.old ≡ block_len_of set.old.geometry }
 {

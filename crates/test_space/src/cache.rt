@@ -159,7 +159,7 @@ impl Rig {
 
     fn read(&mut self, key: Key) -> Answer {
         self.block.copy_from_slice(&[0xEE; 1_024]);
-        match self.cache.get(key, &mut self.block, &mut self.shelf) {
+        match self.cache.get(key, self.block.bytes_mut(), &mut self.shelf) {
             Completion::Done => content(&self.block),
             Completion::Broken => Answer::Broken,
         }

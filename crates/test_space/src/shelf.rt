@@ -83,7 +83,7 @@ impl Backing for Shelf {
 
     ghost breaks = { λ _ _ _. ⊤ };
 
-    fn get(&mut self, key: Key, into: &mut Block) -> Completion {
+    fn get(&mut self, key: Key, into: &mut [u8]) -> Completion {
         self.gets = self.gets.wrapping_add(1);
         if !self.breaks() && copy(&self.blocks, key, into) {
             return Completion::Done;
@@ -107,17 +107,16 @@ impl Backing for Shelf {
 }
 
 // Copies the block under a key, where there is one of this length.
-fn copy(blocks: &IndexMap<Key, Block>, key: Key, into: &mut Block) -> bool
-    ensures copied { OnTrue result (lookup (same_key key) blocks.now.entries ≡ Some into.new) }
-    ensures len { length into.new ≡ length into.old }
+fn copy(blocks: &IndexMap<Key, Block>, key: Key, into: &mut [u8]) -> bool
+    ensures { OnTrue result (lookup (same_key key) blocks.now.entries ≡ Some into.new) }
 {
     let Some(block) = blocks.get(&key) else {
         return false;
     };
-    if block.bytes().len() != into.bytes().len() {
+    if block.bytes().len() != into.len() {
         return false;
     }
-    into.copy_from(block);
+    into.copy_from_slice(block.bytes());
     true
 }
 

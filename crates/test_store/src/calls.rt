@@ -365,7 +365,7 @@ fn read_into(block: &Block) -> Answer {
 
 fn get(rt: &impl Abort, store: &mut Store<FuseDisk>, alloc: Global, rb: u32) -> Answer {
     let mut into = filled(rt, alloc, store.disks().geometry(), 0xDD);
-    match store.get(key(rb), &mut into) {
+    match store.get(key(rb), into.bytes_mut()) {
         Completion::Done => read_into(&into),
         Completion::Broken => Answer::Broken,
     }
@@ -439,7 +439,7 @@ fn read_row(
     if !is_row(store, place, row) {
         return Answer::Unfit;
     }
-    match store.read_place(place, row, &mut into) {
+    match store.read_place(place, row, into.bytes_mut()) {
         Got::Read => read_into(&into),
         Got::Missing => Answer::Missing,
         Got::Broken => Answer::Broken,

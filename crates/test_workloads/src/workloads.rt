@@ -161,15 +161,13 @@ fn a_write_among_many_groups(rt: HostRuntime) {
 fn reads_beside_a_lost_disk(rt: HostRuntime) {
     let sound = Moves {
         times: 6,
-        reads: 1,
-        given: 1_024,
+        fetched: 1,
         ..Moves::NONE
     };
     let summed = Moves {
         times: 2,
         reads: 3,
         sums: 2,
-        given: 1_024,
         ..Moves::NONE
     };
     has_moves(
@@ -309,6 +307,23 @@ fn reads_are_given(rt: HostRuntime) -> Result<(), AllocError> {
         },
     )?;
     holds(&rt, "the answer", bare.answer(), 0xEE, 1);
+    Ok(())
+}
+
+// A block that is fetched is in the answer, and not in the block that is written then.
+#[test]
+fn fetched_blocks_are_given(rt: HostRuntime) -> Result<(), AllocError> {
+    let bare = bare_after(
+        rt.alloc(),
+        Moves {
+            times: 1,
+            fetched: 1,
+            writes: 1,
+            ..Moves::NONE
+        },
+    )?;
+    holds(&rt, "the answer", bare.answer(), 0xEE, 1);
+    holds(&rt, "the block", bare.disks(), 0x22, 0b0000_0001);
     Ok(())
 }
 

@@ -12,12 +12,12 @@ ghost use Rattle.ar_extents.specs.Access.{is_new_written, next_place};
 use super::DiskSet;
 use crate::log::AccessLog;
 use crate::{AccessKind, Got, Health, Put, PutNew, RowAccess};
-use ar_disks::{Block, Disk, Place};
+use ar_disks::{Disk, Place};
 
 impl<D: Disk> DiskSet<D> {
     /// Reads row `row` of extent `place` into `into`, a block of the set's length. Unless it returns `Read`, `into` has
     /// unspecified bytes. A lost extent isn't accessed.
-    pub fn get(&mut self, place: Place, row: u16, into: &mut Block) -> Got
+    pub fn get(&mut self, place: Place, row: u16, into: &mut [u8]) -> Got
         requires place { HasExtent self.old place }
         requires row { row < rows_of self.old.geometry }
         requires whole { length into.old ≡ block_len_of self.old.geometry }
@@ -25,7 +25,6 @@ impl<D: Disk> DiskSet<D> {
         ensures access { Accesses self.old self.new place (is_read result) }
         ensures keeps { Keeps Anywhere self.old self.new }
         ensures made { Attempts (read_at place row) (is_read result) self.old self.new }
-        ensures len { length into.new ≡ length into.old }
     {
         if self.health.is_lost(place) {
             return Got::lost(self.health);
@@ -101,7 +100,7 @@ fn read_disk<D: Disk>(
     log: &mut AccessLog,
     place: Place,
     row: u16,
-    into: &mut Block,
+    into: &mut [u8],
 ) -> bool
     requires exists { place.disk < vec_len disks.old }
     requires place { HasPlace (disk_in (map D.state disks.old.items) place.disk) place.extent row }
@@ -110,7 +109,6 @@ fn read_disk<D: Disk>(
         (disk_in (map D.state disks.new.items) place.disk) place.extent row result into.new }
     ensures others { OthersStay (map D.state disks.old.items) (map D.state disks.new.items) place.disk }
     ensures logged { log.new.accesses ≡ log.old.accesses ++ access_of (read_at place row) result ∷ [] }
-    ensures len { length into.new ≡ length into.old }
 {
     let disk = &mut disks[place.disk as usize];
     let answered = disk.read(place.extent, row, into);

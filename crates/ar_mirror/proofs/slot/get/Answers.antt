@@ -25,7 +25,6 @@ returns-in-Missing-get g c =
       gives = search rules;
       plan = carried_at read_either c.args.members.now c.args.slot _ _ _ _ _ _ c.geometry.ensures pair.one pair.other pair.row
           (falls_back _ _ _ _ _ _ c.in-Missing.ensures.made (carries_one _ _ _ _ c.get-in-Missing.ensures.made));
-      len = search rules;
     }
 
 pub returns-in-Broken-clause-plan : goal.returns-in-Broken-clause-plan

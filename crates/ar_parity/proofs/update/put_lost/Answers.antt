@@ -1,4 +1,4 @@
-use Rattle.std.proofs.Common.{◌∙◌, arith}
+use Rattle.std.proofs.Common.{arith}
 use Rattle.ar_parity.specs.Row.{parity_position}
 use Rattle.ar_parity.proofs.Updates.{lost_changed, broken_changed}
 use Rattle.ar_extents.specs.Groups.{IsMember}
@@ -12,10 +12,10 @@ use Rattle.ar_parity.proofs.update.put_lost.Goals as goal
 pub returns-in-Done-clause-agrees : goal.returns-in-Done-clause-agrees
 returns-in-Done-clause-agrees g c =
     lost_changed c.args.set.now c.sum_of_two.new.set c.write.new.set c.args.members.now c.args.row c.args.position c.parity_at-parity.result
-    (parity_position c.args.row) c.args.from.now c.sum_of_two.new.into c.bytes.result.now c.requires.group.apart
+    (parity_position c.args.row) c.args.from.now c.sum_of_two.new.into c.add_into.new.target c.requires.group.apart
     c.parity_at-parity.ensures.position c.requires.below c.parity_at-parity.ensures.below c.requires.apart
     c.requires.whole c.requires.lost c.in-Done.ensures.works.follows c.in-Done.ensures.keeps c.write.ensures.works.follows c.write.ensures.keeps
-    (c.bytes.ensures ∙ c.add.ensures.sum) c.write.ensures.here c.in-Done.ensures.sum
+    c.add_into.ensures c.write.ensures.here c.in-Done.ensures.sum
 
 pub returns-in-Broken-clause-agrees : goal.returns-in-Broken-clause-agrees
 returns-in-Broken-clause-agrees g c =

@@ -1,7 +1,8 @@
 use Rattle.std.proofs.Common.{arith}
 use Rattle.ar_parity.specs.Row.{parity_position}
 use Rattle.ar_parity.proofs.Updates.{both_changed, alone_changed, broken_changed}
-use Rattle.std.proofs.Common.{◌∙◌, ℕ, ap, subst}
+use Rattle.std.proofs.Common.{◌∙◌, ℕ, ap, refl, subst}
+use Rattle.ar_disks.specs.Block.{xor}
 use Rattle.ar_disks.specs.Members.{member}
 use Rattle.ar_extents.specs.Follows.{IsPlace, WorksInTurn}
 use Rattle.ar_extents.proofs.Follows.{works_refl, works_in_turn, in_turn_first}
@@ -15,9 +16,9 @@ use Rattle.ar_parity.proofs.update.update.Goals as goal
 pub returns-in-Read-clause-agrees : goal.returns-in-Read-clause-agrees
 returns-in-Read-clause-agrees g c =
     both_changed c.args.set.now c.get.new.self c.write_both.new.set c.args.members.now c.args.row c.args.position c.parity_at-parity.result
-    (parity_position c.args.row) c.at.result c.args.from.now c.args.before.now c.get.new.into c.xor_into.new.target c.bytes.result.now
+    (parity_position c.args.row) c.at.result c.args.from.now c.args.before.now c.get.new.into (xor c.get.new.into c.args.before.now) c.add_both_into.new.target
     c.at.ensures c.parity_at-parity.ensures.position c.requires.below c.parity_at-parity.ensures.below c.requires.apart c.requires.whole
-    c.get.ensures.access.follows c.get.ensures.keeps c.in-Read.ensures.answer c.xor_into.ensures.sum (c.bytes.ensures ∙ c.add.ensures.sum)
+    c.get.ensures.access.follows c.get.ensures.keeps c.in-Read.ensures.answer refl c.add_both_into.ensures
     (works_in_turn (member c.args.members.now c.args.position) (member c.args.members.now c.parity_at-parity.result) c.get.new.self c.write_both.new.set
     c.write_both.ensures.order).follows c.write_both.ensures.block c.write_both.ensures.parity c.write_both.ensures.others
 

@@ -1,10 +1,11 @@
-use Rattle.std.proofs.Common.{rules, ◌≡◌, ◌⊎◌, ℕ, ◌%◌, ◌/◌, ◌+◌, ◌-◌, ◌<◌, ◌≤◌, List, inl, inr, min, ap, subst, ◌∙◌, arith}
+use Rattle.std.proofs.Common.{◌≡◌, ◌⊎◌, ℕ, ◌%◌, ◌/◌, ◌+◌, ◌-◌, ◌*◌, ◌<◌, ◌≤◌, List, take, inl, inr, min, ap, sym, subst, ◌∙◌, arith}
+use Rattle.std.proofs.lemmas.Slice.{take-put_mid, take-put_mid_below}
 use Rattle.ar_disks.specs.declared.address.Key.{Key}
 use Rattle.ar_disks.specs.Geometry.{sectors_of}
 use Rattle.ar_disks.specs.Block.{sectors_at}
 use Rattle.ar_volume.specs.Sectors.{unit_block, key_of}
 use Rattle.ar_cache.proofs.Keeping.{keeps_then}
-use Rattle.ar_volume.proofs.Pieces.{sectors_in-more, part-some, part-within, done_not_broken}
+use Rattle.ar_volume.proofs.Pieces.{sectors_in-more, part-some, part-within, stored_done}
 use Rattle.ar_volume.proofs.Putting.{turn-more, part-edge}
 use Rattle.ar_volume.proofs.transfer.read_sectors.Goals as goal
 
@@ -20,6 +21,7 @@ loop-at-preserved g c =
     ≡ sectors_at (block_of (at / sectors_of c.args.geometry)) (at % sectors_of c.args.geometry) part =
     ap (λ (b : List ℕ). sectors_at b (at % c.sectors-sectors.result) part) (c.loop-at.invariant.blocks.same (key_of c.args.addr (at / c.sectors-sectors.result)))
     ∙ ap (λ (s : ℕ). sectors_at (block_of (at / s)) (at % s) part) sectors in
+    let front : (at - c.args.lba) * 512 ≡ 512 * (at - c.args.lba) = omega arith in
     let some : 0 < part =
     part-some c.args.geometry at (c.args.lba + c.args.count - at) part (c.min-part.ensures ∙ ap (λ (s : ℕ). min (s - at % s) (c.args.lba + c.args.count - at)) sectors) (omega arith) in
     let key : Key = key_of c.args.addr (at / sectors_of c.args.geometry) in
@@ -35,18 +37,19 @@ loop-at-preserved g c =
     record {
       from = omega arith;
       until = omega arith;
-      bytes =
-          c.read_part.ensures.done c.in-Done.is
-          ∙ sectors_in-more c.args.geometry block_of c.args.lba at part c.args.out.now.items c.loop-at.out.items _ c.loop-at.invariant.from within c.loop-at.invariant.bytes piece;
-      many = omega (arith, c.read_part.ensures.many c.in-Done.is, c.loop-at.invariant.many, c.loop-at.invariant.from);
-      blocks = record { same = λ k. (c.read_part.ensures.blocks (done_not_broken c.in-Done.is)).same k ∙ c.loop-at.invariant.blocks.same k };
-      sound = c.read_part.ensures.sound (done_not_broken c.in-Done.is);
+      begun =
+          take-put_mid ((at - c.args.lba) * 512) _ c.loop-at.out c.read_part.new.out (512 * (at + part - c.args.lba))
+          (omega (arith, c.read_part.ensures.many, c.loop-at.invariant.from))
+          (omega (arith, c.loop-at.auto.out, c.requires.sectors, c.loop-at.invariant.until))
+          ∙ sectors_in-more c.args.geometry block_of c.args.lba at part (take ((at - c.args.lba) * 512) c.loop-at.out) c.read_part.new.out
+          c.loop-at.invariant.from within (ap (λ n. take n c.loop-at.out) front ∙ c.loop-at.invariant.begun) (c.read_part.ensures.done c.in-Done.is ∙ piece);
+      blocks = record { same = λ k. (c.read_part.ensures.blocks c.in-Done.is).same k ∙ c.loop-at.invariant.blocks.same k };
+      sound = stored_done (g.B.Backing.is_broken c.read_part.new.blocks) (sym c.read_part.ensures.answer ∙ c.in-Done.is);
       keeps = keeps_then _ _ _ _ g.met.B.Backing.follows_trans _ _ _ c.loop-at.invariant.keeps c.read_part.ensures.keeps;
       gets =
           turn-more g.B.Backing.gets c.args.geometry c.args.addr c.args.lba at part c.args.blocks.now c.loop-at.blocks c.read_part.new.blocks
           c.loop-at.invariant.from some within edge c.loop-at.invariant.gets got;
       edge = ended;
-      capacity = omega (arith, c.read_part.ensures.capacity, c.loop-at.invariant.capacity);
       len = c.read_part.ensures.len ∙ c.loop-at.invariant.len;
     }
 
@@ -86,20 +89,8 @@ returns-in_default-clause-stopped g c _ =
         sound = c.loop-at.invariant.sound;
         last = subst (λ (n : ℕ). g.B.Backing.gets c.loop-at.blocks (key_of c.args.addr (n / sectors_of c.args.geometry)) c.read_part.new.blocks) reached got;
       };
-      bytes = c.read_part.ensures.failed (search rules) ∙ c.loop-at.invariant.bytes;
+      begun =
+          take-put_mid_below ((at - c.args.lba) * 512) _ c.loop-at.out c.read_part.new.out (512 * (at - c.args.lba)) (omega arith)
+          (omega (arith, c.loop-at.auto.out, c.requires.sectors, c.loop-at.invariant.until))
+          ∙ c.loop-at.invariant.begun;
     }
-
-pub returns-in_default-clause-room : goal.returns-in_default-clause-room
-returns-in_default-clause-room g c fits =
-    c.read_part.ensures.room
-    (omega (arith, fits, c.loop-at.invariant.capacity, c.loop-at.invariant.many, c.loop-at.invariant.from, c.loop-at.out.ok, c.args.out.now.ok))
-
-pub returns-in_default-clause-first : goal.returns-in_default-clause-first
-returns-in_default-clause-first g c = record {
-  many = c.loop-at.at - c.args.lba;
-  within = omega arith;
-  bytes = c.read_part.ensures.failed (search rules) ∙ c.loop-at.invariant.bytes;
-}
-
-pub returns-clause-first : goal.returns-clause-first
-returns-clause-first g c = record { many = c.loop-at.at - c.args.lba; within = omega arith; bytes = c.loop-at.invariant.bytes }

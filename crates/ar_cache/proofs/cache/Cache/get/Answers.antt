@@ -1,20 +1,14 @@
-use Rattle.std.proofs.Common.{◌≡◌, length, Some, None, sym, ap, ◌∙◌, subst}
+use Rattle.std.proofs.Common.{◌≡◌, length, Some, None, ap, sym, ◌∙◌, subst}
 use Rattle.std.proofs.lemmas.Bool.{false≢true}
 use Rattle.ar_cache.specs.Cache.{IsValidCache, cached}
 use Rattle.ar_cache.proofs.Sound.{cached_whole}
 use Rattle.ar_cache.proofs.cache.Cache.get.Goals as goal
 
-pub copy_from-requires : goal.copy_from-requires
-copy_from-requires g c =
+pub copy_from_slice-requires : goal.copy_from_slice-requires
+copy_from_slice-requires g c =
     let sound : IsValidCache c.args.self.now = subst IsValidCache c.self.view_is c.self.invariant.0 in
     let hit = subst (λ s. cached s c.args.key ≡ Some c.in-Some.block.now) c.self.view_is (sym c.in-Some.ensures) in
-    cached_whole c.args.self.now c.args.key c.in-Some.block.now sound hit ∙ sym c.requires.whole
-
-pub returns-in-Some-clause-len : goal.returns-in-Some-clause-len
-returns-in-Some-clause-len g c =
-    let sound : IsValidCache c.args.self.now = subst IsValidCache c.self.view_is c.self.invariant.0 in
-    let hit = subst (λ s. cached s c.args.key ≡ Some c.in-Some.block.now) c.self.view_is (sym c.in-Some.ensures) in
-    ap length c.copy_from.ensures ∙ cached_whole c.args.self.now c.args.key c.in-Some.block.now sound hit ∙ sym c.requires.whole
+    c.requires.whole ∙ sym (cached_whole c.args.self.now c.args.key c.in-Some.block.now sound hit) ∙ ap length (sym c.bytes.ensures)
 
 pub returns-in-Some-clause-miss : goal.returns-in-Some-clause-miss
 returns-in-Some-clause-miss g c miss =

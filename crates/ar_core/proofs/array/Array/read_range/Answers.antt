@@ -9,7 +9,6 @@ use Rattle.ar_scsi.specs.declared.reply.Reply.{Reply}
 use Rattle.ar_scsi.specs.declared.reply.Status.{Status}
 use Rattle.ar_scsi.specs.declared.reply.Status.TheVariants.{Good, CheckCondition, Busy}
 use Rattle.ar_unit.specs.Unit.{IsGiven, leaving}
-use Rattle.ar_volume.specs.declared.transfer.Transfer.TheVariants as transfers
 use Rattle.ar_volume.specs.Image.{ArrayState, is_broken, geometry_of, seen_at}
 use Rattle.ar_volume.specs.Following.{ArrayFollows}
 use Rattle.std.specs.List.{concat}
@@ -19,25 +18,6 @@ use Rattle.ar_core.specs.Served.{Serves}
 use Rattle.ar_core.proofs.Events.{padded_follows}
 use Rattle.ar_core.proofs.Serving.{serves_read, sectors_read-some}
 use Rattle.ar_core.proofs.array.Array.read_range.Goals as goal
-
--- what is given is a reply that is the table's
-given_same : (payload : List ℕ) (reply : Reply) → reply ≡ good payload → IsGiven (good payload) reply
-given_same payload reply is = subst (λ (r : Reply). IsGiven (good payload) r) (sym is) (record { answered = λ _. refl; refused = λ e. absurd (cc); memory = λ e. absurd (cc) })
-
-serves_fetched : (old new : ArrayState) (addr : Addr) (lba count : ℕ) (reply : Reply) (status : Status) → reply.status ≡ status
-    → ArrayFollows old new → sectors_read old addr lba count ≢ []
-    → (reply.status ≢ CheckCondition → SameSeen old new) → (reply.status ≢ CheckCondition → is_broken new ≡ false) → (reply.status ≡ CheckCondition → IsTrue (is_broken new))
-    → (reply.status ≡ Good → reply ≡ good (sectors_read old addr lba count)) → (reply.status ≡ Busy → reply ≡ busy) → (reply.status ≡ CheckCondition → reply ≡ check internal_target_failure)
-    → Serves old addr (leaving (present_at old addr) (good (sectors_read old addr lba count))) (check internal_target_failure) reply new
-serves_fetched old new addr lba count reply Good is follows some seen sound broken done refused failed =
-    serves_read old new addr lba count transfers.Done (sectors_read old addr lba count) reply follows (λ _. seen (λ e. cc)) some (λ _. sound (λ e. cc)) (λ e. absurd (cc))
-    (λ _. refl) (λ _. given_same (sectors_read old addr lba count) reply (done is)) (λ e. absurd (cc)) (λ e. absurd (cc))
-serves_fetched old new addr lba count reply Busy is follows some seen sound broken done refused failed =
-    serves_read old new addr lba count transfers.NoMemory (sectors_read old addr lba count) reply follows (λ _. seen (λ e. cc)) some (λ _. sound (λ e. cc)) (λ e. absurd (cc))
-    (λ _. refl) (λ e. absurd (cc)) (λ e. absurd (cc)) (λ _. refused is)
-serves_fetched old new addr lba count reply CheckCondition is follows some seen sound broken done refused failed =
-    serves_read old new addr lba count transfers.Broken (sectors_read old addr lba count) reply follows (λ e. absurd (e refl)) some (λ e. absurd (e refl)) (λ _. broken is)
-    (λ _. refl) (λ e. absurd (cc)) (λ _. failed is) (λ e. absurd (cc))
 
 pub invariant_of-self : goal.invariant_of-self
 invariant_of-self g c =
@@ -53,7 +33,7 @@ returns-clause-serves g c =
     subst
     (λ (s : ArrayState). Serves s c.args.addr (leaving (present_at s c.args.addr) (good (sectors_read s c.args.addr c.args.lba c.args.count))) (check internal_target_failure) c.fetch_sectors.result c.fetch_sectors.new.blocks)
     c.self.view_is
-    (serves_fetched c.self.inside.blocks c.fetch_sectors.new.blocks c.args.addr c.args.lba c.args.count c.fetch_sectors.result c.fetch_sectors.result.status refl
+    (serves_read c.self.inside.blocks c.fetch_sectors.new.blocks c.args.addr c.args.lba c.args.count c.fetch_sectors.result c.fetch_sectors.result.status refl
     c.fetch_sectors.ensures.keeps.joined
     (sectors_read-some c.self.inside.blocks c.args.addr c.args.lba c.args.count whole (omega arith))
     (λ fine. record { same = (c.fetch_sectors.ensures.blocks fine).same })

@@ -1,4 +1,6 @@
-use Rattle.std.proofs.Common.{inl, inr, refl, ℕ, List, ◌≤◌, length, sym, ap, subst, ◌∙◌}
+use Rattle.std.proofs.Common.{inl, inr, refl, ◌≡◌, ℕ, List, ◌++◌, drop, ◌≤◌, length, sym, ap, subst, ◌∙◌, arith}
+use Rattle.std.proofs.lemmas.List.{length-append, length-drop, length-take-le}
+use Rattle.ar_disks.specs.Lending.{refilled}
 use Rattle.ar_disks.specs.Geometry.{block_len_of}
 use Rattle.ar_book.specs.Tables.{Tables, home, free_groups, class_of, group_in, HasBlock}
 use Rattle.ar_book.specs.Changes.{assigned}
@@ -17,13 +19,19 @@ use Rattle.ar_store.proofs.Stays.{stays_then}
 use Rattle.ar_store.proofs.Asking.{asks_both, asks_one, asks_from}
 use Rattle.ar_store.proofs.space.Space.move_block.Goals as goal
 
+-- a block that is written over keeps its length
+length-refilled : (block bytes : List ℕ) → length (refilled block bytes) ≡ length block
+length-refilled block bytes =
+    length-take-le (length block) (bytes ++ drop (length bytes) block)
+    (omega (arith, length-append bytes (drop (length bytes) block), length-drop (length bytes) block))
+
 pub read_at-requires : goal.read_at-requires
 read_at-requires g c =
     let t = c.args.self.now.book in
     record {
       ready = c.requires.ready;
       slot = home_slot t c.requires.ready.space.tables c.args.key c.in-Some.from (sym c.home.ensures ∙ c.in-Some.is);
-      whole = c.requires.whole;
+      whole = ap length c.bytes_mut-bytes.ensures.value ∙ c.requires.whole;
     }
 
 pub fill-requires : goal.fill-requires
@@ -36,7 +44,8 @@ fill-requires g c =
       block = subst (λ (x : Tables). HasBlock x c.args.key) (sym read.book)
           (home_block t c.args.key c.in-Some.from (sym c.home.ensures ∙ c.in-Some.is));
       hole = subst (λ (x : Tables). IsVacant x c.args.to) (sym read.book) c.requires.hole;
-      whole = ap length c.bytes.ensures ∙ read.len ∙ c.requires.whole ∙ ap block_len_of (sym read.stays.accessed.follows.geometry);
+      whole = c.read_at.auto.into ∙ ap length c.bytes_mut-bytes.ensures.value ∙ c.requires.whole
+          ∙ ap block_len_of (sym read.stays.accessed.follows.geometry);
     }
 
 pub returns-in-Done : goal.returns-in-Done
@@ -53,7 +62,7 @@ returns-in-Done g c =
       free = subst (λ (x : Tables). free_groups x ≤ free_groups new.book) read.book fill.free;
       stand = moved_stand (store_in s) (store_in mid) (store_in new) c.args.key c.in-Some.from c.read_at.new.into c.requires.ready.space
           (sym c.home.ensures ∙ c.in-Some.is) read.stays.accessed.follows fill.stays.accessed.follows read.stand c.in-Done.ensures.given
-          (λ sound. fill.here (fill.outcome ∙ sound_done new.disks.health sound) ∙ c.bytes.ensures) fill.others;
+          (λ sound. fill.here (fill.outcome ∙ sound_done new.disks.health sound)) fill.others;
       beside = beside_then s.disks mid.disks s.book mid.book (store_in new) c.args.to read.book read.stays.accessed.follows read.keeps fill.beside;
       asks = asks_from (store_in s) (store_in new) c.args.key c.in-Some.from c.args.to (sym c.home.ensures ∙ c.in-Some.is)
           (asks_both (store_in s) (store_in mid) (store_in new) c.in-Some.from c.args.to read.book read.stays.accessed.follows.geometry read.asks read.keeps fill.asks);
@@ -61,7 +70,7 @@ returns-in-Done g c =
           let P : Slot → Type 0 = λ x. ReadsThenWrites x c.args.to (store_in s) (store_in new) in
           let Q : Tables → Type 0 = λ x.
           WritesSlot (class_of x c.args.to.group) mid.disks new.disks (group_in x.groups c.args.to.group).members c.args.to.slot in
-          let R : Tables → Type 0 = λ x. SlotHolds (store_of new.disks x) c.args.to c.bytes.result.now in
+          let R : Tables → Type 0 = λ x. SlotHolds (store_of new.disks x) c.args.to c.read_at.new.into in
           let S : List ℕ → Type 0 = λ bytes. SlotHolds (store_of new.disks s.book) c.args.to bytes in
           subst P (same_Some c.in-Some.from at (sym (sym c.home.ensures ∙ c.in-Some.is) ∙ placed))
           record {
@@ -69,10 +78,10 @@ returns-in-Done g c =
             reads = read.asks;
             kept = read.keeps;
             writes = inr (subst Q read.book fill.asks);
-            here = λ sound block held. subst S (c.bytes.ensures ∙ c.in-Done.ensures.given block held) (subst R read.book fill.holds);
+            here = λ sound block held. subst S (c.in-Done.ensures.given block held) (subst R read.book fill.holds);
           };
       stays = stays_then s mid new read.stays fill.stays;
-      len = read.len;
+      len = length-refilled c.args.block.now c.read_at.new.into;
     }
 
 pub returns-in-Broken : goal.returns-in-Broken
@@ -100,7 +109,7 @@ returns-in-Broken g c =
             here = λ sound. absurd (sound broken);
           });
       stays = read.stays;
-      len = read.len;
+      len = length-refilled c.args.block.now c.read_at.new.into;
     }
 
 pub unreachable-requires : goal.unreachable-requires

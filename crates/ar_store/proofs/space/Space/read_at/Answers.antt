@@ -50,7 +50,6 @@ returns-in-Mirrored g c =
         units = units_refl s.book;
         accessed = access;
       };
-      len = read.len;
     }
 
 pub get-requires-in-Parity : goal.get-requires-in-Parity
@@ -88,5 +87,4 @@ returns-in-Parity g c =
         units = units_refl s.book;
         accessed = access;
       };
-      len = read.len;
     }

@@ -58,7 +58,6 @@ returns-in-Some g c =
       book = read.book ∙ ap (λ (s : StoreState). s.book) view;
       accessed = subst (λ (s : StoreState). IsAccessed s.disks b.disks) view read.stays.accessed;
       broken = λ is. absurd (c.in_default.not-Broken (c.health.ensures.same ∙ ap (λ (s : StoreState). s.disks.health) view ∙ is));
-      len = read.len;
     }
 
 pub returns-in-None : goal.returns-in-None
@@ -69,7 +68,7 @@ returns-in-None g c =
     let sound = λ (broken : s.disks.health ≡ Broken). c.in_default.not-Broken (c.health.ensures.same ∙ ap (λ (x : StoreState). x.disks.health) view ∙ broken) in
     record {
       outcome = sym (sound_done s.disks.health sound);
-      given = λ _. c.zero.ensures.zero ∙ ap zeros c.requires.whole ∙ sym (stands_nowhere s c.args.key none);
+      given = λ _. c.zero.ensures ∙ ap zeros c.requires.whole ∙ sym (stands_nowhere s c.args.key none);
       unplaced = λ _. refl;
       asks = λ slot placed. absurd (none-some slot (sym none ∙ placed));
       stands = record { blocks = λ _ k. refl };
@@ -77,7 +76,6 @@ returns-in-None g c =
       book = refl;
       accessed = accessed_refl s.disks;
       broken = λ _. refl;
-      len = c.zero.ensures.len;
     }
 
 pub returns-in-Broken : goal.returns-in-Broken
@@ -94,5 +92,4 @@ returns-in-Broken g c =
       book = refl;
       accessed = accessed_refl s.disks;
       broken = λ _. refl;
-      len = refl;
     }

@@ -17,7 +17,6 @@ returns g c =
     record {
       answer = answer;
       content = got.given;
-      len = got.len;
       blocks = λ done. record { same = λ k. got.stands.blocks (sound done) k };
       keeps =
           keeps_store (λ (b : Behind g.row.D.Denot). b.store) c.args.self.now _
