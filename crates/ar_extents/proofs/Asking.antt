@@ -5,7 +5,7 @@ use Rattle.std.proofs.lemmas.Bool.Decides.{eqb_tells, nat_tests}
 use Rattle.ar_disks.specs.declared.address.Place.{Place}
 use Rattle.ar_extents.specs.declared.health.Health.{Health}
 use Rattle.ar_extents.specs.declared.health.Health.TheVariants.{Whole, Out, Rebuilding, Broken}
-use Rattle.ar_extents.specs.Health.{is_lost, after_fault, IsRebuilding, rebuilt_disk}
+use Rattle.ar_extents.specs.Health.{is_lost, is_missing, after_fault, IsRebuilding, rebuilt_disk}
 use Rattle.ar_extents.specs.declared.log.RowAccess.{RowAccess}
 use Rattle.ar_extents.specs.Set.{SetState, IsLost, faults_of, disk_in, content}
 use Rattle.ar_extents.specs.Follows.{Follows, Keeps, KeepsBut, Anywhere, IsPlace, WorksOn}
@@ -13,7 +13,9 @@ use Rattle.ar_extents.specs.declared.answers.Got.{Got}
 use Rattle.ar_extents.specs.declared.answers.Got.TheVariants.{Missing, Broken as ReadBroken}
 use Rattle.ar_extents.specs.Access.{Touches, is_read, next_place}
 use Rattle.ar_extents.specs.Log.{AccountsFor, is_on, is_fault_of, is_writing, writes_row}
-use Rattle.ar_extents.specs.Plans.{Attempt, Attempts, AccessPlan, Stop, Try, CarriesOut, stops, goes_on, falls_back, access_of, read_at, write_at, skips, rebuild_at, rebuilds_none}
+use Rattle.ar_extents.specs.Plans.{Attempt, Attempts, AccessPlan, Stop, Try, IfMissing, both_of}
+use Rattle.ar_extents.specs.Plans.{CarriesOut, stops, goes_on, falls_back, without, with_it}
+use Rattle.ar_extents.specs.Plans.{access_of, read_at, write_at, skips, rebuild_at, rebuilds_none}
 use Rattle.ar_extents.proofs.Accounts.{count_one}
 use Rattle.ar_extents.proofs.Access.{follows_touched}
 use Rattle.ar_extents.proofs.Faults.{is_lost-after_fault}
@@ -129,7 +131,7 @@ pub read_changes_none : (p : Place) (row : ℕ) (done : Bool) (a b : SetState) �
 read_changes_none p row done a b tried = record { rows = λ q is r. attempt_rows (read_at p row) done a b tried q r refl }
 
 -- reads and writes of usable extents are work on them
-works_attempt : (t : Attempt) (done : Bool) (a b : SetState) → skips a.health t ≡ is_lost a.health t.place.disk t.place.extent → Attempts t done a b
+pub works_attempt : (t : Attempt) (done : Bool) (a b : SetState) → skips a.health t ≡ is_lost a.health t.place.disk t.place.extent → Attempts t done a b
     → WorksOn (IsPlace t.place) a b
 works_attempt t done a b when tried = record {
   follows = attempt_follows t done a b tried;
@@ -167,6 +169,35 @@ pub record Went (t : Attempt) (next other : AccessPlan) (a c : SetState) : Type 
 pub went : (t : Attempt) (next other : AccessPlan) (a c : SetState) → CarriesOut (Try t next other) a c → Went t next other a c
 went t next other a c (goes_on _ _ _ _ b _ tried rest) = record { between = b; done = true; tried = tried; rest = rest }
 went t next other a c (falls_back _ _ _ _ b _ tried rest) = record { between = b; done = false; tried = tried; rest = rest }
+
+-- how a plan went on that goes by whether an extent is missing
+pub went_if : (p : Place) (next other : AccessPlan) (a b : SetState) → CarriesOut (IfMissing p next other) a b
+    → CarriesOut (cond (is_missing a.health p.disk p.extent) next other) a b
+went_if p next other a b (without _ _ _ _ _ is rest) =
+    let P : Bool → Type 0 = λ k. CarriesOut (cond k next other) a b in subst P (sym is) rest
+went_if p next other a b (with_it _ _ _ _ _ is rest) =
+    let P : Bool → Type 0 = λ k. CarriesOut (cond k next other) a b in subst P (sym is) rest
+
+-- the state between two plans
+pub record WentBoth (one other : AccessPlan) (a c : SetState) : Type 0 where
+  pub between : SetState
+  pub first : CarriesOut one a between
+  pub last : CarriesOut other between c
+
+pub went_both : (first last : AccessPlan) (a c : SetState) → CarriesOut (both_of first last) a c → WentBoth first last a c
+went_both Stop last a c carried = record { between = a; first = stops a; last = carried }
+went_both (Try t next other) last a c (goes_on _ _ _ _ b _ tried rest) =
+    let both = went_both next last b c rest in
+    record { between = both.between; first = goes_on t next other a b both.between tried both.first; last = both.last }
+went_both (Try t next other) last a c (falls_back _ _ _ _ b _ tried rest) =
+    let both = went_both other last b c rest in
+    record { between = both.between; first = falls_back t next other a b both.between tried both.first; last = both.last }
+went_both (IfMissing p next other) last a c (without _ _ _ _ _ is rest) =
+    let both = went_both next last a c rest in
+    record { between = both.between; first = without p next other a both.between is both.first; last = both.last }
+went_both (IfMissing p next other) last a c (with_it _ _ _ _ _ is rest) =
+    let both = went_both other last a c rest in
+    record { between = both.between; first = with_it p next other a both.between is both.first; last = both.last }
 
 -- one attempt alone, and what it left
 pub record Tried (t : Attempt) (a b : SetState) : Type 0 where

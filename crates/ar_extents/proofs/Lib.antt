@@ -6,6 +6,7 @@ pub mod Losses
 pub mod Access
 pub mod Accounts
 pub mod Plans
+pub mod Carried
 pub mod Asking
 pub mod Changes
 pub mod GroupLemmas

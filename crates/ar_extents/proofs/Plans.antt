@@ -10,7 +10,11 @@ use Rattle.ar_extents.specs.declared.log.AccessKind.{AccessKind}
 use Rattle.ar_extents.specs.declared.log.AccessKind.TheVariants.{Read, Write, Rebuild}
 use Rattle.ar_extents.specs.Set.{SetState}
 use Rattle.ar_extents.specs.Log.{AccountsFor, is_fault_of}
-use Rattle.ar_extents.specs.Plans.{Attempt, Attempts, AttemptsAll, all_done, one_done, one_failed, all_of, each_of, AccessPlan, Stop, Try, CarriesOut, stops, goes_on, falls_back, IsPath, stopped, skipped, answered, faulted, Accounted, NoneFaults, planned, access_of, is_skipped, skips}
+use Rattle.ar_extents.specs.Health.{is_missing}
+use Rattle.ar_extents.specs.Plans.{Attempt, Attempts, AttemptsAll, all_done, one_done, one_failed, all_of, each_of}
+use Rattle.ar_extents.specs.Plans.{AccessPlan, Stop, Try, IfMissing, both_of, CarriesOut, stops, goes_on, falls_back, without, with_it}
+use Rattle.ar_extents.specs.Plans.{IsPath, stopped, skipped, answered, faulted, path_without, path_with, Accounted}
+use Rattle.ar_extents.specs.Plans.{NoneFaults, planned, access_of, is_skipped, skips}
 use Rattle.ar_extents.proofs.Accounts.{accounts_none, accounts_then, count_cons}
 
 pub none_made : (t : Attempt) (done : Bool) (a b : SetState) → skips a.health t ≡ true → Attempts t done a b → AccountsFor [] a b
@@ -33,6 +37,26 @@ answered_used t a b tried = not_skipped t a b (skips a.health t) refl tried
 pub answered_health : (t : Attempt) (a b : SetState) → Attempts t true a b → b.health ≡ a.health
 answered_health t a b tried = (one_made t true a b (answered_used t a b tried) tried).health
 
+-- a plan that goes on by whether an extent is missing, once that is known
+pub carried_if : (p : Place) (next other : AccessPlan) (a b : SetState) (missing : Bool)
+    → is_missing a.health p.disk p.extent ≡ missing → CarriesOut (cond missing next other) a b
+    → CarriesOut (IfMissing p next other) a b
+carried_if p next other a b true is carried = without p next other a b is carried
+carried_if p next other a b false is carried = with_it p next other a b is carried
+
+-- one plan, and then another
+pub both_carried : (first last : AccessPlan) (a b c : SetState) → CarriesOut first a b → CarriesOut last b c
+    → CarriesOut (both_of first last) a c
+both_carried Stop last a _ c (stops _) then = then
+both_carried (Try t next other) last a b c (goes_on _ _ _ _ m _ tried rest) then =
+    goes_on t (both_of next last) (both_of other last) a m c tried (both_carried next last m b c rest then)
+both_carried (Try t next other) last a b c (falls_back _ _ _ _ m _ tried rest) then =
+    falls_back t (both_of next last) (both_of other last) a m c tried (both_carried other last m b c rest then)
+both_carried (IfMissing p next other) last a b c (without _ _ _ _ _ is rest) then =
+    without p (both_of next last) (both_of other last) a c is (both_carried next last a b c rest then)
+both_carried (IfMissing p next other) last a b c (with_it _ _ _ _ _ is rest) then =
+    with_it p (both_of next last) (both_of other last) a c is (both_carried other last a b c rest then)
+
 -- an attempt after which the same plan goes on in any case
 pub carries_both : (t : Attempt) (next : AccessPlan) (a b c : SetState) (done : Bool) → Attempts t done a b → CarriesOut next b c → CarriesOut (Try t next next) a c
 carries_both t next a b c true tried rest = goes_on t next next a b c tried rest
@@ -42,7 +66,7 @@ carries_both t next a b c false tried rest = falls_back t next next a b c tried 
 pub carries_one : (t : Attempt) (a b : SetState) (done : Bool) → Attempts t done a b → CarriesOut (Try t Stop Stop) a b
 carries_one t a b done tried = carries_both t Stop a b b done tried (stops b)
 
-broken_skips : (kind : AccessKind) (place : Place) → is_skipped Broken kind place ≡ true
+pub broken_skips : (kind : AccessKind) (place : Place) → is_skipped Broken kind place ≡ true
 broken_skips Read place = refl
 broken_skips Write place = refl
 broken_skips Rebuild place = refl
@@ -57,6 +81,8 @@ pub carries_broken : (plan : AccessPlan) (s : SetState) → s.health ≡ Broken 
 carries_broken Stop s is = stops s
 carries_broken (Try t next other) s is =
     falls_back t next other s s s (skipped_attempt t s (ap (λ (h : Health). skips h t) is ∙ broken_skips t.kind t.place)) (carries_broken other s is)
+carries_broken (IfMissing p next other) s is =
+    with_it p next other s s (ap (λ (h : Health). is_missing h p.disk p.extent) is) (carries_broken other s is)
 
 answered_at : (t : Attempt) (next other : AccessPlan) (a b c : SetState) → Attempts t true a b → Accounted next b c → Accounted (Try t next other) a c
 answered_at t next other a b c tried rest =
@@ -94,6 +120,12 @@ accounted Stop s _ (stops _) = record { made = []; path = stopped s.health; acco
 accounted (Try t next other) a c (goes_on _ _ _ _ b _ tried rest) = answered_at t next other a b c tried (accounted next b c rest)
 accounted (Try t next other) a c (falls_back _ _ _ _ b _ tried rest) =
     faulted_at t next other a b c (skips a.health t) refl tried (accounted other b c rest)
+accounted (IfMissing p next other) a b (without _ _ _ _ _ is rest) =
+    let all = accounted next a b rest in
+    record { made = all.made; path = path_without p next other a.health all.made is all.path; accounts = all.accounts }
+accounted (IfMissing p next other) a b (with_it _ _ _ _ _ is rest) =
+    let all = accounted other a b rest in
+    record { made = all.made; path = path_with p next other a.health all.made is all.path; accounts = all.accounts }
 
 fault_seen : (t : Attempt) (rest : List RowAccess) → count_by (is_fault_of t.place.disk) (access_of t false ∷ rest) ≡ 0 → ⊥
 fault_seen t rest none =
@@ -112,6 +144,10 @@ path_planned (Try t next other) h _ (answered _ _ _ _ rest used path) none =
     (path_planned next h rest path (λ d. let n = count_cons (is_fault_of d) (access_of t true) rest in let m = none d in omega arith))
     ∙ ap (λ k. cond k (planned other h) (access_of t true ∷ planned next h)) (sym used)
 path_planned (Try t next other) h _ (faulted _ _ _ _ rest used path) none = absurd (fault_seen t rest (none t.place.disk))
+path_planned (IfMissing p next other) h rest (path_without _ _ _ _ _ is path) none =
+    path_planned next h rest path none ∙ ap (λ k. cond k (planned next h) (planned other h)) (sym is)
+path_planned (IfMissing p next other) h rest (path_with _ _ _ _ _ is path) none =
+    path_planned other h rest path none ∙ ap (λ k. cond k (planned next h) (planned other h)) (sym is)
 
 -- where no disk faults, exactly the planned accesses are made
 pub planned_made : (plan : AccessPlan) (a b : SetState) → CarriesOut plan a b → NoneFaults a b → b.log ≡ a.log ++ planned plan a.health
@@ -159,3 +195,18 @@ each_then (t ∷ ts) us a b c (falls_back _ _ _ _ m _ tried first) rest =
 pub one_then : (t : Attempt) (next : AccessPlan) (a b c : SetState) → CarriesOut (Try t Stop Stop) a b → CarriesOut next b c → CarriesOut (Try t next next) a c
 one_then t next a b c (goes_on _ _ _ _ _ _ tried (stops _)) rest = goes_on t next next a b c tried rest
 one_then t next a b c (falls_back _ _ _ _ _ _ tried (stops _)) rest = falls_back t next next a b c tried rest
+
+planned_by : (k : Bool) (xs ys us vs l : List RowAccess) → us ≡ xs ++ l → vs ≡ ys ++ l → cond k us vs ≡ cond k xs ys ++ l
+planned_by true xs ys us vs l one other = one
+planned_by false xs ys us vs l one other = other
+
+-- where none faults, two plans take the accesses of the one, and then those of the other
+pub both_planned : (first last : AccessPlan) (h : Health) → planned (both_of first last) h ≡ planned first h ++ planned last h
+both_planned Stop last h = refl
+both_planned (Try t next other) last h =
+    planned_by (skips h t) (planned other h) (access_of t true ∷ planned next h) (planned (both_of other last) h)
+    (access_of t true ∷ planned (both_of next last) h) (planned last h) (both_planned other last h)
+    (ap (λ l. access_of t true ∷ l) (both_planned next last h))
+both_planned (IfMissing p next other) last h =
+    planned_by (is_missing h p.disk p.extent) (planned next h) (planned other h) (planned (both_of next last) h)
+    (planned (both_of other last) h) (planned last h) (both_planned next last h) (both_planned other last h)

@@ -6,7 +6,7 @@ use Rattle.ar_extents.specs.declared.health.Health.TheVariants.{Whole, Out, Rebu
 use Rattle.ar_extents.specs.declared.log.RowAccess.{RowAccess}
 use Rattle.ar_extents.specs.declared.log.AccessKind.{AccessKind}
 use Rattle.ar_extents.specs.declared.log.AccessKind.TheVariants.{Read, Write, Rebuild}
-use Rattle.ar_extents.specs.Health.{is_lost, after_fault}
+use Rattle.ar_extents.specs.Health.{is_lost, is_missing, after_fault}
 use Rattle.ar_extents.specs.Set.{SetState, faults_of}
 use Rattle.ar_extents.specs.Log.{AccountsFor}
 
@@ -57,10 +57,29 @@ pub record Attempts (t : Attempt) (answered : Bool) (old new : SetState) : Type 
   pub skipped : skips old.health t ≡ true → answered ≡ false
   pub made : AccountsFor (accesses_for t answered old.health) old new
 
--- a plan: stop; or try an access, and go on with the first plan if it succeeds, else with the second
+-- A plan: stop; or try an access, and go on with the first plan if it succeeds, else with the second; or go on, at no
+-- access, with the first plan if an extent is missing, else with the second.
 pub data AccessPlan : Type 0 where
   Stop : AccessPlan
   Try : Attempt → AccessPlan → AccessPlan → AccessPlan
+  IfMissing : Place → AccessPlan → AccessPlan → AccessPlan
+
+-- the one plan, and then the other
+abbrev pub both_of : AccessPlan → AccessPlan → AccessPlan
+both_of Stop last = last
+both_of (Try t next other) last = Try t (both_of next last) (both_of other last)
+both_of (IfMissing p next other) last = IfMissing p (both_of next last) (both_of other last)
+
+-- no attempt of the plan is one to write the disk that is being rebuilt
+abbrev pub UsesOnly : AccessKind → Type 0
+UsesOnly Read = Unit {0}
+UsesOnly Write = Unit {0}
+UsesOnly Rebuild = ⊥
+
+abbrev pub RebuildsNothing : AccessPlan → Type 0
+RebuildsNothing Stop = Unit {0}
+RebuildsNothing (Try t next other) = UsesOnly t.kind × RebuildsNothing next × RebuildsNothing other
+RebuildsNothing (IfMissing p next other) = RebuildsNothing next × RebuildsNothing other
 
 -- these attempts in turn, as long as they succeed; after the last the plan goes on
 abbrev pub all_of : List Attempt → AccessPlan → AccessPlan
@@ -91,6 +110,12 @@ pub data CarriesOut : AccessPlan → SetState → SetState → Type 0 where
   falls_back : (t : Attempt) (next other : AccessPlan) (old between new : SetState) → Attempts t false old between
       → CarriesOut other between new
       → CarriesOut (Try t next other) old new
+  without : (p : Place) (next other : AccessPlan) (old new : SetState)
+      → is_missing old.health p.disk p.extent ≡ true → CarriesOut next old new
+      → CarriesOut (IfMissing p next other) old new
+  with_it : (p : Place) (next other : AccessPlan) (old new : SetState)
+      → is_missing old.health p.disk p.extent ≡ false → CarriesOut other old new
+      → CarriesOut (IfMissing p next other) old new
 
 -- these accesses are a path through the plan, from this health on
 pub data IsPath : AccessPlan → Health → List RowAccess → Type 0 where
@@ -103,6 +128,10 @@ pub data IsPath : AccessPlan → Health → List RowAccess → Type 0 where
       → IsPath (Try t next other) h (access_of t true ∷ rest)
   faulted : (t : Attempt) (next other : AccessPlan) (h : Health) (rest : List RowAccess) → skips h t ≡ false
       → IsPath other (after_fault h t.place.disk) rest → IsPath (Try t next other) h (access_of t false ∷ rest)
+  path_without : (p : Place) (next other : AccessPlan) (h : Health) (rest : List RowAccess)
+      → is_missing h p.disk p.extent ≡ true → IsPath next h rest → IsPath (IfMissing p next other) h rest
+  path_with : (p : Place) (next other : AccessPlan) (h : Health) (rest : List RowAccess)
+      → is_missing h p.disk p.extent ≡ false → IsPath other h rest → IsPath (IfMissing p next other) h rest
 
 -- a path through the plan accounts for all that happened
 pub record Accounted (plan : AccessPlan) (old new : SetState) : Type 0 where
@@ -118,3 +147,4 @@ pub record NoneFaults (old new : SetState) : Type 0 where
 abbrev pub planned : AccessPlan → Health → List RowAccess
 planned Stop h = []
 planned (Try t next other) h = if skips h t then planned other h else access_of t true ∷ planned next h
+planned (IfMissing p next other) h = if is_missing h p.disk p.extent then planned next h else planned other h

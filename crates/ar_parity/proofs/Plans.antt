@@ -5,7 +5,7 @@ use Rattle.ar_disks.specs.declared.address.Place.{Place}
 use Rattle.ar_disks.specs.Members.{member}
 use Rattle.ar_extents.specs.Set.{SetState}
 use Rattle.ar_extents.specs.Plans.{Attempt, Attempts, AttemptsAll, one_done, one_failed, all_of, each_of, AccessPlan, Stop, Try, CarriesOut, stops, NoneFaults, planned, access_of, read_at, write_at, rebuild_at}
-use Rattle.ar_extents.proofs.Plans.{all_then, all_stopped, all_one, all_more, all_fewer, each_then, one_then, planned_made}
+use Rattle.ar_extents.proofs.Plans.{carried_if, all_then, all_stopped, all_one, all_more, all_fewer, each_then, one_then, planned_made}
 use Rattle.ar_extents.specs.declared.health.Health.TheVariants.{Whole}
 use Rattle.ar_parity.specs.Others.{low_other, high_other}
 use Rattle.ar_parity.specs.Plans.{two_reads, three_reads, parity_read, write_member, write_by_reading, stripe_write, parity_write, writes_from, stripes_from}
@@ -104,20 +104,21 @@ all_stripes m n a b carried =
     let same : n - 0 ≡ n = omega arith in let P : ℕ → Type 0 = λ k. CarriesOut (each_of (stripes_from m 0 k)) a b in subst P same carried
 
 -- the plan of a stripe's write, by whether the parity was found missing
-pub stripe_carried : (h : Health) (m : Members) (i j k row : ℕ) (p : Place) (missing : Bool) (a b : SetState) → k ≡ j → p ≡ member m k
-    → is_missing h p.disk p.extent ≡ missing → CarriesOut (cond missing (write_member m i row) (write_by_reading m i j row)) a b
-    → CarriesOut (stripe_write h m i j row) a b
-stripe_carried h m i j k row p missing a b position at is carried =
-    let P : Bool → Type 0 = λ t. CarriesOut (cond t (write_member m i row) (write_by_reading m i j row)) a b in
+pub stripe_carried : (m : Members) (i j k row : ℕ) (p : Place) (missing : Bool) (a b : SetState) → k ≡ j → p ≡ member m k
+    → is_missing a.health p.disk p.extent ≡ missing
+    → CarriesOut (cond missing (write_member m i row) (write_by_reading m i j row)) a b
+    → CarriesOut (stripe_write m i j row) a b
+stripe_carried m i j k row p missing a b position at is carried =
     let here : p ≡ member m j = at ∙ ap (λ (n : ℕ). member m n) position in
-    subst P (sym is ∙ ap (λ (q : Place). is_missing h q.disk q.extent) here) carried
+    carried_if (member m j) (write_member m i row) (write_by_reading m i j row) a b missing
+    (ap (λ (q : Place). is_missing a.health q.disk q.extent) (sym here) ∙ is) carried
 
 -- the write of a slot, told of the position and the row that were found
-pub write_carried : (h : Health) (m : Members) (slot i row : ℕ) (a b : SetState) → i ≡ data_position slot → row ≡ row_of slot
-    → CarriesOut (stripe_write h m i (parity_position row) row) a b → CarriesOut (parity_write h m slot) a b
-write_carried h m slot i row a b is_i is_row carried =
-    let P : ℕ → Type 0 = λ n. CarriesOut (stripe_write h m n (parity_position row) row) a b in
-    let Q : ℕ → Type 0 = λ r. CarriesOut (stripe_write h m (data_position slot) (parity_position r) r) a b in
+pub write_carried : (m : Members) (slot i row : ℕ) (a b : SetState) → i ≡ data_position slot → row ≡ row_of slot
+    → CarriesOut (stripe_write m i (parity_position row) row) a b → CarriesOut (parity_write m slot) a b
+write_carried m slot i row a b is_i is_row carried =
+    let P : ℕ → Type 0 = λ n. CarriesOut (stripe_write m n (parity_position row) row) a b in
+    let Q : ℕ → Type 0 = λ r. CarriesOut (stripe_write m (data_position slot) (parity_position r) r) a b in
     subst Q is_row (subst P is_i carried)
 
 -- on a healthy set, and without a fault
@@ -126,10 +127,10 @@ pub healthy_read : (a b : SetState) (m : Members) (slot : ℕ) → a.health ≡ 
 healthy_read a b m slot whole none carried =
     planned_made (parity_read m slot) a b carried none ∙ ap (λ (h : Health). a.log ++ planned (parity_read m slot) h) whole
 
-pub healthy_write : (a b : SetState) (m : Members) (slot : ℕ) → a.health ≡ Whole → NoneFaults a b → CarriesOut (parity_write a.health m slot) a b
+pub healthy_write : (a b : SetState) (m : Members) (slot : ℕ) → a.health ≡ Whole → NoneFaults a b → CarriesOut (parity_write m slot) a b
     → b.log ≡ a.log ++ access_of (read_at (member m (data_position slot)) (row_of slot)) true
     ∷ access_of (read_at (member m (parity_position (row_of slot))) (row_of slot)) true
     ∷ access_of (write_at (member m (data_position slot)) (row_of slot)) true
     ∷ access_of (write_at (member m (parity_position (row_of slot))) (row_of slot)) true ∷ []
 healthy_write a b m slot whole none carried =
-    planned_made (parity_write a.health m slot) a b carried none ∙ ap (λ (h : Health). a.log ++ planned (parity_write h m slot) h) whole
+    planned_made (parity_write m slot) a b carried none ∙ ap (λ (h : Health). a.log ++ planned (parity_write m slot) h) whole

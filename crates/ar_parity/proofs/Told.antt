@@ -16,7 +16,7 @@ use Rattle.ar_extents.proofs.Follows.{keeps_refl, keeps_then, works_refl, works_
 use Rattle.ar_extents.proofs.Losses.{lost_not_sound}
 use Rattle.ar_extents.proofs.Plans.{answered_health}
 use Rattle.ar_extents.proofs.GroupLemmas.{same_place, member_is, works_member, works_pair}
-use Rattle.ar_extents.proofs.Asking.{went, tried_one, nothing_done, read_changes_none, read_works, write_works, unread_lost, attempt_follows, attempt_keeps, attempt_leaves, keeps_but_after, rebuilt_sound}
+use Rattle.ar_extents.proofs.Asking.{went_if, went, tried_one, nothing_done, read_changes_none, read_works, write_works, unread_lost, attempt_follows, attempt_keeps, attempt_leaves, keeps_but_after, rebuilt_sound}
 use Rattle.ar_parity.specs.Row.{row_of, data_position, parity_position}
 use Rattle.ar_parity.specs.Group.{KeepsButRow}
 use Rattle.ar_parity.specs.Others.{low_other, high_other}
@@ -382,14 +382,16 @@ stripe_by m i j row false a c apart hi hj is carried =
     let first = went (read_at (member m i) row) (write_known m i j row) (write_lost m i j row) a c carried in
     reading_by m i j row first.done a first.between c apart hi hj is first.tried first.rest
 
-pub stripe_told : (m : Members) (i j row : ℕ) (a c : SetState) → AreApart m → i < 4 → j < 4 → CarriesOut (stripe_write a.health m i j row) a c → StripeTold m i j row a c
-stripe_told m i j row a c apart hi hj carried = stripe_by m i j row (is_missing a.health (member m j).disk (member m j).extent) a c apart hi hj refl carried
+pub stripe_told : (m : Members) (i j row : ℕ) (a c : SetState) → AreApart m → i < 4 → j < 4 → CarriesOut (stripe_write m i j row) a c → StripeTold m i j row a c
+stripe_told m i j row a c apart hi hj carried =
+    stripe_by m i j row (is_missing a.health (member m j).disk (member m j).extent) a c apart hi hj refl
+    (went_if (member m j) (write_member m i row) (write_by_reading m i j row) a c carried)
 
 data_below : (slot : ℕ) → data_position slot < 4
 data_below slot = grind (arith, nat_tests)
 
 -- the write of a slot
-pub slot_told : (m : Members) (slot : ℕ) (a c : SetState) → AreApart m → CarriesOut (parity_write a.health m slot) a c
+pub slot_told : (m : Members) (slot : ℕ) (a c : SetState) → AreApart m → CarriesOut (parity_write m slot) a c
     → StripeTold m (data_position slot) (parity_position (row_of slot)) (row_of slot) a c
 slot_told m slot a c apart carried =
     stripe_told m (data_position slot) (parity_position (row_of slot)) (row_of slot) a c apart (data_below slot) (omega arith) carried

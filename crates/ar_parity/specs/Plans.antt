@@ -1,12 +1,10 @@
 -- The accesses of calls on a parity group, as plans. `i` and `j` are member positions.
-use Rattle.std.specs.Prelude.{ℕ, zero, suc, ◌+◌, ◌%◌, Bool, true, false, List, [], ◌∷◌, ◌++◌, if◌then◌else◌}
+use Rattle.std.specs.Prelude.{ℕ, zero, suc, ◌+◌, ◌%◌, Bool, true, false, List, [], ◌∷◌, ◌++◌}
 use Rattle.ar_disks.specs.declared.address.Members.{Members}
 use Rattle.ar_disks.specs.declared.completion.Completion.{Completion}
 use Rattle.ar_disks.specs.declared.completion.Completion.TheVariants.{Done, Broken}
 use Rattle.ar_disks.specs.Members.{member}
-use Rattle.ar_extents.specs.declared.health.Health.{Health}
-use Rattle.ar_extents.specs.Health.{is_missing}
-use Rattle.ar_extents.specs.Plans.{Attempt, AccessPlan, Stop, Try, read_at, write_at, rebuild_at, all_of}
+use Rattle.ar_extents.specs.Plans.{Attempt, AccessPlan, Stop, Try, IfMissing, read_at, write_at, rebuild_at, all_of}
 use Rattle.ar_parity.specs.Row.{row_of, data_position, parity_position}
 use Rattle.ar_parity.specs.Others.{low_other, high_other}
 
@@ -51,13 +49,12 @@ parity_read m slot =
     (all_of (three_reads m (data_position slot) (row_of slot)) Stop)
 
 -- the write of the block at `i`: if the parity at `j` is missing, it writes that block alone
-abbrev pub stripe_write : Health → Members → ℕ → ℕ → ℕ → AccessPlan
-stripe_write h m i j row =
-    if is_missing h (member m j).disk (member m j).extent then write_member m i row else write_by_reading m i j row
+abbrev pub stripe_write : Members → ℕ → ℕ → ℕ → AccessPlan
+stripe_write m i j row = IfMissing (member m j) (write_member m i row) (write_by_reading m i j row)
 
 -- the write of a slot
-abbrev pub parity_write : Health → Members → ℕ → AccessPlan
-parity_write h m slot = stripe_write h m (data_position slot) (parity_position (row_of slot)) (row_of slot)
+abbrev pub parity_write : Members → ℕ → AccessPlan
+parity_write m slot = stripe_write m (data_position slot) (parity_position (row_of slot)) (row_of slot)
 
 -- the rebuild of a row of the member at `i`: reads the three others, and then writes it
 abbrev pub parity_rebuild : Members → ℕ → ℕ → AccessPlan

@@ -107,7 +107,7 @@ pub fn put<D: Disk>(
     ensures slots { (k : ℕ) → k ≢ slot → (b : List ℕ) → Holds set.old members.now k b → Holds set.new members.now k b }
 
     // Exactly these accesses are made.
-    ensures plan { CarriesOut (parity_write set.old.health members.now slot) set.old set.new }
+    ensures plan { CarriesOut (parity_write members.now slot) set.old set.new }
 
     ensures scratch { scratch.new.geometry ≡ scratch.old.geometry }
 {

@@ -27,7 +27,7 @@ pub fn parity_accesses()
         → CarriesOut (parity_read m slot) old new
         → new.log ≡ old.log ++ access_of (read_at (member m (data_position slot)) (row_of slot)) true ∷ [] }
     ensures write { (old new : SetState) (m : Members) (slot : ℕ) → old.health ≡ Whole → NoneFaults old new
-        → CarriesOut (parity_write old.health m slot) old new
+        → CarriesOut (parity_write m slot) old new
         → new.log ≡ old.log ++ access_of (read_at (member m (data_position slot)) (row_of slot)) true
         ∷ access_of (read_at (member m (parity_position (row_of slot))) (row_of slot)) true
         ∷ access_of (write_at (member m (data_position slot)) (row_of slot)) true

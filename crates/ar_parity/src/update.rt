@@ -182,8 +182,7 @@ pub(crate) fn change<D: Disk>(
 
     ensures keeps { KeepsButRow members.now row set.old set.new }
     ensures works { WorksOn (IsMember members.now) set.old set.new }
-    ensures plan { CarriesOut (stripe_write set.old.health members.now position (parity_position row) row)
-        set.old set.new }
+    ensures plan { CarriesOut (stripe_write members.now position (parity_position row) row) set.old set.new }
     ensures scratch { scratch.new.geometry ≡ scratch.old.geometry }
 {
     if set.missing(members.at(parity_at(row))) {

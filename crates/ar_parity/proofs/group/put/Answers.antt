@@ -14,4 +14,4 @@ returns-clause-outcome g c = outcome_told c.change.new.set c.change.result c.cha
 
 pub returns-clause-plan : goal.returns-clause-plan
 returns-clause-plan g c =
-    write_carried _ c.args.members.now c.args.slot _ _ _ _ c.data_at.ensures.position c.row_of_slot.ensures c.change.ensures.plan
+    write_carried c.args.members.now c.args.slot _ _ _ _ c.data_at.ensures.position c.row_of_slot.ensures c.change.ensures.plan

@@ -16,10 +16,10 @@ returns-then-missing-clause-changes g c = record {
 
 pub returns-then-missing-clause-plan : goal.returns-then-missing-clause-plan
 returns-then-missing-clause-plan g c =
-    stripe_carried _ c.args.members.now c.args.position (parity_position c.args.row) _ c.args.row _ _ _ _ c.parity_at.ensures.position c.at.ensures
+    stripe_carried c.args.members.now c.args.position (parity_position c.args.row) _ c.args.row _ _ _ _ c.parity_at.ensures.position c.at.ensures
     (sym c.missing.ensures ∙ c.if-missing.true) c.write.ensures.plan
 
 pub returns-clause-plan : goal.returns-clause-plan
 returns-clause-plan g c =
-    stripe_carried _ c.args.members.now c.args.position (parity_position c.args.row) _ c.args.row _ _ _ _ c.parity_at.ensures.position c.at.ensures
+    stripe_carried c.args.members.now c.args.position (parity_position c.args.row) _ c.args.row _ _ _ _ c.parity_at.ensures.position c.at.ensures
     (sym c.missing.ensures ∙ c.if-missing.false) c.change_by_reading.ensures.plan
