@@ -5,3 +5,4 @@ pub mod Forming
 pub mod Less
 pub mod Single
 pub mod Falling
+pub mod Copying

@@ -1,10 +1,10 @@
 // An extent is copied row by row, each read before it is written: a copy that a fault stops writes no row past it.
-ghost use Rattle.std.specs.Prelude.{◌≡◌, ◌≢◌, ◌<◌, ℕ, length, IsTrue, false};
+ghost use Rattle.std.specs.Prelude.{◌≡◌, ◌≢◌, ◌<◌, ℕ, length, IsTrue, true, false};
 ghost use Rattle.ar_disks.specs.Geometry.{rows_of, block_len_of};
 ghost use Rattle.ar_extents.specs.declared.health.Health.TheVariants.{Whole, Out};
 ghost use Rattle.ar_extents.specs.Set.{HasExtent, content};
-ghost use Rattle.ar_extents.specs.Follows.{LeavesDisks};
-ghost use Rattle.ar_balance.specs.Copies.{IsExtentCopied, IsRowCopied, IsCutShort, IsStopped, AsksInTurn};
+ghost use Rattle.ar_extents.specs.Plans.{AttemptsAll};
+ghost use Rattle.ar_balance.specs.Copies.{row_copy, IsExtentCopied, IsRowCopied, IsCutShort, IsStopped};
 
 use ar_disks::{Disk, Place};
 use ar_extents::{DiskSet, Got, Put};
@@ -51,8 +51,9 @@ fn copy_row<D: Disk>(
     ensures others { result ≡ false → (r : ℕ) → r ≢ row → content set.new to r ≡ content set.old to r }
     // Nothing is written unless the row was read.
     ensures unread { result ≡ false → set.new.health ≢ Out to.disk → content set.new to row ≡ content set.old to row }
-    ensures turn { IsTrue result → AsksInTurn from to set.old set.new }
-    ensures untouched { result ≡ false → set.new.health ≢ Out to.disk → LeavesDisks (λ d. d ≢ from.disk) set.old set.new }
+    // Exactly these accesses are made.
+    ensures made { IsTrue result → AttemptsAll (row_copy from to row) true set.old set.new }
+    ensures failed { result ≡ false → AttemptsAll (row_copy from to row) false set.old set.new }
 {
     match set.get(from, row, block) {
         Got::Read => match set.put(to, row, block) {

@@ -3,4 +3,4 @@ pub mod Readiness
 pub mod Work
 pub mod Ending
 pub mod Single
-pub mod Asking
+pub mod Planned

@@ -1,14 +1,15 @@
 -- The rule of cleaning: which block moves to which slot; and the measure by which cleaning ends.
-use Rattle.std.specs.Prelude.{◌≡◌, ◌⊎◌, ℕ, ◌-◌, ◌*◌, ◌==◌, if◌then◌else◌, Some, sum_by}
+use Rattle.std.specs.Prelude.{◌⊎◌, ℕ, ◌-◌, ◌*◌, ◌==◌, if◌then◌else◌, sum_by}
 use Rattle.ar_disks.specs.declared.address.Key.{Key}
 use Rattle.ar_book.specs.declared.class.Class.{Class}
 use Rattle.ar_book.specs.declared.class.Class.TheVariants.{Free, Mirrored, Parity}
 use Rattle.ar_book.specs.declared.class.Slot.{Slot}
-use Rattle.ar_book.specs.Tables.{GroupState, Tables, home, used}
+use Rattle.ar_book.specs.Tables.{GroupState, Tables, used}
 use Rattle.ar_book.specs.Changes.{Moved}
 use Rattle.ar_book.specs.Cleaning.{CanBeEmptied, IsEmptiest, IsFirstBlock, IsLowestHoleBeside}
 use Rattle.ar_store.specs.Store.{StoreState}
-use Rattle.ar_moves.specs.Moves.{AsksToMove}
+use Rattle.ar_extents.specs.Plans.{CarriesOut}
+use Rattle.ar_store.specs.Plans.{move_plan}
 
 -- no group of a class has blocks that all fit in the holes of the others
 abbrev pub HasNothingIn : Tables → Class → Type 0
@@ -40,10 +41,10 @@ pub record Cleans (t : Tables) (key : Key) (to : Slot) (new : Tables) : Type 0 w
   pub names : NamesCleaning t key to
   pub moved : Moved t key to new
 
--- only the disks that the rule's move needs were accessed, the old slot's before the new one's, and only the new slot's
--- row was written
-abbrev pub AsksToClean : StoreState → StoreState → Type 0
-AsksToClean old new = (key : Key) (from to : Slot) → NamesCleaning old.book key to → home old.book key ≡ Some from → AsksToMove from to old new
+-- exactly the rule's move was carried out: the old slot was read, and then the new one written
+abbrev pub CarriesOutCleaning : StoreState → StoreState → Type 0
+CarriesOutCleaning old new = (key : Key) (to : Slot) → NamesCleaning old.book key to
+    → CarriesOut (move_plan old key to) old.disks new.disks
 
 -- A group's part of the measure, by its number of blocks: b (48 - b), as a group has at most 48 slots. A group in use
 -- without blocks counts 96, so that the sum also falls when a first block moves there.

@@ -1,18 +1,20 @@
 -- The rule of demotion: which block moves to which slot, and what it leaves if the array fails.
-use Rattle.std.specs.Prelude.{◌≡◌, ◌≢◌, ◌⊎◌, ℕ, ◌*◌, ◌<◌, ◌≤◌, Some}
+use Rattle.std.specs.Prelude.{◌≡◌, ◌≢◌, ◌⊎◌, ℕ, ◌*◌, ◌<◌, ◌≤◌}
 use Rattle.ar_disks.specs.Block.{zeros}
 use Rattle.ar_disks.specs.Geometry.{rows_of, block_len_of}
 use Rattle.ar_disks.specs.declared.address.Key.{Key}
 use Rattle.ar_book.specs.declared.class.Class.TheVariants.{Parity}
 use Rattle.ar_book.specs.declared.class.Slot.{Slot}
-use Rattle.ar_book.specs.Tables.{Tables, home, free_groups}
+use Rattle.ar_book.specs.Tables.{Tables, free_groups}
 use Rattle.ar_book.specs.Changes.{Moved}
 use Rattle.ar_book.specs.Choices.{IsMirrored, IsNoNewer, IsLowestFree}
 use Rattle.ar_store.specs.Store.{StoreState}
 use Rattle.ar_store.specs.Slots.{SlotHolds}
 use Rattle.ar_store.specs.Placing.{slot_at, IsLowestHole, HasNoHole}
 use Rattle.ar_store.specs.Calls.{IsOpened}
-use Rattle.ar_moves.specs.Moves.{AsksToMove, AsksToOpen}
+use Rattle.ar_extents.specs.Plans.{CarriesOut}
+use Rattle.ar_store.specs.Plans.{move_plan}
+use Rattle.ar_moves.specs.Moves.{OpensThenMoves}
 
 -- the least recently written mirrored block
 pub record IsOldestMirrored (t : Tables) (key : Key) : Type 0 where
@@ -74,13 +76,10 @@ pub record LeavesReady (t new : Tables) : Type 0 where
 pub record HoldsZerosBeside (s : StoreState) (to : Slot) : Type 0 where
   pub slots : (i : ℕ) → i < 3 * rows_of s.disks.geometry → i ≢ to.slot → SlotHolds s (slot_at to.group i) (zeros (block_len_of s.disks.geometry))
 
--- Only the disks that the rule's move needs were accessed, the old slot's before the new one's, and only the new slot's
--- row was written. If a group is opened for it, that group's disks were accessed first, and no other group was written.
-pub record AsksToDemote (old new : StoreState) : Type 0 where
-  pub there :
-      (key : Key) (from to : Slot) → IsOldestMirrored old.book key → home old.book key ≡ Some from → IsLowestHole old.book Parity to
-      → AsksToMove from to old new
-  pub made :
-      (key : Key) (from : Slot) (group : ℕ) → IsOldestMirrored old.book key → home old.book key ≡ Some from → HasNoHole old.book Parity
-      → 2 ≤ free_groups old.book → IsLowestFree old.book group
-      → AsksToOpen from group old new
+-- Exactly the rule's move was carried out: the old slot was read, and then the new one written. If a group is opened
+-- for it, that was filled with zeros first.
+pub record CarriesOutDemotion (old new : StoreState) : Type 0 where
+  pub there : (key : Key) (to : Slot) → IsOldestMirrored old.book key → IsLowestHole old.book Parity to
+      → CarriesOut (move_plan old key to) old.disks new.disks
+  pub made : (key : Key) (group : ℕ) → IsOldestMirrored old.book key → HasNoHole old.book Parity
+      → 2 ≤ free_groups old.book → IsLowestFree old.book group → OpensThenMoves key group old new

@@ -1,5 +1,5 @@
 -- What a move returns, and what it leaves as it was.
-use Rattle.std.specs.Prelude.{◌≡◌, ◌⊎◌, ℕ}
+use Rattle.std.specs.Prelude.{◌≡◌, ℕ}
 use Rattle.ar_disks.specs.declared.address.Key.{Key}
 use Rattle.ar_extents.specs.Set.{SetState}
 use Rattle.ar_extents.specs.declared.health.Health.TheVariants.{Broken as AllBroken}
@@ -10,7 +10,8 @@ use Rattle.ar_book.specs.Changes.{opened, Moved as TablesMoved}
 use Rattle.ar_store.specs.Store.{StoreState, store_of, members_of}
 use Rattle.ar_store.specs.Slots.{AllStand}
 use Rattle.ar_store.specs.Placing.{slot_at, SameUnits}
-use Rattle.ar_store.specs.Asking.{IsCutOff, AsksSlots, AsksOpened, ReadsThenWrites, FillsWithZeros}
+use Rattle.ar_extents.specs.Plans.{CarriesOut}
+use Rattle.ar_store.specs.Plans.{move_plan, FillsWithZeros}
 use Rattle.ar_store.specs.Calls.{IsAccessed}
 use Rattle.ar_moves.specs.declared.step.Move.{Move}
 use Rattle.ar_moves.specs.declared.step.Move.TheVariants.{Moved, Idle, Broken}
@@ -40,15 +41,9 @@ pub record LeavesBlocks (old new : StoreState) : Type 0 where
   pub accessed : IsAccessed old.disks new.disks
   pub broken : old.disks.health ≡ AllBroken → new ≡ old
 
--- Which disks a block's move from one slot to another accessed, which row it wrote, and in what order.
-pub record AsksToMove (from to : Slot) (old new : StoreState) : Type 0 where
-  pub asks : AsksSlots from to old new
-  pub steps : ReadsThenWrites from to old new
-
--- The same if a parity group was opened for the block: it was filled with zeros first, and only then the block moved to
--- its first slot. If the array failed while it was filled, nothing was accessed after that.
-pub record AsksToOpen (from : Slot) (group : ℕ) (old new : StoreState) : Type 0 where
-  pub asks : AsksOpened from group old new
+-- A parity group was opened for a block: it was filled with zeros first, and then the block moved to its first slot.
+pub record OpensThenMoves (key : Key) (group : ℕ) (old new : StoreState) : Type 0 where
   pub filled : SetState
   pub fills : FillsWithZeros (members_of old group) old.disks filled
-  pub moves : IsCutOff filled new.disks ⊎ ReadsThenWrites from (slot_at group 0) (store_of filled (opened old.book group Parity)) new
+  pub moves : CarriesOut (move_plan (store_of filled (opened old.book group Parity)) key (slot_at group 0))
+      filled new.disks

@@ -4,7 +4,8 @@ ghost use Rattle.std.specs.Prelude.{◌≡◌, ◌↔◌, ◌≤◌, ◌<◌, If
 ghost use Rattle.ar_book.specs.Tables.{free_groups};
 ghost use Rattle.ar_store.specs.Slots.{BesideHold};
 ghost use Rattle.ar_moves.specs.Moves.{IfMoved, LeavesBlocks, IsLeft};
-ghost use Rattle.ar_moves.specs.Cleaning.{AsksToClean, Cleans, NamesCleaning, NamesCleaningOf, HasNothingIn, NothingToClean, cleaning_left};
+ghost use Rattle.ar_moves.specs.Cleaning.{Cleans, NamesCleaning, NamesCleaningOf, HasNothingIn, NothingToClean};
+ghost use Rattle.ar_moves.specs.Cleaning.{CarriesOutCleaning, cleaning_left};
 
 use crate::Move;
 use crate::step::move_to;
@@ -19,8 +20,8 @@ use ar_store::Store;
 /// others. If there is no such group, the same is tried among the parity groups; else nothing changes (`Idle`).
 ///
 /// The block keeps its stamp; no block changes, and the other slots of its new group hold what they held. A group that
-/// its last block leaves is free, and none is opened. Disks are accessed only to read the old slot and then to write
-/// the new one; no other row is written. Nothing is allocated.
+/// its last block leaves is free, and none is opened. Exactly the old slot is read, and then the new one written.
+/// Nothing is allocated.
 ///
 /// `Broken`: the array has failed, and the tables are as they were. A store that had failed before is unchanged.
 pub fn clean_one<D: Disk>(store: &mut Store<D>) -> Move
@@ -32,7 +33,7 @@ pub fn clean_one<D: Disk>(store: &mut Store<D>) -> Move
     ensures free { free_groups store.old.book ≤ free_groups store.new.book }
     ensures less { IfMoved result (λ key to. cleaning_left store.new.book < cleaning_left store.old.book) }
     ensures beside { IfMoved result (λ key to. BesideHold store.old store.new to) }
-    ensures asks { AsksToClean store.old store.new }
+    ensures plan { CarriesOutCleaning store.old store.new }
     ensures leaves { LeavesBlocks store.old store.new }
 {
     if let Health::Broken = store.health() {

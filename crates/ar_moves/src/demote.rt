@@ -7,7 +7,7 @@ ghost use Rattle.ar_store.specs.Slots.{BesideHold};
 ghost use Rattle.ar_store.specs.Placing.{HasNoHole};
 ghost use Rattle.ar_moves.specs.Moves.{IfMoved, LeavesBlocks, IsLeft};
 ghost use Rattle.ar_moves.specs.Demotion.{IsOldestMirrored, Demotes, DemotesTo, NamesNoSlot, NamesNoDemotion};
-ghost use Rattle.ar_moves.specs.Demotion.{MayHaveOpened, LeavesReady, HoldsZerosBeside, AsksToDemote};
+ghost use Rattle.ar_moves.specs.Demotion.{MayHaveOpened, LeavesReady, HoldsZerosBeside, CarriesOutDemotion};
 
 use crate::Move;
 use crate::step::move_to;
@@ -21,9 +21,9 @@ use ar_store::{Opening, Store};
 /// none and two groups are free, the lowest is opened for parity and filled with zeros, and the block moves to its
 /// first slot; else nothing changes (`Idle`).
 ///
-/// The block keeps its stamp; no block changes, and the other slots of its new group hold what they held. Disks are
-/// accessed only to fill the group that is opened, to read the old slot and then to write the new one; no other row is
-/// written. Nothing is allocated.
+/// The block keeps its stamp; no block changes, and the other slots of its new group hold what they held. Exactly these
+/// accesses are made: the group that is opened is filled, the old slot read, and then the new one written. Nothing is
+/// allocated.
 ///
 /// `Broken`: the array has failed. A group that the rule opens is open then, and every block has its old home. A store
 /// that had failed before is unchanged.
@@ -36,7 +36,7 @@ pub fn demote_one<D: Disk>(store: &mut Store<D>) -> Move
     ensures ready { result ≡ Move.Broken → store.old.disks.health ≢ Health.Broken → LeavesReady store.old.book store.new.book }
     ensures zeros { IfMoved result (λ key to. HasNoHole store.old.book Parity → HoldsZerosBeside store.new to) }
     ensures beside { IfMoved result (λ key to. BesideHold store.old store.new to) }
-    ensures asks { AsksToDemote store.old store.new }
+    ensures plan { CarriesOutDemotion store.old store.new }
     ensures leaves { LeavesBlocks store.old store.new }
 {
     if let Health::Broken = store.health() {
@@ -60,7 +60,7 @@ fn demote<D: Disk>(store: &mut Store<D>, key: Key) -> Move
     ensures ready { result ≡ Move.Broken → store.old.disks.health ≢ Health.Broken → LeavesReady store.old.book store.new.book }
     ensures zeros { IfMoved result (λ key to. HasNoHole store.old.book Parity → HoldsZerosBeside store.new to) }
     ensures beside { IfMoved result (λ key to. BesideHold store.old store.new to) }
-    ensures asks { AsksToDemote store.old store.new }
+    ensures plan { CarriesOutDemotion store.old store.new }
     ensures leaves { LeavesBlocks store.old store.new }
 {
     match store.book().hole(Class::Parity, &mut Steps::new()) {
@@ -84,7 +84,7 @@ fn demote_to_new<D: Disk>(store: &mut Store<D>, key: Key) -> Move
     ensures ready { result ≡ Move.Broken → store.old.disks.health ≢ Health.Broken → LeavesReady store.old.book store.new.book }
     ensures zeros { IfMoved result (λ key to. HoldsZerosBeside store.new to) }
     ensures beside { IfMoved result (λ key to. BesideHold store.old store.new to) }
-    ensures asks { AsksToDemote store.old store.new }
+    ensures plan { CarriesOutDemotion store.old store.new }
     ensures leaves { LeavesBlocks store.old store.new }
 {
     match store.open_group(Class::Parity) {

@@ -1,11 +1,11 @@
 // One block moves from its home to an empty slot, which is written before the tables change.
-ghost use Rattle.std.specs.Prelude.{◌≡◌, ◌≢◌, ◌↔◌, Some, IsSome};
-ghost use Rattle.ar_book.specs.declared.class.Slot.{Slot};
+ghost use Rattle.std.specs.Prelude.{◌≡◌, ◌≢◌, ◌↔◌, IsSome};
 ghost use Rattle.ar_book.specs.Tables.{home};
 ghost use Rattle.ar_book.specs.Changes.{Moved};
 ghost use Rattle.ar_store.specs.Slots.{BesideHold};
 ghost use Rattle.ar_store.specs.Placing.{IsVacant};
-ghost use Rattle.ar_store.specs.Asking.{AsksSlots, ReadsThenWrites};
+ghost use Rattle.ar_extents.specs.Plans.{CarriesOut};
+ghost use Rattle.ar_store.specs.Plans.{move_plan};
 ghost use Rattle.ar_moves.specs.Moves.{IfMoved, IsMovedTo, LeavesBlocks};
 
 use ar_book::Slot;
@@ -33,8 +33,7 @@ pub(crate) fn move_to<D: Disk>(store: &mut Store<D>, key: Key, to: Slot) -> Move
     ensures broken { (result ≡ Move.Broken) ↔ (store.new.disks.health ≡ Health.Broken) }
     ensures unmoved { result ≡ Move.Broken → store.new.book ≡ store.old.book }
     ensures beside { BesideHold store.old store.new to }
-    ensures asks { (from : Slot) → home store.old.book key ≡ Some from → AsksSlots from to store.old store.new }
-    ensures steps { (from : Slot) → home store.old.book key ≡ Some from → ReadsThenWrites from to store.old store.new }
+    ensures plan { CarriesOut (move_plan store.old key to) store.old.disks store.new.disks }
     ensures leaves { LeavesBlocks store.old store.new }
 {
     match store.move_rb(key, to) {

@@ -13,8 +13,9 @@ pub mod Fields
 pub mod Openings
 pub mod Squeezing
 pub mod Ways
-pub mod Within
-pub mod Asking
+pub mod Accesses
+pub mod Costs
+pub mod Planned
 pub mod Steps
 pub mod Zeros
 pub mod UnitChanges

@@ -5,8 +5,7 @@ use Rattle.ar_disks.specs.declared.completion.Completion.{Completion}
 use Rattle.ar_disks.specs.declared.completion.Completion.TheVariants.{Done, Broken}
 use Rattle.ar_extents.specs.Set.{SetState}
 use Rattle.ar_extents.specs.Groups.{IsGroup}
-use Rattle.ar_extents.specs.Follows.{Keeps, Anywhere, IsPlace}
-use Rattle.ar_extents.proofs.Follows.{works_refl}
+use Rattle.ar_extents.specs.Follows.{Keeps, Anywhere}
 use Rattle.ar_mirror.specs.Calls.{ReadsSlot, KeepsButSlot, OtherMirrorSlotsHold}
 use Rattle.ar_mirror.specs.Holds.{Holds as MirrorHolds}
 use Rattle.ar_parity.specs.Group.{Holds as ParityHolds, KeepsButRow}
@@ -16,8 +15,9 @@ use Rattle.ar_book.specs.declared.class.Class.TheVariants.{Free, Mirrored, Parit
 use Rattle.ar_book.specs.declared.class.Slot.{Slot}
 use Rattle.ar_book.specs.Tables.{Tables, slots_of, HasSlot}
 use Rattle.ar_store.specs.Store.{StoreState, store_of, members_of, class_in}
-use Rattle.ar_store.specs.Slots.{ClassHolds, SlotHolds, HoldsAny, CanWrite, IsSlotWritten, NeedsIn, first_in, AsksFor, AllStand}
-use Rattle.ar_store.specs.Asking.{WritesSlot}
+use Rattle.ar_store.specs.Slots.{ClassHolds, SlotHolds, HoldsAny, CanWrite, IsSlotWritten, AllStand}
+use Rattle.ar_store.specs.Plans.{slot_read, read_of, WritesSlot}
+use Rattle.ar_extents.specs.Plans.{CarriesOut}
 use Rattle.ar_store.specs.Kept.{IsSpace}
 use Rattle.ar_disks.specs.Endings.{OnDone}
 use Rattle.ar_store.specs.Calls.{IsAccessed}
@@ -45,14 +45,14 @@ module _ (s : StoreState) (slot : Slot) (m : Members) (space : IsSpace s) (has :
       subst (λ (x : Members). OnDone o ((block : List ℕ) → ClassHolds (class_in s slot.group) s.disks x slot.slot block → bytes ≡ block)) is_m
       (subst (λ (x : Class). OnDone o ((block : List ℕ) → ClassHolds x s.disks m slot.slot block → bytes ≡ block)) is_c given)
 
-  -- no disk was asked that the read doesn't need
-  pub asked_in : (c : Class) (b : SetState) → c ≡ class_in s slot.group → AsksFor c s.disks b m slot.slot
-      → AsksFor (class_in s slot.group) s.disks b (members_of s slot.group) slot.slot
-  asked_in c b is_c asks =
-      subst (λ (x : Members). AsksFor (class_in s slot.group) s.disks b x slot.slot) is_m
-      (subst (λ (x : Class). AsksFor x s.disks b m slot.slot) is_c asks)
+  -- the slot was read
+  pub read_in : (c : Class) (b : SetState) → c ≡ class_in s slot.group → CarriesOut (slot_read c s.disks.geometry m slot.slot) s.disks b
+      → CarriesOut (read_of s slot) s.disks b
+  read_in c b is_c carried =
+      subst (λ (x : Members). CarriesOut (slot_read (class_in s slot.group) s.disks.geometry x slot.slot) s.disks b) is_m
+      (subst (λ (x : Class). CarriesOut (slot_read x s.disks.geometry m slot.slot) s.disks b) is_c carried)
 
-  -- no disk was asked but those of the slot, and no row was written but its own
+  -- the slot was written, and the others of its group keep their blocks
   pub wrote_in : (c : Class) (b : SetState) → c ≡ class_in s slot.group → WritesSlot c s.disks b m slot.slot
       → WritesSlot (class_in s slot.group) s.disks b (members_of s slot.group) slot.slot
   wrote_in c b is_c writes =
@@ -97,7 +97,3 @@ pub read_leaves : (a b : SetState) (t : Tables) → IsSpace (store_of a t) → I
 read_leaves a b t space access keeps =
     let after = space_read a b t space access keeps in
     record { space = after; stand = all_stand a b t space after access.follows (slots_read a b t access.follows keeps) }
-
--- nothing was asked
-pub asked_none : (class : Class) (s : SetState) (m : Members) (i : ℕ) → AsksFor class s s m i
-asked_none class s m i = record { works = works_refl (NeedsIn class s.geometry m i) s; first = λ _. works_refl (IsPlace (first_in class s.geometry m i)) s }

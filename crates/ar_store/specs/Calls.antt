@@ -1,5 +1,5 @@
 -- What calls return, and what they leave unchanged.
-use Rattle.std.specs.Prelude.{◌≡◌, ℕ, ◌+◌, ◌*◌, ◌≤◌, ◌<◌, ◌⊎◌, None}
+use Rattle.std.specs.Prelude.{◌≡◌, ◌≢◌, ℕ, ◌+◌, ◌*◌, ◌≤◌, ◌<◌, ◌⊎◌, None}
 use Rattle.ar_disks.specs.Block.{zeros}
 use Rattle.ar_disks.specs.Geometry.{rows_of, block_len_of}
 use Rattle.ar_disks.specs.declared.address.Key.{Key}
@@ -18,7 +18,7 @@ use Rattle.ar_store.specs.declared.way.Way.{Way}
 use Rattle.ar_store.specs.declared.way.Way.TheVariants.{Home, Hole, Broken as NoWay}
 use Rattle.ar_store.specs.Store.{StoreState, class_in}
 use Rattle.ar_store.specs.Slots.{SlotHolds, BesideHold}
-use Rattle.ar_store.specs.Placing.{slot_at, HasNoHole, HasNoWay}
+use Rattle.ar_store.specs.Placing.{slot_at, HasNoHole, HasNoWay, SameUnits, MayHavePrepared, LeavesOpened}
 
 -- Rows were read and written: disks failed only by faults, and unassigned extents stay so. An extent that isn't used,
 -- on a failed disk or not rebuilt yet, keeps its rows: only the rebuild writes them.
@@ -26,6 +26,19 @@ pub record IsAccessed (old new : SetState) : Type 0 where
   pub follows : Follows old new
   pub loose : new.loose ≡ old.loose
   pub lost : Keeps (IsLost old) old new
+
+-- Reads and writes keep the units but for homes and write sequence numbers, and disks fail only by faults.
+pub record StoreFollows (old new : StoreState) : Type 0 where
+  pub units : SameUnits old.book new.book
+  pub accessed : IsAccessed old.disks new.disks
+
+-- What a put leaves on a failed array: the block keeps its old home; the tables are at most prepared for it, with a
+-- group that was opened for it still open; and an array that had failed before is unchanged.
+pub record BreaksPut (old : StoreState) (k : Key) (new : StoreState) : Type 0 where
+  pub unmoved : home new.book k ≡ home old.book k
+  pub prepared : MayHavePrepared old.book k new.book
+  pub opened : old.disks.health ≢ AllBroken → LeavesOpened old.book k new.book
+  pub lost : old.disks.health ≡ AllBroken → new ≡ old
 
 -- a group was opened: the lowest free one of at least two
 pub record IsOpened (old new : Tables) (class : Class) (group : ℕ) : Type 0 where

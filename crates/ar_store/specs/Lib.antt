@@ -2,7 +2,7 @@ pub mod Store
 pub mod Slots
 pub mod Kept
 pub mod Placing
-pub mod Asking
+pub mod Plans
 pub mod Calls
 pub mod Spaces
 pub mod Fullest

@@ -3,19 +3,13 @@ use Rattle.std.specs.Prelude.{◌≡◌, ◌≢◌, ℕ, ◌<◌, List, length, 
 use Rattle.ar_disks.specs.Block.{zeros}
 use Rattle.ar_disks.specs.Disk.{DiskState}
 use Rattle.ar_disks.specs.Geometry.{block_len_of}
-use Rattle.ar_disks.specs.Members.{member}
-use Rattle.ar_disks.specs.declared.geometry.Geometry.{Geometry}
 use Rattle.ar_disks.specs.declared.address.Key.{Key}
-use Rattle.ar_disks.specs.declared.address.Place.{Place}
 use Rattle.ar_disks.specs.declared.address.Members.{Members}
 use Rattle.ar_extents.specs.declared.health.Health.TheVariants.{Broken}
-use Rattle.ar_extents.specs.Set.{SetState, IsSound}
-use Rattle.ar_extents.specs.Groups.{IsMember, IsOutside, without_disk}
-use Rattle.ar_extents.specs.Follows.{Keeps, IsPlace, IsEither, WorksOn}
-use Rattle.ar_mirror.specs.Slots.{one_of}
-use Rattle.ar_mirror.specs.Calls.{IsInPair}
+use Rattle.ar_extents.specs.Set.{SetState}
+use Rattle.ar_extents.specs.Groups.{IsOutside, without_disk}
+use Rattle.ar_extents.specs.Follows.{Keeps}
 use Rattle.ar_mirror.specs.Holds.{Holds as MirrorHolds, standing as mirror_standing}
-use Rattle.ar_parity.specs.Row.{data_position, parity_position, row_of as parity_row_of}
 use Rattle.ar_parity.specs.Group.{Holds as ParityHolds, standing as parity_standing}
 use Rattle.ar_book.specs.declared.class.Class.{Class}
 use Rattle.ar_book.specs.declared.class.Class.TheVariants.{Free, Mirrored, Parity}
@@ -78,40 +72,6 @@ pub record IsSlotWritten (class : Class) (old new : SetState) (m : Members) (i :
   pub here : ClassHolds class new m i block
   pub beside : (k : ℕ) (other : List ℕ) → k < slots_of old.geometry class → k ≢ i → ClassHolds class old m k other → ClassHolds class new m k other
   pub outside : Keeps (IsOutside m) old new
-
--- the extents that a read of a slot may need: its pair, or with parity the whole group, to reconstruct a missing one
-abbrev pub NeedsIn : Class → Geometry → Members → ℕ → Place → Type 0
-NeedsIn Free g m i place = ⊥
-NeedsIn Mirrored g m i place = IsInPair g m i place
-NeedsIn Parity g m i place = IsMember m place
-
--- the extent that a read accesses first: the first of the pair, or with parity the one with the slot's own block
-abbrev pub first_in : Class → Geometry → Members → ℕ → Place
-first_in Free g m i = m.first
-first_in Mirrored g m i = one_of g m i
-first_in Parity g m i = member m (data_position i)
-
--- the extents that a read of a slot accesses, given the health afterwards: if its first one is usable, that alone
-abbrev pub ReadsIn : Class → SetState → Geometry → Members → ℕ → Place → Type 0
-ReadsIn class new g m i place = NeedsIn class g m i place × (IsSound new (first_in class g m i) → place ≡ first_in class g m i)
-
--- the extents that a write of a slot accesses: its pair; with parity, if the slot's own is usable, it and the stripe's
--- parity
-abbrev pub WritesIn : Class → SetState → Geometry → Members → ℕ → Place → Type 0
-WritesIn Free new g m i place = ⊥
-WritesIn Mirrored new g m i place = IsInPair g m i place
-WritesIn Parity new g m i place =
-    IsMember m place
-    × (IsSound new (member m (data_position i)) → IsEither (member m (data_position i)) (member m (parity_position (parity_row_of i))) place)
-
--- One slot of a group was read: only disks that the read may need were accessed, and only the first if that is usable.
-pub record AsksFor (class : Class) (old new : SetState) (m : Members) (i : ℕ) : Type 0 where
-  pub works : WorksOn (NeedsIn class old.geometry m i) old new
-  pub first : IsSound new (first_in class old.geometry m i) → WorksOn (IsPlace (first_in class old.geometry m i)) old new
-
--- the same for a slot of a store
-abbrev pub AsksForSlot : StoreState → StoreState → Slot → Type 0
-AsksForSlot old new slot = AsksFor (class_in old slot.group) old.disks new.disks (members_of old slot.group) slot.slot
 
 -- every slot keeps the block that it held
 pub record SlotsHold (old new : StoreState) : Type 0 where

@@ -8,6 +8,7 @@
 
 mod disks;
 mod form;
+mod laws;
 mod moves;
 mod open;
 mod slots;
@@ -19,6 +20,7 @@ mod units;
 mod way;
 
 pub use form::{FourDisks, four_fullest};
+pub use laws::store_accesses;
 pub use open::Opening;
 pub use space::Space;
 pub use store::Store;

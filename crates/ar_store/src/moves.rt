@@ -8,7 +8,7 @@ use ar_disks::{Block, Completion, Disk, Key};
 use ar_index::Steps;
 
 impl<D: Disk> Space<D> {
-    ghost use Rattle.std.specs.Prelude.{◌≡◌, ◌≤◌, length, Some, IsSome};
+    ghost use Rattle.std.specs.Prelude.{◌≡◌, ◌≤◌, ℕ, List, length, Some, IsSome};
     ghost use Rattle.ar_disks.specs.Geometry.{block_len_of};
     ghost use Rattle.ar_extents.specs.Groups.{outcome_of};
     ghost use Rattle.ar_book.specs.declared.class.Slot.{Slot};
@@ -17,7 +17,8 @@ impl<D: Disk> Space<D> {
     ghost use Rattle.ar_store.specs.Slots.{stands, AllStand, OthersStand, BesideHold, SlotHolds};
     ghost use Rattle.ar_store.specs.Placing.{IsVacant, IsReadyFor, placed_by, put_in};
     ghost use Rattle.ar_store.specs.Store.{store_of, class_in};
-    ghost use Rattle.ar_store.specs.Asking.{AsksSlot, AsksSlots, AsksWay, KeepsButRowsOf, ReadsThenWrites};
+    ghost use Rattle.ar_extents.specs.Plans.{CarriesOut};
+    ghost use Rattle.ar_store.specs.Plans.{move_plan, WritesSlotOf, WritesWay};
     ghost use Rattle.ar_store.specs.Calls.{BesideWay};
     ghost use Rattle.ar_store.specs.Spaces.{store_in, IsReady, Stays};
 
@@ -36,10 +37,9 @@ impl<D: Disk> Space<D> {
 
         ensures stand { AllStand (store_in self.old) (store_in self.new) }
         ensures beside { BesideHold (store_in self.old) (store_in self.new) to }
-        ensures asks { (from : Slot) → home self.old.book key ≡ Some from
-            → AsksSlots from to (store_in self.old) (store_in self.new) }
-        ensures steps { (from : Slot) → home self.old.book key ≡ Some from
-            → ReadsThenWrites from to (store_in self.old) (store_in self.new) }
+        ensures holds { result ≡ Completion.Done → (from : Slot) (held : List ℕ) → home self.old.book key ≡ Some from
+            → SlotHolds (store_in self.old) from held → SlotHolds (store_of self.new.disks self.old.book) to held }
+        ensures plan { CarriesOut (move_plan (store_in self.old) key to) self.old.disks self.new.disks }
         ensures stays { Stays self.old self.new }
         ensures len { length block.new ≡ length block.old }
     {
@@ -69,7 +69,8 @@ impl<D: Disk> Space<D> {
         ensures holds { SlotHolds (store_of self.new.disks self.old.book) to from.now }
         ensures others { OthersStand (store_in self.old) (store_in self.new) key }
         ensures beside { BesideHold (store_in self.old) (store_in self.new) to }
-        ensures asks { AsksSlot (class_in (store_in self.old) to.group) to (store_in self.old) (store_in self.new) }
+        ensures writes { WritesSlotOf (class_in (store_in self.old) to.group) to
+            (store_in self.old) (store_in self.new) }
         ensures stays { Stays self.old self.new }
     {
         match self.write_at(to, from) {
@@ -96,7 +97,7 @@ impl<D: Disk> Space<D> {
         ensures here { result ≡ Completion.Done → stands (store_in self.new) key ≡ from.now }
         ensures others { OthersStand (store_in self.old) (store_in self.new) key }
         ensures beside { BesideWay way (store_in self.old) (store_in self.new) }
-        ensures asks { AsksWay way (store_in self.old) (store_in self.new) }
+        ensures writes { WritesWay way (store_in self.old) (store_in self.new) }
         ensures stays { Stays self.old self.new }
     {
         match way {
@@ -120,7 +121,8 @@ impl<D: Disk> Space<D> {
 
         ensures here { result ≡ Completion.Done → stands (store_in self.new) key ≡ from.now }
         ensures others { OthersStand (store_in self.old) (store_in self.new) key }
-        ensures asks { AsksSlot (class_in (store_in self.old) slot.group) slot (store_in self.old) (store_in self.new) }
+        ensures writes { WritesSlotOf (class_in (store_in self.old) slot.group) slot
+            (store_in self.old) (store_in self.new) }
         ensures stays { Stays self.old self.new }
     {
         match self.write_at(slot, from) {
@@ -147,7 +149,7 @@ impl<D: Disk> Space<D> {
         ensures here { result ≡ Completion.Done → stands (store_in self.new) key ≡ from.now }
         ensures others { OthersStand (store_in self.old) (store_in self.new) key }
         ensures beside { BesideHold (store_in self.old) (store_in self.new) vacant }
-        ensures asks { AsksSlot (class_in (store_in self.old) vacant.group) vacant
+        ensures writes { WritesSlotOf (class_in (store_in self.old) vacant.group) vacant
             (store_in self.old) (store_in self.new) }
         ensures stays { Stays self.old self.new }
     {

@@ -18,15 +18,16 @@ pub enum Opening {
 }
 
 impl<D: Disk> Space<D> {
-    ghost use Rattle.std.specs.Prelude.{◌≡◌, ◌≢◌, ◌↔◌, ℕ, ◌<◌};
+    ghost use Rattle.std.specs.Prelude.{◌≡◌, ◌≢◌, ◌↔◌, ℕ, ◌<◌, ◌≤◌};
     ghost use Rattle.ar_extents.specs.declared.health.Health.TheVariants.{Broken};
-    ghost use Rattle.ar_disks.specs.declared.address.Key.{Key};
-    ghost use Rattle.ar_book.specs.declared.class.Class.TheVariants.{Free, Mirrored, Parity};
-    ghost use Rattle.ar_book.specs.Tables.{home, free_groups};
+    ghost use Rattle.ar_book.specs.declared.class.Class.TheVariants.{Free, Parity};
+    ghost use Rattle.ar_book.specs.Tables.{free_groups};
     ghost use Rattle.ar_book.specs.Changes.{opened};
     ghost use Rattle.ar_book.specs.Choices.{IsLowestFree};
     ghost use Rattle.ar_store.specs.Slots.{AllStand};
-    ghost use Rattle.ar_store.specs.Asking.{AsksGroup};
+    ghost use Rattle.ar_extents.specs.Plans.{CarriesOut};
+    ghost use Rattle.ar_store.specs.Store.{members_of};
+    ghost use Rattle.ar_store.specs.Plans.{open_plan, fill_plan};
     ghost use Rattle.ar_store.specs.Calls.{Opens, IfOpened, HoldsZeros};
     ghost use Rattle.ar_store.specs.Spaces.{store_in, IsReady, Stays};
 
@@ -40,13 +41,13 @@ impl<D: Disk> Space<D> {
         ensures opens { Opens (store_in self.old) (store_in self.new) class result }
         ensures answer { (result ≡ Opening.Broken) ↔ (self.new.disks.health ≡ Broken) }
 
-        ensures mirrored { class ≡ Mirrored → self.new.disks ≡ self.old.disks }
         ensures parity { class ≡ Parity → IfOpened result (HoldsZeros (store_in self.new)) }
-        ensures homes { (k : Key) → home self.new.book k ≡ home self.old.book k }
         ensures free { 0 < free_groups self.old.book → 0 < free_groups self.new.book }
 
         ensures stand { AllStand (store_in self.old) (store_in self.new) }
-        ensures asks { (group : ℕ) → IsLowestFree self.old.book group → AsksGroup group (store_in self.old) (store_in self.new) }
+        ensures plan { (group : ℕ) → 2 ≤ free_groups self.old.book → IsLowestFree self.old.book group
+            → CarriesOut (open_plan class self.old.disks.geometry (members_of (store_in self.old) group))
+            self.old.disks self.new.disks }
         ensures stays { Stays self.old self.new }
     {
         let Some(group) = self.book.open_group(class, &mut Steps::new()) else {
@@ -73,7 +74,8 @@ impl<D: Disk> Space<D> {
         ensures opened { self.new.book ≡ opened self.old.book result Parity }
         ensures zeros { HoldsZeros (store_in self.new) result }
         ensures stand { AllStand (store_in self.old) (store_in self.new) }
-        ensures asks { AsksGroup result (store_in self.old) (store_in self.new) }
+        ensures plan { CarriesOut (fill_plan self.old.disks.geometry (members_of (store_in self.old) result))
+            self.old.disks self.new.disks }
         ensures stays { Stays self.old self.new }
     {
         let group = self.book.open_last(Class::Parity);

@@ -11,8 +11,9 @@ impl<D: Disk> Space<D> {
     ghost use Rattle.ar_extents.specs.Follows.{Keeps, Anywhere};
     ghost use Rattle.ar_book.specs.Tables.{HasSlot};
     ghost use Rattle.ar_store.specs.Store.{class_in};
-    ghost use Rattle.ar_store.specs.Slots.{SlotHolds, OtherSlotsHold, AllStand, AsksForSlot};
-    ghost use Rattle.ar_store.specs.Asking.{AsksSlot};
+    ghost use Rattle.ar_extents.specs.Plans.{CarriesOut};
+    ghost use Rattle.ar_store.specs.Slots.{SlotHolds, OtherSlotsHold, AllStand};
+    ghost use Rattle.ar_store.specs.Plans.{read_of, WritesSlotOf};
     ghost use Rattle.ar_disks.specs.Endings.{OnDone};
     ghost use Rattle.ar_store.specs.Spaces.{store_in, IsReady, Stays};
 
@@ -26,7 +27,7 @@ impl<D: Disk> Space<D> {
         ensures given { OnDone result ((block : List ℕ) → SlotHolds (store_in self.old) slot block → into.new ≡ block) }
 
         ensures book { self.new.book ≡ self.old.book }
-        ensures asks { AsksForSlot (store_in self.old) (store_in self.new) slot }
+        ensures plan { CarriesOut (read_of (store_in self.old) slot) self.old.disks self.new.disks }
         ensures keeps { Keeps Anywhere self.old.disks self.new.disks }
         ensures stand { AllStand (store_in self.old) (store_in self.new) }
         ensures stays { Stays self.old self.new }
@@ -54,7 +55,8 @@ impl<D: Disk> Space<D> {
         ensures here { SlotHolds (store_in self.new) slot from.now }
         ensures others { OtherSlotsHold (store_in self.old) (store_in self.new) slot }
         ensures book { self.new.book ≡ self.old.book }
-        ensures asks { AsksSlot (class_in (store_in self.old) slot.group) slot (store_in self.old) (store_in self.new) }
+        ensures writes { WritesSlotOf (class_in (store_in self.old) slot.group) slot
+            (store_in self.old) (store_in self.new) }
         ensures stays { Stays self.old self.new }
     {
         let members = self.book.members(slot.group);

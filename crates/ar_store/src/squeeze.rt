@@ -21,7 +21,7 @@ impl<D: Disk> Space<D> {
     ghost use Rattle.ar_book.specs.Choices.{HasUnplacedBlock};
     ghost use Rattle.ar_store.specs.Slots.{AllStand};
     ghost use Rattle.ar_store.specs.Calls.{HoldsZeros, HoldsZerosFrom, IsZerosFrom};
-    ghost use Rattle.ar_store.specs.Asking.{AsksGroups, AsksToSqueeze, MovesInTurn};
+    ghost use Rattle.ar_store.specs.Plans.{CarriesOutSqueeze, MovesInTurn};
     ghost use Rattle.ar_store.specs.Placing.{slot_at, moved_first, IsVacant, IsSqueezed, HasNoHole, CanMove, HasBegunSqueeze};
     ghost use Rattle.ar_store.specs.Spaces.{store_in, IsReady, Stays};
 
@@ -43,7 +43,7 @@ impl<D: Disk> Space<D> {
 
         ensures unplaced { (k : Key) → home self.old.book k ≡ None → home self.new.book k ≡ None }
         ensures stand { AllStand (store_in self.old) (store_in self.new) }
-        ensures asks { AsksToSqueeze (store_in self.old) (store_in self.new) }
+        ensures steps { CarriesOutSqueeze (store_in self.old) (store_in self.new) }
         ensures stays { Stays self.old self.new }
         ensures len { length block.new ≡ length block.old }
     {
@@ -81,7 +81,6 @@ impl<D: Disk> Space<D> {
 
         ensures unplaced { (k : Key) → home self.old.book k ≡ None → home self.new.book k ≡ None }
         ensures stand { AllStand (store_in self.old) (store_in self.new) }
-        ensures asks { AsksGroups from to (store_in self.old) (store_in self.new) }
         ensures turns { MovesInTurn from to (store_in self.old) (store_in self.new) }
         ensures stays { Stays self.old self.new }
         ensures len { length block.new ≡ length block.old }

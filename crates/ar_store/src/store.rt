@@ -33,20 +33,20 @@ impl<D: Disk> Model for Store<D> {
 }
 
 impl<D: Disk> Store<D> {
-    ghost use Rattle.std.specs.Prelude.{◌≡◌, ◌≢◌, ◌↔◌, ℕ, length, None, Some, IsSome};
+    ghost use Rattle.std.specs.Prelude.{◌≡◌, ◌≢◌, ◌↔◌, ℕ, ◌≤◌, length, None, IsSome};
     ghost use Rattle.ar_disks.specs.Geometry.{block_len_of};
     ghost use Rattle.ar_disks.specs.declared.address.Key.{Key};
     ghost use Rattle.ar_extents.specs.Groups.{outcome_of};
-    ghost use Rattle.ar_extents.specs.Follows.{Keeps, Anywhere};
-    ghost use Rattle.ar_book.specs.declared.class.Slot.{Slot};
-    ghost use Rattle.ar_book.specs.Tables.{home, HasBlock};
+    ghost use Rattle.ar_book.specs.Tables.{home, free_groups, HasBlock};
     ghost use Rattle.ar_book.specs.Changes.{Moved};
     ghost use Rattle.ar_book.specs.Choices.{IsLowestFree};
-    ghost use Rattle.ar_store.specs.Slots.{stands, AllStand, OthersStand, BesideHold, AsksForSlot, SurvivesLossOf};
+    ghost use Rattle.ar_store.specs.Slots.{stands, AllStand, OthersStand, BesideHold, SurvivesLossOf};
     ghost use Rattle.ar_store.specs.Kept.{IsKept};
-    ghost use Rattle.ar_store.specs.Placing.{Puts, SameUnits, IsVacant, MayHavePrepared, LeavesOpened};
-    ghost use Rattle.ar_store.specs.Asking.{AsksToPut, AsksSlots, AsksGroup, ReadsThenWrites};
-    ghost use Rattle.ar_store.specs.Calls.{IsAccessed, Opens, IfOpened, HoldsZeros, LeavesZeros};
+    ghost use Rattle.ar_extents.specs.Plans.{CarriesOut};
+    ghost use Rattle.ar_store.specs.Store.{members_of};
+    ghost use Rattle.ar_store.specs.Placing.{Puts, SameUnits, IsVacant};
+    ghost use Rattle.ar_store.specs.Plans.{get_plan, move_plan, open_plan, CarriesOutPut};
+    ghost use Rattle.ar_store.specs.Calls.{StoreFollows, BreaksPut, Opens, IfOpened, HoldsZeros, LeavesZeros};
 
     /// Returns the health of the array: `Whole` (all disks present), `Out` (one has failed), `Rebuilding` (its
     /// replacement is being rebuilt) or `Broken` (failed: two disks missing at once). Its contract states the store's
@@ -89,23 +89,19 @@ impl<D: Disk> Store<D> {
     }
 
     /// Reads the block of `key` into `into`, a block of the store's length. A block without a home (the slot that a
-    /// block is mapped to) reads as zeros and accesses no disk; otherwise only disks that the read needs are accessed
-    /// (`AsksFor`). No row of any disk changes. Returns `Broken` exactly if the array has failed after the call, with
-    /// or without a home; the contents of `into` are then unspecified, and an array that had failed before is
-    /// unchanged.
+    /// block is mapped to) reads as zeros and accesses no disk; otherwise exactly its slot is read. Returns `Broken`
+    /// exactly if the array has failed after the call, with or without a home; the contents of `into` are then
+    /// unspecified, and an array that had failed before is unchanged.
     pub fn get(&mut self, key: Key, into: &mut [u8]) -> Completion
         requires whole { length into.old ≡ block_len_of self.old.disks.geometry }
 
         ensures outcome { result ≡ outcome_of self.new.disks.health }
         ensures given { result ≡ Completion.Done → into.new ≡ stands self.old key }
-        ensures unplaced { home self.old.book key ≡ None → self.new ≡ self.old }
 
-        ensures asks { (slot : Slot) → home self.old.book key ≡ Some slot → AsksForSlot self.old self.new slot }
+        // Exactly these accesses are made.
+        ensures plan { CarriesOut (get_plan self.old key) self.old.disks self.new.disks }
         ensures stands { AllStand self.old self.new }
-        ensures keeps { Keeps Anywhere self.old.disks self.new.disks }
         ensures book { self.new.book ≡ self.old.book }
-        ensures accessed { IsAccessed self.old.disks self.new.disks }
-        ensures broken { self.old.disks.health ≡ Health.Broken → self.new ≡ self.old }
     {
         match self.space.disks.health() {
             Health::Broken => Completion::Broken,
@@ -120,10 +116,10 @@ impl<D: Disk> Store<D> {
     }
 
     /// Writes the block of `key` from `from`, a block of the store's length, and gives it the next write sequence
-    /// number (its `stamp`). There is always a slot for it: `Puts` states which, and `AsksToPut` which disks are
-    /// accessed and which rows written; a group that a squeeze opens is filled with zeros first. Returns `Broken`
-    /// exactly if the array has failed after the call: the block then keeps its old home, other homes have changed only
-    /// as far as a squeeze got (`MayHavePrepared`), and an array that had failed before is unchanged.
+    /// number (its `stamp`). There is always a slot for it: `Puts` states which, and `CarriesOutPut` which accesses are
+    /// made; a group that a squeeze opens is filled with zeros first. Returns `Broken` exactly if the array has failed
+    /// after the call: the block then keeps its old home, other homes have changed only as far as a squeeze got
+    /// (`BreaksPut`), and an array that had failed before is unchanged.
     pub fn put(&mut self, key: Key, from: &[u8]) -> Completion
         requires block { HasBlock self.old.book key }
         requires whole { length from.now ≡ block_len_of self.old.disks.geometry }
@@ -133,14 +129,11 @@ impl<D: Disk> Store<D> {
         ensures others { OthersStand self.old self.new key }
         ensures tables { result ≡ Completion.Done → Puts self.old.book key self.new.book }
         ensures zeros { result ≡ Completion.Done → LeavesZeros self.old key self.new }
-        ensures unmoved { result ≡ Completion.Broken → home self.new.book key ≡ home self.old.book key }
-        ensures prepared { result ≡ Completion.Broken → MayHavePrepared self.old.book key self.new.book }
-        ensures opened { result ≡ Completion.Broken → self.old.disks.health ≢ Health.Broken → LeavesOpened self.old.book key self.new.book }
+        ensures breaks { result ≡ Completion.Broken → BreaksPut self.old key self.new }
 
-        ensures units { SameUnits self.old.book self.new.book }
-        ensures asks { AsksToPut self.old key self.new }
-        ensures accessed { IsAccessed self.old.disks self.new.disks }
-        ensures broken { self.old.disks.health ≡ Health.Broken → self.new ≡ self.old }
+        // Exactly these accesses are made.
+        ensures plan { CarriesOutPut self.old key self.new }
+        ensures follows { StoreFollows self.old self.new }
     {
         if let Health::Broken = self.space.disks.health() {
             return Completion::Broken;
@@ -165,13 +158,11 @@ impl<D: Disk> Store<D> {
         ensures zeros { result ≡ Completion.Done → LeavesZeros self.old key self.new }
 
         ensures stands { AllStand self.old self.new }
-        ensures unmoved { result ≡ Completion.Broken → home self.new.book key ≡ home self.old.book key }
-        ensures prepared { result ≡ Completion.Broken → MayHavePrepared self.old.book key self.new.book }
-        ensures opened { result ≡ Completion.Broken → self.old.disks.health ≢ Health.Broken → LeavesOpened self.old.book key self.new.book }
-        ensures units { SameUnits self.old.book self.new.book }
-        ensures asks { AsksToPut self.old key self.new }
-        ensures accessed { IsAccessed self.old.disks self.new.disks }
-        ensures broken { self.old.disks.health ≡ Health.Broken → self.new ≡ self.old }
+        ensures breaks { result ≡ Completion.Broken → BreaksPut self.old key self.new }
+
+        // Exactly these accesses are made.
+        ensures plan { CarriesOutPut self.old key self.new }
+        ensures follows { StoreFollows self.old self.new }
     {
         if let Health::Broken = self.space.disks.health() {
             return Completion::Broken;
@@ -182,9 +173,9 @@ impl<D: Disk> Store<D> {
     }
 
     /// Moves a block from its home to the empty slot `slot`. The new slot is written before the tables drop the old
-    /// one. The write sequence number stays, and the other slots of the new group keep their contents. Only the disks
-    /// of a read of the old slot and of a write of the new one are accessed, and only the new slot's rows are written.
-    /// After `Broken` the block keeps its old home; an array that had failed before is unchanged.
+    /// one. The write sequence number stays, and the other slots of the new group keep their contents. Exactly the old
+    /// slot is read, and then the new one written. After `Broken` the block keeps its old home; an array that had
+    /// failed before is unchanged.
     pub fn move_rb(&mut self, key: Key, slot: Slot) -> Completion
         requires placed { IsSome (home self.old.book key) }
         requires hole { IsVacant self.old.book slot }
@@ -196,9 +187,9 @@ impl<D: Disk> Store<D> {
         ensures stands { AllStand self.old self.new }
         ensures beside { BesideHold self.old self.new slot }
         ensures units { SameUnits self.old.book self.new.book }
-        ensures asks { (from : Slot) → home self.old.book key ≡ Some from → AsksSlots from slot self.old self.new }
-        ensures steps { (from : Slot) → home self.old.book key ≡ Some from → ReadsThenWrites from slot self.old self.new }
-        ensures accessed { IsAccessed self.old.disks self.new.disks }
+
+        // Exactly these accesses are made.
+        ensures plan { CarriesOut (move_plan self.old key slot) self.old.disks self.new.disks }
         ensures broken { self.old.disks.health ≡ Health.Broken → self.new ≡ self.old }
     {
         if let Health::Broken = self.space.disks.health() {
@@ -207,23 +198,23 @@ impl<D: Disk> Store<D> {
         self.space.move_block(key, slot, &mut self.block)
     }
 
-    /// Opens the lowest free group as mirrored or parity while two are free. A parity group is filled with zeros. Only
-    /// the group's disks are accessed, and no other group is written. Returns `Broken` exactly if the array has failed
-    /// after the call: the group may have been opened then, but an array that had failed before is unchanged.
+    /// Opens the lowest free group as mirrored or parity while two are free. A parity group is filled with zeros, and
+    /// nothing else is accessed. Returns `Broken` exactly if the array has failed after the call: the group may have
+    /// been opened then, but an array that had failed before is unchanged.
     pub fn open_group(&mut self, class: Class) -> Opening
         requires { class ≢ Class.Free }
 
         ensures opens { Opens self.old self.new class result }
         ensures answer { (result ≡ Opening.Broken) ↔ (self.new.disks.health ≡ Health.Broken) }
 
-        ensures mirrored { class ≡ Class.Mirrored → self.new.disks ≡ self.old.disks }
         ensures parity { class ≡ Class.Parity → IfOpened result (HoldsZeros self.new) }
-        ensures homes { (k : Key) → home self.new.book k ≡ home self.old.book k }
         ensures stands { AllStand self.old self.new }
-
         ensures units { SameUnits self.old.book self.new.book }
-        ensures asks { (group : ℕ) → IsLowestFree self.old.book group → AsksGroup group self.old self.new }
-        ensures accessed { IsAccessed self.old.disks self.new.disks }
+
+        // Exactly these accesses are made, if a group is opened.
+        ensures plan { (group : ℕ) → 2 ≤ free_groups self.old.book → IsLowestFree self.old.book group
+            → CarriesOut (open_plan class self.old.disks.geometry (members_of self.old group))
+            self.old.disks self.new.disks }
         ensures broken { self.old.disks.health ≡ Health.Broken → self.new ≡ self.old }
     {
         if let Health::Broken = self.space.disks.health() {

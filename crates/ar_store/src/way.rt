@@ -7,7 +7,7 @@ ghost use Rattle.ar_book.specs.Book.{TablesAgree};
 ghost use Rattle.ar_book.specs.declared.class.Class.TheVariants.{Mirrored};
 ghost use Rattle.ar_book.specs.Tables.{home, free_groups, HasBlock};
 ghost use Rattle.ar_store.specs.Slots.{AllStand};
-ghost use Rattle.ar_store.specs.Asking.{AsksOnWay};
+ghost use Rattle.ar_store.specs.Plans.{CarriesOutSearch};
 ghost use Rattle.ar_store.specs.Calls.{IsZerosOnWay};
 ghost use Rattle.ar_store.specs.Placing.{Leads, IsReadyFor, MayOpen, WantsGroup, MayHavePrepared, IsMirroredHole, HasNoMirroredHole, HasNoHole, IsWayIn, HasNoWay};
 ghost use Rattle.ar_store.specs.Spaces.{store_in, IsReady, Stays};
@@ -45,7 +45,7 @@ impl<D: Disk> Space<D> {
         ensures home { home self.new.book key ≡ home self.old.book key }
         ensures free { self.new.disks.health ≢ Broken → 0 < free_groups self.new.book }
         ensures stand { AllStand (store_in self.old) (store_in self.new) }
-        ensures asks { AsksOnWay (store_in self.old) key (store_in self.new) }
+        ensures search { CarriesOutSearch (store_in self.old) key (store_in self.new) }
         ensures stays { Stays self.old self.new }
         ensures len { length block.new ≡ length block.old }
     {

@@ -45,7 +45,11 @@ use Rattle.ar_store.proofs.Starting.{started_new}
 use Rattle.ar_volume.specs.Sectors.{key_of, unit_block}
 use Rattle.ar_volume.proofs.Images.{sector_in-zeros}
 use Rattle.ar_volume.specs.Image.{ArrayState, CacheAgrees, IsPadded, geometry_of, knows_in, seen_at, unit_by}
-use Rattle.ar_volume.specs.Following.{StoreFollows, PutsStored, BreaksStored}
+use Rattle.ar_store.specs.Calls.{StoreFollows}
+use Rattle.ar_volume.specs.Following.{PutsStored, BreaksStored}
+use Rattle.ar_volume.specs.Storing.{ReadsBlock}
+use Rattle.ar_store.specs.Plans.{get_plan}
+use Rattle.ar_extents.proofs.Plans.{carries_broken}
 use Rattle.ar_volume.specs.Seen.{IsUnit, SameSeen}
 use Rattle.ar_volume.specs.Start.{IsStarted}
 use Rattle.ar_volume.specs.Flush.{FlushesOne}
@@ -130,6 +134,17 @@ keeps_store store old new follows = record {
   stays_broken = λ is.
       ap is_broken_set (stays_broken (store old).disks (store new).disks follows.accessed.follows (broken_is (store old).disks.health is));
   joined = follows;
+}
+
+-- a read of an array that had failed
+pub read_lost : (s : ArrayState) (key : Key) → s.store.disks.health ≡ AllBroken → ReadsBlock s key s
+read_lost s key broken = record {
+  cache = refl;
+  hit = λ _. refl;
+  miss = λ _. record {
+    reads = record { tables = refl; rows = record { rows = λ _ _ _. refl } };
+    plan = carries_broken (get_plan s.store key) s.store.disks broken;
+  };
 }
 
 -- the units stay where the book does

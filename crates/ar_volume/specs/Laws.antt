@@ -7,7 +7,8 @@ use Rattle.ar_cache.specs.Cache.{cached}
 use Rattle.ar_store.proofs.Changes.{units_refl, units_then}
 use Rattle.ar_store.proofs.Fills.{accessed_refl, accessed_then}
 use Rattle.ar_volume.specs.Image.{ArrayState}
-use Rattle.ar_volume.specs.Following.{StoreFollows, StoreReads, ArrayFollows}
+use Rattle.ar_store.specs.Calls.{StoreFollows}
+use Rattle.ar_volume.specs.Following.{StoreReads, ArrayFollows}
 use Rattle.ar_volume.specs.Seen.{SamePlaces}
 use Rattle.ar_volume.specs.Storing.{ReadsBlock}
 

@@ -8,8 +8,9 @@ use Rattle.ar_store.specs.Slots.{BesideHold}
 use Rattle.ar_moves.specs.declared.step.Move.{Move}
 use Rattle.ar_moves.specs.declared.step.Move.TheVariants.{Idle, Broken}
 use Rattle.ar_moves.specs.Moves.{IfMoved, LeavesBlocks, IsLeft}
-use Rattle.ar_moves.specs.Demotion.{Demotes, NamesNoDemotion, MayHaveOpened, LeavesReady, HoldsZerosBeside, AsksToDemote}
-use Rattle.ar_moves.specs.Cleaning.{Cleans, NothingToClean, AsksToClean, cleaning_left}
+use Rattle.ar_moves.specs.Demotion.{Demotes, NamesNoDemotion, MayHaveOpened, LeavesReady}
+use Rattle.ar_moves.specs.Demotion.{HoldsZerosBeside, CarriesOutDemotion}
+use Rattle.ar_moves.specs.Cleaning.{Cleans, NothingToClean, CarriesOutCleaning, cleaning_left}
 use Rattle.ar_volume.specs.Image.{ArrayState, is_broken}
 
 -- Both keep the contents of every block, and the cache. Broken is returned exactly if the array has failed afterwards.
@@ -20,8 +21,7 @@ pub record MovesBlock (old : ArrayState) (answer : Move) (new : ArrayState) : Ty
 
 -- The block that the rule of demotion names moved to the slot that it names, in a group that was opened if the rule
 -- says so; or the rule names nothing, and nothing changed. If the step fails the array, a group that the rule opens is
--- open. The other slots of the block's new group keep their blocks; only the disks that this needs were accessed, and
--- only the slot's rows, or those of the group that was opened, were written.
+-- open. The other slots of the block's new group keep their blocks, and exactly the move's accesses were made.
 pub record DemotesOne (old : ArrayState) (answer : Move) (new : ArrayState) : Type 0 where
   pub moves : MovesBlock old answer new
   pub moved : IfMoved answer (λ key to. Demotes old.store.book key to new.store.book)
@@ -31,11 +31,11 @@ pub record DemotesOne (old : ArrayState) (answer : Move) (new : ArrayState) : Ty
   pub nothing : NamesNoDemotion old.store.book → new.store ≡ old.store
   pub opened : answer ≡ Broken → MayHaveOpened old.store.book new.store.book
   pub ready : answer ≡ Broken → old.store.disks.health ≢ AllBroken → LeavesReady old.store.book new.store.book
-  pub asks : AsksToDemote old.store new.store
+  pub plan : CarriesOutDemotion old.store new.store
 
 -- The block that the rule of cleaning names moved to the slot that it names, and less is left to clean; or the rule
--- names nothing, and nothing changed. No group is opened. The other slots of the block's new group keep their blocks;
--- only the disks that this move needs were accessed, and only the slot's rows were written.
+-- names nothing, and nothing changed. No group is opened. The other slots of the block's new group keep their blocks,
+-- and exactly the move's accesses were made.
 pub record CleansOne (old : ArrayState) (answer : Move) (new : ArrayState) : Type 0 where
   pub moves : MovesBlock old answer new
   pub moved : IfMoved answer (λ key to. Cleans old.store.book key to new.store.book)
@@ -45,4 +45,4 @@ pub record CleansOne (old : ArrayState) (answer : Move) (new : ArrayState) : Typ
   pub nothing : NothingToClean old.store.book → new.store ≡ old.store
   pub unmoved : answer ≡ Broken → new.store.book ≡ old.store.book
   pub free : free_groups old.store.book ≤ free_groups new.store.book
-  pub asks : AsksToClean old.store new.store
+  pub plan : CarriesOutCleaning old.store new.store

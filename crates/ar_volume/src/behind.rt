@@ -3,7 +3,8 @@ ghost use Rattle.std.specs.Prelude.{◌≡◌};
 ghost use Rattle.ar_extents.specs.Changes.{is_broken_set};
 ghost use Rattle.ar_store.specs.Slots.{stands};
 ghost use Rattle.ar_volume.specs.Image.{knows_in};
-ghost use Rattle.ar_volume.specs.Following.{StoreFollows, ReadsStored, PutsStored, BreaksStored};
+ghost use Rattle.ar_store.specs.Calls.{StoreFollows};
+ghost use Rattle.ar_volume.specs.Following.{ReadsStored, PutsStored, BreaksStored};
 ghost use Rattle.ar_volume.specs.Laws.{store_refl, store_then};
 
 use ar_cache::Backing;

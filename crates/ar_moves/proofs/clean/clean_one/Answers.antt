@@ -1,13 +1,17 @@
-use Rattle.std.proofs.Common.{◌<◌, sym, ap, subst, ◌∙◌}
+use Rattle.std.proofs.Common.{◌<◌, sym, subst, ◌∙◌}
 use Rattle.ar_book.specs.declared.class.Slot.{Slot}
-use Rattle.ar_book.specs.Tables.{Tables, home}
-use Rattle.ar_moves.specs.Moves.{IsMovedTo, AsksToMove}
+use Rattle.ar_disks.specs.declared.address.Key.{Key}
+use Rattle.ar_book.specs.Tables.{Tables}
+use Rattle.ar_moves.specs.Moves.{IsMovedTo}
 use Rattle.ar_moves.specs.Cleaning.{NamesCleaning, NothingToClean, Cleans, cleaning_left}
 use Rattle.ar_moves.proofs.Answers.{if_moved_then, named_cleaned, moved_free, moved_beside}
 use Rattle.ar_moves.proofs.Readiness.{cleaning_ready}
 use Rattle.ar_moves.proofs.Ending.{cleans_fall}
 use Rattle.ar_moves.proofs.Single.{cleaned_single}
-use Rattle.ar_moves.proofs.Asking.{moves_none, cleans_nothing}
+use Rattle.ar_extents.specs.Plans.{CarriesOut}
+use Rattle.ar_extents.proofs.Plans.{carries_broken}
+use Rattle.ar_store.specs.Plans.{move_plan}
+use Rattle.ar_moves.proofs.Planned.{cleans_nothing}
 use Rattle.ar_moves.proofs.clean.clean_one.Goals as goal
 
 pub move_to-requires : goal.move_to-requires
@@ -34,19 +38,21 @@ returns-in-Some g c =
       less = if_moved_then c.move_to.result (IsMovedTo t c.in-Some.key c.in-Some.to new) (λ k s. cleaning_left new < cleaning_left t) moves.moved
           (λ k s moved. cleans_fall t new k s c.health.ensures.kept.space.tables (named_cleaned t new c.in-Some.key c.in-Some.to names k s moved));
       beside = moved_beside c.args.store.now c.move_to.new.store c.move_to.result t new c.in-Some.key c.in-Some.to moves.moved moves.beside;
-      asks = λ key from to named placed.
+      plan = λ key to named.
+          let a = c.args.store.now in
+          let b = c.move_to.new.store in
           let same = cleaned_single t c.in-Some.key key c.in-Some.to to names named in
-          let here = ap (λ k. home t k) same.keys ∙ placed in
-          (let P : Slot → Type 0 = λ x. AsksToMove from x c.args.store.now c.move_to.new.store in
-          subst P same.slots (record { asks = moves.asks from here; steps = moves.steps from here }));
+          let P : Key → Type 0 = λ k. CarriesOut (move_plan a k to) a.disks b.disks in
+          let Q : Slot → Type 0 = λ s. CarriesOut (move_plan a c.in-Some.key s) a.disks b.disks in
+          subst P same.keys (subst Q same.slots moves.plan);
       leaves = moves.leaves;
     }
 
-pub returns-in-None-clause-asks : goal.returns-in-None-clause-asks
-returns-in-None-clause-asks g c = λ key from to named placed.
+pub returns-in-None-clause-plan : goal.returns-in-None-clause-plan
+returns-in-None-clause-plan g c = λ key to named.
     absurd (cleans_nothing c.args.store.now.book key to
     (subst (λ (x : Tables). NothingToClean x) c.book.ensures c.in-None.ensures.none) named)
 
-pub returns-in-Broken-clause-asks : goal.returns-in-Broken-clause-asks
-returns-in-Broken-clause-asks g c = λ key from to named placed.
-    moves_none c.args.store.now from to (sym c.health.ensures.health ∙ c.in-Broken.is)
+pub returns-in-Broken-clause-plan : goal.returns-in-Broken-clause-plan
+returns-in-Broken-clause-plan g c = λ key to named.
+    carries_broken (move_plan c.args.store.now key to) c.args.store.now.disks (sym c.health.ensures.health ∙ c.in-Broken.is)

@@ -5,7 +5,7 @@ use Rattle.ar_store.specs.Placing.{IsLowestHole}
 use Rattle.ar_moves.specs.Moves.{IsMovedTo}
 use Rattle.ar_moves.specs.Demotion.{DemotesTo}
 use Rattle.ar_moves.proofs.Answers.{if_moved_then, hole_there, moved_beside}
-use Rattle.ar_moves.proofs.Asking.{asks_there}
+use Rattle.ar_moves.proofs.Planned.{moved_there}
 use Rattle.ar_moves.proofs.Single.{leaves_ready}
 use Rattle.ar_moves.proofs.demote.demote.Goals as goal
 
@@ -18,12 +18,11 @@ returns-in-Some-clause-moved g c =
     if_moved_then c.move_to.result (IsMovedTo t c.args.key c.in-Some.to new) (DemotesTo t c.args.key new) c.move_to.ensures.moved
     (λ k s moved. hole_there t new c.args.key c.in-Some.to lowest k s moved)
 
-pub returns-in-Some-clause-asks : goal.returns-in-Some-clause-asks
-returns-in-Some-clause-asks g c =
+pub returns-in-Some-clause-plan : goal.returns-in-Some-clause-plan
+returns-in-Some-clause-plan g c =
     let found = c.in-Some.ensures in
     let lowest = subst (λ (x : Tables). IsLowestHole x Parity c.in-Some.to) c.book.ensures (record { hole = found.found; least = found.least }) in
-    asks_there c.args.store.now c.move_to.new.store c.args.key c.in-Some.to c.requires.kept.space.tables c.requires.oldest lowest
-    (λ from placed. record { asks = c.move_to.ensures.asks from placed; steps = c.move_to.ensures.steps from placed })
+    moved_there c.args.store.now c.move_to.new.store c.args.key c.in-Some.to c.requires.kept.space.tables c.requires.oldest lowest c.move_to.ensures.plan
 
 pub returns-in-Some-clause-beside : goal.returns-in-Some-clause-beside
 returns-in-Some-clause-beside g c =

@@ -3,7 +3,7 @@ use Rattle.ar_book.specs.Tables.{Tables}
 use Rattle.ar_book.specs.Choices.{IsMirrored}
 use Rattle.ar_moves.specs.Demotion.{IsOldestMirrored, Demotes, DemotesTo}
 use Rattle.ar_moves.proofs.Answers.{if_moved_then, oldest_demoted}
-use Rattle.ar_moves.proofs.Asking.{demotes_none, demotes_nothing}
+use Rattle.ar_moves.proofs.Planned.{demotes_none, demotes_nothing}
 use Rattle.ar_moves.proofs.demote.demote_one.Goals as goal
 
 pub returns-in-Some : goal.returns-in-Some
@@ -24,16 +24,16 @@ returns-in-Some g c =
       ready = demoted.ready;
       zeros = demoted.zeros;
       beside = demoted.beside;
-      asks = demoted.asks;
+      plan = demoted.plan;
       leaves = demoted.leaves;
     }
 
-pub returns-in-None-clause-asks : goal.returns-in-None-clause-asks
-returns-in-None-clause-asks g c =
+pub returns-in-None-clause-plan : goal.returns-in-None-clause-plan
+returns-in-None-clause-plan g c =
     demotes_nothing c.args.store.now (λ k is. c.in-None.ensures.none k (subst (λ (x : Tables). IsMirrored x k) (sym c.book.ensures) is))
 
-pub returns-in-Broken-clause-asks : goal.returns-in-Broken-clause-asks
-returns-in-Broken-clause-asks g c = demotes_none c.args.store.now (sym c.health.ensures.health ∙ c.in-Broken.is)
+pub returns-in-Broken-clause-plan : goal.returns-in-Broken-clause-plan
+returns-in-Broken-clause-plan g c = demotes_none c.args.store.now (sym c.health.ensures.health ∙ c.in-Broken.is)
 
 pub returns-in-Broken-clause-ready : goal.returns-in-Broken-clause-ready
 returns-in-Broken-clause-ready g c = λ _ sound. absurd (sound (sym c.health.ensures.health ∙ c.in-Broken.is))

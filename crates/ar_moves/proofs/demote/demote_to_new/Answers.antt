@@ -1,10 +1,13 @@
 use Rattle.std.proofs.Common.{inr, refl, sym, subst}
 use Rattle.ar_store.specs.Placing.{slot_at}
 use Rattle.ar_moves.specs.Moves.{IsMovedTo}
+use Rattle.ar_book.specs.declared.class.Class.TheVariants.{Parity}
 use Rattle.ar_book.specs.Tables.{Tables}
 use Rattle.ar_moves.specs.Demotion.{DemotesTo, HoldsZerosBeside, MayHaveOpened}
 use Rattle.ar_moves.proofs.Answers.{if_moved_then, leaves_then, hole_made, ready_for, opens_slot, cut_tables, cut_nothing, moved_beside}
-use Rattle.ar_moves.proofs.Asking.{asks_made, asks_nothing, asks_opened}
+use Rattle.ar_store.proofs.Accesses.{open_accessed, opens_accessed}
+use Rattle.ar_store.specs.Store.{members_of}
+use Rattle.ar_moves.proofs.Planned.{moved_to_new, opens_nothing, opening_cut}
 use Rattle.ar_moves.proofs.Single.{leaves_ready, cut_ready}
 use Rattle.ar_moves.proofs.Readiness.{opened_first, zeros_beside, free_beside}
 use Rattle.ar_moves.proofs.demote.demote_to_new.Goals as goal
@@ -19,8 +22,11 @@ returns-in-Opened-clause-zeros g c =
     let mid = c.open_group.new.self in
     let new = c.move_to.new.store in
     let to = slot_at c.in-Opened.group 0 in
-    let rest = zeros_beside old mid new c.in-Opened.group c.requires.kept c.in-Opened.ensures.opens (c.in-Opened.ensures.parity refl) c.move_to.ensures.beside
-    c.open_group.ensures.accessed.follows.geometry c.move_to.ensures.leaves.accessed.follows.geometry in
+    let opening = c.in-Opened.ensures.opens in
+    let access = open_accessed Parity old.disks.geometry (members_of old c.in-Opened.group) old.disks mid.disks
+    (c.open_group.ensures.plan c.in-Opened.group opening.many opening.lowest) in
+    let rest = zeros_beside old mid new c.in-Opened.group c.requires.kept opening (c.in-Opened.ensures.parity refl) c.move_to.ensures.beside
+    access.follows.geometry c.move_to.ensures.leaves.accessed.follows.geometry in
     if_moved_then c.move_to.result (IsMovedTo mid.book c.args.key to new.book) (λ k s. HoldsZerosBeside new s) c.move_to.ensures.moved
     (λ k s moved. subst (λ x. HoldsZerosBeside new x) (sym moved.slot_is) rest)
 
@@ -40,25 +46,48 @@ returns-in-Opened-clause-moved g c =
 
 pub returns-in-Opened-clause-leaves : goal.returns-in-Opened-clause-leaves
 returns-in-Opened-clause-leaves g c =
-    let opening = c.open_group.ensures in
-    leaves_then c.args.store.now c.open_group.new.self c.move_to.new.store opening.stands opening.units opening.accessed opening.broken c.move_to.ensures.leaves
-
-pub returns-in-Opened-clause-asks : goal.returns-in-Opened-clause-asks
-returns-in-Opened-clause-asks g c =
+    let old = c.args.store.now in
+    let mid = c.open_group.new.self in
     let opening = c.open_group.ensures in
     let opened = c.in-Opened.ensures.opens in
-    asks_made c.args.store.now c.open_group.new.self c.move_to.new.store c.args.key c.in-Opened.group c.requires.kept.space c.requires.oldest c.requires.none
-    opened opening.accessed.follows.geometry opening.homes (opening.asks c.in-Opened.group opened.lowest) (c.in-Opened.ensures.parity refl)
-    (λ from placed. record { asks = c.move_to.ensures.asks from placed; steps = c.move_to.ensures.steps from placed })
+    leaves_then old mid c.move_to.new.store opening.stands opening.units
+    (open_accessed Parity old.disks.geometry (members_of old c.in-Opened.group) old.disks mid.disks (opening.plan c.in-Opened.group opened.many opened.lowest))
+    opening.broken c.move_to.ensures.leaves
 
-pub returns-in-Idle-clause-asks : goal.returns-in-Idle-clause-asks
-returns-in-Idle-clause-asks g c =
+pub returns-in-Idle-clause-leaves : goal.returns-in-Idle-clause-leaves
+returns-in-Idle-clause-leaves g c =
+    let opening = c.open_group.ensures in
+    record {
+      stands = opening.stands;
+      units = opening.units;
+      accessed = opens_accessed c.args.store.now c.open_group.new.self Parity c.open_group.result opening.opens opening.plan;
+      broken = opening.broken;
+    }
+
+pub returns-in-Broken-clause-leaves : goal.returns-in-Broken-clause-leaves
+returns-in-Broken-clause-leaves g c =
+    let opening = c.open_group.ensures in
+    record {
+      stands = opening.stands;
+      units = opening.units;
+      accessed = opens_accessed c.args.store.now c.open_group.new.self Parity c.open_group.result opening.opens opening.plan;
+      broken = opening.broken;
+    }
+
+pub returns-in-Opened-clause-plan : goal.returns-in-Opened-clause-plan
+returns-in-Opened-clause-plan g c =
+    let opened = c.in-Opened.ensures.opens in
+    moved_to_new c.args.store.now c.open_group.new.self c.move_to.new.store c.args.key c.in-Opened.group c.requires.kept.space.tables c.requires.oldest
+    c.requires.none opened (c.open_group.ensures.plan c.in-Opened.group opened.many opened.lowest) (c.in-Opened.ensures.parity refl) c.move_to.ensures.plan
+
+pub returns-in-Idle-clause-plan : goal.returns-in-Idle-clause-plan
+returns-in-Idle-clause-plan g c =
     let idle = c.in-Idle.ensures.opens in
-    asks_nothing c.args.store.now c.open_group.new.self c.requires.none idle.few
+    opens_nothing c.args.store.now c.open_group.new.self c.requires.none idle.few
 
-pub returns-in-Broken-clause-asks : goal.returns-in-Broken-clause-asks
-returns-in-Broken-clause-asks g c =
-    asks_opened c.args.store.now c.open_group.new.self c.requires.none c.in-Broken.ensures.opens.broken c.open_group.ensures.asks
+pub returns-in-Broken-clause-plan : goal.returns-in-Broken-clause-plan
+returns-in-Broken-clause-plan g c =
+    opening_cut c.args.store.now c.open_group.new.self c.requires.none c.in-Broken.ensures.opens.broken c.open_group.ensures.plan
 
 pub returns-in-Opened-clause-opened : goal.returns-in-Opened-clause-opened
 returns-in-Opened-clause-opened g c = λ broke.

@@ -42,7 +42,7 @@ returns-in-Done g c =
       others = fills.others;
       beside = beside_filled s.disks b s.book c.assign.new.self c.args.key c.args.to c.requires.ready.space c.requires.block c.requires.hole
           (subst (λ (x : StoreState). OtherSlotsHold (store_in s) x c.args.to) now wrote.others) tables;
-      asks = wrote.asks;
+      writes = wrote.writes;
       stays = record {
         ready = record { space = fills.space; scratch = wrote.stays.ready.scratch };
         units = fills.units;
@@ -65,6 +65,6 @@ returns-in-Broken g c =
       holds = subst (λ (x : Tables). SlotHolds (store_of new.disks x) c.args.to c.args.from.now) wrote.book wrote.here;
       others = none_stands (store_in s) (store_in new) c.args.key (broken_is new.disks.health answer);
       beside = beside_same (store_in s) (store_in new) c.args.to wrote.others;
-      asks = wrote.asks;
+      writes = wrote.writes;
       stays = wrote.stays;
     }

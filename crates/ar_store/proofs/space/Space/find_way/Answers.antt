@@ -5,7 +5,7 @@ use Rattle.ar_store.specs.Store.{store_of}
 use Rattle.ar_store.specs.Slots.{AllStand}
 use Rattle.ar_store.specs.Kept.{IsSpace}
 use Rattle.ar_store.specs.Placing.{SameUnits, HasNoHole, HasBegunSqueeze}
-use Rattle.ar_store.specs.Asking.{AsksToSqueeze}
+use Rattle.ar_store.specs.Plans.{CarriesOutSqueeze}
 use Rattle.ar_store.specs.Spaces.{store_in}
 use Rattle.ar_store.proofs.Fills.{accessed_refl}
 use Rattle.ar_store.proofs.Openings.{after_opening}
@@ -30,7 +30,7 @@ returns-in-Some g c =
       home = after.homes c.args.key;
       free = λ _. after.free c.requires.free;
       stand = after.stand;
-      asks = inl (record { needs = record { way = way_unneeded s.book u c.args.key c.in-Some.way found.way found.opens }; same = refl });
+      search = inl (record { needs = record { way = way_unneeded s.book u c.args.key c.in-Some.way found.way found.opens }; same = refl });
       stays = record {
         ready = record { space = after.space; scratch = c.requires.ready.scratch };
         units = after.units;
@@ -77,7 +77,7 @@ returns-in-Some-squeeze g c =
       home = still ∙ sym none.unplaced;
       free = λ _. squeezed.free;
       stand = subst (λ (x : Tables). AllStand (store_of s.disks x) (store_in new)) same squeezed.stand;
-      asks = inr (no_way t u c.args.key none, subst (λ (x : Tables). AsksToSqueeze (store_of s.disks x) (store_in new)) same squeezed.asks);
+      search = inr (no_way t u c.args.key none, subst (λ (x : Tables). CarriesOutSqueeze (store_of s.disks x) (store_in new)) same squeezed.steps);
       stays = record {
         ready = squeezed.stays.ready;
         units = subst (λ (x : Tables). SameUnits x new.book) same squeezed.stays.units;
@@ -104,7 +104,7 @@ returns-in-None-squeeze g c =
       home = still ∙ sym none.unplaced;
       free = λ sound. absurd (sound squeezed.none);
       stand = subst (λ (x : Tables). AllStand (store_of s.disks x) (store_in new)) same squeezed.stand;
-      asks = inr (no_way t u c.args.key none, subst (λ (x : Tables). AsksToSqueeze (store_of s.disks x) (store_in new)) same squeezed.asks);
+      search = inr (no_way t u c.args.key none, subst (λ (x : Tables). CarriesOutSqueeze (store_of s.disks x) (store_in new)) same squeezed.steps);
       stays = record {
         ready = squeezed.stays.ready;
         units = subst (λ (x : Tables). SameUnits x new.book) same squeezed.stays.units;

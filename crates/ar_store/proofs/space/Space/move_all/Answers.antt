@@ -11,9 +11,7 @@ use Rattle.ar_store.specs.Calls.{HoldsZerosFrom}
 use Rattle.ar_store.specs.Spaces.{store_in}
 use Rattle.ar_store.proofs.Zeros.{zeros_all, zeros_later}
 use Rattle.ar_store.proofs.Options.{some_is, none_not_some}
-use Rattle.ar_store.proofs.Within.{within_refl}
-use Rattle.ar_store.proofs.Asking.{step_asks}
-use Rattle.ar_store.proofs.Steps.{step_copy, copies_then}
+use Rattle.ar_store.proofs.Steps.{step_plan, step_copy, copies_then}
 use Rattle.ar_store.proofs.Fills.{done_not_broken}
 use Rattle.ar_store.proofs.Stays.{stays_then, all_then}
 use Rattle.ar_store.proofs.Squeezing.{squeezing_start, squeezing_then, move_vacant, move_next, moving_end, slots_end}
@@ -22,7 +20,6 @@ use Rattle.ar_store.proofs.space.Space.move_all.Goals as goal
 pub loop-slot-init : goal.loop-slot-init
 loop-slot-init g c = record {
   squeezing = squeezing_start c.args.self.now c.args.from c.args.to c.requires.ready c.requires.can c.requires.sound;
-  asks = within_refl _ _ c.args.self.now.disks;
   copies = refl;
   zeros = zeros_all (store_in c.args.self.now) c.args.to;
   whole = refl;
@@ -59,16 +56,16 @@ loop-slot-preserved g c =
     let moved = c.move_block.ensures in
     let new = c.move_block.new.self in
     let end = slots_end c.rows-slot-end.result c.geometry.result t.geometry c.rows-slot-end.ensures (c.geometry.ensures ∙ sym c.requires.ready.space.geometry) in
+    let names = sym c.key_at.ensures ∙ c.in-Some.is in
+    let next = squeezing_then c.args.self.now c.loop-slot.self new c.args.from c.args.to c.loop-slot.slot c.in-Some.key c.requires.ready c.requires.can
+    so_far.squeezing (omega arith) names (moved.moved c.in-Done.is) moved.stand moved.stays
+    (done_sound new.disks.health (sym c.in-Done.is ∙ moved.outcome)) in
     record {
-      squeezing = squeezing_then c.args.self.now c.loop-slot.self new c.args.from c.args.to c.loop-slot.slot c.in-Some.key c.requires.ready c.requires.can
-          so_far.squeezing (omega arith) (sym c.key_at.ensures ∙ c.in-Some.is) (moved.moved c.in-Done.is) moved.stand moved.stays
-          (done_sound new.disks.health (sym c.in-Done.is ∙ moved.outcome));
-      asks = step_asks c.args.self.now c.loop-slot.self new c.args.from c.args.to c.loop-slot.slot c.in-Some.key so_far.squeezing (omega arith) so_far.asks
-          (sym c.key_at.ensures ∙ c.in-Some.is) moved.asks;
+      squeezing = next;
       copies = copies_then (members_of (store_in c.args.self.now) c.args.from) (members_of (store_in c.args.self.now) c.args.to) c.loop-slot.slot
           c.args.self.now.disks c.loop-slot.self.disks new.disks so_far.copies
           (step_copy c.args.self.now c.loop-slot.self new c.args.from c.args.to c.loop-slot.slot c.in-Some.key so_far.squeezing (omega arith)
-          (sym c.key_at.ensures ∙ c.in-Some.is) moved.steps)
+          names moved.plan next c.requires.can.to_there (moved.holds c.in-Done.is) moved.beside)
           (done_sound new.disks.health (sym c.in-Done.is ∙ moved.outcome));
       zeros = λ filled.
           zeros_later (store_in c.loop-slot.self) (store_in new) (slot_at c.args.to c.loop-slot.slot) so_far.squeezing.stays.ready.space
@@ -93,8 +90,6 @@ returns-in-Broken g c =
       hole = λ done. absurd (done_not_broken (sym done));
       unplaced = λ k is. ap (λ (x : Tables). home x k) (moved.unmoved c.in-Broken.is) ∙ now.moving.unplaced k is;
       stand = all_then c.args.self.now c.loop-slot.self c.move_block.new.self moved.stays now.stand moved.stand;
-      asks = step_asks c.args.self.now c.loop-slot.self c.move_block.new.self c.args.from c.args.to c.loop-slot.slot c.in-Some.key now (omega arith) so_far.asks
-          (sym c.key_at.ensures ∙ c.in-Some.is) moved.asks;
       turns =
           (let broken = broken_is c.move_block.new.self.disks.health (sym c.in-Broken.is ∙ moved.outcome) in
           record {
@@ -107,8 +102,8 @@ returns-in-Broken g c =
               copies = so_far.copies;
               rest = inr (record {
                 below = omega arith;
-                copy = step_copy c.args.self.now c.loop-slot.self c.move_block.new.self c.args.from c.args.to c.loop-slot.slot c.in-Some.key now (omega arith)
-                    (sym c.key_at.ensures ∙ c.in-Some.is) moved.steps;
+                plan = step_plan c.args.self.now c.loop-slot.self c.move_block.new.self c.args.from c.args.to c.loop-slot.slot c.in-Some.key now (omega arith)
+                    (sym c.key_at.ensures ∙ c.in-Some.is) moved.plan;
                 sound = now.sound;
                 broken = broken;
               });
@@ -136,7 +131,6 @@ returns g c =
           (moving_end t u c.args.from c.args.to c.loop-slot.slot c.requires.can now.moving all);
       unplaced = now.moving.unplaced;
       stand = now.stand;
-      asks = so_far.asks;
       turns = record {
         moved = c.loop-slot.slot;
         tables = record { within = omega arith; tables = now.moving.tables };

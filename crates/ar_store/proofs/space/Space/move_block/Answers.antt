@@ -1,8 +1,8 @@
-use Rattle.std.proofs.Common.{inl, inr, refl, ◌≡◌, ℕ, List, ◌++◌, drop, ◌≤◌, length, sym, ap, subst, ◌∙◌, arith}
+use Rattle.std.proofs.Common.{ℕ, List, ◌≡◌, ◌≤◌, ◌++◌, drop, length, sym, ap, subst, ◌∙◌, arith}
 use Rattle.std.proofs.lemmas.List.{length-append, length-drop, length-take-le}
 use Rattle.ar_disks.specs.Lending.{refilled}
 use Rattle.ar_disks.specs.Geometry.{block_len_of}
-use Rattle.ar_book.specs.Tables.{Tables, home, free_groups, class_of, group_in, HasBlock}
+use Rattle.ar_book.specs.Tables.{Tables, home, free_groups, HasBlock}
 use Rattle.ar_book.specs.Changes.{assigned}
 use Rattle.ar_book.proofs.Homes.{home_slot, home_block}
 use Rattle.ar_extents.proofs.Outcomes.{sound_done, broken_is}
@@ -14,9 +14,8 @@ use Rattle.std.proofs.lemmas.Option.{same_Some}
 use Rattle.ar_book.specs.declared.class.Slot.{Slot}
 use Rattle.ar_store.specs.Slots.{SlotHolds}
 use Rattle.ar_store.specs.Store.{store_of}
-use Rattle.ar_store.specs.Asking.{ReadsThenWrites, WritesSlot}
 use Rattle.ar_store.proofs.Stays.{stays_then}
-use Rattle.ar_store.proofs.Asking.{asks_both, asks_one, asks_from}
+use Rattle.ar_store.proofs.Planned.{moved_by, moved_none}
 use Rattle.ar_store.proofs.space.Space.move_block.Goals as goal
 
 -- a block that is written over keeps its length
@@ -64,22 +63,14 @@ returns-in-Done g c =
           (sym c.home.ensures ∙ c.in-Some.is) read.stays.accessed.follows fill.stays.accessed.follows read.stand c.in-Done.ensures.given
           (λ sound. fill.here (fill.outcome ∙ sound_done new.disks.health sound)) fill.others;
       beside = beside_then s.disks mid.disks s.book mid.book (store_in new) c.args.to read.book read.stays.accessed.follows read.keeps fill.beside;
-      asks = asks_from (store_in s) (store_in new) c.args.key c.in-Some.from c.args.to (sym c.home.ensures ∙ c.in-Some.is)
-          (asks_both (store_in s) (store_in mid) (store_in new) c.in-Some.from c.args.to read.book read.stays.accessed.follows.geometry read.asks read.keeps fill.asks);
-      steps = λ at placed.
-          let P : Slot → Type 0 = λ x. ReadsThenWrites x c.args.to (store_in s) (store_in new) in
-          let Q : Tables → Type 0 = λ x.
-          WritesSlot (class_of x c.args.to.group) mid.disks new.disks (group_in x.groups c.args.to.group).members c.args.to.slot in
+      holds = λ _ at held placed has.
+          let is = same_Some c.in-Some.from at (sym (sym c.home.ensures ∙ c.in-Some.is) ∙ placed) in
+          let P : Slot → Type 0 = λ x. SlotHolds (store_in s) x held in
           let R : Tables → Type 0 = λ x. SlotHolds (store_of new.disks x) c.args.to c.read_at.new.into in
           let S : List ℕ → Type 0 = λ bytes. SlotHolds (store_of new.disks s.book) c.args.to bytes in
-          subst P (same_Some c.in-Some.from at (sym (sym c.home.ensures ∙ c.in-Some.is) ∙ placed))
-          record {
-            between = mid.disks;
-            reads = read.asks;
-            kept = read.keeps;
-            writes = inr (subst Q read.book fill.asks);
-            here = λ sound block held. subst S (c.in-Done.ensures.given block held) (subst R read.book fill.holds);
-          };
+          subst S (c.in-Done.ensures.given held (subst P (sym is) has)) (subst R read.book fill.holds);
+      plan = moved_by (store_in s) (store_in mid) new.disks c.args.key c.in-Some.from c.args.to (sym c.home.ensures ∙ c.in-Some.is) read.book
+          read.stays.accessed.follows.geometry read.plan fill.writes.plan;
       stays = stays_then s mid new read.stays fill.stays;
       len = length-refilled c.args.block.now c.read_at.new.into;
     }
@@ -95,19 +86,9 @@ returns-in-Broken g c =
       free = same_free c.args.self.now.book mid.book read.book;
       stand = read.stand;
       beside = beside_read c.args.self.now.disks mid.disks c.args.self.now.book mid.book c.args.to read.book read.stays.accessed.follows read.keeps;
-      asks = asks_from (store_in c.args.self.now) (store_in mid) c.args.key c.in-Some.from c.args.to (sym c.home.ensures ∙ c.in-Some.is)
-          (asks_one (store_in c.args.self.now) (store_in mid) c.in-Some.from c.args.to read.asks read.keeps);
-      steps = λ at placed.
-          let P : Slot → Type 0 = λ x. ReadsThenWrites x c.args.to (store_in c.args.self.now) (store_in mid) in
-          subst P (same_Some c.in-Some.from at (sym (sym c.home.ensures ∙ c.in-Some.is) ∙ placed))
-          (let broken = broken_is mid.disks.health (sym c.in-Broken.is ∙ read.outcome) in
-          record {
-            between = mid.disks;
-            reads = read.asks;
-            kept = read.keeps;
-            writes = inl (record { broken = broken; same = refl });
-            here = λ sound. absurd (sound broken);
-          });
+      holds = λ done. absurd (done_not_broken (sym done));
+      plan = moved_none (store_in c.args.self.now) (store_in mid) c.args.key c.in-Some.from c.args.to (sym c.home.ensures ∙ c.in-Some.is)
+          (broken_is mid.disks.health (sym c.in-Broken.is ∙ read.outcome)) read.plan;
       stays = read.stays;
       len = length-refilled c.args.block.now c.read_at.new.into;
     }

@@ -1,15 +1,18 @@
-use Rattle.std.proofs.Common.{inl, inr, sym, refl, ap, ◌∙◌}
+use Rattle.std.proofs.Common.{inl, inr, sym, refl, ap, subst, ◌∙◌, arith}
 use Rattle.ar_extents.proofs.Outcomes.{done_sound, broken_is}
 use Rattle.ar_extents.specs.Groups.{IsMember}
-use Rattle.ar_book.specs.Tables.{Tables, home}
+use Rattle.ar_book.specs.Tables.{Tables}
 use Rattle.ar_book.specs.Changes.{opened}
-use Rattle.ar_store.specs.Store.{store_of}
+use Rattle.ar_store.specs.Store.{store_of, members_of}
+use Rattle.ar_store.specs.Spaces.{store_in}
 use Rattle.ar_disks.specs.Geometry.{rows_of}
 use Rattle.ar_parity.proofs.Told.{stripes_told}
 use Rattle.ar_store.specs.Calls.{IsAccessed}
 use Rattle.ar_store.proofs.Changes.{mirrored_not_parity}
-use Rattle.ar_store.proofs.Within.{within_refl}
-use Rattle.ar_store.proofs.Asking.{only_opened, opened_asks}
+use Rattle.ar_extents.specs.Plans.{stops, CarriesOut}
+use Rattle.ar_book.specs.declared.class.Class.{Class}
+use Rattle.ar_store.specs.Plans.{open_plan}
+use Rattle.ar_store.proofs.Planned.{opened_plan, only_opened}
 use Rattle.ar_store.proofs.Openings.{zeroed, opened_group, opened_there, opened_free, after_opening, class_mirrored, not_many, opened_not_broken, idle_not_broken}
 use Rattle.ar_store.proofs.Fills.{accessed_refl, accessed_work}
 use Rattle.ar_store.proofs.space.Space.open_group.Goals as goal
@@ -23,12 +26,10 @@ returns-in_default g c =
     record {
       opens = record { few = not_many s.book none.when; same = ap (λ (x : Tables). store_of s.disks x) none.unchanged };
       answer = (λ broke. absurd (idle_not_broken broke), λ broken. absurd (c.requires.sound broken));
-      mirrored = λ _. refl;
       parity = λ _. tt;
-      homes = after.homes;
       free = after.free;
       stand = after.stand;
-      asks = λ group lowest. within_refl _ _ s.disks;
+      plan = λ group many lowest. absurd (let few = not_many s.book none.when in omega arith);
       stays = record {
         ready = record { space = after.space; scratch = c.requires.ready.scratch };
         units = after.units;
@@ -51,12 +52,13 @@ returns-in-Mirrored g c =
     record {
       opens = record { many = opening.when.0 refl; lowest = opening.lowest; tables = opening.opened };
       answer = (λ broke. absurd (opened_not_broken c.in-Some.group broke), λ broken. absurd (c.requires.sound broken));
-      mirrored = λ _. refl;
       parity = λ is. absurd (mirrored_not_parity (sym class ∙ is));
-      homes = after.homes;
       free = after.free;
       stand = after.stand;
-      asks = λ group lowest. within_refl _ _ s.disks;
+      plan = λ group many lowest.
+          let m = members_of (store_in s) group in
+          let P : Class → Type 0 = λ x. CarriesOut (open_plan x s.disks.geometry m) s.disks s.disks in
+          subst P (sym class) (stops s.disks);
       stays = record {
         ready = record { space = after.space; scratch = c.requires.ready.scratch };
         units = after.units;
@@ -94,13 +96,12 @@ returns-in-Done g c =
     record {
       opens = record { many = opening.when.0 refl; lowest = opening.lowest; tables = opening.opened };
       answer = (λ broke. absurd (opened_not_broken c.in-Some.group broke), λ broken. absurd (done_sound b.health answer broken));
-      mirrored = λ is. absurd (mirrored_not_parity (sym is ∙ c.in-Parity.is));
       parity = λ _. zeros.zeros_in;
-      homes = λ k. ap (λ (x : Tables). home x k) tables;
       free = λ _. opened_free s.book u c.in-Some.group c.args.class c.requires.ready.space.tables opening.lowest (opening.when.0 refl) c.requires.class opening.opened;
       stand = zeros.stand;
-      asks = only_opened (store_of s.disks s.book) (store_of b u) c.in-Some.group opening.lowest
-          (opened_asks s.disks b s.book u c.in-Some.group c.args.class c.members-members.result opening.opened c.members-members.ensures told.works told.keeps);
+      plan = λ group many lowest.
+          only_opened (store_in s) b c.args.class c.in-Some.group c.in-Parity.is opening.lowest
+          (opened_plan s.disks b s.book u c.in-Some.group c.args.class c.members-members.result opening.opened c.members-members.ensures zero.plan) group lowest;
       stays = record {
         ready = record { space = zeros.space; scratch = zero.scratch ∙ c.requires.ready.scratch ∙ sym told.works.follows.geometry };
         units = zeros.units;
@@ -127,13 +128,12 @@ returns-in-Broken g c =
         tables = inr (c.in-Some.group, record { many = opening.when.0 refl; lowest = opening.lowest; tables = opening.opened });
       };
       answer = (λ _. broken, λ _. refl);
-      mirrored = λ is. absurd (mirrored_not_parity (sym is ∙ c.in-Parity.is));
       parity = λ _. tt;
-      homes = λ k. ap (λ (x : Tables). home x k) tables;
       free = λ _. opened_free s.book u c.in-Some.group c.args.class c.requires.ready.space.tables opening.lowest (opening.when.0 refl) c.requires.class opening.opened;
       stand = zeros.stand;
-      asks = only_opened (store_of s.disks s.book) (store_of b u) c.in-Some.group opening.lowest
-          (opened_asks s.disks b s.book u c.in-Some.group c.args.class c.members-members.result opening.opened c.members-members.ensures told.works told.keeps);
+      plan = λ group many lowest.
+          only_opened (store_in s) b c.args.class c.in-Some.group c.in-Parity.is opening.lowest
+          (opened_plan s.disks b s.book u c.in-Some.group c.args.class c.members-members.result opening.opened c.members-members.ensures zero.plan) group lowest;
       stays = record {
         ready = record { space = zeros.space; scratch = zero.scratch ∙ c.requires.ready.scratch ∙ sym told.works.follows.geometry };
         units = zeros.units;

@@ -5,7 +5,7 @@ use Rattle.ar_disks.specs.Geometry.{rows_of}
 use Rattle.ar_parity.proofs.Told.{stripes_told}
 use Rattle.ar_store.specs.Calls.{IsAccessed}
 use Rattle.ar_store.proofs.Fills.{accessed_work}
-use Rattle.ar_store.proofs.Asking.{opened_asks}
+use Rattle.ar_store.proofs.Planned.{opened_plan}
 use Rattle.ar_store.proofs.Openings.{zeroed, opened_group, opened_there}
 use Rattle.ar_store.proofs.space.Space.open_last.Goals as goal
 
@@ -38,8 +38,8 @@ returns g c =
       opened = opening.opened;
       zeros = zeros.zeros_in;
       stand = zeros.stand;
-      asks = opened_asks s.disks b s.book c.open_last-group.new.self c.open_last-group.result Parity c.members-members.result opening.opened
-          c.members-members.ensures told.works told.keeps;
+      plan = opened_plan s.disks b s.book c.open_last-group.new.self c.open_last-group.result Parity c.members-members.result opening.opened
+          c.members-members.ensures zero.plan;
       stays = record {
         ready = record { space = zeros.space; scratch = zero.scratch ∙ c.requires.ready.scratch ∙ sym told.works.follows.geometry };
         units = zeros.units;

@@ -45,7 +45,7 @@ returns-in-Done g c =
       beside = subst (λ (x : Tables). BesideHold (store_in s) (store_of b x) c.args.vacant) (sym tables)
           (beside_hold_stamped (store_in s) b t c.args.key c.args.vacant
           (beside_filled s.disks b s.book t c.args.key c.args.vacant c.requires.ready.space c.requires.block c.requires.hole slots refl));
-      asks = wrote.asks;
+      writes = wrote.writes;
       stays = record {
         ready = record { space = stamps.space; scratch = wrote.stays.ready.scratch };
         units = stamps.units;
@@ -67,6 +67,6 @@ returns-in-Broken g c =
       here = λ done. absurd (done_not_broken (sym done));
       others = none_stands (store_in s) (store_in new) c.args.key (broken_is new.disks.health answer);
       beside = beside_same (store_in s) (store_in new) c.args.vacant wrote.others;
-      asks = wrote.asks;
+      writes = wrote.writes;
       stays = wrote.stays;
     }

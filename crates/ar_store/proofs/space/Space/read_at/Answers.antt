@@ -8,7 +8,7 @@ use Rattle.ar_store.specs.Calls.{IsAccessed}
 use Rattle.ar_store.specs.Spaces.{store_in}
 use Rattle.ar_store.proofs.Changes.{units_refl}
 use Rattle.ar_store.proofs.Fills.{accessed_work}
-use Rattle.ar_store.proofs.SlotCalls.{asked_group, asked_slot, never_free, given_in, asked_in, mirror_given, read_leaves}
+use Rattle.ar_store.proofs.SlotCalls.{asked_group, asked_slot, never_free, given_in, read_in, mirror_given, read_leaves}
 use Rattle.ar_store.proofs.space.Space.read_at.Goals as goal
 
 pub unreachable-requires : goal.unreachable-requires
@@ -41,8 +41,8 @@ returns-in-Mirrored g c =
       given = given_in s c.args.slot m c.requires.ready.space c.requires.slot c.members-members.ensures Mirrored c.get.new.into c.get.result (sym c.in-Mirrored.is ∙ c.class.ensures)
           (mirror_given s.disks b m c.args.slot.slot c.get.new.into c.get.result read.gives);
       book = refl;
-      asks = asked_in s c.args.slot m c.requires.ready.space c.requires.slot c.members-members.ensures Mirrored b (sym c.in-Mirrored.is ∙ c.class.ensures)
-          (record { works = told.works; first = told.first });
+      plan = read_in s c.args.slot m c.requires.ready.space c.requires.slot c.members-members.ensures Mirrored b
+          (sym c.in-Mirrored.is ∙ c.class.ensures) read.plan;
       keeps = told.keeps;
       stand = leaves.stand;
       stays = record {
@@ -78,8 +78,8 @@ returns-in-Parity g c =
       given = given_in s c.args.slot m c.requires.ready.space c.requires.slot c.members-members.ensures Parity c.get-in-Parity.new.into c.get-in-Parity.result
           (sym c.in-Parity.is ∙ c.class.ensures) read.gives;
       book = refl;
-      asks = asked_in s c.args.slot m c.requires.ready.space c.requires.slot c.members-members.ensures Parity b (sym c.in-Parity.is ∙ c.class.ensures)
-          (record { works = told.works; first = told.first });
+      plan = read_in s c.args.slot m c.requires.ready.space c.requires.slot c.members-members.ensures Parity b
+          (sym c.in-Parity.is ∙ c.class.ensures) read.plan;
       keeps = told.keeps;
       stand = leaves.stand;
       stays = record {

@@ -42,7 +42,7 @@ returns-in-Done g c =
       free = subst (λ (x : Tables). free_groups s.book ≤ free_groups x) (sym tables) (same_free s.book s.book refl);
       here = λ _. stamps.here;
       others = stamps.others;
-      asks = wrote.asks;
+      writes = wrote.writes;
       stays = record {
         ready = record { space = stamps.space; scratch = wrote.stays.ready.scratch };
         units = stamps.units;
@@ -63,6 +63,6 @@ returns-in-Broken g c =
       free = same_free s.book new.book wrote.book;
       here = λ done. absurd (done_not_broken (sym done));
       others = none_stands (store_in s) (store_in new) c.args.key (broken_is new.disks.health answer);
-      asks = wrote.asks;
+      writes = wrote.writes;
       stays = wrote.stays;
     }

@@ -8,7 +8,7 @@ use Rattle.ar_extents.proofs.Outcomes.{broken_is}
 use Rattle.ar_store.specs.Placing.{CanMove}
 use Rattle.ar_store.specs.Spaces.{store_in}
 use Rattle.ar_store.proofs.Stays.{stays_then, all_then}
-use Rattle.ar_store.proofs.Asking.{only_squeeze}
+use Rattle.ar_store.proofs.Planned.{only_squeeze}
 use Rattle.ar_store.proofs.Steps.{squeezes, squeeze_cut}
 use Rattle.ar_store.proofs.Squeezing.{begun_squeeze, can_move, squeezed_is, free_counted, slots_end, homes_opened}
 use Rattle.ar_store.proofs.space.Space.squeeze.Goals as goal
@@ -70,9 +70,9 @@ returns-in-Done g c =
       begun = begun_squeeze t mid.book new.book from to moved.turns.moved c.full_mirrored-from.ensures.full opening.lowest opening.opened moved.turns.tables;
       unplaced = λ k is. moved.unplaced k (homes_opened t mid.book to k opening.opened is);
       stand = all_then s mid new moved.stays opening.stand moved.stand;
-      asks = only_squeeze (store_in s) (store_in new) c.full_mirrored-from.result c.open_last-to.result c.full_mirrored-from.ensures.full opening.lowest
+      steps = only_squeeze (store_in s) (store_in new) c.full_mirrored-from.result c.open_last-to.result c.full_mirrored-from.ensures.full opening.lowest
           (squeezes (store_in s) (store_in mid) (store_in new) c.full_mirrored-from.result c.open_last-to.result opening.opened opening.lowest.there
-          opening.asks opening.zeros moved.asks moved.turns);
+          opening.plan opening.zeros moved.turns);
       stays = record { ready = record { space = both.ready.space; scratch = both.ready.scratch }; units = both.units; accessed = both.accessed };
       len = moved.len;
     }
@@ -93,9 +93,9 @@ returns-in-Broken-move_all g c =
           opening.lowest opening.opened moved.turns.tables;
       unplaced = λ k is. moved.unplaced k (homes_opened s.book mid.book c.open_last-to.result k opening.opened is);
       stand = all_then s mid new moved.stays opening.stand moved.stand;
-      asks = only_squeeze (store_in s) (store_in new) c.full_mirrored-from.result c.open_last-to.result c.full_mirrored-from.ensures.full opening.lowest
+      steps = only_squeeze (store_in s) (store_in new) c.full_mirrored-from.result c.open_last-to.result c.full_mirrored-from.ensures.full opening.lowest
           (squeezes (store_in s) (store_in mid) (store_in new) c.full_mirrored-from.result c.open_last-to.result opening.opened opening.lowest.there
-          opening.asks opening.zeros moved.asks moved.turns);
+          opening.plan opening.zeros moved.turns);
       stays = stays_then s mid new opening.stays moved.stays;
       len = moved.len;
     }
@@ -118,10 +118,10 @@ returns-in-Broken g c =
       };
       unplaced = λ k is. homes_opened c.args.self.now.book c.open_last-to.new.self.book c.open_last-to.result k opening.opened is;
       stand = opening.stand;
-      asks = only_squeeze (store_in c.args.self.now) (store_in c.open_last-to.new.self) c.full_mirrored-from.result c.open_last-to.result
+      steps = only_squeeze (store_in c.args.self.now) (store_in c.open_last-to.new.self) c.full_mirrored-from.result c.open_last-to.result
           c.full_mirrored-from.ensures.full opening.lowest
           (squeeze_cut (store_in c.args.self.now) (store_in c.open_last-to.new.self) c.full_mirrored-from.result c.open_last-to.result opening.opened
-          opening.asks (sym c.health.ensures.same ∙ c.in-Broken.is));
+          opening.plan (sym c.health.ensures.same ∙ c.in-Broken.is));
       stays = opening.stays;
       len = refl;
     }

@@ -1,10 +1,9 @@
 use Rattle.std.proofs.Common.{sym, refl, ap, subst, ◌∙◌}
-use Rattle.ar_book.specs.Tables.{Tables}
 use Rattle.ar_book.specs.Changes.{stamped}
 use Rattle.ar_extents.specs.Groups.{outcome_of}
 use Rattle.ar_store.specs.declared.way.Way.{Way}
 use Rattle.ar_store.specs.Placing.{IsReadyFor, placed_by}
-use Rattle.ar_store.specs.Asking.{AsksWay}
+use Rattle.ar_store.specs.Plans.{WritesWay}
 use Rattle.ar_store.specs.Calls.{BesideWay}
 use Rattle.ar_store.specs.Spaces.{store_in}
 use Rattle.ar_store.proofs.Fills.{none_stands, done_not_broken, same_free}
@@ -30,7 +29,7 @@ returns-in-Home g c =
       here = wrote.here;
       others = wrote.others;
       beside = subst (λ (w : Way). BesideWay w (store_in c.args.self.now) (store_in c.rewrite.new.self)) (sym c.in-Home.is) tt;
-      asks = subst (λ (w : Way). AsksWay w (store_in c.args.self.now) (store_in c.rewrite.new.self)) (sym c.in-Home.is) wrote.asks;
+      writes = subst (λ (w : Way). WritesWay w (store_in c.args.self.now) (store_in c.rewrite.new.self)) (sym c.in-Home.is) wrote.writes;
       stays = wrote.stays;
     }
 
@@ -53,7 +52,7 @@ returns-in-Hole g c =
       here = wrote.here;
       others = wrote.others;
       beside = subst (λ (w : Way). BesideWay w (store_in c.args.self.now) (store_in c.put_in.new.self)) (sym c.in-Hole.is) wrote.beside;
-      asks = subst (λ (w : Way). AsksWay w (store_in c.args.self.now) (store_in c.put_in.new.self)) (sym c.in-Hole.is) wrote.asks;
+      writes = subst (λ (w : Way). WritesWay w (store_in c.args.self.now) (store_in c.put_in.new.self)) (sym c.in-Hole.is) wrote.writes;
       stays = wrote.stays;
     }
 
@@ -69,6 +68,6 @@ returns-in-Broken g c =
       here = λ done. absurd (done_not_broken (sym done));
       others = none_stands (store_in s) (store_in s) c.args.key broken;
       beside = subst (λ (w : Way). BesideWay w (store_in s) (store_in s)) (sym c.in-Broken.is) tt;
-      asks = subst (λ (w : Way). AsksWay w (store_in s) (store_in s)) (sym c.in-Broken.is) refl;
+      writes = subst (λ (w : Way). WritesWay w (store_in s) (store_in s)) (sym c.in-Broken.is) refl;
       stays = stays_refl s c.requires.ready;
     }

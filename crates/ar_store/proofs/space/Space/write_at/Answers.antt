@@ -3,13 +3,12 @@ use Rattle.ar_extents.specs.Groups.{IsMember}
 use Rattle.ar_mirror.specs.Calls.{IsInPair}
 use Rattle.ar_book.specs.declared.class.Class.TheVariants.{Mirrored, Parity}
 use Rattle.ar_mirror.proofs.Told.{write_told}
-use Rattle.ar_parity.proofs.Told.{slot_told, slot_keeps, slot_others}
+use Rattle.ar_parity.proofs.Told.{slot_told, slot_keeps}
 use Rattle.ar_store.specs.Calls.{IsAccessed}
 use Rattle.ar_store.specs.Spaces.{store_in}
 use Rattle.ar_store.proofs.Changes.{units_refl}
 use Rattle.ar_store.proofs.Fills.{accessed_work}
 use Rattle.ar_store.proofs.Spaces.{slots_written, space_written}
-use Rattle.ar_store.proofs.Asking.{wrote_mirrored, wrote_parity}
 use Rattle.ar_store.proofs.SlotCalls.{asked_group, asked_slot, never_free, written_mirrored, written_parity, wrote_in}
 use Rattle.ar_store.proofs.space.Space.write_at.Goals as goal
 
@@ -43,8 +42,9 @@ returns-in-Mirrored g c =
       here = written.here;
       others = slots_written s.disks b s.book c.args.slot c.args.from.now c.requires.ready.space c.requires.slot told.works.follows written;
       book = refl;
-      asks = wrote_in s c.args.slot c.members-members.result c.requires.ready.space c.requires.slot c.members-members.ensures Mirrored b
-          (sym c.in-Mirrored.is ∙ c.class.ensures) (wrote_mirrored s.disks b c.members-members.result c.args.slot.slot told.works put.slots told.keeps told.order);
+      writes = wrote_in s c.args.slot c.members-members.result c.requires.ready.space c.requires.slot c.members-members.ensures Mirrored b
+          (sym c.in-Mirrored.is ∙ c.class.ensures)
+          (record { plan = put.plan; beside = λ k block inside ne has. put.slots.slots k inside ne block has });
       stays = record {
         ready = record {
           space = space_written s.disks b s.book c.args.slot c.args.from.now c.requires.ready.space c.requires.slot access c.requires.whole written;
@@ -84,9 +84,8 @@ returns-in-Parity g c =
       here = written.here;
       others = slots_written s.disks b s.book c.args.slot c.args.from.now c.requires.ready.space c.requires.slot told.works.follows written;
       book = refl;
-      asks = wrote_in s c.args.slot c.members-members.result c.requires.ready.space c.requires.slot c.members-members.ensures Parity b
-          (sym c.in-Parity.is ∙ c.class.ensures) (wrote_parity s.disks b c.members-members.result c.args.slot.slot told.works told.known told.first told.alone put.slots
-          (record { row = keeps; others = slot_others m c.args.slot.slot s.disks b group.apart told }));
+      writes = wrote_in s c.args.slot c.members-members.result c.requires.ready.space c.requires.slot c.members-members.ensures Parity b
+          (sym c.in-Parity.is ∙ c.class.ensures) (record { plan = put.plan; beside = λ k block inside ne has. put.slots k ne block has });
       stays = record {
         ready = record {
           space = space_written s.disks b s.book c.args.slot c.args.from.now c.requires.ready.space c.requires.slot access c.requires.whole written;

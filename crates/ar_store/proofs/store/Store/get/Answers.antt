@@ -1,22 +1,22 @@
-use Rattle.std.proofs.Common.{◌≡◌, None, refl, sym, ap, subst, ◌∙◌}
-use Rattle.std.proofs.lemmas.Option.{none-some, same_Some}
+use Rattle.std.proofs.Common.{◌≡◌, Option, None, refl, sym, ap, subst, ◌∙◌}
+use Rattle.ar_extents.specs.Plans.{CarriesOut, stops}
+use Rattle.ar_extents.proofs.Plans.{carries_broken}
 use Rattle.ar_disks.specs.Block.{zeros}
 use Rattle.ar_disks.specs.Geometry.{block_len_of}
 use Rattle.ar_extents.specs.declared.health.Health.TheVariants.{Broken}
 use Rattle.ar_extents.specs.Groups.{outcome_of}
 use Rattle.ar_extents.proofs.Outcomes.{done_sound, sound_done}
-use Rattle.ar_extents.specs.Follows.{Keeps, Anywhere}
 use Rattle.ar_book.specs.Tables.{home}
 use Rattle.ar_book.proofs.Homes.{home_slot}
 use Rattle.ar_book.specs.declared.class.Slot.{Slot}
-use Rattle.ar_store.specs.Store.{StoreState, members_of, class_in}
-use Rattle.ar_store.specs.Slots.{AllStand, AsksForSlot}
-use Rattle.ar_store.specs.Calls.{IsAccessed}
+use Rattle.ar_store.specs.Store.{StoreState}
+use Rattle.ar_store.specs.Slots.{AllStand}
+use Rattle.ar_store.specs.Plans.{home_read, get_plan}
 use Rattle.ar_store.specs.Spaces.{store_in}
 use Rattle.ar_store.proofs.Standing.{stands_nowhere}
-use Rattle.ar_store.proofs.SlotCalls.{asked_none}
+use Rattle.ar_store.proofs.Planned.{home_plan}
 use Rattle.ar_store.proofs.Fields.{ready_in, fields_stay, free_then, given_stands, given_done}
-use Rattle.ar_store.proofs.Fills.{accessed_refl, same_free, done_not_broken}
+use Rattle.ar_store.proofs.Fills.{same_free, done_not_broken}
 use Rattle.ar_store.proofs.store.Store.get.Goals as goal
 
 pub read_at-requires : goal.read_at-requires
@@ -48,16 +48,10 @@ returns-in-Some g c =
       given = λ done.
           given_stands c.args.self.now a.disks b.disks a.book c.args.key c.in-Some.slot c.read_at.new.into view c.self.invariant.kept.space is
           read.stays.accessed.follows (done_sound b.disks.health (sym done ∙ read.outcome)) (given_done c.read_at.result _ done read.given);
-      unplaced = λ none. absurd (none-some c.in-Some.slot (sym none ∙ ap (λ (s : StoreState). home s.book c.args.key) (sym view) ∙ is));
-      asks = λ slot placed.
-          (let P : Slot → Type 0 = λ x. AsksForSlot c.args.self.now (store_in b) x in
-          let here = sym is ∙ ap (λ (s : StoreState). home s.book c.args.key) view ∙ placed in
-          subst P (same_Some c.in-Some.slot slot here) (subst (λ (s : StoreState). AsksForSlot s (store_in b) c.in-Some.slot) view read.asks));
+      plan = subst (λ (s : StoreState). CarriesOut (get_plan s c.args.key) s.disks b.disks) view
+          (home_plan (store_in a) c.args.key c.in-Some.slot b.disks is read.plan);
       stands = subst (λ (s : StoreState). AllStand s (store_in b)) view read.stand;
-      keeps = subst (λ (s : StoreState). Keeps Anywhere s.disks b.disks) view read.keeps;
       book = read.book ∙ ap (λ (s : StoreState). s.book) view;
-      accessed = subst (λ (s : StoreState). IsAccessed s.disks b.disks) view read.stays.accessed;
-      broken = λ is. absurd (c.in_default.not-Broken (c.health.ensures.same ∙ ap (λ (s : StoreState). s.disks.health) view ∙ is));
     }
 
 pub returns-in-None : goal.returns-in-None
@@ -69,13 +63,9 @@ returns-in-None g c =
     record {
       outcome = sym (sound_done s.disks.health sound);
       given = λ _. c.zero.ensures ∙ ap zeros c.requires.whole ∙ sym (stands_nowhere s c.args.key none);
-      unplaced = λ _. refl;
-      asks = λ slot placed. absurd (none-some slot (sym none ∙ placed));
+      plan = (let P : Option Slot → Type 0 = λ h. CarriesOut (home_read s h) s.disks s.disks in subst P (sym none) (stops s.disks));
       stands = record { blocks = λ _ k. refl };
-      keeps = record { rows = λ _ _ _. refl };
       book = refl;
-      accessed = accessed_refl s.disks;
-      broken = λ _. refl;
     }
 
 pub returns-in-Broken : goal.returns-in-Broken
@@ -85,11 +75,7 @@ returns-in-Broken g c =
     record {
       outcome = sym (ap outcome_of broken);
       given = λ done. absurd (done_not_broken (sym done));
-      unplaced = λ _. refl;
-      asks = λ slot _. asked_none (class_in s slot.group) s.disks (members_of s slot.group) slot.slot;
+      plan = carries_broken (get_plan s c.args.key) s.disks broken;
       stands = record { blocks = λ _ k. refl };
-      keeps = record { rows = λ _ _ _. refl };
       book = refl;
-      accessed = accessed_refl s.disks;
-      broken = λ _. refl;
     }

@@ -1,9 +1,9 @@
 use Rattle.std.proofs.Common.{inl, sym, ap, ◌∙◌, refl}
-use Rattle.ar_store.proofs.Within.{within_refl}
-use Rattle.ar_store.specs.Store.{StoreState}
+use Rattle.ar_extents.proofs.Plans.{carries_broken}
+use Rattle.ar_store.specs.Plans.{open_plan}
+use Rattle.ar_store.specs.Store.{StoreState, members_of}
 use Rattle.ar_store.proofs.Standing.{was_sound}
 use Rattle.ar_store.proofs.Changes.{units_refl}
-use Rattle.ar_store.proofs.Fills.{accessed_refl}
 use Rattle.ar_store.proofs.Fields.{ready_in, fields_stay}
 use Rattle.ar_store.proofs.store.Store.open_group.Goals as goal
 
@@ -29,12 +29,9 @@ returns-in-Broken g c =
     record {
       opens = record { broken = broken; tables = inl (record { was = broken; same = refl }) };
       answer = (λ _. broken, λ _. refl);
-      mirrored = λ _. refl;
       parity = λ _. tt;
-      homes = λ k. refl;
       stands = record { blocks = λ _ k. refl };
       units = units_refl s.book;
-      asks = λ group lowest. within_refl _ _ s.disks;
-      accessed = accessed_refl s.disks;
+      plan = λ group many lowest. carries_broken (open_plan c.args.class s.disks.geometry (members_of s group)) s.disks broken;
       broken = λ _. refl;
     }

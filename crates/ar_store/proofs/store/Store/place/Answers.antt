@@ -7,9 +7,9 @@ use Rattle.ar_extents.proofs.Outcomes.{done_sound, sound_done}
 use Rattle.ar_book.specs.Tables.{Tables, home, HasBlock}
 use Rattle.ar_store.specs.Store.{StoreState}
 use Rattle.ar_store.specs.Slots.{AllStand}
-use Rattle.ar_store.specs.Placing.{Puts, SameUnits, MayHavePrepared, LeavesOpened}
-use Rattle.ar_store.specs.Calls.{IsAccessed, LeavesZeros}
-use Rattle.ar_store.specs.Asking.{AsksToPut}
+use Rattle.ar_store.specs.Placing.{Puts, MayHavePrepared, LeavesOpened}
+use Rattle.ar_store.specs.Calls.{StoreFollows, LeavesZeros}
+use Rattle.ar_store.specs.Plans.{CarriesOutPut}
 use Rattle.ar_store.specs.Spaces.{store_in}
 use Rattle.ar_store.proofs.Standing.{was_sound}
 use Rattle.ar_store.proofs.Changes.{block_then, units_refl}
@@ -18,7 +18,7 @@ use Rattle.ar_store.proofs.Stays.{stays_then}
 use Rattle.ar_store.proofs.Fields.{ready_in, fields_stay, put_others, way_sound, placed_stand, written_home}
 use Rattle.ar_store.proofs.Ways.{puts_way}
 use Rattle.ar_store.proofs.Zeros.{zeros_put}
-use Rattle.ar_store.proofs.Asking.{asks_way, asks_still, leaves_opened}
+use Rattle.ar_store.proofs.Planned.{put_way, put_still, leaves_opened}
 use Rattle.ar_store.proofs.store.Store.place.Goals as goal
 
 pub find_way-way-requires : goal.find_way-way-requires
@@ -81,25 +81,25 @@ returns g c =
           (placed_stand (store_in a) (store_in d) c.args.key c.zero.new.self none zero
           (put_others (store_in a) (store_in b) (store_in d) c.args.key wrote.stays.accessed.follows way.stand wrote.others)
           (λ sound. wrote.here (wrote.outcome ∙ sound_done d.disks.health sound) ∙ c.bytes.ensures));
-      unmoved = λ broke.
-          ap (λ (x : Tables). home x c.args.key) (wrote.unwritten broke) ∙ way.home ∙ ap (λ (s : StoreState). home s.book c.args.key) view;
-      opened = λ broke sound. subst (λ (s : StoreState). LeavesOpened s.book c.args.key d.book) view
-          (subst (λ (x : Tables). LeavesOpened a.book c.args.key x) (sym (wrote.unwritten broke))
-          (leaves_opened (store_in a) (store_in b) c.args.key c.find_way-way.result way.leads way.way way.asks
-          (λ broken. c.in_default.not-Broken (c.health.ensures.same ∙ broken))));
-      prepared = λ broke.
-          subst (λ (s : StoreState). MayHavePrepared s.book c.args.key d.book) view
-          (subst (λ (x : Tables). MayHavePrepared a.book c.args.key x) (sym (wrote.unwritten broke)) way.prepared);
+      breaks = λ broke. record {
+        unmoved = ap (λ (x : Tables). home x c.args.key) (wrote.unwritten broke) ∙ way.home ∙ ap (λ (s : StoreState). home s.book c.args.key) view;
+        opened = λ sound. subst (λ (s : StoreState). LeavesOpened s.book c.args.key d.book) view
+            (subst (λ (x : Tables). LeavesOpened a.book c.args.key x) (sym (wrote.unwritten broke))
+            (leaves_opened (store_in a) (store_in b) c.args.key c.find_way-way.result way.leads way.way way.search
+            (λ broken. c.in_default.not-Broken (c.health.ensures.same ∙ broken))));
+        prepared = subst (λ (s : StoreState). MayHavePrepared s.book c.args.key d.book) view
+            (subst (λ (x : Tables). MayHavePrepared a.book c.args.key x) (sym (wrote.unwritten broke)) way.prepared);
+        lost = λ is. absurd (c.in_default.not-Broken (c.health.ensures.same ∙ ap (λ (s : StoreState). s.disks.health) view ∙ is));
+      };
       zeros = λ done. subst (λ (s : StoreState). LeavesZeros s c.args.key (store_in d)) view
           (zeros_put (store_in a) (store_in b) (store_in d) c.args.key c.find_way-way.result way.stays.ready.space wrote.stays.accessed.follows way.leads way.way
           (way_sound (store_in b) d.disks c.args.key c.find_way-way.result way.way wrote.stays.accessed.follows (done_sound d.disks.health (sym done ∙ wrote.outcome)))
           way.zeros wrote.beside);
-      units = subst (λ (s : StoreState). SameUnits s.book d.book) view both.units;
-      asks = subst (λ (s : StoreState). AsksToPut s c.args.key (store_in d)) view
-          (asks_way (store_in a) (store_in b) (store_in d) c.args.key c.find_way-way.result way.leads way.way way.zeros
-          way.asks wrote.asks (λ broken. wrote.unwritten (wrote.outcome ∙ ap outcome_of broken)));
-      accessed = subst (λ (s : StoreState). IsAccessed s.disks d.disks) view both.accessed;
-      broken = λ is. absurd (c.in_default.not-Broken (c.health.ensures.same ∙ ap (λ (s : StoreState). s.disks.health) view ∙ is));
+      plan = subst (λ (s : StoreState). CarriesOutPut s c.args.key (store_in d)) view
+          (put_way (store_in a) (store_in b) (store_in d) c.args.key c.find_way-way.result
+          (λ broken. c.in_default.not-Broken (c.health.ensures.same ∙ broken)) way.leads way.way way.zeros
+          way.search wrote.writes (λ broken. wrote.unwritten (wrote.outcome ∙ ap outcome_of broken)));
+      follows = subst (λ (s : StoreState). StoreFollows s (store_in d)) view (record { units = both.units; accessed = both.accessed });
     }
 
 pub returns-in-Broken : goal.returns-in-Broken
@@ -111,12 +111,8 @@ returns-in-Broken g c =
       placed = λ done. absurd (done_not_broken (sym done));
       tables = λ done. absurd (done_not_broken (sym done));
       stands = record { blocks = λ _ k. refl };
-      unmoved = λ _. refl;
-      opened = λ _ sound. absurd (sound broken);
-      prepared = λ _. inl refl;
+      breaks = λ _. record { unmoved = refl; opened = λ sound. absurd (sound broken); prepared = inl refl; lost = λ _. refl };
       zeros = λ done. absurd (done_not_broken (sym done));
-      units = units_refl s.book;
-      asks = asks_still s c.args.key broken;
-      accessed = accessed_refl s.disks;
-      broken = λ _. refl;
+      plan = put_still s c.args.key broken;
+      follows = record { units = units_refl s.book; accessed = accessed_refl s.disks };
     }

@@ -2,6 +2,7 @@ use Rattle.std.proofs.Common.{◌≡◌, sym, ◌∙◌}
 use Rattle.ar_extents.specs.Changes.{is_broken_set}
 use Rattle.ar_disks.specs.declared.completion.Completion.TheVariants.{Done}
 use Rattle.ar_cache.specs.Backing.{stored}
+use Rattle.ar_store.proofs.Accesses.{get_accessed, get_keeps}
 use Rattle.ar_volume.specs.declared.behind.Behind.{Behind}
 use Rattle.ar_volume.proofs.Breaking.{not_broken}
 use Rattle.ar_volume.proofs.Seeing.{heard, keeps_store, done_told, units_same}
@@ -20,11 +21,9 @@ returns g c =
       blocks = λ done. record { same = λ k. got.stands.blocks (sound done) k };
       keeps =
           keeps_store (λ (b : Behind g.row.D.Denot). b.store) c.args.self.now _
-          (record { units = units_same old.book new.book got.book; accessed = got.accessed });
+          (record { units = units_same old.book new.book got.book; accessed = get_accessed old c.args.key new.disks got.plan });
       gets = record {
-        reads = record { tables = got.book; rows = got.keeps };
-        unplaced = got.unplaced;
-        asks = got.asks;
-        lost = got.broken;
+        reads = record { tables = got.book; rows = get_keeps old c.args.key new.disks got.plan };
+        plan = got.plan;
       };
     }

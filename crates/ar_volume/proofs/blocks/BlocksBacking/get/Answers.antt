@@ -1,7 +1,8 @@
 use Rattle.std.proofs.Common.{◌≡◌, refl, sym, subst, ◌∙◌}
 use Rattle.ar_cache.specs.Backing.{SameBlocks}
 use Rattle.ar_volume.specs.Image.{ArrayState, seen_at}
-use Rattle.ar_volume.proofs.Seeing.{seen_by, seen_read}
+use Rattle.ar_volume.proofs.Breaking.{broken_is}
+use Rattle.ar_volume.proofs.Seeing.{seen_by, seen_read, read_lost}
 use Rattle.ar_volume.proofs.blocks.BlocksBacking.get.Goals as goal
 
 pub returns-clause-content : goal.returns-clause-content
@@ -14,3 +15,7 @@ returns-clause-blocks g c = λ done.
     let old : ArrayState = record { store = c.self.inside.behind.store; cache = c.self.inside.cache } in
     let new : ArrayState = record { store = c.get.new.backing.store; cache = c.self.inside.cache } in
     subst (λ (s : ArrayState). SameBlocks (seen_at s) (seen_at new)) c.self.view_is (seen_read old new refl (c.get.ensures.blocks done))
+
+pub returns-then-is_broken-clause-gets : goal.returns-then-is_broken-clause-gets
+returns-then-is_broken-clause-gets g c =
+    read_lost c.args.self.now c.args.key (broken_is c.args.self.now.store.disks.health (sym c.is_broken.ensures.broken ∙ c.if-is_broken.true))

@@ -1,0 +1,39 @@
+// Laws of the store's calls: what they access while all disks are present and none faults.
+ghost use Rattle.std.specs.Prelude.{◌≡◌, ◌≢◌, ℕ, [], ◌∷◌, None, Some};
+ghost use Rattle.ar_disks.specs.declared.address.Key.{Key};
+ghost use Rattle.ar_disks.specs.declared.address.Members.{Members};
+ghost use Rattle.ar_extents.specs.declared.health.Health.TheVariants.{Whole};
+ghost use Rattle.ar_extents.specs.declared.log.AccessKind.TheVariants.{Read, Write};
+ghost use Rattle.ar_extents.specs.Set.{SetState};
+ghost use Rattle.ar_extents.specs.Plans.{CarriesOut, NoneFaults};
+ghost use Rattle.ar_book.specs.declared.class.Class.TheVariants.{Free, Mirrored, Parity};
+ghost use Rattle.ar_book.specs.declared.class.Slot.{Slot};
+ghost use Rattle.ar_book.specs.Tables.{home};
+ghost use Rattle.ar_store.specs.Store.{StoreState, class_in};
+ghost use Rattle.ar_store.specs.Plans.{get_plan, move_plan, WritesSlot, MakesAccesses};
+
+/// With all disks present, and where none faults: the get of a block without a home accesses nothing, of another one it
+/// is one read; a put to a mirrored slot is two writes, to a parity slot two reads and then two writes; a move is one
+/// read, and then the accesses of a put to the new slot. A call has no effect.
+pub fn store_accesses()
+    ensures unplaced { (old : StoreState) (new : SetState) (k : Key) → home old.book k ≡ None
+        → CarriesOut (get_plan old k) old.disks new → new ≡ old.disks }
+    ensures get { (old : StoreState) (new : SetState) (k : Key) (slot : Slot) → old.disks.health ≡ Whole
+        → NoneFaults old.disks new → home old.book k ≡ Some slot → class_in old slot.group ≢ Free
+        → CarriesOut (get_plan old k) old.disks new → MakesAccesses (Read ∷ []) old.disks new }
+
+    ensures put_mirrored { (old new : SetState) (m : Members) (i : ℕ) → old.health ≡ Whole → NoneFaults old new
+        → WritesSlot Mirrored old new m i → MakesAccesses (Write ∷ Write ∷ []) old new }
+    ensures put_parity { (old new : SetState) (m : Members) (i : ℕ) → old.health ≡ Whole → NoneFaults old new
+        → WritesSlot Parity old new m i → MakesAccesses (Read ∷ Read ∷ Write ∷ Write ∷ []) old new }
+
+    ensures move_mirrored { (old : StoreState) (new : SetState) (k : Key) (from to : Slot)
+        → old.disks.health ≡ Whole → NoneFaults old.disks new → home old.book k ≡ Some from
+        → class_in old from.group ≢ Free → class_in old to.group ≡ Mirrored
+        → CarriesOut (move_plan old k to) old.disks new → MakesAccesses (Read ∷ Write ∷ Write ∷ []) old.disks new }
+    ensures move_parity { (old : StoreState) (new : SetState) (k : Key) (from to : Slot)
+        → old.disks.health ≡ Whole → NoneFaults old.disks new → home old.book k ≡ Some from
+        → class_in old from.group ≢ Free → class_in old to.group ≡ Parity
+        → CarriesOut (move_plan old k to) old.disks new
+        → MakesAccesses (Read ∷ Read ∷ Read ∷ Write ∷ Write ∷ []) old.disks new }
+{}
