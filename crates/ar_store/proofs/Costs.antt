@@ -20,10 +20,10 @@ use Rattle.ar_store.specs.Store.{StoreState, members_of, class_in}
 use Rattle.ar_store.specs.Plans.{slot_read, slot_write, home_read, get_plan, write_of, move_plan, WritesSlot, MakesAccesses}
 
 -- the kinds of the accesses that a plan makes then
-abbrev kinds_of : AccessPlan → List AccessKind
+abbrev pub kinds_of : AccessPlan → List AccessKind
 kinds_of plan = map (λ (a : RowAccess). a.kind) (planned plan Whole)
 
-makes : (plan : AccessPlan) (kinds : List AccessKind) (a b : SetState) → a.health ≡ Whole → NoneFaults a b
+pub makes : (plan : AccessPlan) (kinds : List AccessKind) (a b : SetState) → a.health ≡ Whole → NoneFaults a b
     → CarriesOut plan a b → kinds_of plan ≡ kinds → MakesAccesses kinds a b
 makes plan kinds a b whole none carried are = record {
   made = planned plan Whole;

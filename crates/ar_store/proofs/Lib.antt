@@ -15,6 +15,7 @@ pub mod Squeezing
 pub mod Ways
 pub mod Accesses
 pub mod Costs
+pub mod SqueezeCosts
 pub mod Planned
 pub mod Steps
 pub mod Zeros

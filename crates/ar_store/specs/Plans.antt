@@ -1,5 +1,5 @@
 -- What calls access, as plans: reads and writes of slots, one after another, and the steps of a put and of a squeeze.
-use Rattle.std.specs.Prelude.{◌≡◌, ◌≢◌, ◌⊎◌, ℕ, zero, suc, ◌*◌, List, ◌++◌, map, ◌<◌, ◌≤◌, Option, None, Some}
+use Rattle.std.specs.Prelude.{◌≡◌, ◌≢◌, ◌⊎◌, ℕ, zero, suc, ◌*◌, List, [], ◌∷◌, ◌++◌, map, ◌<◌, ◌≤◌, Option, None, Some}
 use Rattle.ar_disks.specs.Block.{zeros}
 use Rattle.ar_disks.specs.Geometry.{rows_of, block_len_of}
 use Rattle.ar_disks.specs.declared.address.Key.{Key}
@@ -7,6 +7,7 @@ use Rattle.ar_disks.specs.declared.address.Members.{Members}
 use Rattle.ar_disks.specs.declared.geometry.Geometry.{Geometry}
 use Rattle.ar_extents.specs.declared.health.Health.TheVariants.{Broken as AllBroken}
 use Rattle.ar_extents.specs.declared.log.AccessKind.{AccessKind}
+use Rattle.ar_extents.specs.declared.log.AccessKind.TheVariants.{Read, Write}
 use Rattle.ar_extents.specs.declared.log.RowAccess.{RowAccess}
 use Rattle.ar_extents.specs.Set.{SetState}
 use Rattle.ar_extents.specs.Plans.{AccessPlan, Stop, both_of, each_of, CarriesOut}
@@ -76,6 +77,16 @@ pub record MakesAccesses (kinds : List AccessKind) (old new : SetState) : Type 0
   pub made : List RowAccess
   pub log : new.log ≡ old.log ++ made
   pub kinds_are : map (λ (a : RowAccess). a.kind) made ≡ kinds
+
+-- the kinds of the accesses by which n rows of four extents are filled with zeros
+abbrev pub fill_kinds : ℕ → List AccessKind
+fill_kinds zero = []
+fill_kinds (suc n) = Write ∷ Write ∷ Write ∷ Write ∷ fill_kinds n
+
+-- those by which n slots of a mirrored group are copied to a parity group
+abbrev pub copies_kinds : ℕ → List AccessKind
+copies_kinds zero = []
+copies_kinds (suc n) = copies_kinds n ++ Read ∷ Read ∷ Read ∷ Write ∷ Write ∷ []
 
 -- one slot of a group was written, and the group's other slots keep their blocks
 pub record WritesSlot (class : Class) (old new : SetState) (m : Members) (i : ℕ) : Type 0 where

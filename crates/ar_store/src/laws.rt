@@ -1,5 +1,6 @@
 // Laws of the store's calls: what they access while all disks are present and none faults.
-ghost use Rattle.std.specs.Prelude.{◌≡◌, ◌≢◌, ℕ, [], ◌∷◌, None, Some};
+ghost use Rattle.std.specs.Prelude.{◌≡◌, ◌≢◌, ℕ, [], ◌∷◌, ◌++◌, None, Some};
+ghost use Rattle.ar_disks.specs.Geometry.{rows_of};
 ghost use Rattle.ar_disks.specs.declared.address.Key.{Key};
 ghost use Rattle.ar_disks.specs.declared.address.Members.{Members};
 ghost use Rattle.ar_extents.specs.declared.health.Health.TheVariants.{Whole};
@@ -8,13 +9,15 @@ ghost use Rattle.ar_extents.specs.Set.{SetState};
 ghost use Rattle.ar_extents.specs.Plans.{CarriesOut, NoneFaults};
 ghost use Rattle.ar_book.specs.declared.class.Class.TheVariants.{Free, Mirrored, Parity};
 ghost use Rattle.ar_book.specs.declared.class.Slot.{Slot};
-ghost use Rattle.ar_book.specs.Tables.{home};
+ghost use Rattle.ar_book.specs.Tables.{home, slots_of};
 ghost use Rattle.ar_store.specs.Store.{StoreState, class_in};
-ghost use Rattle.ar_store.specs.Plans.{get_plan, move_plan, WritesSlot, MakesAccesses};
+ghost use Rattle.ar_store.specs.Plans.{get_plan, move_plan, WritesSlot, Squeezes};
+ghost use Rattle.ar_store.specs.Plans.{MakesAccesses, fill_kinds, copies_kinds};
 
 /// With all disks present, and where none faults: the get of a block without a home accesses nothing, of another one it
 /// is one read; a put to a mirrored slot is two writes, to a parity slot two reads and then two writes; a move is one
-/// read, and then the accesses of a put to the new slot. A call has no effect.
+/// read, and then the accesses of a put to the new slot; a squeeze is four writes for each row of an extent, and then a
+/// move of each slot of the mirrored group. A call has no effect.
 pub fn store_accesses()
     ensures unplaced { (old : StoreState) (new : SetState) (k : Key) → home old.book k ≡ None
         → CarriesOut (get_plan old k) old.disks new → new ≡ old.disks }
@@ -36,4 +39,9 @@ pub fn store_accesses()
         → class_in old from.group ≢ Free → class_in old to.group ≡ Parity
         → CarriesOut (move_plan old k to) old.disks new
         → MakesAccesses (Read ∷ Read ∷ Read ∷ Write ∷ Write ∷ []) old.disks new }
+
+    ensures squeeze { (old new : StoreState) (from to : ℕ) → old.disks.health ≡ Whole
+        → NoneFaults old.disks new.disks → Squeezes from to old new
+        → MakesAccesses (fill_kinds (rows_of old.disks.geometry)
+        ++ copies_kinds (slots_of old.book.geometry Mirrored)) old.disks new.disks }
 {}

@@ -1,4 +1,5 @@
 use Rattle.ar_store.proofs.Costs.{unplaced_made, get_made, mirrored_made, parity_made, moved_to_mirrored, moved_to_parity}
+use Rattle.ar_store.proofs.SqueezeCosts.{squeeze_made}
 use Rattle.ar_store.proofs.laws.store_accesses.Goals as goal
 
 pub returns-clause-unplaced : goal.returns-clause-unplaced
@@ -18,3 +19,6 @@ returns-clause-move_mirrored c = moved_to_mirrored
 
 pub returns-clause-move_parity : goal.returns-clause-move_parity
 returns-clause-move_parity c = moved_to_parity
+
+pub returns-clause-squeeze : goal.returns-clause-squeeze
+returns-clause-squeeze c = squeeze_made
