@@ -97,6 +97,14 @@ fn climb<V>(
     }
 }
 
+// In what these choices differ from those of a node.
+fn change_at(nodes: &[Choices], node: usize, choices: &Choices) -> Change
+    requires { node < length nodes.now }
+    ensures { IsChangedTo (spec.node_at nodes.now node) choices.now result }
+{
+    choices.change(&nodes[node])
+}
+
 /// Sets a leaf of a tree of `size` leaves, and joins the nodes above it, up to the first that stays as it was. A step
 /// is a node.
 pub(crate) fn put<V>(
@@ -117,7 +125,7 @@ pub(crate) fn put<V>(
     ensures few { 2 ^ (steps.new.count - steps.old.count) ≤ size + leaf }
     ensures on { steps.old.count ≤ steps.new.count }
 {
-    let change = choices.change(&node_at(nodes, size + leaf));
+    let change = change_at(nodes, size + leaf, &choices);
     nodes[size + leaf] = choices;
     climb(nodes, size, leaf, change, units, steps);
 }
