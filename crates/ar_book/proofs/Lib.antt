@@ -29,3 +29,4 @@ pub mod Ages
 pub mod Stays
 pub mod IndexAfter
 pub mod UnitPlaces
+pub mod Listing

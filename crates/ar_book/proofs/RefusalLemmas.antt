@@ -44,6 +44,7 @@ pub reserved_fits : (t : Tables) (m : ℕ) → TablesAgree t → reserved t + m 
 reserved_fits t m ok h = omega (arith, h, room_fits t.geometry (length t.groups) (few_groups t.geometry t.groups ok.groups))
 
 pub record CanMake (t : Tables) (a : Addr) (n : ℕ) : Type 0 where
+  pub lun : a.lun ≤ 7
   pub fresh : lookup (same_addr a) t.units ≡ None
   pub some : 0 < n
   pub few : n ≤ 1048576
@@ -55,6 +56,7 @@ can_make t a n ok e =
     let size = or_parts (eqb n 0) (nat_lt 1048576 n) p.2 in
     let ne : n ≢ 0 = eqb-false n 0 size.0 in
     record {
+      lun = ltb-false 7 a.lun p.0;
       fresh = none_found (lookup (same_addr a) t.units) p.1;
       some = omega arith;
       few = ltb-false 1048576 n size.1;

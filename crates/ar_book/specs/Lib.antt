@@ -7,4 +7,5 @@ pub mod Choices
 pub mod Refusals
 pub mod Cleaning
 pub mod Index
+pub mod Listing
 pub mod Texts

@@ -14,10 +14,9 @@ ghost use Rattle.ar_book.specs.Changes.{unmarked};
 ghost use Rattle.ar_book.specs.Book.{TablesAgree};
 
 use crate::tables::{clear_attention, home_in, key_in, level_in};
-use crate::{Class, Group, Level, Slot, UnitTable};
+use crate::{Class, Group, Level, Slot, Units};
 use ar_disks::{Addr, Geometry, Key, Members};
 use ar_index::Tree;
-use indexmap::IndexMap;
 use std::alloc::Global;
 use std::marker::Model;
 
@@ -30,7 +29,7 @@ pub struct Book {
     pub(crate) alloc: Global,
     pub(crate) geometry: Geometry,
     pub(crate) groups: Vec<Group>,
-    pub(crate) units: IndexMap<Addr, UnitTable>,
+    pub(crate) units: Units,
     pub(crate) puts: u64,
     pub(crate) reserved: u32,
     pub(crate) index: Tree,
@@ -56,7 +55,7 @@ impl Book {
             alloc,
             geometry,
             groups: Vec::new(alloc),
-            units: IndexMap::new(alloc),
+            units: Units::new(alloc),
             puts: 0,
             reserved: 0,
             index: Tree::new(alloc),
@@ -128,22 +127,21 @@ impl Book {
     pub fn unit_at(&self, place: usize) -> Option<Addr>
         ensures { result ≡ option_map (λ entry. entry.0) (slice_get self.now.units place) }
     {
-        let (addr, _) = self.units.get_index(place)?;
-        Some(*addr)
+        self.units.addr_at(place)
     }
 
     /// A unit's length in sectors; None if there is no such unit.
     pub fn sectors(&self, addr: Addr) -> Option<u32>
         ensures { result ≡ option_map (λ unit. unit.sectors) (lookup (same_addr addr) self.now.units) }
     {
-        Some(self.units.get(&addr)?.sectors())
+        Some(self.units.get(addr)?.sectors())
     }
 
     /// The number of a unit's blocks; 0 if there is no such unit.
     pub fn blocks(&self, addr: Addr) -> u32
         ensures { result ≡ length (unit_in self.now.units addr).homes }
     {
-        match self.units.get(&addr) {
+        match self.units.get(addr) {
             Some(unit) => unit.blocks() as u32,
             None => 0,
         }
@@ -153,7 +151,7 @@ impl Book {
     pub fn attention(&self, addr: Addr) -> bool
         ensures { result ≡ (unit_in self.now.units addr).attention }
     {
-        match self.units.get(&addr) {
+        match self.units.get(addr) {
             Some(unit) => unit.attention(),
             None => false,
         }
@@ -184,7 +182,7 @@ impl Book {
     pub fn stamp_of(&self, key: Key) -> u64
         ensures { result ≡ stamp_of self.now key }
     {
-        match self.units.get(&key.addr) {
+        match self.units.get(key.addr) {
             Some(unit) => unit.stamp(key.rb),
             None => 0,
         }

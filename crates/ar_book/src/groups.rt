@@ -29,7 +29,11 @@ impl Book {
         let number = self.groups();
         let group = Group::new(self.alloc, members, 3 * self.geometry.rows())?;
         self.groups.push(group)?;
-        if self.index.push(free_leaf(number), &self.units).is_err() {
+        if self
+            .index
+            .push(free_leaf(number), self.units.map())
+            .is_err()
+        {
             self.groups.truncate(number as usize);
             return Err(AllocError);
         }

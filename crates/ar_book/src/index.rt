@@ -11,10 +11,9 @@ ghost use Rattle.ar_book.specs.Index as spec;
 ghost use Rattle.ar_book.specs.Index.{oldest_named, leaves_of, leaf, blanks, KeepsOldest, NeedsNoScan, AreInside, IsBlanked, IsLeafOrBlank, HaveChoices};
 
 use crate::group::slots_of;
-use crate::{Class, Group, Slot, UnitTable};
+use crate::{Class, Group, Slot, UnitTable, Units};
 use ar_disks::{Addr, Geometry, Key};
 use ar_index::{Age, Choices, Steps, Tree};
-use indexmap::IndexMap;
 
 // A unit's address and its table.
 type HeldUnit<'a> = (Addr, &'a UnitTable);
@@ -26,11 +25,7 @@ fn is_same_unit(held: Addr, addr: Addr) -> bool
 }
 
 // Looks up the unit at `addr`, with the last one found as a cache: most blocks of a group are of one unit.
-fn look_up<'a>(
-    last: Option<HeldUnit<'a>>,
-    units: &'a IndexMap<Addr, UnitTable>,
-    addr: Addr,
-) -> Option<HeldUnit<'a>>
+fn look_up<'a>(last: Option<HeldUnit<'a>>, units: &'a Units, addr: Addr) -> Option<HeldUnit<'a>>
     requires { ForSome last (λ unit. lookup (same_addr unit.0) units.now.entries ≡ Some unit.1.now) }
     ensures addr { ForSome result (λ unit. unit.0 ≡ addr) }
     ensures found { ForSome result (λ unit. lookup (same_addr addr) units.now.entries ≡ Some unit.1.now) }
@@ -41,7 +36,7 @@ fn look_up<'a>(
             return Some((addr, unit));
         }
     }
-    Some((addr, units.get(&addr)?))
+    Some((addr, units.get(addr)?))
 }
 
 // The stamp of block `rb`; 0 without a unit.
@@ -55,14 +50,11 @@ fn stamp_in(unit: Option<HeldUnit>, rb: u32) -> u64
 }
 
 // The oldest block in `slots`. Counts a step for each slot.
-fn oldest_in(
-    slots: &[Option<Key>],
-    units: &IndexMap<Addr, UnitTable>,
-    steps: &mut Steps,
-) -> Option<Age>
+fn oldest_in(slots: &[Option<Key>], units: &Units, steps: &mut Steps) -> Option<Age>
     ensures oldest { result ≡ oldest_named (place_in units.now.entries) (spec.age_of units.now.entries) slots.now }
     ensures few { steps.new.count ≡ steps.old.count + length slots.now }
 {
+    let order = units.map();
     let mut oldest = None;
     let mut unit = None;
     for named in slots {
@@ -70,7 +62,7 @@ fn oldest_in(
         if let Some(key) = named {
             unit = look_up(unit, units, key.addr);
             let stamp = stamp_in(unit, key.rb);
-            oldest = Age::older(oldest, Some(Age { stamp, key: *key }), units);
+            oldest = Age::older(oldest, Some(Age { stamp, key: *key }), order);
         }
     }
     oldest
@@ -105,7 +97,7 @@ pub(crate) fn choices_of(
     group: &Group,
     number: u32,
     geometry: Geometry,
-    units: &IndexMap<Addr, UnitTable>,
+    units: &Units,
     steps: &mut Steps,
 ) -> Choices
     ensures choices { result ≡ spec.choices_of geometry units.now.entries number group.now }
@@ -135,7 +127,7 @@ pub(crate) fn choices_of(
 pub(crate) fn refresh(
     index: &mut Tree,
     groups: &Vec<Group>,
-    units: &IndexMap<Addr, UnitTable>,
+    units: &Units,
     geometry: Geometry,
     number: u32,
     steps: &mut Steps,
@@ -152,14 +144,14 @@ pub(crate) fn refresh(
     ensures on { steps.old.count ≤ steps.new.count }
 {
     let choices = choices_of(&groups[number as usize], number, geometry, units, steps);
-    index.set(number as usize, choices, units, steps);
+    index.set(number as usize, choices, units.map(), steps);
 }
 
 /// Updates the tree after a change of the group of `home`, if there is one.
 pub(crate) fn refresh_home(
     index: &mut Tree,
     groups: &Vec<Group>,
-    units: &IndexMap<Addr, UnitTable>,
+    units: &Units,
     geometry: Geometry,
     home: Option<Slot>,
     steps: &mut Steps,
@@ -217,7 +209,7 @@ pub(crate) fn home_to_refresh(
 }
 
 /// Blanks the leaves of the groups of these homes, so that no node refers to a block in them.
-pub(crate) fn blank_all(index: &mut Tree, homes: &[Option<Slot>], units: &IndexMap<Addr, UnitTable>)
+pub(crate) fn blank_all(index: &mut Tree, homes: &[Option<Slot>], units: &Units)
     requires there { AreInside homes.now (length (leaves index.old)) }
     requires right { IsRight (place_in units.now.entries) index.old }
     ensures size { length (leaves index.new) ≡ length (leaves index.old) }
@@ -225,11 +217,12 @@ pub(crate) fn blank_all(index: &mut Tree, homes: &[Option<Slot>], units: &IndexM
     ensures blank { (i : ℕ) → IsBlanked homes.now (length homes.now) index.old index.new i }
 {
     let mut steps = Steps::new();
+    let order = units.map();
     for home in homes {
         if let Some(slot) = home {
             let group = slot.group as usize;
             if !index.is_blank(group) {
-                index.set(group, Choices::nothing(), units, &mut steps);
+                index.set(group, Choices::nothing(), order, &mut steps);
             }
         }
     }
@@ -239,7 +232,7 @@ pub(crate) fn blank_all(index: &mut Tree, homes: &[Option<Slot>], units: &IndexM
 pub(crate) fn refresh_blank(
     index: &mut Tree,
     groups: &Vec<Group>,
-    units: &IndexMap<Addr, UnitTable>,
+    units: &Units,
     geometry: Geometry,
     steps: &mut Steps,
     homes: &[Option<Slot>],

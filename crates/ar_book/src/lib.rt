@@ -5,6 +5,7 @@
 mod book;
 mod class;
 mod cleaning;
+mod directory;
 mod group;
 mod groups;
 mod index;
@@ -15,10 +16,12 @@ mod search;
 mod summary;
 mod tables;
 mod unit;
+mod unit_map;
 mod units;
 
 pub use book::Book;
 pub use class::{Class, Level, Slot};
+pub use directory::Units;
 pub use group::Group;
 pub use refusal::Refusal;
 pub use summary::Summary;

@@ -8,9 +8,9 @@ ghost use Rattle.ar_book.specs.Tables.{level_in, group_in, key_in, home_in, unit
 ghost use Rattle.ar_book.specs.Book.{AreHomes};
 ghost use Rattle.ar_book.specs.Changes.{named, vacated, homed, restamped, new_unit, longer, with_place_at};
 
-use crate::{Class, Group, Level, Slot, UnitTable};
+use crate::directory::{places_of, set_place};
+use crate::{Class, Group, Level, Slot, UnitTable, Units, unit_map};
 use ar_disks::{Addr, Geometry, Key, Place};
-use indexmap::IndexMap;
 use std::alloc::{AllocError, Global};
 
 /// The block of a slot; None if it is empty or there is no such slot.
@@ -73,37 +73,32 @@ pub(crate) fn vacate_all(groups: &mut Vec<Group>, homes: &[Option<Slot>])
 }
 
 /// The home of a block; None if it has none or is no block of a unit.
-pub(crate) fn home_in(units: &IndexMap<Addr, UnitTable>, key: Key) -> Option<Slot>
+pub(crate) fn home_in(units: &Units, key: Key) -> Option<Slot>
     ensures { result ≡ home_in units.now.entries key }
 {
-    units.get(&key.addr)?.home(key.rb)
+    units.get(key.addr)?.home(key.rb)
 }
 
 /// Sets the home of a unit's block.
-pub(crate) fn set_home(units: &mut IndexMap<Addr, UnitTable>, key: Key, home: Option<Slot>)
+pub(crate) fn set_home(units: &mut Units, key: Key, home: Option<Slot>)
     requires { key.rb < length (unit_in units.old.entries key.addr).homes }
     ensures { units.new.entries ≡ homed units.old.entries key home }
 {
-    if let Some(unit) = units.get_mut(&key.addr) {
-        unit.set_home(key.rb, home);
-    }
+    unit_map::set_home(&mut units.map, key, home);
 }
 
 /// Sets the stamp of a unit's block and returns its home: one look-up serves both.
-pub(crate) fn restamp(units: &mut IndexMap<Addr, UnitTable>, key: Key, stamp: u64) -> Option<Slot>
+pub(crate) fn restamp(units: &mut Units, key: Key, stamp: u64) -> Option<Slot>
     requires { key.rb < length (unit_in units.old.entries key.addr).stamps }
     ensures home { result ≡ home_in units.old.entries key }
     ensures stamp { units.new.entries ≡ restamped units.old.entries key stamp }
 {
-    let unit = units.get_mut(&key.addr)?;
-    unit.set_stamp(key.rb, stamp);
-    unit.home(key.rb)
+    unit_map::restamp(&mut units.map, key, stamp)
 }
 
 /// Extends an existing unit to `sectors` sectors, and a UNIT ATTENTION is pending. On `AllocError` nothing changes.
-#[tactic(auto, using(std::proofs::lemmas::Map::Steps::set_value_same))]
 pub(crate) fn grow_unit(
-    units: &mut IndexMap<Addr, UnitTable>,
+    units: &mut Units,
     addr: Addr,
     geometry: Geometry,
     sectors: u32,
@@ -115,51 +110,52 @@ pub(crate) fn grow_unit(
     ensures ok { OnOk result (units.new.entries ≡ set_value (same_addr addr) units.old.entries (longer geometry (unit_in units.old.entries addr) sectors)) }
     ensures err { OnErr result (units.new.entries ≡ units.old.entries) }
 {
-    match units.get_mut(&addr) {
-        Some(unit) => unit.grow(geometry, sectors),
-        None => unreachable!(),
+    if unit_map::grow(&mut units.map, addr, geometry, sectors).is_err() {
+        return Err(AllocError);
     }
+    Ok(())
 }
 
 /// Adds a unit of `sectors` sectors after the others. On `AllocError` nothing changes.
 pub(crate) fn add_unit(
     alloc: Global,
-    units: &mut IndexMap<Addr, UnitTable>,
+    units: &mut Units,
     addr: Addr,
     geometry: Geometry,
     sectors: u32,
 ) -> Result<(), AllocError>
+    requires lun { addr.lun ≤ 7 }
     requires new { lookup (same_addr addr) units.old.entries ≡ None }
     requires most { sectors ≤ 1048576 }
     ensures ok { OnOk result (units.new.entries ≡ units.old.entries ++ (addr, new_unit geometry sectors) ∷ []) }
     ensures distinct { OnOk result (IsDistinct same_addr (keys_of units.new.entries)) }
     ensures err { OnErr result (units.new.entries ≡ units.old.entries) }
 {
-    let table = UnitTable::new(alloc, geometry, sectors)?;
-    match units.insert(addr, table) {
-        Ok(_) => Ok(()),
-        Err(_) => Err(AllocError),
+    let place = units.map.len();
+    if unit_map::add(alloc, &mut units.map, addr, geometry, sectors).is_err() {
+        return Err(AllocError);
     }
+    set_place(&mut units.places, addr, place);
+    Ok(())
 }
 
 /// Removes a unit and returns its table; None if there is no such unit.
-pub(crate) fn take_unit(units: &mut IndexMap<Addr, UnitTable>, addr: Addr) -> Option<UnitTable>
+pub(crate) fn take_unit(units: &mut Units, addr: Addr) -> Option<UnitTable>
     ensures taken { result ≡ lookup (same_addr addr) units.old.entries }
     ensures left { units.new.entries ≡ remove_entry (same_addr addr) units.old.entries }
     ensures none { IfNone result (units.new.entries ≡ units.old.entries) }
     ensures distinct { IsDistinct same_addr (keys_of units.new.entries) }
 {
-    units.shift_remove(&addr)
+    let unit = unit_map::take(&mut units.map, addr);
+    units.places = places_of(&units.map);
+    unit
 }
 
 /// Clears a unit's pending UNIT ATTENTION, if there is such a unit.
-#[tactic(auto, using(crate::proofs::UnitLemmas::put_absent))]
-pub(crate) fn clear_attention(units: &mut IndexMap<Addr, UnitTable>, addr: Addr)
+pub(crate) fn clear_attention(units: &mut Units, addr: Addr)
     ensures { units.new.entries ≡ set_value (same_addr addr) units.old.entries (record (unit_in units.old.entries addr) { attention = false }) }
 {
-    if let Some(unit) = units.get_mut(&addr) {
-        unit.clear_attention();
-    }
+    unit_map::clear_attention(&mut units.map, addr);
 }
 
 /// Sets the class of a group.

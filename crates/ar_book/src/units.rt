@@ -11,15 +11,13 @@ ghost use Rattle.ar_book.specs.Tables.{key_at, home, level, stamp_of, has_unit, 
 ghost use Rattle.ar_book.specs.Changes.{made, grown, dropped};
 ghost use Rattle.ar_book.specs.Refusals.{unit_make_refusal, unit_grow_refusal};
 
+use crate::directory::MAX_LUN;
 use crate::index::{blank_all, refresh_blank};
 use crate::tables::{add_unit, grow_unit, take_unit, vacate_all};
 use crate::unit::blocks_of;
 use crate::{Book, Refusal};
 use ar_disks::Addr;
 use ar_index::Steps;
-
-/// The greatest LUN of a unit.
-const MAX_LUN: u8 = 7;
 
 /// The greatest length of a unit, in sectors.
 const MAX_SECTORS: u32 = 1_048_576;
@@ -51,7 +49,7 @@ impl Book {
         if addr.lun > MAX_LUN {
             return Some(Refusal::BadLun);
         }
-        if self.units.contains_key(&addr) {
+        if self.units.contains(addr) {
             return Some(Refusal::Exists);
         }
         if sectors == 0 || sectors > MAX_SECTORS {
@@ -95,7 +93,7 @@ impl Book {
     fn grow_refusal(&self, addr: Addr, sectors: u32) -> Option<Refusal>
         ensures { result ≡ unit_grow_refusal self.now addr sectors }
     {
-        let Some(unit) = self.units.get(&addr) else {
+        let Some(unit) = self.units.get(addr) else {
             return Some(Refusal::Absent);
         };
         if sectors <= unit.sectors() || sectors > MAX_SECTORS {
@@ -126,7 +124,7 @@ impl Book {
         ensures stamps { (k : Key) → k.addr ≢ addr → stamp_of self.new k ≡ stamp_of self.old k }
         ensures order { OnOk result (keys_of self.new.units ≡ remove_key (same_addr addr) (keys_of self.old.units)) }
     {
-        let Some(unit) = self.units.get(&addr) else {
+        let Some(unit) = self.units.get(addr) else {
             return Err(Refusal::Absent);
         };
         let mut steps = Steps::new();

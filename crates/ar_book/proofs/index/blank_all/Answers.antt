@@ -6,6 +6,9 @@ use Rattle.ar_book.proofs.Reorders.{AreBlanked, blanked_none, blanked_skip, blan
 use Rattle.ar_book.proofs.index.blank_all.Goals.{in-Some+then-not-is_blank, in-Some+else-not-is_blank, in_default}
 use Rattle.ar_book.proofs.index.blank_all.Goals as goal
 
+pub set-requires-clause-right : goal.set-requires-clause-right
+set-requires-clause-right c = rw c.map-order.ensures c.loop-home.invariant.right
+
 pub loop-home-preserved : goal.loop-home-preserved
 loop-home-preserved c = elim c.match-home.branch [
   | in-Some+then-not-is_blank w ↦
@@ -15,7 +18,7 @@ loop-home-preserved c = elim c.match-home.branch [
       subst (AreBlanked c.args.units.now.entries c.args.homes.now (c.loop-home.home-index + 1) c.args.index.now) (sym w.index-is)
       (record {
         size = ap length put ∙ length-set _ _ _ ∙ before.size;
-        right = w.set.ensures.right;
+        right = rw c.map-order.ensures at w.set.ensures.right;
         each = blanked_set c.args.homes.now c.loop-home.home-index c.args.index.now c.loop-home.index before.each w.set.new.self w.in-Some.slot w.in-Some.is inside put;
       })
   | in-Some+else-not-is_blank w ↦

@@ -28,7 +28,7 @@ loop-named-preserved c =
           let stamp = found_stamp (λ (x : Addr × Bor UnitTableState). x.1.now) units key.addr key.rb w.stamp_in-stamp.result w.look_up-unit.result w.look_up-unit.ensures.found w.look_up-unit.ensures.none w.stamp_in-stamp.ensures in
           let named : Some (record { stamp = w.stamp_in-stamp.result; key = key }) ≡ option_map age (get_or slots i None) =
           ap Some (same_age (record { stamp = w.stamp_in-stamp.result; key = key }) (age key) stamp refl) ∙ ap (option_map age) (sym w.in-Some.is ∙ item) in (
-            w.oldest-is ∙ w.older-oldest.ensures ∙ ap (λ o. older (place_in units) o (Some (record { stamp = w.stamp_in-stamp.result; key = key }))) c.loop-named.invariant.0
+            w.oldest-is ∙ (rw c.map-order.ensures at w.older-oldest.ensures) ∙ ap (λ o. older (place_in units) o (Some (record { stamp = w.stamp_in-stamp.result; key = key }))) c.loop-named.invariant.0
                 ∙ ap (older (place_in units) (oldest_named (place_in units) age (take i slots))) named ∙ sym more,
             omega (arith, c.loop-named.invariant.1, count),
             λ x e.

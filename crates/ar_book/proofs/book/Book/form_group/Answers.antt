@@ -18,4 +18,7 @@ invariant_of-self-else-is_err c =
     let leaf = c.free_leaf.ensures ∙ ap free_leaf number in
     let pushed = at_ok c.push-2.result _ (sym c.is_err.ensures.value ∙ c.if-is_err.false) c.push-2.ensures.pushed in
     let added = pushed ∙ ap (λ l. l ++ c.free_leaf.result ∷ []) c.self.invariant.leaves ∙ ap (λ x. leaves_of t.geometry t.units t.groups ++ x ∷ []) leaf ∙ sym (formed_leaves t c.args.members) in
-    rw (c.in_ok-push.ensures.items, c.in_ok-group.ensures, c.rows.ensures) (record { kept = kept; leaves = added; right = c.push-2.ensures.right })
+    rw (c.in_ok-push.ensures.items, c.in_ok-group.ensures, c.rows.ensures) (record { kept = kept; leaves = added; right = rw c.map.ensures at c.push-2.ensures.right })
+
+pub push-requires-2 : goal.push-requires-2
+push-requires-2 c = rw c.map.ensures c.self.invariant.right

@@ -7,6 +7,13 @@ use Rattle.ar_book.proofs.RefusalLemmas.{CanMake, can_make, reserved_fits, at_ok
 use Rattle.ar_book.proofs.UnitChanges.{made_kept}
 use Rattle.ar_book.proofs.book.Book.make.Goals as goal
 
+pub add_unit-requires-clause-lun : goal.add_unit-requires-clause-lun
+add_unit-requires-clause-lun c =
+    let t : Tables = the_view c.self.inside in
+    let can : CanMake t c.args.addr c.args.sectors = can_make t c.args.addr c.args.sectors c.self.invariant.kept.tables
+    (ap (λ x. unit_make_refusal x c.args.addr c.args.sectors) c.self.view_is ∙ sym c.make_refusal.ensures ∙ c.in_default.is) in
+    can.lun
+
 pub overflow_add-self : goal.overflow_add-self
 overflow_add-self c =
     let t : Tables = the_view c.self.inside in

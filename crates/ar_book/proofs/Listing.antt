@@ -1,0 +1,231 @@
+-- The directory of units has the place of each.
+use Rattle.std.proofs.Common.{◌≡◌, ◌≢◌, if◌then◌else◌, ℕ, ◌+◌, ◌*◌, ◌<◌, ◌≤◌, Bool, true, false, not, cond, eqb, nat_lt}
+use Rattle.std.proofs.Common.{Option, None, Some, IsSome, is_some, List, [], ◌∷◌, ◌++◌, length, get_or, set, take}
+use Rattle.std.proofs.Common.{slice_get, position, replicate, refl, sym, ap, subst, ◌∙◌, inl, inr, arith, true≢false}
+use Rattle.std.proofs.Common.{get_or-set_same, get_or-set_other, lt-ltb, le-ltb, length-append, append_assoc, drop}
+use Rattle.std.specs.List.{position_or_len, IsDistinct}
+use Rattle.std.specs.Map.{lookup, keys_of, values_of, remove_entry}
+use Rattle.std.proofs.lemmas.List.{get_or_past, get_or-replicate, length-set, length-take, take_more, take-append-drop}
+use Rattle.std.proofs.lemmas.List.Folds.{position_or_len_push}
+use Rattle.std.proofs.lemmas.List.Sums.{prefix_len-le-length}
+use Rattle.std.proofs.lemmas.Bool.{cases_lt, le-leb}
+use Rattle.std.proofs.lemmas.Bool.Decides.{eqb_tells, leb_tells}
+use Rattle.std.specs.Option.{option_map}
+use Rattle.std.proofs.lemmas.Option.{slice_get-map, slice_get_within, get_or_from_slice_get}
+use Rattle.std.proofs.lemmas.Map.Entries.{length-keys_of}
+use Rattle.indexmap.proofs.MapLemmas.{some_index, absent_before, Found-position, Missing-position}
+use Rattle.ar_disks.specs.declared.address.Addr.{Addr}
+use Rattle.ar_disks.specs.Addresses.{same_addr}
+use Rattle.ar_disks.proofs.Addresses.{make_addr, same_host, addr_tells, same_addr_self, addr_apart, addr_laws}
+use Rattle.ar_index.proofs.Orders.{no_place}
+use Rattle.ar_book.specs.Tables.{UnitTableState}
+use Rattle.ar_book.specs.Listing.{spot_of, AreListed, HaveSpots}
+
+spot_low : (a : Addr) → a.lun ≤ 7 → spot_of a ≡ 8 * a.host.number + a.lun
+spot_low a h = ap (λ b. if b then 8 * a.host.number + a.lun else 32) (le-leb a.lun 7 h)
+
+spot_high : (a : Addr) → 7 < a.lun → spot_of a ≡ 32
+spot_high a h = elim (leb_tells a.lun 7) [
+  | inl y ↦ absurd (let low = y.1 in omega arith)
+  | inr n ↦ ap (λ b. if b then 8 * a.host.number + a.lun else 32) n.0
+]
+
+-- a LUN up to 7 has a spot
+pub spot_fits : (a : Addr) → a.lun ≤ 7 → spot_of a < 32
+spot_fits a h = let low = spot_low a h in let range = a.host.in_range in omega arith
+
+-- addresses with one spot are equal
+pub spot_apart : (a b : Addr) → spot_of a ≡ spot_of b → spot_of a < 32 → a ≡ b
+spot_apart a b e lt = elim (cases_lt 7 a.lun) [
+  | inl high ↦ absurd (let is = spot_high a high in omega arith)
+  | inr low ↦ elim (cases_lt 7 b.lun) [
+    | inl high ↦ absurd (let is = spot_high b high in omega arith)
+    | inr less ↦
+        let x = spot_low a low in
+        let y = spot_low b less in
+        make_addr a b (same_host a.host b.host (omega arith)) (omega arith)
+  ]
+]
+
+-- the first place of a list that is one longer
+module _ (test : Addr → Bool) (ks : List Addr) (k : Addr) where
+  long : length (ks ++ k ∷ []) ≡ length ks + 1
+  long = length-append ks (k ∷ [])
+
+  some_at : (xs : List Addr) (i : ℕ) → position_or_len test xs ≡ i → i < length xs → position test xs ≡ Some i
+  some_at xs i e lt =
+      ap (λ n. cond (nat_lt n (length xs)) (Some n) None) e ∙ ap (λ b. cond b (Some i) None) (lt-ltb i _ lt)
+
+  none_at : (xs : List Addr) → position_or_len test xs ≡ length xs → position test xs ≡ None
+  none_at xs e =
+      ap (λ n. cond (nat_lt n (length xs)) (Some n) None) e
+      ∙ ap (λ b. cond b (Some (length xs)) None) (le-ltb _ _ (omega arith))
+
+  at_end : position_or_len test ks ≡ length ks → position_or_len test (ks ++ k ∷ [])
+      ≡ length ks + cond {A = ℕ} (test k) 0 1
+  at_end e = elim (eqb_tells (position_or_len test ks) (length ks)) [
+    | inl y ↦ position_or_len_push test ks k
+        ∙ ap (λ b. cond b (length ks + cond {A = ℕ} (test k) 0 1) (position_or_len test ks)) y.0
+    | inr n ↦ absurd (n.1 e)
+  ]
+
+  before : position_or_len test ks < length ks → position_or_len test (ks ++ k ∷ []) ≡ position_or_len test ks
+  before lt = elim (eqb_tells (position_or_len test ks) (length ks)) [
+    | inl y ↦ absurd (let e = y.1 in omega arith)
+    | inr n ↦ position_or_len_push test ks k
+        ∙ ap (λ b. cond b (length ks + cond {A = ℕ} (test k) 0 1) (position_or_len test ks)) n.0
+  ]
+
+  position_new : position test ks ≡ None → test k ≡ true → position test (ks ++ k ∷ []) ≡ Some (length ks)
+  position_new none passes =
+      let end = at_end (no_place test ks none) ∙ ap (λ b. length ks + cond {A = ℕ} b 0 1) passes in
+      some_at (ks ++ k ∷ []) (length ks) (omega arith) (omega (arith, long))
+
+  position_other : test k ≡ false → position test (ks ++ k ∷ []) ≡ position test ks
+  position_other fails = elim (cases_lt (position_or_len test ks) (length ks)) [
+    | inl lt ↦ some_at (ks ++ k ∷ []) (position_or_len test ks) (before lt) (omega (arith, long))
+        ∙ sym (some_at ks (position_or_len test ks) refl lt)
+    | inr le ↦
+        let most = prefix_len-le-length (λ x. not (test x)) ks in
+        let same : position_or_len test ks ≡ length ks = omega arith in
+        let end = at_end same ∙ ap (λ b. length ks + cond {A = ℕ} b 0 1) fails in
+        none_at (ks ++ k ∷ []) (omega (arith, long)) ∙ sym (none_at ks same)
+  ]
+
+keys_push : (es : List (Addr × UnitTableState)) (e : Addr × UnitTableState)
+    → keys_of (es ++ e ∷ []) ≡ keys_of es ++ e.0 ∷ []
+keys_push [] e = refl
+keys_push (x ∷ es) e = ap (λ l. x.0 ∷ l) (keys_push es e)
+
+-- no unit is listed
+pub none_listed : AreListed (replicate 32 None) []
+none_listed = record { len = refl; each = λ a. none (spot_of a) }
+  where
+    none : (i : ℕ) → get_or {A = Option ℕ} (replicate 32 None) i None ≡ None
+    none i = elim (cases_lt i 32) [
+      | inl lt ↦ get_or-replicate 32 i None None lt
+      | inr le ↦ get_or_past (replicate 32 None) i None le
+    ]
+
+-- one unit more is listed
+pub more_listed : (places : List (Option ℕ)) (es : List (Addr × UnitTableState)) (a : Addr) (u : UnitTableState)
+    → AreListed places es
+    → spot_of a < 32 → lookup (same_addr a) es ≡ None
+    → AreListed (set places (spot_of a) (Some (length es))) (es ++ (a, u) ∷ [])
+more_listed places es a u listed fits fresh = record {
+  len = length-set places (spot_of a) _ ∙ listed.len;
+  each = λ b. elim (addr_tells a b) [
+    | inl same ↦ subst (λ x. get_or (set places (spot_of a) (Some (length es))) (spot_of x) None
+        ≡ position (same_addr x) (keys_of (es ++ (a, u) ∷ []))) same.1 here
+    | inr other ↦
+        get_or-set_other places (spot_of a) (spot_of b) _ None (λ e. other.1 (spot_apart a b (sym e) fits))
+        ∙ listed.each b
+        ∙ sym (position_other (same_addr b) (keys_of es) a (addr_apart b a (λ e. other.1 (sym e))))
+        ∙ ap (position (same_addr b)) (sym (keys_push es (a, u)))
+  ];
+}
+  where
+    absent : (o : Option ℕ) → is_some o ≡ false → o ≡ None
+    absent None e = refl
+    absent (Some i) e = absurd (true≢false e)
+
+    here : get_or (set places (spot_of a) (Some (length es))) (spot_of a) None
+        ≡ position (same_addr a) (keys_of (es ++ (a, u) ∷ []))
+    here =
+        get_or-set_same places (spot_of a) _ None (omega (arith, listed.len))
+        ∙ ap Some (sym (length-keys_of es))
+        ∙ sym (position_new (same_addr a) (keys_of es) a (absent _ (some_index (same_addr a) es ∙ ap is_some fresh))
+        (same_addr_self a))
+        ∙ ap (position (same_addr a)) (sym (keys_push es (a, u)))
+
+-- where units are listed their addresses have spots
+pub listed_spots : (places : List (Option ℕ)) (es : List (Addr × UnitTableState)) → AreListed places es → HaveSpots es
+listed_spots places es listed = record { each = each }
+  where
+    each : (a : Addr) → IsSome (lookup (same_addr a) es) → spot_of a < 32
+    each a there = elim (cases_lt (spot_of a) 32) [
+      | inl lt ↦ lt
+      | inr le ↦
+          let none : position (same_addr a) (keys_of es) ≡ None =
+          sym (listed.each a) ∙ get_or_past places (spot_of a) None (omega (arith, listed.len)) in
+          absurd (true≢false (sym there ∙ sym (some_index (same_addr a) es) ∙ ap is_some none))
+    ]
+
+-- the next unit is listed
+pub next_listed : (places : List (Option ℕ)) (es : List (Addr × UnitTableState)) (place : ℕ) (a : Addr)
+    (u : UnitTableState)
+    → IsDistinct same_addr (keys_of es) → slice_get es place ≡ Some (a, u) → AreListed places (take place es)
+    → spot_of a < 32
+    → AreListed (set places (spot_of a) (Some place)) (take (place + 1) es)
+next_listed places es place a u distinct at listed fits =
+    let inside : place < length es = slice_get_within es place (a, u) at in
+    let long : length (take place es) ≡ place = length-take place es ∙ omega arith in
+    let here : get_or es place (a, u) ≡ (a, u) = get_or_from_slice_get es place (a, u) (a, u) at in
+    let more : take (place + 1) es ≡ take place es ++ (a, u) ∷ [] =
+    take_more es place (a, u) inside ∙ ap (λ e. take place es ++ e ∷ []) here in
+    let split : es ≡ take place es ++ (a, u) ∷ drop (place + 1) es =
+    sym (take-append-drop (place + 1) es) ∙ ap (λ l. l ++ drop (place + 1) es) more
+    ∙ append_assoc (take place es) ((a, u) ∷ []) (drop (place + 1) es) in
+    let fresh : lookup (same_addr a) (take place es) ≡ None =
+    absent_before addr_laws (take place es) (drop (place + 1) es) (a, u)
+    (subst (λ l. IsDistinct same_addr (keys_of l)) split distinct) in
+    subst (λ l. AreListed (set places (spot_of a) (Some place)) l) (sym more)
+    (subst (λ n. AreListed (set places (spot_of a) (Some n)) (take place es ++ (a, u) ∷ [])) long
+    (more_listed places (take place es) a u listed fits fresh))
+
+-- units are listed as those with the same keys
+pub same_listed : (places : List (Option ℕ)) (es fs : List (Addr × UnitTableState)) → keys_of fs ≡ keys_of es
+    → AreListed places es → AreListed places fs
+same_listed places es fs same listed =
+    record { len = listed.len; each = λ a. listed.each a ∙ ap (position (same_addr a)) (sym same) }
+
+-- the unit at the place of an address
+pub at_place : (es : List (Addr × UnitTableState)) (a : Addr) (place : ℕ)
+    → position (same_addr a) (keys_of es) ≡ Some place → lookup (same_addr a) es ≡ slice_get (values_of es) place
+at_place es a place found = (Found-position (same_addr a) es place found).value
+
+pub no_unit_there : (es : List (Addr × UnitTableState)) (a : Addr) → position (same_addr a) (keys_of es) ≡ None
+    → lookup (same_addr a) es ≡ None
+no_unit_there es a none = (Missing-position (same_addr a) es none).value
+
+pub place_within : (es : List (Addr × UnitTableState)) (a : Addr) (place : ℕ)
+    → position (same_addr a) (keys_of es) ≡ Some place → place < length es
+place_within es a place found = (Found-position (same_addr a) es place found).within
+
+-- no unit is listed before the first
+pub none_taken : (es : List (Addr × UnitTableState)) → AreListed (replicate 32 None) (take 0 es)
+none_taken [] = none_listed
+none_taken (e ∷ es) = none_listed
+
+-- no unit is listed where there is none
+pub none_in : (es : List (Addr × UnitTableState)) → length es ≡ 0 → AreListed (replicate 32 None) es
+none_in [] e = none_listed
+none_in (x ∷ es) e = absurd (omega arith)
+
+-- what is found at the place of an address is its unit
+pub got_unit : (es fs : List (Addr × UnitTableState)) (a : Addr) (place : ℕ) (k : Addr) (u : UnitTableState) → fs ≡ es
+    → position (same_addr a) (keys_of es) ≡ Some place → Some (k, u) ≡ slice_get fs place
+    → Some u ≡ lookup (same_addr a) es
+got_unit es fs a place k u same found at =
+    ap (option_map (λ (e : Addr × UnitTableState). e.1)) (at ∙ ap (λ l. slice_get l place) same)
+    ∙ sym (slice_get-map (λ (e : Addr × UnitTableState). e.1) es place)
+    ∙ sym (at_place es a place found)
+
+-- a unit that is left was there
+left_there : (test query : Addr → Bool) (es : List (Addr × UnitTableState))
+    → IsSome (lookup query (remove_entry test es)) → IsSome (lookup query es)
+left_there test query [] h = h
+left_there test query (e ∷ es) h = by (left_there test query es) (test e.0) (query e.0) refl h
+  where
+    by : (IsSome (lookup query (remove_entry test es)) → IsSome (lookup query es)) → (t q : Bool) → query e.0 ≡ q
+        → IsSome (lookup query (cond t es (e ∷ remove_entry test es))) → IsSome (lookup query (e ∷ es))
+    by rest t true is there = ap (λ b. is_some (cond b (Some e.1) (lookup query es))) is
+    by rest true false is there = subst (λ b. IsSome (cond b (Some e.1) (lookup query es))) (sym is) there
+    by rest false false is there =
+        subst (λ b. IsSome (cond b (Some e.1) (lookup query es))) (sym is)
+        (rest (subst (λ b. IsSome (cond b (Some e.1) (lookup query (remove_entry test es)))) is there))
+
+-- the units that are left keep their spots
+pub spots_left : (es : List (Addr × UnitTableState)) (test : Addr → Bool) → HaveSpots es
+    → HaveSpots (remove_entry test es)
+spots_left es test spots = record { each = λ a there. spots.each a (left_there test (same_addr a) es there) }
