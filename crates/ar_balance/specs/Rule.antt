@@ -1,5 +1,5 @@
 -- The rule of balancing: of which extents a group is formed, or which extent of a group moves to which disk.
-use Rattle.std.specs.Prelude.{◌≡◌, ◌≢◌, ◌⊎◌, ℕ, ◌+◌, ◌<◌, ◌≤◌, length, Some}
+use Rattle.std.specs.Prelude.{◌≡◌, ◌≢◌, ◌⊎◌, ℕ, ◌+◌, ◌<◌, ◌≤◌, List, length, slice_index, Some}
 use Rattle.ar_disks.specs.declared.address.Members.{Members}
 use Rattle.ar_disks.specs.declared.address.Place.{Place}
 use Rattle.ar_disks.specs.Members.{member}
@@ -9,6 +9,13 @@ use Rattle.ar_extents.specs.Loose.{loose_count, lowest_loose}
 use Rattle.ar_book.specs.Tables.{Tables, group_in}
 use Rattle.ar_store.specs.Store.{StoreState, members_of}
 use Rattle.ar_store.specs.Forming.{AreFullest, HasFewLoose}
+
+-- the number of unassigned extents of each disk; 0 past the last
+pub record AreLooseCounts (s : SetState) (numbers : List ℕ) : Type 0 where
+  pub len : length numbers ≡ 12
+  pub few : length s.disks ≤ 12
+  pub counts : (d : ℕ) → d < length s.disks → slice_index numbers d ≡ loose_count s d
+  pub past : (d : ℕ) → length s.disks ≤ d → slice_index numbers d ≡ 0
 
 -- the rule chooses these four extents for a new group
 pub record NamesForming (s : StoreState) (m : Members) : Type 0 where

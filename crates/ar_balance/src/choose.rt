@@ -1,11 +1,12 @@
 // The rule's choice. Ties go to the lowest disk and group, so that the choice is unique.
-ghost use Rattle.std.specs.Prelude.{◌≡◌, ◌≢◌, ◌↔◌, ℕ, ◌+◌, ◌<◌, ◌≤◌, length, slice_index, Some, IfSome, IfNone, IsTrue};
+ghost use Rattle.std.specs.Prelude.{◌≡◌, ◌≢◌, ◌↔◌, ℕ, ◌+◌, ◌<◌, ◌≤◌, length, Some, IfSome, IfNone, IsTrue};
 ghost use Rattle.ar_extents.specs.declared.health.Health.TheVariants.{Whole};
 ghost use Rattle.ar_extents.specs.Loose.{loose_count, lowest_loose};
 ghost use Rattle.ar_store.specs.Kept.{IsSpace};
 ghost use Rattle.ar_store.specs.Spaces.{store_in};
 ghost use Rattle.ar_store.specs.Forming.{AreFullest, HasFewLoose};
-ghost use Rattle.ar_balance.specs.Rule.{HasFewest, HasFewestBelow, HasMost, HasMostBelow, IsMemberOn, IsOff, CanShift, NamesShift, IsEven};
+ghost use Rattle.ar_balance.specs.Rule.{AreLooseCounts, HasFewest, HasFewestBelow, HasMost, HasMostBelow};
+ghost use Rattle.ar_balance.specs.Rule.{IsMemberOn, IsOff, CanShift, NamesShift, IsEven};
 
 use ar_book::Book;
 use ar_disks::{Disk, Members, Place};
@@ -29,12 +30,12 @@ struct GroupMember {
 }
 
 // The extents of the next group; None if fewer than four disks have unassigned ones.
-pub(crate) fn next_members<D: Disk>(set: &DiskSet<D>) -> Option<Members>
+pub(crate) fn next_members<D: Disk>(set: &DiskSet<D>, counts: &[u16]) -> Option<Members>
+    requires { AreLooseCounts set.now counts.now }
     ensures found { IfSome result (AreFullest set.now) }
     ensures none { IfNone result (HasFewLoose set.now) }
 {
-    let counts = loose_counts(set);
-    let four = four_fullest(&counts)?;
+    let four = four_fullest(counts)?;
     Some(Members {
         first: lowest_place(set, four.first),
         second: lowest_place(set, four.second),
@@ -43,11 +44,10 @@ pub(crate) fn next_members<D: Disk>(set: &DiskSet<D>) -> Option<Members>
     })
 }
 
-// The number of unassigned extents of each disk; 0 past the last disk.
-fn loose_counts<D: Disk>(set: &DiskSet<D>) -> [u16; 12]
-    ensures len { length result ≡ 12 }
-    ensures counts { (d : ℕ) → d < length set.now.disks → slice_index result d ≡ loose_count set.now d }
-    ensures past { (d : ℕ) → length set.now.disks ≤ d → slice_index result d ≡ 0 }
+// The number of unassigned extents of each disk; 0 past the last disk. Counted once a step: each count walks the flags
+// of all extents of a disk.
+pub(crate) fn loose_counts<D: Disk>(set: &DiskSet<D>) -> [u16; 12]
+    ensures { AreLooseCounts set.now result }
 {
     let mut counts = [0; 12];
     for disk in 0..set.count() {
@@ -70,15 +70,16 @@ fn lowest_place<D: Disk>(set: &DiskSet<D>, disk: u8) -> Place
 }
 
 // The shift that the rule chooses for healthy disks, fewer than four of which have unassigned extents.
-pub(crate) fn next_shift<D: Disk>(space: &Space<D>) -> Option<Shift>
+pub(crate) fn next_shift<D: Disk>(space: &Space<D>, counts: &[u16]) -> Option<Shift>
+    requires counts { AreLooseCounts space.now.disks counts.now }
     requires whole { space.now.disks.health ≡ Whole }
     requires few { HasFewLoose space.now.disks }
     ensures names { IfSome result (λ shift. NamesShift (store_in space.now) shift.group shift.position shift.from shift.to) }
     ensures none { IfNone result (IsEven (store_in space.now)) }
 {
-    let on = emptiest(&space.disks);
-    let off = fullest(&space.disks);
-    if !is_uneven(&space.disks, on, off) {
+    let on = emptiest(&space.disks, counts);
+    let off = fullest(&space.disks, counts);
+    if !is_uneven(&space.disks, counts, on, off) {
         return None;
     }
     let found = lowest_member(&space.book, on, off)?;
@@ -91,23 +92,25 @@ pub(crate) fn next_shift<D: Disk>(space: &Space<D>) -> Option<Shift>
 }
 
 // The disk with the fewest unassigned extents, the lowest on ties.
-fn emptiest<D: Disk>(set: &DiskSet<D>) -> u8
+fn emptiest<D: Disk>(set: &DiskSet<D>, counts: &[u16]) -> u8
+    requires { AreLooseCounts set.now counts.now }
     ensures { HasFewest set.now result }
 {
     let mut best = 0;
     for number in 1..set.count() {
-        best = emptier(set, best, number);
+        best = emptier(set, counts, best, number);
     }
     best
 }
 
 // Disk `number` if it has fewer unassigned extents than `best`, the best below it; else `best`.
-fn emptier<D: Disk>(set: &DiskSet<D>, best: u8, number: u8) -> u8
+fn emptier<D: Disk>(set: &DiskSet<D>, counts: &[u16], best: u8, number: u8) -> u8
+    requires counts { AreLooseCounts set.now counts.now }
     requires best { HasFewestBelow set.now number best }
     requires there { number < length set.now.disks }
     ensures { HasFewestBelow set.now (number + 1) result }
 {
-    if set.loose(number) < set.loose(best) {
+    if counts[number as usize] < counts[best as usize] {
         number
     } else {
         best
@@ -115,23 +118,25 @@ fn emptier<D: Disk>(set: &DiskSet<D>, best: u8, number: u8) -> u8
 }
 
 // The disk with the most unassigned extents, the lowest on ties.
-fn fullest<D: Disk>(set: &DiskSet<D>) -> u8
+fn fullest<D: Disk>(set: &DiskSet<D>, counts: &[u16]) -> u8
+    requires { AreLooseCounts set.now counts.now }
     ensures { HasMost set.now result }
 {
     let mut best = 0;
     for number in 1..set.count() {
-        best = fuller(set, best, number);
+        best = fuller(set, counts, best, number);
     }
     best
 }
 
 // Disk `number` if it has more unassigned extents than `best`, the best below it; else `best`.
-fn fuller<D: Disk>(set: &DiskSet<D>, best: u8, number: u8) -> u8
+fn fuller<D: Disk>(set: &DiskSet<D>, counts: &[u16], best: u8, number: u8) -> u8
+    requires counts { AreLooseCounts set.now counts.now }
     requires best { HasMostBelow set.now number best }
     requires there { number < length set.now.disks }
     ensures { HasMostBelow set.now (number + 1) result }
 {
-    if set.loose(number) > set.loose(best) {
+    if counts[number as usize] > counts[best as usize] {
         number
     } else {
         best
@@ -139,12 +144,13 @@ fn fuller<D: Disk>(set: &DiskSet<D>, best: u8, number: u8) -> u8
 }
 
 // Whether disk `few` has at least two unassigned extents fewer than disk `many`.
-fn is_uneven<D: Disk>(set: &DiskSet<D>, few: u8, many: u8) -> bool
+fn is_uneven<D: Disk>(set: &DiskSet<D>, counts: &[u16], few: u8, many: u8) -> bool
+    requires counts { AreLooseCounts set.now counts.now }
     requires few { few < length set.now.disks }
     requires many { many < length set.now.disks }
     ensures { IsTrue result ↔ (loose_count set.now few + 2 ≤ loose_count set.now many) }
 {
-    set.loose(many).saturating_sub(set.loose(few)) >= 2
+    counts[many as usize].saturating_sub(counts[few as usize]) >= 2
 }
 
 // The lowest group with a member on disk `on` and none on disk `off`, and that member.

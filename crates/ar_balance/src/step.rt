@@ -7,7 +7,7 @@ ghost use Rattle.ar_store.specs.Spaces.{store_in};
 ghost use Rattle.ar_balance.specs.Balance.{Balances, LeavesAll, IfChanged, gained};
 ghost use Rattle.ar_balance.specs.Measure.{balance_left};
 
-use crate::choose::{next_members, next_shift};
+use crate::choose::{loose_counts, next_members, next_shift};
 use crate::form::form;
 use crate::shift::shift_extent;
 use ar_disks::{Block, Disk};
@@ -72,10 +72,11 @@ fn balance_whole<D: Disk>(space: &mut Space<D>, block: &mut Block) -> Balance
     ensures scratch { space.new.scratch.geometry ≡ space.old.scratch.geometry }
     ensures len { length block.new ≡ length block.old }
 {
-    if let Some(members) = next_members(&space.disks) {
+    let counts = loose_counts(&space.disks);
+    if let Some(members) = next_members(&space.disks, &counts) {
         return form(space, members);
     }
-    match next_shift(space) {
+    match next_shift(space, &counts) {
         Some(shift) => shift_extent(space, shift, block),
         None => Balance::Idle,
     }

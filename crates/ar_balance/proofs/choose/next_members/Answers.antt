@@ -15,7 +15,7 @@ returns-clause-found g c =
     let e = c.lowest_place-4 in
     let m : Members = record { first = a.result; second = b.result; third = d.result; fourth = e.result } in
     let low = λ (x : ℕ). lowest_loose s x in
-    found_fullest s c.loose_counts-counts.result c.in_ok-four.four m c.loose_counts-counts.ensures.counts c.loose_counts-counts.ensures.past
+    found_fullest s c.args.counts.now c.in_ok-four.four m c.requires.counts c.requires.past
     c.in_ok-four.ensures.found
     (record {
       disks = (a.ensures.disk, b.ensures.disk, d.ensures.disk, e.ensures.disk);

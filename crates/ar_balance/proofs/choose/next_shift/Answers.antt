@@ -1,0 +1,23 @@
+use Rattle.std.proofs.Common.{Option, None, Some, IfNone, sym, subst}
+use Rattle.ar_store.specs.Spaces.{store_in}
+use Rattle.ar_balance.specs.Rule.{CanShift, IsEven}
+use Rattle.ar_balance.proofs.Single.{fewest_single, most_single}
+use Rattle.ar_balance.proofs.choose.next_shift.Goals as goal
+
+if_none : {A : Type 0} (o : Option A) (P : Type 0) → P → IfNone o P
+if_none None P p = p
+if_none (Some x) P p = tt
+
+pub returns-in_err-found-clause-none : goal.returns-in_err-found-clause-none
+returns-in_err-found-clause-none g c =
+    let s = store_in c.args.space.now in
+    let on = c.emptiest-on in
+    let off = c.fullest-off in
+    if_none _ (IsEven s) (record {
+      few = c.requires.few;
+      even = λ a b group position fewest most gap can.
+          c.in_err-found.ensures.none group position
+          (subst (λ d. CanShift s.book d off.result group position)
+          (fewest_single s.disks a on.result fewest on.ensures)
+          (subst (λ d. CanShift s.book a d group position) (most_single s.disks b off.result most off.ensures) can));
+    })
