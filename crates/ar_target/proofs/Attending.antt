@@ -1,14 +1,17 @@
 -- What a device server does with a command, by the request that its CDB is.
-use Rattle.std.proofs.Common.{◌≡◌, ℕ, Bool, true, false, List, subst}
+use Rattle.std.proofs.Common.{◌≡◌, ℕ, Bool, true, false, List, [], Some, subst}
 use Rattle.ar_scsi.specs.declared.reply.Reply.{Reply}
 use Rattle.ar_frames.specs.Conversation.{Commands}
 use Rattle.ar_target.specs.declared.request.Request.{Request}
-use Rattle.ar_target.specs.Attention.{SeeksUnit, attention_reply, owes_report, settled}
-use Rattle.ar_target.specs.DeviceServer.{ServerState, ServesAsDevice, nothing_due, no_unit, reported}
+use Rattle.ar_target.specs.declared.attention.Report.{Report}
+use Rattle.ar_target.specs.declared.attention.Report.TheVariants.{Made, Due, NoUnit}
+use Rattle.ar_target.specs.Attention.{AttemptsReport, IsReport, KeepsReport, attention_reply, owes_report, settled}
+use Rattle.ar_target.specs.Attention.{unheld}
+use Rattle.ar_target.specs.DeviceServer.{ServerState, ServesAsDevice, nothing_due, no_unit, reported, still_due}
 use Rattle.ar_target.specs.FlushPort.{UnitFlushes}
 use Rattle.ar_target.specs.Request.{request_of}
 use Rattle.ar_target.specs.Serving.{MeetsRequest}
-use Rattle.ar_target.specs.Told.{IsReturned}
+use Rattle.ar_target.specs.Told.{LooksFor, inquiry_cdb, presence_of}
 
 -- nothing is due
 pub serves_at_once :
@@ -29,7 +32,7 @@ pub serves_without_unit :
     {P : Type 0} {commands : Commands P} {flushes : UnitFlushes P} (old : ServerState P) {lun : ℕ}
     {cdb payload : List ℕ}
     {reply : Reply} {mid port : P} (request : Request) → request ≡ request_of cdb
-    → owes_report old.pending lun request cdb ≡ true → SeeksUnit commands old.port lun false mid
+    → owes_report old.pending lun request cdb ≡ true → LooksFor commands old.port lun false mid
     → MeetsRequest commands flushes old.attributes request mid lun cdb payload reply port
     → ServesAsDevice commands flushes old lun cdb payload reply (record old { port = port })
 serves_without_unit {commands = commands} {flushes = flushes} old {lun = lun} {cdb = cdb} {payload = payload}
@@ -42,12 +45,34 @@ pub serves_attention :
     {P : Type 0} {commands : Commands P} {flushes : UnitFlushes P} (old : ServerState P) {lun : ℕ}
     {cdb payload : List ℕ}
     {reply : Reply} {port : P} (pending : List Bool) (request : Request) → request ≡ request_of cdb
-    → owes_report old.pending lun request cdb ≡ true → SeeksUnit commands old.port lun true port
-    → IsReturned (attention_reply request) reply → pending ≡ settled old.pending lun
+    → owes_report old.pending lun request cdb ≡ true → LooksFor commands old.port lun true port
+    → reply ≡ attention_reply request → pending ≡ settled old.pending lun
     → ServesAsDevice commands flushes old lun cdb payload reply
     (record { attributes = old.attributes; pending = pending; port = port })
 serves_attention {commands = commands} {flushes = flushes} old {lun = lun} {cdb = cdb} {payload = payload}
-    {reply = reply} {port = port} pending request is due seeks returned same =
-    rw same
-    (reported reply port (subst (λ (r : Request). owes_report old.pending lun r cdb ≡ true) is due) seeks
-    (subst (λ (r : Request). IsReturned (attention_reply r) reply) is returned))
+    {reply = reply} {port = port} pending request is due looks made same =
+    rw (same, made, is)
+    (reported port (subst (λ (r : Request). owes_report old.pending lun r cdb ≡ true) is due) looks)
+
+-- it is still due
+pub serves_due :
+    {P : Type 0} {commands : Commands P} {flushes : UnitFlushes P} (old : ServerState P) {lun : ℕ}
+    {cdb payload : List ℕ}
+    {reply : Reply} {port : P} (request : Request) → request ≡ request_of cdb
+    → owes_report old.pending lun request cdb ≡ true → KeepsReport commands old.port lun request reply port
+    → ServesAsDevice commands flushes old lun cdb payload reply (record old { port = port })
+serves_due {commands = commands} {flushes = flushes} old {lun = lun} {cdb = cdb} {payload = payload} {reply = reply}
+    {port = port} request is due keeps =
+    still_due reply port (subst (λ (r : Request). owes_report old.pending lun r cdb ≡ true) is due)
+    (subst (λ (r : Request). KeepsReport commands old.port lun r reply port) is keeps)
+
+-- what came of a report, where the port states that there is a unit
+pub attempted_at_unit :
+    {P : Type 0} (commands : Commands P) {old new : P} {lun : ℕ} {told : Reply} (request : Request) (report : Report)
+    → commands old lun inquiry_cdb [] told new → presence_of told ≡ Some true → IsReport request report
+    → AttemptsReport commands old lun request report new
+attempted_at_unit commands request NoUnit asked stated is = absurd is
+attempted_at_unit commands {told = told} request (Made reply) asked stated is =
+    (record { told = told; asked = asked; stated = stated }, is)
+attempted_at_unit commands {new = new} {told = told} request (Due reply) asked stated is =
+    rw is.0 (unheld new (record { told = told; asked = asked; stated = stated }) is.1)

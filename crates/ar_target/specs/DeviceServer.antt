@@ -1,18 +1,20 @@
 -- A device server as a port: what a login and a command do at it.
-use Rattle.std.specs.Prelude.{◌≡◌, ℕ, Bool, true, false, List}
+use Rattle.std.specs.Prelude.{◌≡◌, ℕ, Bool, true, false, List, [], Option, Some, None}
 use Rattle.ar_scsi.specs.declared.reply.Reply.{Reply}
 use Rattle.ar_frames.specs.declared.port.Login.{Login}
 use Rattle.ar_frames.specs.Conversation.{Commands}
 use Rattle.ar_frames.specs.Port.{Logins}
 use Rattle.ar_target.specs.declared.attributes.Attributes.{Attributes}
-use Rattle.ar_target.specs.Attention.{SeeksUnit, all_pending, attention_reply, owes_report, settled}
+use Rattle.ar_target.specs.declared.reset_port.ResetOutcome.{ResetOutcome}
+use Rattle.ar_target.specs.declared.reset_port.ResetOutcome.TheVariants.{Done, NoUnit}
+use Rattle.ar_target.specs.Attention.{KeepsReport, all_pending, attention_reply, due, owes_report, settled}
 use Rattle.ar_target.specs.FlushPort.{UnitFlushes}
 use Rattle.ar_target.specs.Request.{request_of}
 use Rattle.ar_target.specs.Serving.{MeetsCommand}
-use Rattle.ar_target.specs.Told.{IsReturned}
+use Rattle.ar_target.specs.Told.{LooksFor, inquiry_cdb, presence_of}
 
 -- a device server's state: what it reports of the array and of the host, which units have yet to report that the
--- session is new, and the port
+-- session is new or that they were reset, and the port
 pub record ServerState (P : Type 0) : Type 0 where
   pub attributes : Attributes
   pub pending : List Bool
@@ -26,8 +28,8 @@ pub record LogsInAs {P : Type 0} (logins : Logins P) (old : ServerState P) (host
   pub named : new.attributes ≡ record old.attributes { host = host }
   pub reset : new.pending ≡ all_pending
 
--- A command is answered by what its CDB asks for, unless its unit has yet to report that the session is new, and the
--- command reports that.
+-- A command is answered by what its CDB asks for, unless its unit has yet to report that the session is new or that it
+-- was reset, and the command reports that. Where the report can't be made, it stays due, and nothing else is done.
 pub data ServesAsDevice {P : Type 0} (commands : Commands P) (flushes : UnitFlushes P) (old : ServerState P) (lun : ℕ)
     (cdb payload : List ℕ) : Reply → ServerState P → Type 0 where
   nothing_due :
@@ -36,11 +38,35 @@ pub data ServesAsDevice {P : Type 0} (commands : Commands P) (flushes : UnitFlus
       → ServesAsDevice commands flushes old lun cdb payload reply (record old { port = port })
   no_unit :
       (reply : Reply) (mid port : P) → owes_report old.pending lun (request_of cdb) cdb ≡ true
-      → SeeksUnit commands old.port lun false mid
+      → LooksFor commands old.port lun false mid
       → MeetsCommand commands flushes old.attributes mid lun cdb payload reply port
       → ServesAsDevice commands flushes old lun cdb payload reply (record old { port = port })
   reported :
-      (reply : Reply) (port : P) → owes_report old.pending lun (request_of cdb) cdb ≡ true
-      → SeeksUnit commands old.port lun true port → IsReturned (attention_reply (request_of cdb)) reply
-      → ServesAsDevice commands flushes old lun cdb payload reply
+      (port : P) → owes_report old.pending lun (request_of cdb) cdb ≡ true → LooksFor commands old.port lun true port
+      → ServesAsDevice commands flushes old lun cdb payload (attention_reply (request_of cdb))
       (record { attributes = old.attributes; pending = settled old.pending lun; port = port })
+  still_due :
+      (reply : Reply) (port : P) → owes_report old.pending lun (request_of cdb) cdb ≡ true
+      → KeepsReport commands old.port lun (request_of cdb) reply port
+      → ServesAsDevice commands flushes old lun cdb payload reply (record old { port = port })
+
+-- the outcome of a reset by whether INQUIRY states that there is a unit: one that can't be asked may be there
+abbrev pub reset_outcome : Option Bool → ResetOutcome
+reset_outcome (Some false) = NoUnit
+reset_outcome (Some true) = Done
+reset_outcome None = Done
+
+-- a reset of the unit at a LUN: from then on it has to report that, if there is one
+pub record ResetsUnit {P : Type 0} (commands : Commands P) (old : ServerState P) (lun : ℕ) (outcome : ResetOutcome)
+    (new : ServerState P) : Type 0 where
+  pub told : Reply
+  pub asked : commands old.port lun inquiry_cdb [] told new.port
+  pub outcome_is : outcome ≡ reset_outcome (presence_of told)
+  pub attributes : new.attributes ≡ old.attributes
+  pub pending : new.pending ≡ due old.pending lun
+
+-- a reset of the unit at a LUN, or of all units of the host, which have to report that from then on (SAM-3, Unit
+-- attention conditions)
+abbrev pub ResetsUnits : {P : Type 0} → Commands P → ServerState P → Option ℕ → ResetOutcome → ServerState P → Type 0
+ResetsUnits commands old (Some lun) outcome new = ResetsUnit commands old lun outcome new
+ResetsUnits commands old None outcome new = (outcome ≡ Done) × (new ≡ record old { pending = all_pending })

@@ -6,6 +6,7 @@ pub mod Laws
 pub mod Luns
 pub mod Mode
 pub mod Request
+pub mod ResetPort
 pub mod Serving
 pub mod Told
 pub mod Vpd

@@ -1,12 +1,12 @@
 -- REPORT LUNS: which of the host's units there are.
 use Rattle.std.specs.Prelude.{◌≡◌, ◌<◌, ℕ, ◌+◌, ◌*◌, Bool, true, if◌then◌else◌, List, [], ◌∷◌, ◌++◌, length, take}
-use Rattle.std.specs.Prelude.{Some, None}
+use Rattle.std.specs.Prelude.{None}
 use Rattle.std.specs.Int.{w32, to_be_bytes}
 use Rattle.std.specs.List.{flat_map}
 use Rattle.ar_scsi.specs.declared.reply.Reply.{Reply}
 use Rattle.ar_scsi.specs.Reply.{good, busy}
 use Rattle.ar_frames.specs.Conversation.{Commands}
-use Rattle.ar_target.specs.Told.{inquiry_cdb, presence_of, handed_on, IsReturned}
+use Rattle.ar_target.specs.Told.{inquiry_cdb, presence_of, handed_on, IsReturned, LooksFor}
 
 -- the number of LUNs that a host's units may have
 abbrev pub lun_count : ℕ
@@ -23,12 +23,6 @@ lun_list luns = to_be_bytes w32 (8 * length luns) ++ ((0x00 ∷ 0x00 ∷ 0x00 �
 -- the LUN, if there is a unit
 abbrev pub lun_if : Bool → ℕ → List ℕ
 lun_if there lun = if there then lun ∷ [] else []
-
--- INQUIRY at a LUN stated whether there is a unit
-pub record LooksFor {P : Type 0} (commands : Commands P) (old : P) (lun : ℕ) (there : Bool) (new : P) : Type 0 where
-  pub told : Reply
-  pub asked : commands old lun inquiry_cdb [] told new
-  pub stated : presence_of told ≡ Some there
 
 -- a LUN was looked for, and is appended if there is a unit
 pub record SeeksLun {P : Type 0} (commands : Commands P) (old : P) (lun : ℕ) (luns luns' : List ℕ)

@@ -78,3 +78,9 @@ pub record ReturnsBy {P : Type 0} (commands : Commands P) (cdb : List ℕ) (answ
   pub told : Reply
   pub asked : commands old lun cdb [] told new
   pub returned : IsReturned (answer told) reply
+
+-- INQUIRY at a LUN stated whether there is a unit
+pub record LooksFor {P : Type 0} (commands : Commands P) (old : P) (lun : ℕ) (there : Bool) (new : P) : Type 0 where
+  pub told : Reply
+  pub asked : commands old lun inquiry_cdb [] told new
+  pub stated : presence_of told ≡ Some there

@@ -1,13 +1,12 @@
-// The UNIT ATTENTION of a new session: each unit reports it once, to the first command that isn't exempt.
+// The UNIT ATTENTION of a new session, and of a reset: each unit reports it once, to the first command that isn't exempt.
 ghost use Rattle.std.specs.Prelude.{◌≡◌, ◌<◌, false, true, slice_set};
 ghost use Rattle.ar_frames.specs.Frame.{IsReply};
 ghost use Rattle.ar_target.specs.Attention as attention;
-ghost use Rattle.ar_target.specs.Told.{IsReturned};
 
 use crate::request::Request;
-use crate::told::{INQUIRY, ask, cut_reply, presence};
+use crate::told::{INQUIRY, ask, cut_reply, handed_on, presence};
 use ar_frames::Port;
-use ar_scsi::{Reply, Sense, sense18};
+use ar_scsi::{Reply, Sense, Status, sense18};
 use std::alloc::Global;
 
 /// UNIT ATTENTION, POWER ON, RESET, OR BUS DEVICE RESET OCCURRED.
@@ -17,14 +16,25 @@ pub const RESET_OCCURRED: Sense = Sense {
     ascq: 0x00,
 };
 
-/// Whether a command at `lun` has to report that the session is new, if there is a unit.
+/// What came of a report that was due.
+#[derive(Drop)]
+pub(crate) enum Report {
+    /// It was made by this reply.
+    Made(Reply),
+    /// It is still due, and this reply is the answer.
+    Due(Reply),
+    /// There is no unit at this LUN.
+    NoUnit,
+}
+
+/// Whether a command at `lun` has to report that the session is new, or a reset, if there is a unit.
 pub(crate) fn owes_report(pending: &[bool; 8], lun: u8, request: Request, cdb: &[u8; 16]) -> bool
     ensures { result ≡ attention.owes_report pending.now lun request cdb.now }
 {
     is_pending(pending, lun) && reports(request, cdb)
 }
 
-// Whether the unit at a LUN hasn't reported yet that the session is new.
+// Whether the unit at a LUN hasn't reported it yet.
 fn is_pending(pending: &[bool; 8], lun: u8) -> bool
     ensures { result ≡ attention.is_pending pending.now lun }
 {
@@ -48,7 +58,23 @@ fn reports(request: Request, cdb: &[u8; 16]) -> bool
     }
 }
 
-/// The unit at `lun` has reported that the session is new.
+/// The unit at `lun` has to report a reset.
+pub(crate) fn make_due(pending: &mut [bool; 8], lun: u8)
+    ensures { pending.new ≡ attention.due pending.old lun }
+{
+    if lun < 8 {
+        pending[usize::from(lun)] = true;
+    }
+}
+
+/// Each unit has to report a reset.
+pub(crate) fn make_all_due(pending: &mut [bool; 8])
+    ensures { pending.new ≡ attention.all_pending }
+{
+    *pending = [true; 8];
+}
+
+/// The unit at `lun` has made its report.
 pub(crate) fn settle(pending: &mut [bool; 8], lun: u8)
     ensures { pending.new ≡ attention.settled pending.old lun }
 {
@@ -57,24 +83,33 @@ pub(crate) fn settle(pending: &mut [bool; 8], lun: u8)
     }
 }
 
-/// Whether the port states that there is a unit at `lun`. An INQUIRY leaves the unit's own UNIT ATTENTION pending.
-pub(crate) fn finds_unit<P: Port>(port: &mut P, lun: u8) -> bool
+/// Reports that the session is new, or a reset, if the port states that there is a unit at `lun`. The port is asked by
+/// an INQUIRY, which leaves the unit's own UNIT ATTENTION pending.
+pub(crate) fn make_report<P: Port>(alloc: Global, port: &mut P, lun: u8, request: Request) -> Report
     requires { P.has_login port.old ≡ true }
-    ensures seeks { attention.SeeksUnit P.commands port.old lun result port.new }
+    ensures attempts { attention.AttemptsReport P.commands port.old lun request result port.new }
+    ensures reply { attention.HasReply result }
     ensures stays { P.has_login port.new ≡ true }
 {
-    presence(&ask(port, lun, &INQUIRY)).unwrap_or(false)
+    let told = ask(port, lun, &INQUIRY);
+    match presence(&told) {
+        Some(true) => report_of_unit(alloc, request),
+        Some(false) => Report::NoUnit,
+        None => Report::Due(handed_on(told)),
+    }
 }
 
-/// The reply that reports that the session is new.
-pub(crate) fn attention_reply(alloc: Global, request: Request) -> Reply
-    ensures answer { IsReturned (attention.attention_reply request) result }
-    ensures reply { IsReply result }
+// The report, or BUSY if out of memory for the data of a REQUEST SENSE.
+fn report_of_unit(alloc: Global, request: Request) -> Report
+    ensures report { attention.IsReport request result }
+    ensures reply { attention.HasReply result }
 {
-    match request {
-        Request::RequestSense { len } => {
-            cut_reply(alloc, &sense18(RESET_OCCURRED), usize::from(len))
-        }
-        _ => Reply::check(RESET_OCCURRED),
+    let Request::RequestSense { len } = request else {
+        return Report::Made(Reply::check(RESET_OCCURRED));
+    };
+    let reply = cut_reply(alloc, &sense18(RESET_OCCURRED), usize::from(len));
+    match reply.status {
+        Status::Busy => Report::Due(reply),
+        Status::Good | Status::CheckCondition => Report::Made(reply),
     }
 }

@@ -1,18 +1,21 @@
 // A port that answers what initiators ask of a device server beyond the array's commands.
 ghost use Rattle.std.specs.Prelude.{◌≡◌};
+ghost use Rattle.ar_target.specs.DeviceServer.{reset_outcome};
 
-use crate::attention::{attention_reply, finds_unit, owes_report, settle};
+use crate::attention::{Report, make_all_due, make_due, make_report, owes_report, settle};
 use crate::attributes::Attributes;
 use crate::flush_port::FlushPort;
 use crate::request::request_of;
+use crate::reset_port::{ResetOutcome, ResetPort};
 use crate::serve::serve;
+use crate::told::{INQUIRY, ask, presence};
 use ar_frames::{Login, Port};
 use ar_scsi::Reply;
 use bytes::Bytes;
 use std::alloc::Global;
 
 /// The device server of the units of one host. It answers by what the port below it tells, and holds nothing
-/// of a unit but whether it has reported that the session is new.
+/// of a unit but whether it has reported that the session is new, or a reset.
 #[derive(Drop)]
 pub struct DeviceServer<P> {
     alloc: Global,
@@ -20,7 +23,7 @@ pub struct DeviceServer<P> {
     pub port: P,
     /// What is reported of the array and of the host, which is that of the latest login.
     pub attributes: Attributes,
-    // For LUNs 0 to 7, whether the unit hasn't reported yet that the session is new.
+    // For LUNs 0 to 7, whether the unit hasn't reported yet that the session is new, or a reset.
     pending: [bool; 8],
 }
 
@@ -68,9 +71,13 @@ impl<P: FlushPort> Port for DeviceServer<P> {
     fn command(&mut self, lun: u8, cdb: &[u8; 16], payload: Bytes) -> Reply {
         let request = request_of(cdb);
         if owes_report(&self.pending, lun, request, cdb) {
-            if finds_unit(&mut self.port, lun) {
-                settle(&mut self.pending, lun);
-                return attention_reply(self.alloc, request);
+            match make_report(self.alloc, &mut self.port, lun, request) {
+                Report::Made(reply) => {
+                    settle(&mut self.pending, lun);
+                    return reply;
+                }
+                Report::Due(reply) => return reply,
+                Report::NoUnit => {}
             }
         }
         let attributes = self.attributes;
@@ -83,5 +90,32 @@ impl<P: FlushPort> Port for DeviceServer<P> {
             cdb,
             payload,
         )
+    }
+}
+
+impl<P: FlushPort> ResetPort for DeviceServer<P> {
+    ghost use Rattle.ar_target.specs.DeviceServer.{ResetsUnits};
+
+    ghost resets = { λ old lun outcome new. ResetsUnits P.commands
+        (record { attributes = old.attributes; pending = old.pending; port = old.port }) lun outcome
+        (record { attributes = new.attributes; pending = new.pending; port = new.port }) };
+
+    fn reset(&mut self, lun: Option<u8>) -> ResetOutcome {
+        let Some(lun) = lun else {
+            make_all_due(&mut self.pending);
+            return ResetOutcome::Done;
+        };
+        make_due(&mut self.pending, lun);
+        reset_outcome(presence(&ask(&mut self.port, lun, &INQUIRY)))
+    }
+}
+
+// The outcome of a reset by whether there is a unit, if the port states that.
+fn reset_outcome(is_there: Option<bool>) -> ResetOutcome
+    ensures { result ≡ reset_outcome is_there }
+{
+    match is_there {
+        Some(false) => ResetOutcome::NoUnit,
+        Some(true) | None => ResetOutcome::Done,
     }
 }

@@ -13,6 +13,7 @@ mod flush_port;
 mod luns;
 mod mode;
 mod request;
+mod reset_port;
 mod serve;
 mod told;
 mod vpd;
@@ -24,6 +25,7 @@ pub use flush_port::{FlushOutcome, FlushPort};
 pub use request::{
     ModePages, ModeSense, Request, SAVING_PARAMETERS_NOT_SUPPORTED, VpdPage, request_of,
 };
+pub use reset_port::{ResetOutcome, ResetPort};
 
 /// Law: each command block that the array executes is given to the port, untouched.
 pub fn commands_are_given()
