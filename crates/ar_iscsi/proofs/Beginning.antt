@@ -3,6 +3,7 @@ use Rattle.std.proofs.Common.{◌≡◌, ℕ, List, [], None, subst}
 use Rattle.ar_frames.specs.Conversation.{Commands}
 use Rattle.ar_frames.specs.Port.{Logins}
 use Rattle.ar_frames.specs.Stream.{SourceState, SinkState}
+use Rattle.ar_target.specs.ResetPort.{UnitResets}
 use Rattle.ar_iscsi.specs.declared.flow.Flow.{Flow}
 use Rattle.ar_iscsi.specs.declared.login_phase.LoginEnd.{LoginEnd}
 use Rattle.ar_iscsi.specs.declared.negotiation.Limits.{Limits}
@@ -19,10 +20,11 @@ use Rattle.ar_iscsi.specs.Target.{login_start}
 
 -- without collected data, and with none that wait
 pub feature_from :
-    {P : Type 0} (commands : Commands P) (address : List ℕ) (limits : Limits) (source : SourceState) (sink : SinkState)
+    {P : Type 0} (commands : Commands P) (resets : UnitResets P) (address : List ℕ) (limits : Limits)
+    (source : SourceState) (sink : SinkState)
     (flow : Flow) (bytes : List ℕ) (waiting : List WaitingPdu) (port : P) (reason : FeatureEnd)
     (new : Place FeatureSpot P) → bytes ≡ [] → waiting ≡ []
-    → RunsFeature commands address limits
+    → RunsFeature commands resets address limits
     (record {
       source = source;
       sink = sink;
@@ -30,7 +32,7 @@ pub feature_from :
       port = port;
     })
     reason new
-    → RunsFeature commands address limits
+    → RunsFeature commands resets address limits
     (record {
       source = source;
       sink = sink;
@@ -38,8 +40,8 @@ pub feature_from :
       port = port;
     })
     reason new
-feature_from commands address limits source sink flow bytes waiting port reason new no_bytes none runs =
-    subst (λ (l : List ℕ). RunsFeature commands address limits
+feature_from commands resets address limits source sink flow bytes waiting port reason new no_bytes none runs =
+    subst (λ (l : List ℕ). RunsFeature commands resets address limits
     (record {
       source = source;
       sink = sink;
@@ -47,7 +49,7 @@ feature_from commands address limits source sink flow bytes waiting port reason 
       port = port;
     })
     reason new) no_bytes
-    (subst (λ (w : List WaitingPdu). RunsFeature commands address limits
+    (subst (λ (w : List WaitingPdu). RunsFeature commands resets address limits
     (record {
       source = source;
       sink = sink;

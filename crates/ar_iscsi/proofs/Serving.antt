@@ -3,6 +3,7 @@ use Rattle.std.proofs.Common.{◌≡◌, ℕ, ◌+◌, false, List, [], refl, su
 use Rattle.std.proofs.Math.Numerals.{suc-eq-add-one}
 use Rattle.ar_frames.specs.Conversation.{Commands}
 use Rattle.ar_frames.specs.Stream.{SourceState, SinkState}
+use Rattle.ar_target.specs.ResetPort.{UnitResets}
 use Rattle.ar_frames.specs.declared.fill.Sent.{Sent}
 use Rattle.ar_frames.specs.declared.fill.Sent.TheVariants.{Whole, Part}
 use Rattle.ar_iscsi.specs.declared.negotiation.Limits.{Limits}
@@ -15,7 +16,7 @@ use Rattle.ar_iscsi.specs.Task.{MayGive}
 use Rattle.ar_iscsi.specs.Turn.{Spot}
 use Rattle.ar_iscsi.specs.Waiting.{is_next_waiting}
 use Rattle.ar_iscsi.specs.declared.waiting_pdu.WaitingPdu.{WaitingPdu}
-use Rattle.ar_iscsi.specs.Arrival.{FeatureSpot, ArrivalTurn}
+use Rattle.ar_iscsi.specs.Arrival.{FeatureSpot, ArrivalTurn, MayUse}
 use Rattle.ar_iscsi.specs.Phase.{Turns, PhaseSteps, Place, ServesPdu, ServesPdus, HasNoAnswer, AnswersPdu, turned}
 use Rattle.ar_iscsi.specs.Phase.{unanswered, most_segment}
 use Rattle.ar_iscsi.specs.Session.{NextIsServed, EndsFeature, RunsFeature, FeatureStep, of_waiting, of_arrival}
@@ -64,12 +65,12 @@ pub served_more :
 served_more steps next count old between new served serves =
     subst (λ (n : ℕ). ServesPdus steps next n old new) (suc-eq-add-one count) (between, served, serves)
 
-module _ {P : Type 0} (commands : Commands P) (address : List ℕ) (limits : Limits) where
+module _ {P : Type 0} (commands : Commands P) (resets : UnitResets P) (address : List ℕ) (limits : Limits) where
   -- by how the turn left the session, and how far its answer was written
   by_step :
       (old new : Place FeatureSpot P) (left : TurnEnd) (sent : Sent)
-      → FeatureStep commands address limits old new left sent
-      → NextIsServed commands address limits old (result_of_turn left sent) new
+      → FeatureStep commands resets address limits old new left sent
+      → NextIsServed commands resets address limits old (result_of_turn left sent) new
   by_step old new Next Whole step = step
   by_step old new LoggedOut Whole step = λ count. step
   by_step old new BrokenData Whole step = λ count. step
@@ -83,8 +84,8 @@ module _ {P : Type 0} (commands : Commands P) (address : List ℕ) (limits : Lim
   pub arrival_served :
       (old new : Place FeatureSpot P) (answered : Option (TurnEnd × Sent))
       → is_next_waiting old.spot.spot.flow old.spot.waiting ≡ false
-      → IsHandled (ArrivalTurn commands address limits) (MayGive commands) old new answered
-      → NextIsServed commands address limits old (result_of_answer answered) new
+      → IsHandled (ArrivalTurn commands resets address limits) (MayUse commands resets) old new answered
+      → NextIsServed commands resets address limits old (result_of_answer answered) new
   arrival_served old new (Some (left, sent)) none_next serves =
       by_step old new left sent (of_arrival (record { none_next = none_next; serves = serves }))
   arrival_served old new None none_next none = λ count. read_lacks none
@@ -94,9 +95,9 @@ module _ {P : Type 0} (commands : Commands P) (address : List ℕ) (limits : Lim
       (source : SourceState) (sink sink' : SinkState) (spot spot' : Spot) (waiting waiting' : List WaitingPdu)
       (port port' : P) (pdu : WaitingPdu) (answered : Option (TurnEnd × Sent))
       → TakesWaiting spot.flow waiting (Some pdu) waiting'
-      → AnswersPdu (WaitingTurn commands address limits pdu.is_dropped) (MayGive commands) pdu.header pdu.carried sink
+      → AnswersPdu (WaitingTurn commands address limits pdu.state) (MayGive commands) pdu.header pdu.carried sink
       spot port answered sink' spot' port'
-      → NextIsServed commands address limits
+      → NextIsServed commands resets address limits
       (record { source = source; sink = sink; spot = record { spot = spot; waiting = waiting }; port = port })
       (result_of_answer answered)
       (record { source = source; sink = sink'; spot = record { spot = spot'; waiting = waiting' }; port = port' })
@@ -111,8 +112,8 @@ module _ {P : Type 0} (commands : Commands P) (address : List ℕ) (limits : Lim
   -- the end
   pub feature_ended :
       (count : ℕ) (old between new : Place FeatureSpot P) (reason : FeatureEnd)
-      → ServesPdus (FeatureStep commands address limits) Next count old between
-      → EndsFeature commands address limits count between reason new
-      → RunsFeature commands address limits old reason new
+      → ServesPdus (FeatureStep commands resets address limits) Next count old between
+      → EndsFeature commands resets address limits count between reason new
+      → RunsFeature commands resets address limits old reason new
   feature_ended count old between new reason served ends =
       record { count = count; between = between; served = served; ends = ends }

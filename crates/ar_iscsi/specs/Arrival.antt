@@ -1,74 +1,109 @@
 -- A PDU of the full feature phase that was read: it waits while the data of a WRITE before it are collected, and is
--- done otherwise (RFC 7143, 4.2.2.1 and 11.5).
-use Rattle.std.specs.Prelude.{◌≡◌, ℕ, List, [], ◌∷◌, ◌++◌, length, map, MatchBool}
+-- done otherwise (RFC 7143, 4.2.2.1 and 11.5). A task management request is done at once, and its answer waits.
+use Rattle.std.specs.Prelude.{◌≡◌, ℕ, Bool, List, [], ◌∷◌, ◌++◌, length, map, MatchBool, Option}
 use Rattle.ar_frames.specs.Conversation.{Commands}
+use Rattle.ar_target.specs.declared.reset_port.ResetOutcome.{ResetOutcome}
+use Rattle.ar_target.specs.ResetPort.{UnitResets}
 use Rattle.ar_iscsi.specs.declared.negotiation.Limits.{Limits}
 use Rattle.ar_iscsi.specs.declared.request.InitiatorPdu.{InitiatorPdu}
 use Rattle.ar_iscsi.specs.declared.request.InitiatorPdu.TheVariants as asks
 use Rattle.ar_iscsi.specs.declared.request.TaskManagement.{TaskManagement}
-use Rattle.ar_iscsi.specs.declared.response.TargetPdu.{TargetPdu}
 use Rattle.ar_iscsi.specs.declared.response.TargetPdu.TheVariants as pdu
 use Rattle.ar_iscsi.specs.declared.turn.TurnEnd.{TurnEnd}
 use Rattle.ar_iscsi.specs.declared.turn.TurnEnd.TheVariants.{Next}
 use Rattle.ar_iscsi.specs.declared.waiting_pdu.WaitingPdu.{WaitingPdu}
+use Rattle.ar_iscsi.specs.declared.waiting_pdu.WaitingState.TheVariants as state
+use Rattle.ar_iscsi.specs.Flow.{is_accepted, received}
+use Rattle.ar_iscsi.specs.Management.{ResetsAtPort, managed_by, managed_bytes, managed_flow, means_one, response_to}
 use Rattle.ar_iscsi.specs.Request.{initiator_pdu}
+use Rattle.ar_iscsi.specs.Task.{MayGive}
 use Rattle.ar_iscsi.specs.Turn.{Spot, FeatureTurn, StaysSilent, Responds}
-use Rattle.ar_iscsi.specs.Waiting.{waits, kept, managed_by, names_waiting}
+use Rattle.ar_iscsi.specs.Waiting.{waits, kept}
 
 -- where a full feature phase is: between two turns, with the PDUs that wait, the oldest first
 pub record FeatureSpot : Type 0 where
   pub spot : Spot
   pub waiting : List WaitingPdu
 
--- the answer to an ABORT TASK of a command that waits: 0, function complete (RFC 7143, 11.6.1)
-abbrev pub aborted : TaskManagement → TargetPdu
-aborted request = pdu.TaskManagementResponse request.task_tag 0
-
 -- a PDU is kept behind those that wait, and not answered
 pub record KeepsPdu {P : Type 0} (header carried : List ℕ) (old : FeatureSpot) (port : P) (out : List ℕ)
     (new : FeatureSpot)
     (port' : P) (end : TurnEnd) : Type 0 where
   pub silent : StaysSilent old.spot out new.spot end
-  pub appended : new.waiting ≡ old.waiting ++ kept header carried ∷ []
+  pub appended : new.waiting ≡ old.waiting ++ kept header carried state.Undone ∷ []
   pub port_same : port' ≡ port
 
--- a PDU takes its turn at once, and leaves those that wait as they are given
+-- a PDU takes its turn at once, and leaves those that wait as they are
 pub record TurnsAtOnce {P : Type 0} (commands : Commands P) (address : List ℕ) (limits : Limits)
-    (header carried : List ℕ)
-    (waiting : List WaitingPdu) (old : FeatureSpot) (port : P) (out : List ℕ) (new : FeatureSpot) (port' : P)
+    (header carried : List ℕ) (old : FeatureSpot) (port : P) (out : List ℕ) (new : FeatureSpot) (port' : P)
     (end : TurnEnd) : Type 0 where
   pub turn : FeatureTurn commands address limits header carried old.spot port out new.spot port' end
-  pub waiting_same : new.waiting ≡ waiting
+  pub waiting_same : new.waiting ≡ old.waiting
 
--- an ABORT TASK of a command that waits is answered
-pub record IsAborted {P : Type 0} (request : TaskManagement) (old : FeatureSpot) (port : P) (out : List ℕ)
-    (new : FeatureSpot) (port' : P) (end : TurnEnd) : Type 0 where
-  pub responds : Responds old.spot.flow (aborted request) [] old.spot.bytes out new.spot end Next
-  pub waiting_same : new.waiting ≡ map (managed_by request) old.waiting
+-- A task management request is done: the commands that it means are dropped, those that wait and the WRITE whose data
+-- are collected; units are reset at the port; and this is its response.
+pub record ManagesTasks {P : Type 0} (resets : UnitResets P) (request : TaskManagement) (old : FeatureSpot) (port : P)
+    (new : FeatureSpot) (port' : P) (response : ℕ) : Type 0 where
+  pub flow : new.spot.flow ≡ managed_flow request old.spot.flow
+  pub bytes : new.spot.bytes ≡ managed_bytes request old.spot.flow old.spot.bytes
+  pub waiting : new.waiting ≡ map (managed_by request) old.waiting
+  pub outcome : ResetOutcome
+  pub reset : ResetsAtPort resets request port outcome port'
+  pub response_is : response ≡ response_to request (means_one request old.spot.flow old.waiting) outcome
+
+-- it is done, and its response is sent
+pub record AnswersNow {P : Type 0} (resets : UnitResets P) (request : TaskManagement) (old : FeatureSpot) (port : P)
+    (out : List ℕ) (new : FeatureSpot) (port' : P) (end : TurnEnd) : Type 0 where
+  pub managed : FeatureSpot
+  pub response : ℕ
+  pub manages : ManagesTasks resets request old port managed port' response
+  pub responds :
+      Responds (received managed.spot.flow request.immediate)
+      (pdu.TaskManagementResponse request.task_tag response) [] managed.spot.bytes out new.spot end Next
+  pub waiting_same : new.waiting ≡ managed.waiting
+
+-- it is done, and its response is kept behind those that wait: it has to be counted in CmdSN's order
+pub record AnswersLater {P : Type 0} (resets : UnitResets P) (header carried : List ℕ) (request : TaskManagement)
+    (old : FeatureSpot) (port : P) (out : List ℕ) (new : FeatureSpot) (port' : P) (end : TurnEnd) : Type 0 where
+  pub managed : FeatureSpot
+  pub response : ℕ
+  pub manages : ManagesTasks resets request old port managed port' response
+  pub silent : StaysSilent managed.spot out new.spot end
+  pub appended : new.waiting ≡ managed.waiting ++ kept header carried (state.Answered response) ∷ []
+
+-- nothing is done, and nothing is answered
+pub record IsIgnored {P : Type 0} (old : FeatureSpot) (port : P) (out : List ℕ) (new : FeatureSpot) (port' : P)
+    (end : TurnEnd) : Type 0 where
+  pub silent : StaysSilent old.spot out new.spot end
+  pub waiting_same : new.waiting ≡ old.waiting
   pub port_same : port' ≡ port
 
--- a task management request that was read: an immediate one drops the commands that it means of those that wait
-abbrev pub ManagementTurn : {P : Type 0} → Commands P → List ℕ → Limits → List ℕ → List ℕ → TaskManagement → FeatureSpot
-    → P → List ℕ → FeatureSpot → P → TurnEnd → Type 0
-ManagementTurn commands address limits header carried request old port out new port' end =
-    MatchBool request.immediate
-    (MatchBool (names_waiting request old.waiting) (IsAborted request old port out new port' end)
-    (TurnsAtOnce commands address limits header carried (map (managed_by request) old.waiting) old port out new port'
-    end))
-    (TurnsAtOnce commands address limits header carried old.waiting old port out new port' end)
-
--- a PDU that doesn't wait, by its header's fields
-abbrev pub NowTurn : {P : Type 0} → Commands P → List ℕ → Limits → List ℕ → List ℕ → InitiatorPdu → FeatureSpot → P
+-- a task management request that was read: `waits` says that it is the next in CmdSN's order behind those that wait
+abbrev pub ManagementTurn : {P : Type 0} → UnitResets P → List ℕ → List ℕ → TaskManagement → Bool → FeatureSpot → P
     → List ℕ → FeatureSpot → P → TurnEnd → Type 0
-NowTurn commands address limits header carried (asks.TaskManagement request) old port out new port' end =
-    ManagementTurn commands address limits header carried request old port out new port' end
-NowTurn commands address limits header carried other old port out new port' end =
-    TurnsAtOnce commands address limits header carried old.waiting old port out new port' end
+ManagementTurn resets header carried request waits old port out new port' end =
+    MatchBool waits (AnswersLater resets header carried request old port out new port' end)
+    (MatchBool (is_accepted old.spot.flow request.immediate request.cmd_sn)
+    (AnswersNow resets request old port out new port' end) (IsIgnored old port out new port' end))
+
+-- the same of any PDU
+abbrev pub ArrivalFor : {P : Type 0} → Commands P → UnitResets P → List ℕ → Limits → List ℕ → List ℕ → InitiatorPdu
+    → Bool → FeatureSpot → P → List ℕ → FeatureSpot → P → TurnEnd → Type 0
+ArrivalFor commands resets address limits header carried (asks.TaskManagement request) waits old port out new port'
+    end =
+    ManagementTurn resets header carried request waits old port out new port' end
+ArrivalFor commands resets address limits header carried other waits old port out new port' end =
+    MatchBool waits (KeepsPdu header carried old port out new port' end)
+    (TurnsAtOnce commands address limits header carried old port out new port' end)
 
 -- a PDU that was read
-abbrev pub ArrivalTurn : {P : Type 0} → Commands P → List ℕ → Limits → List ℕ → List ℕ → FeatureSpot → P → List ℕ
-    → FeatureSpot → P → TurnEnd → Type 0
-ArrivalTurn commands address limits header carried old port out new port' end =
-    MatchBool (waits old.spot.flow (length old.waiting) (initiator_pdu header))
-    (KeepsPdu header carried old port out new port' end)
-    (NowTurn commands address limits header carried (initiator_pdu header) old port out new port' end)
+abbrev pub ArrivalTurn : {P : Type 0} → Commands P → UnitResets P → List ℕ → Limits → List ℕ → List ℕ → FeatureSpot → P
+    → List ℕ → FeatureSpot → P → TurnEnd → Type 0
+ArrivalTurn commands resets address limits header carried old port out new port' end =
+    ArrivalFor commands resets address limits header carried (initiator_pdu header)
+    (waits old.spot.flow (length old.waiting) (initiator_pdu header)) old port out new port' end
+
+-- at most one command was given to the port, or units were reset once
+pub data MayUse {P : Type 0} (commands : Commands P) (resets : UnitResets P) (old new : P) : Type 0 where
+  may_give : MayGive commands old new → MayUse commands resets old new
+  has_reset : (lun : Option ℕ) (outcome : ResetOutcome) → resets old lun outcome new → MayUse commands resets old new

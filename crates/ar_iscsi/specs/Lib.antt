@@ -2,6 +2,7 @@ pub mod Arrival
 pub mod Flow
 pub mod LoginPhase
 pub mod LoginTurn
+pub mod Management
 pub mod Negotiation
 pub mod Pdu
 pub mod Phase

@@ -1,6 +1,7 @@
 -- The full feature phase of a normal session.
-use Rattle.std.specs.Prelude.{◌≡◌, ℕ, Bool, true, false, List, [], ◌∷◌, Option, Some, None}
+use Rattle.std.specs.Prelude.{◌≡◌, ℕ, true, false, List, [], ◌∷◌, Option, Some, None}
 use Rattle.ar_frames.specs.Conversation.{Commands}
+use Rattle.ar_target.specs.ResetPort.{UnitResets}
 use Rattle.ar_frames.specs.Stream.{Sending}
 use Rattle.ar_frames.specs.declared.fill.Sent.{Sent}
 use Rattle.ar_frames.specs.declared.fill.Sent.TheVariants.{Whole, Part}
@@ -13,20 +14,38 @@ use Rattle.ar_iscsi.specs.declared.session.PduResult.TheVariants.{Served, Ended}
 use Rattle.ar_iscsi.specs.declared.turn.TurnEnd.{TurnEnd}
 use Rattle.ar_iscsi.specs.declared.turn.TurnEnd.TheVariants.{Next, LoggedOut, BrokenData, Rejected}
 use Rattle.ar_iscsi.specs.declared.waiting_pdu.WaitingPdu.{WaitingPdu}
-use Rattle.ar_iscsi.specs.Arrival.{FeatureSpot, ArrivalTurn}
+use Rattle.ar_iscsi.specs.declared.waiting_pdu.WaitingState.{WaitingState}
+use Rattle.ar_iscsi.specs.declared.waiting_pdu.WaitingState.TheVariants as state
+use Rattle.ar_iscsi.specs.declared.response.TargetPdu.TheVariants as pdu
+use Rattle.ar_iscsi.specs.Arrival.{FeatureSpot, ArrivalTurn, MayUse}
 use Rattle.ar_iscsi.specs.Phase.{Place, ServesPdu, ServesPdus, IsLeftAlone, HasNoAnswer, IsAnswerLost, most_pdus}
 use Rattle.ar_iscsi.specs.Task.{MayGive}
-use Rattle.ar_iscsi.specs.Turn.{Spot, AnswersBy, FeatureTurn}
-use Rattle.ar_iscsi.specs.Flow.{is_open, received}
+use Rattle.ar_iscsi.specs.Turn.{Spot, AnswersBy, FeatureTurn, Responds}
+use Rattle.ar_iscsi.specs.Flow.{is_open, numbers_of, received}
+use Rattle.ar_iscsi.specs.Request.{task_tag}
+use Rattle.ar_iscsi.specs.Response.{no_lun, no_tag, target_pdu}
 use Rattle.ar_iscsi.specs.Waiting.{is_next_waiting}
 
--- what a PDU that waited does: what its turn says or, if it was dropped, it is counted and not answered
-abbrev pub WaitingTurn : {P : Type 0} → Commands P → List ℕ → Limits → Bool → List ℕ → List ℕ → Spot → P → List ℕ → Spot
-    → P → TurnEnd → Type 0
-WaitingTurn commands address limits true header carried old port out new port' end =
-    AnswersBy out new end [] (received old.flow false) old.bytes Next × (port' ≡ port)
-WaitingTurn commands address limits false header carried old port out new port' end =
+-- A command that was dropped is counted. A NOP-In carries the new MaxCmdSN, as no response does (RFC 7143, 11.19); it
+-- wants no answer, and takes no StatSN.
+abbrev pub CountsDropped : Spot → List ℕ → Spot → TurnEnd → Type 0
+CountsDropped old out new end =
+    AnswersBy out new end (target_pdu (pdu.NopIn no_lun no_tag) (numbers_of (received old.flow false)) [])
+    (received old.flow false) old.bytes Next
+
+-- what a PDU that waited does, by its state: what its turn says; or it is counted and, as a task management request
+-- that was done when it was read, answered by its response
+abbrev pub WaitingTurn : {P : Type 0} → Commands P → List ℕ → Limits → WaitingState → List ℕ → List ℕ → Spot → P
+    → List ℕ
+    → Spot → P → TurnEnd → Type 0
+WaitingTurn commands address limits state.Undone header carried old port out new port' end =
     FeatureTurn commands address limits header carried old port out new port' end
+WaitingTurn commands address limits state.Dropped header carried old port out new port' end =
+    CountsDropped old out new end × (port' ≡ port)
+WaitingTurn commands address limits (state.Answered response) header carried old port out new port' end =
+    Responds (received old.flow false) (pdu.TaskManagementResponse (task_tag header) response) [] old.bytes out new end
+    Next
+    × (port' ≡ port)
 
 -- what is taken from those that wait: the oldest, once no data are collected
 abbrev pub TakesWaiting : Flow → List WaitingPdu → Option WaitingPdu → List WaitingPdu → Type 0
@@ -40,52 +59,59 @@ pub record ServesWaiting {P : Type 0} (commands : Commands P) (address : List �
   pub out : List ℕ
   pub oldest : TakesWaiting old.spot.spot.flow old.spot.waiting (Some pdu) new.spot.waiting
   pub turn :
-      WaitingTurn commands address limits pdu.is_dropped pdu.header pdu.carried old.spot.spot old.port out
+      WaitingTurn commands address limits pdu.state pdu.header pdu.carried old.spot.spot old.port out
       new.spot.spot new.port left
   pub source : new.source ≡ old.source
   pub sending : Sending old.sink new.sink out sent
 
 -- none that waits is next, and a PDU was read, did what its turn says, and was answered
-pub record ServesArrival {P : Type 0} (commands : Commands P) (address : List ℕ) (limits : Limits)
+pub record ServesArrival {P : Type 0} (commands : Commands P) (resets : UnitResets P) (address : List ℕ)
+    (limits : Limits)
     (old new : Place FeatureSpot P) (left : TurnEnd) (sent : Sent) : Type 0 where
   pub none_next : is_next_waiting old.spot.spot.flow old.spot.waiting ≡ false
-  pub serves : ServesPdu (ArrivalTurn commands address limits) old new left sent
+  pub serves : ServesPdu (ArrivalTurn commands resets address limits) old new left sent
 
 -- a step of the phase
-pub data FeatureStep {P : Type 0} (commands : Commands P) (address : List ℕ) (limits : Limits)
+pub data FeatureStep {P : Type 0} (commands : Commands P) (resets : UnitResets P) (address : List ℕ) (limits : Limits)
     (old new : Place FeatureSpot P) (left : TurnEnd) (sent : Sent) : Type 0 where
   of_waiting : ServesWaiting commands address limits old new left sent
-      → FeatureStep commands address limits old new left sent
-  of_arrival : ServesArrival commands address limits old new left sent
-      → FeatureStep commands address limits old new left sent
+      → FeatureStep commands resets address limits old new left sent
+  of_arrival : ServesArrival commands resets address limits old new left sent
+      → FeatureStep commands resets address limits old new left sent
 
 -- memory for the answer to a PDU that was read, or waited, ran out: nothing was written, and the port was given at most
--- one command
-pub data LacksAnswer {P : Type 0} (commands : Commands P) (old new : Place FeatureSpot P) : Type 0 where
-  read_lacks : HasNoAnswer (MayGive commands) old new → LacksAnswer commands old new
+-- one command, or units were reset
+pub data LacksAnswer {P : Type 0} (commands : Commands P) (resets : UnitResets P) (old new : Place FeatureSpot P)
+    : Type 0 where
+  read_lacks : HasNoAnswer (MayUse commands resets) old new → LacksAnswer commands resets old new
   waiting_lacks :
-      new.source ≡ old.source → new.sink ≡ old.sink → MayGive commands old.port new.port → LacksAnswer commands old new
+      new.source ≡ old.source → new.sink ≡ old.sink → MayGive commands old.port new.port
+      → LacksAnswer commands resets old new
 
 -- when each end comes, after `count` PDUs, from the last moment between two of them
-abbrev pub EndsFeature : {P : Type 0} → Commands P → List ℕ → Limits → ℕ → Place FeatureSpot P → FeatureEnd
+abbrev pub EndsFeature : {P : Type 0} → Commands P → UnitResets P → List ℕ → Limits → ℕ → Place FeatureSpot P
+    → FeatureEnd
     → Place FeatureSpot P → Type 0
-EndsFeature commands address limits count old (end.Unread reason) new = IsLeftAlone old new reason
-EndsFeature commands address limits count old end.Write new = IsAnswerLost (FeatureStep commands address limits) old new
-EndsFeature commands address limits count old end.LoggedOut new =
-    FeatureStep commands address limits old new LoggedOut Whole
-EndsFeature commands address limits count old end.BrokenData new =
-    FeatureStep commands address limits old new BrokenData Whole
-EndsFeature commands address limits count old end.Rejected new =
-    FeatureStep commands address limits old new Rejected Whole
-EndsFeature commands address limits count old end.NoMemory new = LacksAnswer commands old new
-EndsFeature commands address limits count old end.Bound new = (count ≡ most_pdus) × (new ≡ old)
+EndsFeature commands resets address limits count old (end.Unread reason) new = IsLeftAlone old new reason
+EndsFeature commands resets address limits count old end.Write new =
+    IsAnswerLost (FeatureStep commands resets address limits) old new
+EndsFeature commands resets address limits count old end.LoggedOut new =
+    FeatureStep commands resets address limits old new LoggedOut Whole
+EndsFeature commands resets address limits count old end.BrokenData new =
+    FeatureStep commands resets address limits old new BrokenData Whole
+EndsFeature commands resets address limits count old end.Rejected new =
+    FeatureStep commands resets address limits old new Rejected Whole
+EndsFeature commands resets address limits count old end.NoMemory new =
+    LacksAnswer commands resets old new
+EndsFeature commands resets address limits count old end.Bound new = (count ≡ most_pdus) × (new ≡ old)
 
 -- one more PDU was served, or the phase has ended, after however many PDUs
-abbrev pub NextIsServed : {P : Type 0} → Commands P → List ℕ → Limits → Place FeatureSpot P → PduResult
+abbrev pub NextIsServed : {P : Type 0} → Commands P → UnitResets P → List ℕ → Limits → Place FeatureSpot P → PduResult
     → Place FeatureSpot P → Type 0
-NextIsServed commands address limits old Served new = FeatureStep commands address limits old new Next Whole
-NextIsServed commands address limits old (Ended reason) new =
-    (count : ℕ) → EndsFeature commands address limits count old reason new
+NextIsServed commands resets address limits old Served new =
+    FeatureStep commands resets address limits old new Next Whole
+NextIsServed commands resets address limits old (Ended reason) new =
+    (count : ℕ) → EndsFeature commands resets address limits count old reason new
 
 -- what becomes of the session after a turn whose answer was written this far
 abbrev pub result_of_turn : TurnEnd → Sent → PduResult
@@ -101,9 +127,9 @@ result_of_answer None = Ended end.NoMemory
 result_of_answer (Some answered) = result_of_turn answered.0 answered.1
 
 -- A full feature phase: PDUs were served in order, each did what its turn says and was answered, and then its end came.
-pub record RunsFeature {P : Type 0} (commands : Commands P) (address : List ℕ) (limits : Limits)
+pub record RunsFeature {P : Type 0} (commands : Commands P) (resets : UnitResets P) (address : List ℕ) (limits : Limits)
     (old : Place FeatureSpot P) (reason : FeatureEnd) (new : Place FeatureSpot P) : Type 0 where
   pub count : ℕ
   pub between : Place FeatureSpot P
-  pub served : ServesPdus (FeatureStep commands address limits) Next count old between
-  pub ends : EndsFeature commands address limits count between reason new
+  pub served : ServesPdus (FeatureStep commands resets address limits) Next count old between
+  pub ends : EndsFeature commands resets address limits count between reason new

@@ -7,7 +7,7 @@ use Rattle.ar_iscsi.specs.declared.flow.Flow.{Flow}
 use Rattle.ar_iscsi.specs.declared.flow.Collecting.{Collecting}
 use Rattle.ar_iscsi.specs.declared.negotiation.Limits.{Limits}
 use Rattle.ar_iscsi.specs.declared.reaction.Reaction.{Reaction}
-use Rattle.ar_iscsi.specs.declared.reaction.Reaction.TheVariants.{Ignores, Counts, Answers, Echoes, AnswersText, Drops}
+use Rattle.ar_iscsi.specs.declared.reaction.Reaction.TheVariants.{Ignores, Counts, Answers, Echoes, AnswersText}
 use Rattle.ar_iscsi.specs.declared.reaction.Reaction.TheVariants.{Closes, Rejects}
 use Rattle.ar_iscsi.specs.declared.request.ScsiCommand.{ScsiCommand}
 use Rattle.ar_iscsi.specs.declared.request.InitiatorPdu.{InitiatorPdu}
@@ -23,7 +23,7 @@ use Rattle.ar_iscsi.specs.declared.turn.TurnEnd.TheVariants.{Next, LoggedOut, Br
 use Rattle.ar_iscsi.specs.Response.{target_pdu}
 use Rattle.ar_iscsi.specs.Request.{initiator_pdu}
 use Rattle.ar_iscsi.specs.Flow.{numbers_of, received, answered, reopened, awaiting}
-use Rattle.ar_iscsi.specs.Reaction.{to_nop_out, to_text, to_logout, to_task_management}
+use Rattle.ar_iscsi.specs.Reaction.{to_nop_out, to_text, to_logout}
 use Rattle.ar_iscsi.specs.Targets.{targets_answer}
 use Rattle.ar_iscsi.specs.Task.{Completes, GetsBusy, AsksFrom, command_step, data_step, most_in}
 
@@ -82,8 +82,6 @@ ReactionTurn address limits header carried flow (Echoes response) old out new en
     Responds flow response (take (most_in limits) carried) old.bytes out new end Next
 ReactionTurn address limits header carried flow (AnswersText response) old out new end =
     RespondsText header (targets_answer address carried) (most_in limits) flow response old out new end
-ReactionTurn address limits header carried flow (Drops response) old out new end =
-    Responds (reopened flow) response [] [] out new end Next
 ReactionTurn address limits header carried flow (Closes response) old out new end =
     Responds flow response [] old.bytes out new end LoggedOut
 ReactionTurn address limits header carried flow (Rejects reason) old out new end =
@@ -159,10 +157,9 @@ TurnFor commands address limits header carried (asks.Logout request) old port ou
     ReactionTurn address limits header carried (received old.flow request.immediate) (to_logout old.flow request) old
     out new end
     × (port' ≡ port)
+-- a task management request was done when it was read
 TurnFor commands address limits header carried (asks.TaskManagement request) old port out new port' end =
-    ReactionTurn address limits header carried (received old.flow request.immediate)
-    (to_task_management old.flow request) old out new end
-    × (port' ≡ port)
+    StaysSilent old out new end × (port' ≡ port)
 -- a login in the full feature phase is PROTOCOL ERROR, another opcode COMMAND NOT SUPPORTED
 TurnFor commands address limits header carried (asks.Login request) old port out new port' end =
     IsRejected header 0x04 old out new end × (port' ≡ port)

@@ -1,18 +1,13 @@
 -- PDUs that wait while the data of a WRITE before them are collected (RFC 7143, 4.2.2.1): they are kept as they came,
 -- and are done in CmdSN's order once the WRITE is. They aren't counted before that.
-use Rattle.std.specs.Prelude.{ℕ, ◌+◌, ◌%◌, ◌^◌, ◌==◌, nat_lt, Bool, true, false, not, ◌&&◌, ◌||◌, if◌then◌else◌, List}
-use Rattle.std.specs.Prelude.{[], ◌∷◌}
-use Rattle.std.specs.Prelude.{Option, Some, None}
-use Rattle.std.specs.List.{list_any}
+use Rattle.std.specs.Prelude.{ℕ, ◌+◌, ◌%◌, ◌^◌, ◌==◌, nat_lt, Bool, true, false, not, ◌&&◌, if◌then◌else◌, List}
+use Rattle.std.specs.Prelude.{[], ◌∷◌, Option, Some, None}
 use Rattle.ar_iscsi.specs.declared.flow.Flow.{Flow}
 use Rattle.ar_iscsi.specs.declared.request.InitiatorPdu.{InitiatorPdu}
 use Rattle.ar_iscsi.specs.declared.request.InitiatorPdu.TheVariants as asks
-use Rattle.ar_iscsi.specs.declared.request.Lun.{Lun}
-use Rattle.ar_iscsi.specs.declared.request.ScsiCommand.{ScsiCommand}
-use Rattle.ar_iscsi.specs.declared.request.TaskManagement.{TaskManagement}
 use Rattle.ar_iscsi.specs.declared.waiting_pdu.WaitingPdu.{WaitingPdu}
+use Rattle.ar_iscsi.specs.declared.waiting_pdu.WaitingState.{WaitingState}
 use Rattle.ar_iscsi.specs.Flow.{is_open}
-use Rattle.ar_iscsi.specs.Request.{initiator_pdu}
 
 -- the CmdSN of a request that isn't immediate
 abbrev pub unless : Bool → ℕ → Option ℕ
@@ -54,39 +49,5 @@ abbrev pub is_next_waiting : Flow → List WaitingPdu → Bool
 is_next_waiting flow waiting = is_open flow.collecting && not (is_none waiting)
 
 -- a PDU as it is kept
-abbrev pub kept : List ℕ → List ℕ → WaitingPdu
-kept header carried = record { header = header; carried = carried; is_dropped = false }
-
--- two LUNs are the same
-abbrev pub same_lun : Lun → Lun → Bool
-same_lun lun other = (lun.high == other.high) && (lun.low == other.low)
-
--- a task management request means this command (RFC 7143, 11.5.1): ABORT TASK by its task tag, ABORT TASK SET, CLEAR
--- TASK SET and LOGICAL UNIT RESET by its unit
-abbrev pub means : TaskManagement → ScsiCommand → Bool
-means request command =
-    if request.function == 1 then command.task_tag == request.referenced_tag
-    else (if (request.function == 2) || ((request.function == 4) || (request.function == 5))
-    then same_lun command.lun request.lun
-    else false)
-
--- the same of a PDU that may be a command
-abbrev pub means_pdu : TaskManagement → InitiatorPdu → Bool
-means_pdu request (asks.ScsiCommand command) = means request command
-means_pdu request other = false
-
--- the same of one that waits
-abbrev pub drops : TaskManagement → WaitingPdu → Bool
-drops request pdu = means_pdu request (initiator_pdu pdu.header)
-
--- what a task management request makes of a PDU that waits
-abbrev pub managed_by : TaskManagement → WaitingPdu → WaitingPdu
-managed_by request pdu = record {
-  header = pdu.header;
-  carried = pdu.carried;
-  is_dropped = pdu.is_dropped || drops request pdu;
-}
-
--- a task management request is an ABORT TASK of a command that waits
-abbrev pub names_waiting : TaskManagement → List WaitingPdu → Bool
-names_waiting request waiting = (request.function == 1) && list_any (drops request) waiting
+abbrev pub kept : List ℕ → List ℕ → WaitingState → WaitingPdu
+kept header carried state = record { header = header; carried = carried; state = state }

@@ -1,19 +1,21 @@
-// A PDU that was read: it waits while the data of a WRITE before it are collected, and is done otherwise.
+// A PDU that was read: it waits while the data of a WRITE before it are collected, and is done otherwise. A task
+// management request is done at once, and its response waits.
 ghost use Rattle.std.specs.Prelude.{◌≡◌, true, [], IfOk};
 ghost use Rattle.ar_iscsi.specs.Arrival as arrival;
-ghost use Rattle.ar_iscsi.specs.Task.{MayGive};
 
+use crate::management::manage_tasks;
 use crate::request::{InitiatorPdu, TaskManagement, initiator_pdu};
 use crate::response::TargetPdu;
 use crate::turn::{TurnEnd, Work, respond, take_turn};
-use crate::waiting::{drop_waiting, keep, names_waiting, waits};
-use crate::waiting_pdu::WaitingPdu;
-use ar_frames::Port;
+use crate::waiting::{keep, waits};
+use crate::waiting_pdu::{WaitingPdu, WaitingState};
+use ar_target::ResetPort;
 use std::alloc::{AllocError, Global};
 
 /// Does what a PDU that was read asks for, or keeps it until the data of a WRITE before it have come. The answer is put
-/// into `out`, which is empty before. `Err`: memory ran out, and the port may have done one command.
-pub(crate) fn take_arrival<P: Port>(
+/// into `out`, which is empty before. `Err`: memory ran out, and the port may have done one command, or
+/// have reset units.
+pub(crate) fn take_arrival<P: ResetPort>(
     work: &mut Work,
     waiting: &mut Vec<WaitingPdu>,
     alloc: Global,
@@ -24,7 +26,7 @@ pub(crate) fn take_arrival<P: Port>(
 ) -> Result<TurnEnd, AllocError>
     requires logged { P.has_login port.old ≡ true }
     requires empty { work.old.out.items ≡ [] }
-    ensures turn { IfOk result (λ ended. arrival.ArrivalTurn P.commands address.now work.old.limits header.now
+    ensures turn { IfOk result (λ ended. arrival.ArrivalTurn P.commands P.resets address.now work.old.limits header.now
         carried.now
         (record {
           spot = record { flow = work.old.flow; bytes = work.old.collected.items };
@@ -36,38 +38,39 @@ pub(crate) fn take_arrival<P: Port>(
           waiting = waiting.new.items;
         })
         port.new ended) }
-    ensures once { MayGive P.commands port.old port.new }
+    ensures once { arrival.MayUse P.commands P.resets port.old port.new }
     ensures stays { P.has_login port.new ≡ true }
     ensures limits { work.new.limits ≡ work.old.limits }
 {
     let pdu = initiator_pdu(header);
-    if waits(&work.flow, waiting.len(), &pdu) {
-        keep(waiting, alloc, header, carried)?;
-        return Ok(TurnEnd::Next);
-    }
+    let is_behind = waits(&work.flow, waiting.len(), &pdu);
     if let InitiatorPdu::TaskManagement(request) = pdu {
         return take_management(
-            work, waiting, alloc, port, address, header, carried, &request,
+            work, waiting, alloc, port, header, carried, &request, is_behind,
         );
+    }
+    if is_behind {
+        keep(waiting, alloc, header, carried, WaitingState::Undone)?;
+        return Ok(TurnEnd::Next);
     }
     take_turn(work, alloc, port, address, header, carried)
 }
 
-// Does what a task management request asks for that was read: an immediate one drops commands that wait, too.
-fn take_management<P: Port>(
+// Does what a task management request asks for that was read. `is_behind`: it is the next in CmdSN's order behind those
+// that wait, so that its response waits, too.
+fn take_management<P: ResetPort>(
     work: &mut Work,
     waiting: &mut Vec<WaitingPdu>,
     alloc: Global,
     port: &mut P,
-    address: &[u8],
     header: &[u8; 48],
     carried: &[u8],
     request: &TaskManagement,
+    is_behind: bool,
 ) -> Result<TurnEnd, AllocError>
     requires logged { P.has_login port.old ≡ true }
     requires empty { work.old.out.items ≡ [] }
-    ensures turn { IfOk result (λ ended. arrival.ManagementTurn P.commands address.now work.old.limits header.now
-        carried.now request.now
+    ensures turn { IfOk result (λ ended. arrival.ManagementTurn P.resets header.now carried.now request.now is_behind
         (record {
           spot = record { flow = work.old.flow; bytes = work.old.collected.items };
           waiting = waiting.old.items;
@@ -78,27 +81,81 @@ fn take_management<P: Port>(
           waiting = waiting.new.items;
         })
         port.new ended) }
-    ensures once { MayGive P.commands port.old port.new }
+    ensures once { arrival.MayUse P.commands P.resets port.old port.new }
     ensures stays { P.has_login port.new ≡ true }
     ensures limits { work.new.limits ≡ work.old.limits }
 {
-    if request.immediate {
-        let named = names_waiting(request, waiting);
-        drop_waiting(request, waiting);
-        if named {
-            let flow = work.flow;
-            return respond(work, flow, aborted(request), &[], TurnEnd::Next);
-        }
+    if is_behind {
+        return answer_later(work, waiting, alloc, port, header, carried, request);
     }
-    take_turn(work, alloc, port, address, header, carried)
+    if work.flow.accepts(request.immediate, request.cmd_sn) {
+        return answer_now(work, waiting, port, request);
+    }
+    Ok(TurnEnd::Next)
 }
 
-// The answer to an ABORT TASK of a command that waits.
-fn aborted(request: &TaskManagement) -> TargetPdu
-    ensures { result ≡ arrival.aborted request.now }
+// Does what a task management request asks for, and keeps its response behind those that wait.
+fn answer_later<P: ResetPort>(
+    work: &mut Work,
+    waiting: &mut Vec<WaitingPdu>,
+    alloc: Global,
+    port: &mut P,
+    header: &[u8; 48],
+    carried: &[u8],
+    request: &TaskManagement,
+) -> Result<TurnEnd, AllocError>
+    requires logged { P.has_login port.old ≡ true }
+    requires empty { work.old.out.items ≡ [] }
+    ensures turn { IfOk result (λ ended. arrival.AnswersLater P.resets header.now carried.now request.now
+        (record {
+          spot = record { flow = work.old.flow; bytes = work.old.collected.items };
+          waiting = waiting.old.items;
+        })
+        port.old work.new.out.items
+        (record {
+          spot = record { flow = work.new.flow; bytes = work.new.collected.items };
+          waiting = waiting.new.items;
+        })
+        port.new ended) }
+    ensures once { arrival.MayUse P.commands P.resets port.old port.new }
+    ensures stays { P.has_login port.new ≡ true }
+    ensures limits { work.new.limits ≡ work.old.limits }
 {
-    TargetPdu::TaskManagementResponse {
+    let response = manage_tasks(work, waiting, port, request);
+    let state = WaitingState::Answered(response);
+    keep(waiting, alloc, header, carried, state)?;
+    Ok(TurnEnd::Next)
+}
+
+// Does what a task management request asks for, and sends its response.
+fn answer_now<P: ResetPort>(
+    work: &mut Work,
+    waiting: &mut Vec<WaitingPdu>,
+    port: &mut P,
+    request: &TaskManagement,
+) -> Result<TurnEnd, AllocError>
+    requires logged { P.has_login port.old ≡ true }
+    requires empty { work.old.out.items ≡ [] }
+    ensures turn { IfOk result (λ ended. arrival.AnswersNow P.resets request.now
+        (record {
+          spot = record { flow = work.old.flow; bytes = work.old.collected.items };
+          waiting = waiting.old.items;
+        })
+        port.old work.new.out.items
+        (record {
+          spot = record { flow = work.new.flow; bytes = work.new.collected.items };
+          waiting = waiting.new.items;
+        })
+        port.new ended) }
+    ensures once { arrival.MayUse P.commands P.resets port.old port.new }
+    ensures stays { P.has_login port.new ≡ true }
+    ensures limits { work.new.limits ≡ work.old.limits }
+{
+    let response = manage_tasks(work, waiting, port, request);
+    let flow = work.flow.received(request.immediate);
+    let pdu = TargetPdu::TaskManagementResponse {
         task_tag: request.task_tag,
-        response: 0,
-    }
+        response,
+    };
+    respond(work, flow, pdu, &[], TurnEnd::Next)
 }

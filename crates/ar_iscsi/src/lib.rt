@@ -9,6 +9,7 @@ mod flow;
 mod keys;
 mod login;
 mod login_phase;
+mod management;
 mod negotiation;
 mod reaction;
 mod receive;
@@ -33,7 +34,7 @@ pub use login_phase::{LoginEnd, log_in};
 pub use negotiation::{Limits, Negotiation, SessionKind, TargetChoice, negotiated, target_of};
 pub use reaction::{
     COMMAND_NOT_SUPPORTED, INVALID_PDU_FIELD, PROTOCOL_ERROR, Reaction, to_logout, to_nop_out,
-    to_task_management, to_text,
+    to_text,
 };
 pub use receive::{ReceiveEnd, Received, receive_pdu};
 pub use reply::{data_out_len, put_data_in, put_reply};
@@ -49,7 +50,7 @@ pub use task::{CommandStep, DataStep, ask, command_step, complete, data_step, re
 pub use text::answer_text;
 pub use turn::{TurnEnd, Work, take_turn};
 pub use verdict::{LoginStatus, LoginStep, judged, stage_of, status_code, step_of};
-pub use waiting_pdu::WaitingPdu;
+pub use waiting_pdu::{WaitingPdu, WaitingState};
 
 /// Lemma: no PDU is a proper prefix of another, and its bytes determine its header and its data.
 pub fn no_pdu_begins_another()

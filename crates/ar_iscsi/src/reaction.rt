@@ -1,15 +1,15 @@
-// What a session does with a request that needs no port: NOP-Out, text, task management, logout, and what it refuses.
+// What a session does with a request that needs no port: NOP-Out, text, logout, and what it refuses.
 ghost use Rattle.std.specs.Prelude.{◌≡◌, ◌==◌};
 ghost use Rattle.ar_iscsi.specs.Reaction as rule;
 
-use crate::flow::{Collecting, Flow};
-use crate::request::{LogoutRequest, Lun, NopOut, TaskManagement, TextRequest};
+use crate::flow::Flow;
+use crate::request::{LogoutRequest, NopOut, TextRequest};
 use crate::response::TargetPdu;
 
 /// What a session does with a request.
 #[derive(Clone, Copy, Debug, PartialEq, Eq)]
 pub enum Reaction {
-    /// Nothing: the request is outside the window, or there is no such task.
+    /// Nothing: the request is outside the window.
     Ignores,
     /// It is counted, and wants no answer.
     Counts,
@@ -19,8 +19,6 @@ pub enum Reaction {
     Echoes(TargetPdu),
     /// It is answered by this PDU, with the answer to its text.
     AnswersText(TargetPdu),
-    /// The WRITE whose data are collected is dropped, and it is answered by this PDU.
-    Drops(TargetPdu),
     /// It is answered by this PDU, and the session ends.
     Closes(TargetPdu),
     /// It is rejected for this reason, and isn't counted.
@@ -85,78 +83,5 @@ pub fn to_logout(flow: &Flow, request: &LogoutRequest) -> Reaction
             response: 2,
         }),
         _ => Reaction::Rejects(INVALID_PDU_FIELD),
-    }
-}
-
-/// What is done with a task management request. The only task that there can be is the WRITE whose data are collected.
-pub fn to_task_management(flow: &Flow, request: &TaskManagement) -> Reaction
-    ensures { result ≡ rule.to_task_management flow.now request.now }
-{
-    if flow.accepts(request.immediate, request.cmd_sn) {
-        managed(flow, request)
-    } else {
-        Reaction::Ignores
-    }
-}
-
-// The same for one that is accepted.
-fn managed(flow: &Flow, request: &TaskManagement) -> Reaction
-    ensures { result ≡ rule.managed flow.now request.now }
-{
-    let task_tag = request.task_tag;
-    let complete = TargetPdu::TaskManagementResponse {
-        task_tag,
-        response: 0,
-    };
-    match request.function {
-        1 => {
-            if is_task(flow.collecting, request.referenced_tag) {
-                Reaction::Drops(complete)
-            } else {
-                Reaction::Answers(TargetPdu::TaskManagementResponse {
-                    task_tag,
-                    response: 1,
-                })
-            }
-        }
-        2 | 4 | 5 => {
-            if is_of_unit(flow.collecting, request.lun) {
-                Reaction::Drops(complete)
-            } else {
-                Reaction::Answers(complete)
-            }
-        }
-        8 => Reaction::Answers(TargetPdu::TaskManagementResponse {
-            task_tag,
-            response: 4,
-        }),
-        3 | 6 | 7 => Reaction::Answers(TargetPdu::TaskManagementResponse {
-            task_tag,
-            response: 5,
-        }),
-        _ => Reaction::Answers(TargetPdu::TaskManagementResponse {
-            task_tag,
-            response: 255,
-        }),
-    }
-}
-
-// Whether the data of the task of this tag are collected.
-fn is_task(collecting: Option<Collecting>, tag: u32) -> bool
-    ensures { result ≡ rule.is_task collecting tag }
-{
-    match collecting {
-        Some(c) => c.command.task_tag == tag,
-        None => false,
-    }
-}
-
-// Whether data for this unit are collected.
-fn is_of_unit(collecting: Option<Collecting>, lun: Lun) -> bool
-    ensures { result ≡ rule.is_of_unit collecting lun }
-{
-    match collecting {
-        Some(c) => c.command.lun.high == lun.high && c.command.lun.low == lun.low,
-        None => false,
     }
 }

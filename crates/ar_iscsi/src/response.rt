@@ -104,7 +104,7 @@ pub enum TargetPdu {
 }
 
 // The tag that stands for no task.
-const NO_TAG: u32 = 0xFFFF_FFFF;
+pub(crate) const NO_TAG: u32 = 0xFFFF_FFFF;
 
 /// Appends a whole PDU to `out`: its header, `segment` and the padding. `Err` if the allocation fails; `out` then ends
 /// in an unspecified part of the PDU.
@@ -148,7 +148,7 @@ fn header_of(first: [u8; 4], words: &[u32; 11]) -> [u8; 48]
 }
 
 // No unit is named.
-const NO_LUN: Lun = Lun { high: 0, low: 0 };
+pub(crate) const NO_LUN: Lun = Lun { high: 0, low: 0 };
 
 // Encodes a header by its columns: the LUN, the initiator's task tag, word 5, the sequence numbers, and the last words.
 fn header_by(

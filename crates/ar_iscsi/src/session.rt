@@ -1,6 +1,6 @@
 // The full feature phase of a session: PDUs are read, each does what its turn says, and its answer is written.
 ghost use Rattle.std.specs.Prelude.{◌≡◌, false, true, [], IfOk, OnSome, length};
-ghost use Rattle.ar_iscsi.specs.Arrival.{ArrivalTurn};
+ghost use Rattle.ar_iscsi.specs.Arrival.{ArrivalTurn, MayUse};
 ghost use Rattle.ar_iscsi.specs.Phase as phase;
 ghost use Rattle.ar_iscsi.specs.Session as session;
 ghost use Rattle.ar_iscsi.specs.Task.{MayGive};
@@ -9,11 +9,13 @@ ghost use Rattle.ar_iscsi.specs.Waiting.{is_next_waiting};
 use crate::arrival::take_arrival;
 use crate::flow::Flow;
 use crate::receive::{ReceiveEnd, Received, receive_pdu};
-use crate::request::segment_len;
-use crate::turn::{TurnEnd, Work, take_turn};
+use crate::request::{segment_len, word};
+use crate::response::{NO_LUN, NO_TAG, TargetPdu, put_pdu};
+use crate::turn::{TurnEnd, Work, respond, take_turn};
 use crate::waiting::is_next_waiting;
-use crate::waiting_pdu::WaitingPdu;
+use crate::waiting_pdu::{WaitingPdu, WaitingState};
 use ar_frames::{Port, Sent, Sink, Source, send};
+use ar_target::ResetPort;
 use std::alloc::{AllocError, Global};
 
 /// The longest data segment that is received, in bytes: the target's MaxRecvDataSegmentLength.
@@ -48,7 +50,7 @@ pub(crate) enum PduResult {
 
 /// Serves a normal session from its login to its end. `buffer` receives data segments; `address` is the target's, as
 /// `127.0.0.1:3260`. `waiting`, empty before, holds the PDUs that wait for the data of a WRITE.
-pub fn serve_feature<R: Source, W: Sink, P: Port>(
+pub fn serve_feature<R: Source, W: Sink, P: ResetPort>(
     alloc: Global,
     reader: &mut R,
     writer: &mut W,
@@ -61,7 +63,7 @@ pub fn serve_feature<R: Source, W: Sink, P: Port>(
     requires logged { P.has_login port.old ≡ true }
     requires room { length buffer.old ≡ phase.most_segment }
     requires empty { work.old.out.items ≡ [] }
-    ensures { session.RunsFeature P.commands address.now work.old.limits
+    ensures { session.RunsFeature P.commands P.resets address.now work.old.limits
         (record {
           source = R.state reader.old;
           sink = W.state writer.old;
@@ -92,7 +94,7 @@ pub fn serve_feature<R: Source, W: Sink, P: Port>(
 }
 
 // Serves the oldest PDU that waits, once no data are collected, and otherwise one that is read.
-fn serve_pdu<R: Source, W: Sink, P: Port>(
+fn serve_pdu<R: Source, W: Sink, P: ResetPort>(
     alloc: Global,
     reader: &mut R,
     writer: &mut W,
@@ -105,7 +107,7 @@ fn serve_pdu<R: Source, W: Sink, P: Port>(
     requires logged { P.has_login port.old ≡ true }
     requires room { length buffer.old ≡ phase.most_segment }
     requires empty { work.old.out.items ≡ [] }
-    ensures next { session.NextIsServed P.commands address.now work.old.limits
+    ensures next { session.NextIsServed P.commands P.resets address.now work.old.limits
         (record {
           source = R.state reader.old;
           sink = W.state writer.old;
@@ -150,7 +152,7 @@ fn take_waiting(flow: &Flow, waiting: &mut Vec<WaitingPdu>) -> Option<WaitingPdu
 }
 
 // Reads a PDU, does what it asks for, and writes the answer.
-fn serve_arrival<R: Source, W: Sink, P: Port>(
+fn serve_arrival<R: Source, W: Sink, P: ResetPort>(
     alloc: Global,
     reader: &mut R,
     writer: &mut W,
@@ -164,7 +166,7 @@ fn serve_arrival<R: Source, W: Sink, P: Port>(
     requires logged { P.has_login port.old ≡ true }
     requires room { length buffer.old ≡ phase.most_segment }
     requires empty { work.old.out.items ≡ [] }
-    ensures next { session.NextIsServed P.commands address.now work.old.limits
+    ensures next { session.NextIsServed P.commands P.resets address.now work.old.limits
         (record {
           source = R.state reader.old;
           sink = W.state writer.old;
@@ -202,7 +204,7 @@ fn serve_arrival<R: Source, W: Sink, P: Port>(
 }
 
 // Does what a PDU that was read asks for, and writes the answer. None: memory for it ran out.
-fn answer_arrival<W: Sink, P: Port>(
+fn answer_arrival<W: Sink, P: ResetPort>(
     alloc: Global,
     writer: &mut W,
     port: &mut P,
@@ -214,7 +216,8 @@ fn answer_arrival<W: Sink, P: Port>(
 ) -> Option<(TurnEnd, Sent)>
     requires logged { P.has_login port.old ≡ true }
     requires empty { work.old.out.items ≡ [] }
-    ensures answers { phase.AnswersPdu (ArrivalTurn P.commands address.now work.old.limits) (MayGive P.commands)
+    ensures answers { phase.AnswersPdu (ArrivalTurn P.commands P.resets address.now work.old.limits)
+        (MayUse P.commands P.resets)
         header.now carried.now (W.state writer.old)
         (record {
           spot = record { flow = work.old.flow; bytes = work.old.collected.items };
@@ -251,7 +254,7 @@ fn answer_waiting<W: Sink, P: Port>(
 ) -> Option<(TurnEnd, Sent)>
     requires logged { P.has_login port.old ≡ true }
     requires empty { work.old.out.items ≡ [] }
-    ensures answers { phase.AnswersPdu (session.WaitingTurn P.commands address.now work.old.limits pdu.now.is_dropped)
+    ensures answers { phase.AnswersPdu (session.WaitingTurn P.commands address.now work.old.limits pdu.now.state)
         (MayGive P.commands) pdu.now.header pdu.now.carried
         (W.state writer.old) (record { flow = work.old.flow; bytes = work.old.collected.items }) port.old result
         (W.state writer.new) (record { flow = work.new.flow; bytes = work.new.collected.items }) port.new }
@@ -269,7 +272,7 @@ fn answer_waiting<W: Sink, P: Port>(
     }
 }
 
-// Does what a PDU that waited asks for; one that was dropped is counted.
+// Does what is left to do with a PDU that waited.
 fn turn_waiting<P: Port>(
     work: &mut Work,
     alloc: Global,
@@ -280,25 +283,47 @@ fn turn_waiting<P: Port>(
     requires logged { P.has_login port.old ≡ true }
     requires empty { work.old.out.items ≡ [] }
     ensures turn { IfOk result (λ ended. session.WaitingTurn P.commands address.now work.old.limits
-        pdu.now.is_dropped pdu.now.header pdu.now.carried
+        pdu.now.state pdu.now.header pdu.now.carried
         (record { flow = work.old.flow; bytes = work.old.collected.items }) port.old work.new.out.items
         (record { flow = work.new.flow; bytes = work.new.collected.items }) port.new ended) }
     ensures once { MayGive P.commands port.old port.new }
     ensures stays { P.has_login port.new ≡ true }
     ensures limits { work.new.limits ≡ work.old.limits }
 {
-    if pdu.is_dropped {
-        work.flow = work.flow.received(false);
-        return Ok(TurnEnd::Next);
+    match pdu.state {
+        WaitingState::Undone => {
+            let carried = pdu.carried.as_slice();
+            take_turn(work, alloc, port, address, &pdu.header, carried)
+        }
+        WaitingState::Dropped => count_dropped(work),
+        WaitingState::Answered(response) => {
+            let flow = work.flow.received(false);
+            let response = TargetPdu::TaskManagementResponse {
+                task_tag: word(&pdu.header, 4),
+                response,
+            };
+            respond(work, flow, response, &[], TurnEnd::Next)
+        }
     }
-    take_turn(
-        work,
-        alloc,
-        port,
-        address,
-        &pdu.header,
-        pdu.carried.as_slice(),
-    )
+}
+
+// Counts a command that was dropped. No response tells the initiator of the room that it leaves in the window, so a
+// NOP-In does: else an initiator whose window is full would wait for ever.
+fn count_dropped(work: &mut Work) -> Result<TurnEnd, AllocError>
+    requires { work.old.out.items ≡ [] }
+    ensures counted { IfOk result (λ ended. session.CountsDropped
+        (record { flow = work.old.flow; bytes = work.old.collected.items }) work.new.out.items
+        (record { flow = work.new.flow; bytes = work.new.collected.items }) ended) }
+    ensures limits { work.new.limits ≡ work.old.limits }
+{
+    let flow = work.flow.received(false);
+    let pdu = TargetPdu::NopIn {
+        lun: NO_LUN,
+        task_tag: NO_TAG,
+    };
+    put_pdu(&mut work.out, pdu, flow.numbers(), &[])?;
+    work.flow = flow;
+    Ok(TurnEnd::Next)
 }
 
 // What becomes of the session after an answer.

@@ -11,6 +11,7 @@ use crate::session::{FeatureEnd, MOST_SEGMENT, serve_feature};
 use crate::turn::Work;
 use ar_frames::{Login, Port, Sink, Source};
 use ar_scsi::{Reply, Sense};
+use ar_target::{ResetOutcome, ResetPort};
 use bytes::Bytes;
 use std::alloc::{AllocError, Global};
 
@@ -53,10 +54,20 @@ impl Port for NoUnits {
     }
 }
 
+impl ResetPort for NoUnits {
+    ghost use Rattle.ar_iscsi.specs.Target.{no_resets};
+
+    ghost resets = { no_resets };
+
+    fn reset(&mut self, _lun: Option<u8>) -> ResetOutcome {
+        ResetOutcome::NoUnit
+    }
+}
+
 /// Serves one connection to the target: a login, and a normal session or one for discovery behind it. It holds a buffer
 /// of 256 KiB, the data of one WRITE, one answer at a time, and up to 16 PDUs that wait, of up to 256 KiB each.
 /// `address` is the target's own, as `127.0.0.1:3260`.
-pub fn serve_target<R: Source, W: Sink, P: Port>(
+pub fn serve_target<R: Source, W: Sink, P: ResetPort>(
     alloc: Global,
     reader: &mut R,
     writer: &mut W,
@@ -64,7 +75,7 @@ pub fn serve_target<R: Source, W: Sink, P: Port>(
     address: &[u8],
 ) -> IscsiEnd
     requires { P.has_login port.old ≡ false }
-    ensures { session.TargetSession P.logins P.commands address.now (R.state reader.old) (R.state reader.new)
+    ensures { session.TargetSession P.logins P.commands P.resets address.now (R.state reader.old) (R.state reader.new)
         (W.state writer.old) (W.state writer.new) port.old port.new result }
 {
     match segment_buffer(alloc) {
@@ -85,7 +96,7 @@ fn segment_buffer(alloc: Global) -> Result<Vec<u8>, AllocError>
 }
 
 // Serves a connection with a buffer for data segments.
-fn serve_buffered<R: Source, W: Sink, P: Port>(
+fn serve_buffered<R: Source, W: Sink, P: ResetPort>(
     alloc: Global,
     reader: &mut R,
     writer: &mut W,
@@ -95,7 +106,7 @@ fn serve_buffered<R: Source, W: Sink, P: Port>(
 ) -> IscsiEnd
     requires unlogged { P.has_login port.old ≡ false }
     requires room { length buffer.old ≡ most_segment }
-    ensures { session.TargetSession P.logins P.commands address.now (R.state reader.old) (R.state reader.new)
+    ensures { session.TargetSession P.logins P.commands P.resets address.now (R.state reader.old) (R.state reader.new)
         (W.state writer.old) (W.state writer.new) port.old port.new result }
 {
     let mut work = LoginWork {
@@ -119,7 +130,7 @@ fn serve_buffered<R: Source, W: Sink, P: Port>(
 }
 
 // Serves the full feature phase behind a login.
-fn serve_entered<R: Source, W: Sink, P: Port>(
+fn serve_entered<R: Source, W: Sink, P: ResetPort>(
     alloc: Global,
     reader: &mut R,
     writer: &mut W,
@@ -130,7 +141,7 @@ fn serve_entered<R: Source, W: Sink, P: Port>(
 ) -> FeatureEnd
     requires logged { state.so_far.kind ≡ SessionKind.Normal → P.has_login port.old ≡ true }
     requires room { length buffer.old ≡ most_segment }
-    ensures { session.IsFeature P.commands address.now state (R.state reader.old) (R.state reader.new)
+    ensures { session.IsFeature P.commands P.resets address.now state (R.state reader.old) (R.state reader.new)
         (W.state writer.old) (W.state writer.new) port.old port.new result }
 {
     let mut work = Work {

@@ -10,8 +10,7 @@ ghost use Rattle.ar_iscsi.specs.Targets.{targets_answer};
 use crate::flow::{Collecting, Flow};
 use crate::negotiation::Limits;
 use crate::reaction::{
-    COMMAND_NOT_SUPPORTED, PROTOCOL_ERROR, Reaction, to_logout, to_nop_out, to_task_management,
-    to_text,
+    COMMAND_NOT_SUPPORTED, PROTOCOL_ERROR, Reaction, to_logout, to_nop_out, to_text,
 };
 use crate::request::{InitiatorPdu, ScsiCommand, initiator_pdu};
 use crate::response::{TargetPdu, put_pdu};
@@ -90,11 +89,8 @@ pub fn take_turn<P: Port>(
             let reaction = to_logout(&work.flow, &request);
             react(work, alloc, address, header, carried, flow, reaction)
         }
-        InitiatorPdu::TaskManagement(request) => {
-            let flow = work.flow.received(request.immediate);
-            let reaction = to_task_management(&work.flow, &request);
-            react(work, alloc, address, header, carried, flow, reaction)
-        }
+        // (done when it was read)
+        InitiatorPdu::TaskManagement(_) => Ok(TurnEnd::Next),
         InitiatorPdu::Login(_) => reject(work, header, PROTOCOL_ERROR),
         InitiatorPdu::Unknown(_) => reject(work, header, COMMAND_NOT_SUPPORTED),
     }
@@ -200,10 +196,6 @@ fn react(
         Reaction::Echoes(pdu) => echo(work, flow, pdu, carried),
         Reaction::AnswersText(pdu) => {
             respond_text(work, alloc, address, header, carried, flow, pdu)
-        }
-        Reaction::Drops(pdu) => {
-            work.collected.clear();
-            respond(work, flow.reopened(), pdu, &[], TurnEnd::Next)
         }
         Reaction::Closes(pdu) => respond(work, flow, pdu, &[], TurnEnd::LoggedOut),
         Reaction::Rejects(reason) => reject(work, header, reason),

@@ -1,13 +1,13 @@
 // PDUs that wait: while the data of a WRITE are collected, those behind it in CmdSN's order are kept unopened, as if
 // they hadn't been read, and are done in order once the WRITE is. They aren't counted before that, so that MaxCmdSN
 // bounds how many there are.
-ghost use Rattle.std.specs.Prelude.{◌≡◌, ◌<◌, ◌++◌, ◌∷◌, [], OnOk, map};
+ghost use Rattle.std.specs.Prelude.{◌≡◌, ◌<◌, ◌++◌, ◌∷◌, [], OnOk};
 ghost use Rattle.ar_iscsi.specs.Waiting as rule;
 
 use crate::flow::{Flow, WINDOW};
-use crate::request::{InitiatorPdu, Lun, ScsiCommand, TaskManagement, initiator_pdu};
+use crate::request::InitiatorPdu;
 use crate::turn::shared_copy;
-use crate::waiting_pdu::WaitingPdu;
+use crate::waiting_pdu::{WaitingPdu, WaitingState};
 use std::alloc::{AllocError, Global};
 
 /// Whether a PDU that has been read waits behind `count` others.
@@ -63,8 +63,9 @@ pub(crate) fn keep(
     alloc: Global,
     header: &[u8; 48],
     carried: &[u8],
+    state: WaitingState,
 ) -> Result<(), AllocError>
-    ensures { OnOk result (waiting.new.items ≡ waiting.old.items ++ rule.kept header.now carried.now ∷ []) }
+    ensures { OnOk result (waiting.new.items ≡ waiting.old.items ++ rule.kept header.now carried.now state ∷ []) }
 {
     let Some(carried) = shared_copy(alloc, carried) else {
         return Err(AllocError);
@@ -72,61 +73,7 @@ pub(crate) fn keep(
     waiting.push(WaitingPdu {
         header: *header,
         carried,
-        is_dropped: false,
+        state,
     })?;
     Ok(())
-}
-
-/// Whether a task management request names a command that waits, as an ABORT TASK does.
-pub(crate) fn names_waiting(request: &TaskManagement, waiting: &[WaitingPdu]) -> bool
-    ensures { result ≡ rule.names_waiting request.now waiting.now }
-{
-    let mut named = false;
-    for pdu in waiting {
-        named = named || drops(request, pdu);
-    }
-    request.function == 1 && named
-}
-
-/// Drops the commands that wait and are meant by a task management request.
-pub(crate) fn drop_waiting(request: &TaskManagement, waiting: &mut Vec<WaitingPdu>)
-    ensures { waiting.new.items ≡ map (rule.managed_by request.now) waiting.old.items }
-{
-    for pdu in waiting.iter_mut() {
-        manage(request, pdu);
-    }
-}
-
-// Drops a command if it is meant by a task management request.
-fn manage(request: &TaskManagement, pdu: &mut WaitingPdu)
-    ensures { pdu.new ≡ rule.managed_by request.now pdu.old }
-{
-    pdu.is_dropped = pdu.is_dropped || drops(request, pdu);
-}
-
-// Whether a task management request means a command that waits.
-fn drops(request: &TaskManagement, pdu: &WaitingPdu) -> bool
-    ensures { result ≡ rule.drops request.now pdu.now }
-{
-    match initiator_pdu(&pdu.header) {
-        InitiatorPdu::ScsiCommand(command) => means(request, &command),
-        _ => false,
-    }
-}
-
-// Whether a task management request means this command: by its task tag, or by its unit.
-fn means(request: &TaskManagement, command: &ScsiCommand) -> bool
-    ensures { result ≡ rule.means request.now command.now }
-{
-    match request.function {
-        1 => command.task_tag == request.referenced_tag,
-        2 | 4 | 5 => same_lun(command.lun, request.lun),
-        _ => false,
-    }
-}
-
-fn same_lun(lun: Lun, other: Lun) -> bool
-    ensures { result ≡ rule.same_lun lun other }
-{
-    lun.high == other.high && lun.low == other.low
 }

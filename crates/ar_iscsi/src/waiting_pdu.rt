@@ -1,12 +1,22 @@
 // A PDU as it is kept until the data of a WRITE before it have come.
 use bytes::Bytes;
 
+/// What is left to do with a PDU that waits, in its turn.
+#[derive(Clone, Copy, Debug, PartialEq, Eq)]
+pub enum WaitingState {
+    /// All that it asks for.
+    Undone,
+    /// A task management request has dropped it: it is counted, and given to nobody.
+    Dropped,
+    /// It is a task management request, which was done when it was read: it is counted, and this response is sent.
+    Answered(u8),
+}
+
 /// A PDU that waits for the data of a WRITE before it.
 #[derive(Debug, Drop)]
 pub struct WaitingPdu {
     pub header: [u8; 48],
     /// Its data segment.
     pub carried: Bytes,
-    /// A task management request has dropped it: it is counted, and given to nobody.
-    pub is_dropped: bool,
+    pub state: WaitingState,
 }

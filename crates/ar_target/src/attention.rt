@@ -1,4 +1,5 @@
-// The UNIT ATTENTION of a new session, and of a reset: each unit reports it once, to the first command that isn't exempt.
+// The UNIT ATTENTION of a new session, and of a reset: each unit reports it once, to the first command that isn't
+// exempt.
 ghost use Rattle.std.specs.Prelude.{◌≡◌, ◌<◌, false, true, slice_set};
 ghost use Rattle.ar_frames.specs.Frame.{IsReply};
 ghost use Rattle.ar_target.specs.Attention as attention;

@@ -4,7 +4,7 @@ ghost use Rattle.ar_frames.specs.Frame.{IsReply};
 
 use ar_frames::{Login, Port};
 use ar_scsi::{Reply, Sense, capacity_data, inquiry_data};
-use ar_target::{FlushOutcome, FlushPort};
+use ar_target::{FlushOutcome, FlushPort, ResetOutcome, ResetPort};
 use bytes::Bytes;
 use std::alloc::Global;
 
@@ -86,5 +86,16 @@ impl FlushPort for Fake {
 
     fn flush(&mut self, _lun: u8) -> FlushOutcome {
         FlushOutcome::Done
+    }
+}
+
+impl ResetPort for Fake {
+    ghost resets = { λ old lun outcome new. Unit {0} };
+
+    fn reset(&mut self, lun: Option<u8>) -> ResetOutcome {
+        match lun {
+            None | Some(0) => ResetOutcome::Done,
+            Some(_) => ResetOutcome::NoUnit,
+        }
     }
 }

@@ -164,6 +164,7 @@ fn a_command_that_waits_is_aborted(rt: HostRuntime) {
         pdus::R2T_AHEAD,
         pdus::ABORTED_READ,
         pdus::WRITTEN_AFTER_ABORT,
+        pdus::ROOM_AFTER_ABORT,
         pdus::PONG_BEHIND,
     ];
     plays(&rt, alloc, &input, ENDED, &output);
@@ -185,8 +186,34 @@ fn a_reset_drops_the_commands_of_its_unit(rt: HostRuntime) {
         pdus::LOGGED_IN,
         pdus::R2T_AHEAD,
         pdus::UNIT_RESET,
+        pdus::ROOM_AFTER_RESET,
         pdus::PONG_AFTER_RESET,
     ];
+    plays(&rt, alloc, &input, ENDED, &output);
+}
+
+// The initiator need not send the data of a WRITE that it has aborted, and may.
+#[test]
+fn a_write_is_aborted_before_its_data(rt: HostRuntime) {
+    let alloc = rt.alloc();
+    let output = [pdus::LOGGED_IN, pdus::R2T_AHEAD, pdus::ABORTED_WRITE];
+    let input = [pdus::LOGIN, pdus::WRITE_AHEAD, pdus::ABORT_WRITE];
+    plays(&rt, alloc, &input, ENDED, &output);
+    let late = [
+        pdus::LOGIN,
+        pdus::WRITE_AHEAD,
+        pdus::ABORT_WRITE,
+        pdus::DATA_AHEAD_HEAD,
+        ALL,
+    ];
+    plays(&rt, alloc, &late, ENDED, &output);
+}
+
+#[test]
+fn a_reset_of_no_unit(rt: HostRuntime) {
+    let alloc = rt.alloc();
+    let input = [pdus::LOGIN, pdus::RESET_LUN_9];
+    let output = [pdus::LOGGED_IN, pdus::NO_LUN_9];
     plays(&rt, alloc, &input, ENDED, &output);
 }
 

@@ -1,10 +1,9 @@
 use Rattle.std.proofs.Common.{◌≡◌, ◌∙◌, ℕ, [], length, subst, sym, take}
 use Rattle.ar_iscsi.specs.declared.session.PduResult.{PduResult}
-use Rattle.ar_iscsi.specs.Arrival.{ArrivalTurn}
+use Rattle.ar_iscsi.specs.Arrival.{ArrivalTurn, MayUse}
 use Rattle.ar_iscsi.specs.Phase.{AnswersPdu}
 use Rattle.ar_iscsi.specs.Receive.{ReadsPdu}
 use Rattle.ar_iscsi.specs.Session.{NextIsServed}
-use Rattle.ar_iscsi.specs.Task.{MayGive}
 use Rattle.ar_iscsi.proofs.Serving.{handled, arrival_served}
 use Rattle.ar_iscsi.proofs.session.serve_arrival.Goals as goal
 
@@ -15,8 +14,10 @@ returns-in-Pdu-clause-next g c =
     subst (λ (n : ℕ). ReadsPdu [] n (g.R.Source.state c.args.reader.now) (g.R.Source.state c.receive_pdu.new.reader)
     c.in-Pdu.header c.receive_pdu.new.buffer) room c.in-Pdu.ensures in
     let answers =
-    subst (λ (n : ℕ). AnswersPdu (ArrivalTurn g.P.Port.commands c.args.address.now c.args.work.now.limits)
-    (MayGive g.P.Port.commands) c.in-Pdu.header (take n c.receive_pdu.new.buffer) (g.W.Sink.state c.args.writer.now)
+    subst (λ (n : ℕ). AnswersPdu
+    (ArrivalTurn g.P.Port.commands g.P.ResetPort.resets c.args.address.now c.args.work.now.limits)
+    (MayUse g.P.Port.commands g.P.ResetPort.resets) c.in-Pdu.header (take n c.receive_pdu.new.buffer)
+    (g.W.Sink.state c.args.writer.now)
     (record {
       spot = record { flow = c.args.work.now.flow; bytes = c.args.work.now.collected.items };
       waiting = c.args.waiting.now.items;
@@ -30,7 +31,8 @@ returns-in-Pdu-clause-next g c =
       waiting = c.answer_arrival-answered.new.waiting.items;
     })
     c.answer_arrival-answered.new.port) c.segment_len-len.ensures c.answer_arrival-answered.ensures.answers in
-    subst (λ (r : PduResult). NextIsServed g.P.Port.commands c.args.address.now c.args.work.now.limits
+    subst (λ (r : PduResult). NextIsServed g.P.Port.commands g.P.ResetPort.resets c.args.address.now
+    c.args.work.now.limits
     (record {
       source = g.R.Source.state c.args.reader.now;
       sink = g.W.Sink.state c.args.writer.now;
@@ -53,8 +55,10 @@ returns-in-Pdu-clause-next g c =
       };
       port = c.answer_arrival-answered.new.port;
     })) (sym c.result_of_answer.ensures)
-    (arrival_served g.P.Port.commands c.args.address.now c.args.work.now.limits _ _ c.answer_arrival-answered.result
+    (arrival_served g.P.Port.commands g.P.ResetPort.resets c.args.address.now c.args.work.now.limits _ _
+    c.answer_arrival-answered.result
     c.requires.none_next
-    (handled (ArrivalTurn g.P.Port.commands c.args.address.now c.args.work.now.limits) (MayGive g.P.Port.commands) _ _ _
+    (handled (ArrivalTurn g.P.Port.commands g.P.ResetPort.resets c.args.address.now c.args.work.now.limits)
+    (MayUse g.P.Port.commands g.P.ResetPort.resets) _ _ _
     _
     _ _ _ _ c.in-Pdu.header c.receive_pdu.new.buffer c.answer_arrival-answered.result reads answers))

@@ -8,9 +8,11 @@ use Rattle.ar_iscsi.proofs.session.serve_feature.Goals as goal
 
 pub returns-in-Ended : goal.returns-in-Ended
 returns-in-Ended g c =
-    feature_ended g.P.Port.commands c.args.address.now c.args.work.now.limits c.loop.counter _ _ _ c.in-Ended.reason
+    feature_ended g.P.Port.commands g.P.ResetPort.resets c.args.address.now c.args.work.now.limits c.loop.counter _ _ _
+    c.in-Ended.reason
     c.loop.invariant.served
-    (subst (λ (limits : Limits). EndsFeature g.P.Port.commands c.args.address.now limits c.loop.counter
+    (subst (λ (limits : Limits). EndsFeature g.P.Port.commands g.P.ResetPort.resets c.args.address.now limits
+    c.loop.counter
     (record {
       source = g.R.Source.state c.loop.reader;
       sink = g.W.Sink.state c.loop.writer;
@@ -33,10 +35,11 @@ returns-in-Ended g c =
 
 pub loop-preserved : goal.loop-preserved
 loop-preserved g c = record {
-  served = served_more (FeatureStep g.P.Port.commands c.args.address.now c.args.work.now.limits) Next c.loop.counter _ _
+  served = served_more (FeatureStep g.P.Port.commands g.P.ResetPort.resets c.args.address.now c.args.work.now.limits)
+      Next c.loop.counter _ _
       _
       c.loop.invariant.served
-      (subst (λ (limits : Limits). FeatureStep g.P.Port.commands c.args.address.now limits
+      (subst (λ (limits : Limits). FeatureStep g.P.Port.commands g.P.ResetPort.resets c.args.address.now limits
       (record {
         source = g.R.Source.state c.loop.reader;
         sink = g.W.Sink.state c.loop.writer;
@@ -64,6 +67,7 @@ loop-preserved g c = record {
 
 pub returns : goal.returns
 returns g c =
-    feature_ended g.P.Port.commands c.args.address.now c.args.work.now.limits c.loop.counter _ _ _ _
+    feature_ended g.P.Port.commands g.P.ResetPort.resets c.args.address.now c.args.work.now.limits c.loop.counter _ _ _
+    _
     c.loop.invariant.served
     (omega arith, refl)

@@ -7,7 +7,8 @@ use Rattle.ar_iscsi.proofs.session.serve_feature.Given as goal
 
 abbrev pub invariant-loop : goal.invariant-loop
 invariant-loop g l = record {
-  served : ServesPdus (FeatureStep g.P.Port.commands l.address l.initial.work.limits) Next l.counter
+  served : ServesPdus (FeatureStep g.P.Port.commands g.P.ResetPort.resets l.address l.initial.work.limits) Next
+      l.counter
       (record {
         source = g.R.Source.state l.initial.reader;
         sink = g.W.Sink.state l.initial.writer;

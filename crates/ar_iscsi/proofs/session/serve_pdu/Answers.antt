@@ -6,7 +6,8 @@ use Rattle.ar_iscsi.proofs.session.serve_pdu.Goals as goal
 
 pub returns-in-Some-clause-next : goal.returns-in-Some-clause-next
 returns-in-Some-clause-next g c =
-    subst (λ (r : PduResult). NextIsServed g.P.Port.commands c.args.address.now c.args.work.now.limits
+    subst (λ (r : PduResult). NextIsServed g.P.Port.commands g.P.ResetPort.resets c.args.address.now
+    c.args.work.now.limits
     (record {
       source = g.R.Source.state c.args.reader.now;
       sink = g.W.Sink.state c.args.writer.now;
@@ -29,5 +30,6 @@ returns-in-Some-clause-next g c =
       };
       port = c.answer_waiting-answered.new.port;
     })) (sym c.result_of_answer.ensures)
-    (waiting_served g.P.Port.commands c.args.address.now c.args.work.now.limits _ _ _ _ _ _ _ _ _ c.in-Some.pdu
+    (waiting_served g.P.Port.commands g.P.ResetPort.resets c.args.address.now c.args.work.now.limits _ _ _ _ _ _ _ _ _
+    c.in-Some.pdu
     c.answer_waiting-answered.result c.in-Some.ensures c.answer_waiting-answered.ensures.answers)

@@ -1,5 +1,5 @@
 use Rattle.std.proofs.Common.{refl}
-use Rattle.ar_iscsi.specs.Target.{at_port, at_no_units, no_units}
+use Rattle.ar_iscsi.specs.Target.{at_port, at_no_units, no_resets, no_units}
 use Rattle.ar_iscsi.proofs.Beginning.{feature_from}
 use Rattle.ar_iscsi.proofs.target.serve_entered.Goals as goal
 
@@ -11,7 +11,8 @@ returns-in-Normal g c =
       waiting = c.serve_feature.new.waiting.items;
     })
     c.in-Normal.is
-    (feature_from g.P.Port.commands _ _ _ _ _ c.new.result.items c.new-waiting.result.items _ _ _ c.new.ensures.items
+    (feature_from g.P.Port.commands g.P.ResetPort.resets _ _ _ _ _ c.new.result.items c.new-waiting.result.items _ _ _
+    c.new.ensures.items
     c.new-waiting.ensures.items c.serve_feature.ensures)
 
 pub returns : goal.returns
@@ -25,5 +26,5 @@ returns g c =
       waiting = c.serve_feature-in_default.new.waiting.items;
     })
     _ _ c.in_default.not-Normal
-    (feature_from no_units _ _ _ _ _ c.new.result.items c.new-waiting.result.items _ _ _ c.new.ensures.items
+    (feature_from no_units no_resets _ _ _ _ _ c.new.result.items c.new-waiting.result.items _ _ _ c.new.ensures.items
     c.new-waiting.ensures.items c.serve_feature-in_default.ensures) refl

@@ -1,7 +1,7 @@
 -- the first ones were managed, and the others are as they were
 use Rattle.std.proofs.Common.{◌≡◌, ◌++◌, take, drop, map}
-use Rattle.ar_iscsi.specs.Waiting.{managed_by}
-use Rattle.ar_iscsi.proofs.waiting.drop_waiting.Given as goal
+use Rattle.ar_iscsi.specs.Management.{managed_by}
+use Rattle.ar_iscsi.proofs.management.drop_waiting.Given as goal
 
 abbrev pub invariant-loop-pdu : goal.invariant-loop-pdu
 invariant-loop-pdu l =

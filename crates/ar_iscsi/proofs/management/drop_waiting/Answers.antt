@@ -1,8 +1,8 @@
 use Rattle.std.proofs.Common.{◌<◌, List, length, subst}
 use Rattle.ar_iscsi.specs.declared.waiting_pdu.WaitingPdu.{WaitingPdu}
-use Rattle.ar_iscsi.specs.Waiting.{managed_by}
+use Rattle.ar_iscsi.specs.Management.{managed_by}
 use Rattle.ar_iscsi.proofs.Managing.{changed_more}
-use Rattle.ar_iscsi.proofs.waiting.drop_waiting.Goals as goal
+use Rattle.ar_iscsi.proofs.management.drop_waiting.Goals as goal
 
 pub loop-pdu-preserved : goal.loop-pdu-preserved
 loop-pdu-preserved c =
