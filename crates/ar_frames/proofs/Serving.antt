@@ -16,7 +16,7 @@ use Rattle.ar_frames.specs.Observer.{Announces, Reports}
 use Rattle.ar_frames.specs.Port.{Logins}
 use Rattle.ar_frames.specs.Session.{admitted, most_frames, is_read_fault, WritesAnswers, WritesPart, WritesAllButLast}
 use Rattle.ar_frames.specs.Session.{Session}
-use Rattle.ar_frames.specs.FrameStep.{ServesFrame, EndsStep, Served, ServesAll, SessionModel, Moment, StepsTo}
+use Rattle.ar_frames.specs.FrameStep.{ServesFrame, EndsStep, Served, ServesAll, Moment, StepsTo}
 use Rattle.ar_frames.specs.FrameStep.{HasStepped, RunsInSteps, full, unsent, stopped}
 use Rattle.ar_disks.specs.declared.address.Host.{Host}
 use Rattle.ar_frames.specs.Login.{IsAdmitted}
@@ -98,10 +98,10 @@ served_none commands source sink port = record {
 }
 
 -- one more frame was served
-pub served_more : {P O : Type 0} {r0 r1 : SessionModel} {announces : Announces O} {reports : Reports O} {host : Host}
+pub served_more : {P O : Type 0} {n0 n1 : ℕ} {announces : Announces O} {reports : Reports O} {host : Host}
     {o0 o1 : O} (commands : Commands P) (s0 s1 s2 : SourceState) (w0 w1 w2 : SinkState) (p0 p1 p2 : P) (count : ℕ)
     → Served commands s0 s1 w0 w1 p0 p1 count
-    → ServesFrame commands announces reports host s1 s2 w1 w2 p1 p2 o0 o1 r0 r1 Answered
+    → ServesFrame commands announces reports host s1 s2 w1 w2 p1 p2 o0 o1 n0 n1 Answered
     → Served commands s0 s2 w0 w2 p0 p2 (count + 1)
 served_more commands s0 s1 s2 w0 w1 w2 p0 p1 p2 count served step = record {
   frames = served.frames ++ step.reads.body;
@@ -177,10 +177,10 @@ last_len_grows len [] = omega arith
 last_len_grows len (r ∷ rs) = le_refl (last_len (reply_len r) rs)
 
 -- the reply to the last frame wasn't written whole
-pub serves_unsent : {P O : Type 0} {r0 r1 : SessionModel} {announces : Announces O} {reports : Reports O} {host : Host}
+pub serves_unsent : {P O : Type 0} {n0 n1 : ℕ} {announces : Announces O} {reports : Reports O} {host : Host}
     {o0 o1 : O} (commands : Commands P) (s0 s1 s2 : SourceState) (w0 w1 w2 : SinkState) (p0 p1 p2 : P) (count : ℕ)
     → Served commands s0 s1 w0 w1 p0 p1 count → count < most_frames
-    → ServesFrame commands announces reports host s1 s2 w1 w2 p1 p2 o0 o1 r0 r1 Unsent
+    → ServesFrame commands announces reports host s1 s2 w1 w2 p1 p2 o0 o1 n0 n1 Unsent
     → ServesAll commands s0 s2 w0 w2 p0 p2 (record { frames = count + 1; reason = reason.Write })
 unfolding part_after conversation_more
 serves_unsent commands s0 s1 s2 w0 w1 w2 p0 p1 p2 count served below step = record {
@@ -209,9 +209,9 @@ serves_unsent commands s0 s1 s2 w0 w1 w2 p0 p1 p2 count served below step = reco
 }
 
 -- no whole frame came after those served
-pub serves_ended : {P O : Type 0} {r0 r1 : SessionModel} {o0 o1 : O} (commands : Commands P) (s0 s1 s2 : SourceState)
+pub serves_ended : {P O : Type 0} {n0 n1 : ℕ} {o0 o1 : O} (commands : Commands P) (s0 s1 s2 : SourceState)
     (w0 w1 w2 : SinkState) (p0 p1 p2 : P) (count : ℕ) (end : EndReason)
-    → Served commands s0 s1 w0 w1 p0 p1 count → count < most_frames → EndsStep s1 s2 w1 w2 p1 p2 o0 o1 r0 r1 end
+    → Served commands s0 s1 w0 w1 p0 p1 count → count < most_frames → EndsStep s1 s2 w1 w2 p1 p2 o0 o1 n0 n1 end
     → ServesAll commands s0 s2 w0 w2 p0 p2 (record { frames = count; reason = end })
 serves_ended commands s0 s1 s2 w0 w1 w2 p0 p1 p2 count end served below step =
     let conversation =
@@ -283,6 +283,13 @@ pub steps_stopped : {P O : Type 0} (commands : Commands P) (announces : Announce
     → RunsInSteps commands announces reports host first last (record { frames = count; reason = end })
 steps_stopped commands announces reports host count end first between last stepped step =
     record { count = count; between = between; answered = stepped; finish = stopped end step }
+
+-- a login behind which the reader's limit was lifted
+pub admitted_at : {P : Type 0} (host : Host) (logins : Logins P) (s0 s1 s2 : SourceState) (w0 w1 : SinkState)
+    (p0 p1 : P)
+    → s2 ≡ s1 → IsAdmitted host logins s0 s1 w0 w1 p0 p1 → IsAdmitted host logins s0 s2 w0 w1 p0 p1
+admitted_at host logins s0 s1 s2 w0 w1 p0 p1 same entry =
+    subst (λ (s : SourceState). IsAdmitted host logins s0 s w0 w1 p0 p1) (sym same) entry
 
 -- a login, and then frames
 pub session_of : {P : Type 0} (logins : Logins P) (commands : Commands P) (s0 s1 s2 : SourceState)

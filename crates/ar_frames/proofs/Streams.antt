@@ -8,6 +8,8 @@ use Rattle.std.proofs.KnownBytes.{Consumes-trans, Appends-trans, Consumes-nil, A
 use Rattle.std.proofs.lemmas.Slice.{take-put_mid_below}
 use borrow.Rule.Slice.PartMut.{put_mid, post_of}
 use lib.Seq.{take-add, take-append-le}
+use Rattle.std.proofs.Common.{min}
+use Rattle.bytes.proofs.Chunks.{drop-append_min}
 use Rattle.ar_frames.specs.Stream.{SourceState, SinkState, Reading, Writing, CameAll, CamePart, faults_after}
 
 -- no read reads
@@ -101,6 +103,24 @@ pub take-sent : (at n : ℕ) (xs : List ℕ) → at ≤ length xs
 take-sent at n xs within =
     let rest = take_all (length xs - at) (drop at xs) (omega (arith, length-drop at xs)) in
     ap (λ l. take at xs ++ take n l) rest ∙ sym (take-add at n xs)
+
+-- what is left of two pieces, one after the other
+pub rest_of_pair : (at front : ℕ) (xs ys : List ℕ) → front ≡ min at (length xs)
+    → take (length xs - front) (drop front xs) ++ take (length ys - (at - front)) (drop (at - front) ys)
+    ≡ drop at (xs ++ ys)
+rest_of_pair at front xs ys is =
+    ap (λ l. l ++ take (length ys - (at - front)) (drop (at - front) ys))
+    (take_all (length xs - front) (drop front xs) (omega (arith, length-drop front xs)))
+    ∙ ap (λ l. drop front xs ++ l)
+    (take_all (length ys - (at - front)) (drop (at - front) ys) (omega (arith, length-drop (at - front) ys)))
+    ∙ ap (λ n. drop n xs ++ drop (at - n) ys) is
+    ∙ sym (drop-append_min xs ys at)
+
+-- the bytes before what is left of two pieces, and those that were taken of it
+pub take-sent_pair : (at n : ℕ) (xs ys rest : List ℕ) → rest ≡ drop at (xs ++ ys)
+    → take at (xs ++ ys) ++ take n rest ≡ take (at + n) (xs ++ ys)
+take-sent_pair at n xs ys rest is =
+    ap (λ l. take at (xs ++ ys) ++ take n l) is ∙ sym (take-add at n (xs ++ ys))
 
 -- so many bytes came, and then these
 pub came_more : (a b c : SourceState) (xs : List ℕ) (count wanted : ℕ) → CameAll a b count → Reading b c xs false

@@ -69,19 +69,6 @@ abbrev pub result_after : Sent → FrameResult
 result_after sent.Whole = Answered
 result_after (sent.Part n) = Unsent
 
--- a session's state between frames: the buffer's capacity and bytes, and the number of commands given to the port
-pub record SessionModel : Type 0 where
-  pub room : ℕ
-  pub bytes : List ℕ
-  pub given : ℕ
-
--- the buffer's capacity doesn't shrink, and grows to the reply's frame at most; a reply without payload leaves the
--- buffer unchanged
-pub record GrowsFor (reply : Reply) (state state' : SessionModel) : Type 0 where
-  pub kept : state.room ≤ state'.room
-  pub grown : state'.room ≤ max state.room (reply_len reply)
-  pub still : length reply.payload ≡ 0 → (state'.room ≡ state.room) × (state'.bytes ≡ state.bytes)
-
 -- The calls of an observer for one command, the n-th of the host's session: it was announced with its request, and
 -- reported with its reply, of which as much was written as the step's result says.
 pub record Observes {O : Type 0} (announces : Announces O) (reports : Reports O) (host : Host) (n : ℕ)
@@ -100,64 +87,53 @@ Counts commands announces reports host port port' observer observer' request rep
     × Observes announces reports host given' request result observer observer')
     ⊎ ((0 < length request.payload) × (reply ≡ busy) × (port' ≡ port) × (given' ≡ given) × (observer' ≡ observer))
 
--- if the buffer has capacity for the frame of a reply with payload, the frame was assembled there
-abbrev pub IsAssembled : ℕ → Reply → SessionModel → Type 0
-IsAssembled tag reply state =
-    0 < length reply.payload → reply_len reply ≤ state.room
-    → IsReplyFrame tag reply (take (reply_len reply) state.bytes)
-
 -- BUSY was written under this tag, whole or up to a write fault
-pub record RefusesRequest (sink sink' : SinkState) (tag : ℕ) (result : FrameResult)
-    (state state' : SessionModel) : Type 0 where
+pub record RefusesRequest (sink sink' : SinkState) (tag : ℕ) (result : FrameResult) (given given' : ℕ) : Type 0 where
   pub frame : List ℕ
   pub is_frame : IsReplyFrame tag busy frame
   pub written : WritesReply sink sink' frame result
-  pub memory : GrowsFor busy state state'
-  pub uncounted : state'.given ≡ state.given
+  pub uncounted : given' ≡ given
 
 -- a request got a reply, which was written whole or up to a write fault
 pub record AnswersRequest {P O : Type 0} (commands : Commands P) (announces : Announces O) (reports : Reports O)
     (host : Host) (sink sink' : SinkState) (port port' : P) (observer observer' : O) (request : Request)
-    (result : FrameResult) (state state' : SessionModel) : Type 0 where
+    (result : FrameResult) (given given' : ℕ) : Type 0 where
   pub reply : Reply
   pub frame : List ℕ
   pub answers : RepliesTo commands port request reply port'
   pub is_frame : IsReplyFrame request.tag reply frame
   pub written : WritesReply sink sink' frame result
-  pub memory : GrowsFor reply state state'
-  pub joined : IsAssembled request.tag reply state'
-  pub counts : Counts commands announces reports host port port' observer observer' request reply result state.given
-      state'.given
+  pub counts : Counts commands announces reports host port port' observer observer' request reply result given given'
 
 -- a whole frame was read, and its reply written whole or up to a write fault
 pub record ServesFrame {P O : Type 0} (commands : Commands P) (announces : Announces O) (reports : Reports O)
     (host : Host) (source source' : SourceState) (sink sink' : SinkState) (port port' : P) (observer observer' : O)
-    (state state' : SessionModel) (result : FrameResult) : Type 0 where
+    (given given' : ℕ) (result : FrameResult) : Type 0 where
   pub request : Request
   pub reads : ReadsFrame [] source source' request
   pub answers : AnswersRequest commands announces reports host sink sink' port port' observer observer' request result
-      state state'
+      given given'
 
--- no whole frame came; the sink, the port, the observer and the session's state are unchanged
+-- no whole frame came; the sink, the port, the observer and the number of commands are unchanged
 pub record EndsStep {P O : Type 0} (source source' : SourceState) (sink sink' : SinkState) (port port' : P)
-    (observer observer' : O) (state state' : SessionModel) (end : EndReason) : Type 0 where
+    (observer observer' : O) (given given' : ℕ) (end : EndReason) : Type 0 where
   pub stops : StopsAfter [] source source' end
   pub same_sink : sink' ≡ sink
   pub same_port : port' ≡ port
   pub same_observer : observer' ≡ observer
-  pub same_state : state' ≡ state
+  pub same_given : given' ≡ given
 
--- one step of a session, by its result
+-- one step of a session, by its result; `given` and `given'` are the numbers of commands given to the port
 abbrev pub FrameStep : {P O : Type 0} → Commands P → Announces O → Reports O → Host → SourceState → SourceState
-    → SinkState → SinkState → P → P → O → O → SessionModel → SessionModel → FrameResult → Type 0
-FrameStep commands announces reports host source source' sink sink' port port' observer observer' state state' Answered
-    = ServesFrame commands announces reports host source source' sink sink' port port' observer observer' state state'
+    → SinkState → SinkState → P → P → O → O → ℕ → ℕ → FrameResult → Type 0
+FrameStep commands announces reports host source source' sink sink' port port' observer observer' given given' Answered
+    = ServesFrame commands announces reports host source source' sink sink' port port' observer observer' given given'
     Answered
-FrameStep commands announces reports host source source' sink sink' port port' observer observer' state state' Unsent
-    = ServesFrame commands announces reports host source source' sink sink' port port' observer observer' state state'
+FrameStep commands announces reports host source source' sink sink' port port' observer observer' given given' Unsent
+    = ServesFrame commands announces reports host source source' sink sink' port port' observer observer' given given'
     Unsent
-FrameStep commands announces reports host source source' sink sink' port port' observer observer' state state'
-    (ResultEnded end) = EndsStep source source' sink sink' port port' observer observer' state state' end
+FrameStep commands announces reports host source source' sink sink' port port' observer observer' given given'
+    (ResultEnded end) = EndsStep source source' sink sink' port port' observer observer' given given' end
 
 -- `count` frames were read and answered whole
 pub record Served {P : Type 0} (commands : Commands P) (source source' : SourceState) (sink sink' : SinkState)
@@ -180,20 +156,20 @@ pub record ServesAll {P : Type 0} (commands : Commands P) (source source' : Sour
   pub ended : EndsInput end.reason source'.left
   pub written : WritesAnswers end.reason sink sink' answers (last_len 0 conversation.replies)
 
--- a moment between two frames: the streams, the port, the observer and the session's state
+-- a moment between two frames: the streams, the port, the observer, and the number of commands given to the port
 pub record Moment (P O : Type 0) : Type 0 where
   pub source : SourceState
   pub sink : SinkState
   pub port : P
   pub observer : O
-  pub state : SessionModel
+  pub given : ℕ
 
 -- one step of a host's session, from one moment to the next
 abbrev pub StepsTo : {P O : Type 0} → Commands P → Announces O → Reports O → Host → Moment P O → Moment P O
     → FrameResult → Type 0
 StepsTo commands announces reports host old new result =
     FrameStep commands announces reports host old.source new.source old.sink new.sink old.port new.port old.observer
-    new.observer old.state new.state result
+    new.observer old.given new.given result
 
 -- this many frames were answered, each from the moment that the one before left
 abbrev pub HasStepped : {P O : Type 0} → Commands P → Announces O → Reports O → Host → ℕ → Moment P O → Moment P O
@@ -230,10 +206,10 @@ pub record RunsInSteps {P O : Type 0} (commands : Commands P) (announces : Annou
 pub record RunsObserved {P O : Type 0} (commands : Commands P) (announces : Announces O) (reports : Reports O)
     (host : Host) (source source' : SourceState) (sink sink' : SinkState) (port port' : P) (observer observer' : O)
     (end : SessionEnd) : Type 0 where
-  pub state : SessionModel
-  pub state' : SessionModel
-  pub uncounted : state.given ≡ 0
+  pub given : ℕ
+  pub given' : ℕ
+  pub uncounted : given ≡ 0
   pub runs :
       RunsInSteps commands announces reports host
-      (record { source = source; sink = sink; port = port; observer = observer; state = state })
-      (record { source = source'; sink = sink'; port = port'; observer = observer'; state = state' }) end
+      (record { source = source; sink = sink; port = port; observer = observer; given = given })
+      (record { source = source'; sink = sink'; port = port'; observer = observer'; given = given' }) end

@@ -8,10 +8,9 @@ ghost use Rattle.ar_frames.specs.Session.{login_bytes};
 ghost use Rattle.ar_frames.specs.FrameStep.{SendsRequest};
 ghost use Rattle.ar_frames.specs.Client.{Greets, Means, ReadsGreeting, Asks, ReadsReply, Judges, Parses};
 
-use crate::fill::{FillResult, Sent, fill, send};
+use crate::fill::{FillResult, Sent, fill, send, send_pair};
 use crate::frame::{MOST_DATA, request_head};
 use crate::hold::{BufferResult, hold};
-use crate::reply::send_joined;
 use crate::stream::{Sink, Source};
 use ar_scsi::{Reply, Status};
 use byteorder::{BigEndian, ByteOrder};
@@ -85,27 +84,19 @@ pub fn ask<R: Source, W: Sink>(
     ensures { Asks (R.state reader.old) (R.state reader.new) (W.state writer.old) (W.state writer.new)
         (record { tag = tag; lun = lun; cdb = cdb.now; payload = payload.now }) result }
 {
-    match send_request(alloc, writer, tag, lun, cdb, payload) {
+    match send_request(writer, tag, lun, cdb, payload) {
         Sent::Whole => read_reply(alloc, reader, tag),
         Sent::Part(_) => Err(AskFault::Write),
     }
 }
 
-fn send_request<W: Sink>(
-    alloc: Global,
-    writer: &mut W,
-    tag: u64,
-    lun: u8,
-    cdb: &[u8; 16],
-    payload: &[u8],
-) -> Sent
+fn send_request<W: Sink>(writer: &mut W, tag: u64, lun: u8, cdb: &[u8; 16], payload: &[u8]) -> Sent
     requires { length payload.now ≤ most_data }
     ensures { SendsRequest (W.state writer.old) (W.state writer.new)
         (record { tag = tag; lun = lun; cdb = cdb.now; payload = payload.now }) result }
 {
     let head = request_head(tag, lun, cdb, payload.len() as u32);
-    let mut buffer = Vec::new(alloc);
-    send_joined(writer, &mut buffer, &head, payload)
+    send_pair(writer, &head, payload)
 }
 
 // Reads the reply to `tag`. After an N that no reply has, nothing is read.

@@ -1,6 +1,6 @@
 // Transfers of whole buffers, in as many calls as the stream takes. A transfer stops early only at a fault or at the
 // end of input.
-ghost use Rattle.std.specs.Prelude.{◌≡◌, length};
+ghost use Rattle.std.specs.Prelude.{◌≡◌, ◌++◌, length};
 ghost use Rattle.ar_frames.specs.Stream.{Filling, Sending};
 
 use crate::stream::{Sink, Source};
@@ -45,6 +45,22 @@ pub fn send<W: Sink>(writer: &mut W, from: &[u8]) -> Sent
     let mut at = 0;
     while at < from.len() {
         match writer.write(&from[at..]) {
+            None => return Sent::Part(at),
+            Some(n) => at += n,
+        }
+    }
+    Sent::Whole
+}
+
+// Writes all of `front` and then all of `rest`, by one call if the stream takes both at once.
+pub(crate) fn send_pair<W: Sink>(writer: &mut W, front: &[u8], rest: &[u8]) -> Sent
+    ensures { Sending (W.state writer.old) (W.state writer.new) (front.now ++ rest.now) result }
+{
+    let len = front.len() + rest.len();
+    let mut at = 0;
+    while at < len {
+        let front_at = at.min(front.len());
+        match writer.write_pair(&front[front_at..], &rest[at - front_at..]) {
             None => return Sent::Part(at),
             Some(n) => at += n,
         }

@@ -1,7 +1,5 @@
-// One step of a session: read a frame, announce it, execute it at the port, write the reply, report it. The buffer for
-// replies never has more capacity than the longest frame has bytes.
-ghost use Rattle.std.specs.Prelude.{◌≡◌, ◌<◌, ◌≤◌, ◌+◌, ◌^◌, true, [], vec_capacity};
-ghost use Rattle.ar_frames.specs.Frame.{most_bytes};
+// One step of a session: read a frame, announce it, execute it at the port, write the reply, report it.
+ghost use Rattle.std.specs.Prelude.{◌≡◌, ◌<◌, ◌≤◌, ◌+◌, ◌^◌, true};
 ghost use Rattle.ar_frames.specs.FrameStep.{AnswersRequest, RefusesRequest, FrameStep, result_after};
 
 use crate::end::EndReason;
@@ -29,23 +27,16 @@ pub(crate) enum FrameResult {
 // A session's state between frames. Only a step changes it.
 #[derive(Drop)]
 pub(crate) struct SessionState {
-    // Replies are assembled in it. Its capacity is at most the length of the longest frame.
-    buffer: Vec<u8>,
     // The number of commands that were given to the port.
     given: u64,
-    ghost small: { vec_capacity buffer ≤ most_bytes },
 }
 
 impl SessionState {
-    // The state of a new session: nothing is allocated yet, and no command was given.
-    pub fn new(alloc: Global) -> SessionState
-        ensures none { result.given ≡ 0 }
-        ensures empty { (vec_capacity result.buffer ≡ 0) × (result.buffer.items ≡ []) }
+    // The state of a new session: no command was given.
+    pub fn new() -> SessionState
+        ensures { result.given ≡ 0 }
     {
-        SessionState {
-            buffer: Vec::new(alloc),
-            given: 0,
-        }
+        SessionState { given: 0 }
     }
 }
 
@@ -63,8 +54,8 @@ pub(crate) fn serve_frame<R: Source, W: Sink, P: Port, O: Observer>(
     requires room { state.old.given < 2 ^ 63 }
     ensures step { FrameStep P.commands O.announces O.reports host (R.state reader.old) (R.state reader.new)
         (W.state writer.old) (W.state writer.new) port.old port.new observer.old observer.new
-        (record { room = vec_capacity state.old.buffer; bytes = state.old.buffer.items; given = state.old.given })
-        (record { room = vec_capacity state.new.buffer; bytes = state.new.buffer.items; given = state.new.given })
+        state.old.given
+        state.new.given
         result }
     ensures logged { P.has_login port.new ≡ true }
     ensures given { state.new.given ≤ state.old.given + 1 }
@@ -90,8 +81,8 @@ fn answer<W: Sink, P: Port, O: Observer>(
     requires room { state.old.given < 2 ^ 63 }
     ensures answers { AnswersRequest P.commands O.announces O.reports host (W.state writer.old) (W.state writer.new)
         port.old port.new observer.old observer.new request result
-        (record { room = vec_capacity state.old.buffer; bytes = state.old.buffer.items; given = state.old.given })
-        (record { room = vec_capacity state.new.buffer; bytes = state.new.buffer.items; given = state.new.given }) }
+        state.old.given
+        state.new.given }
     ensures logged { P.has_login port.new ≡ true }
     ensures given { state.new.given ≡ state.old.given + 1 }
 {
@@ -104,7 +95,7 @@ fn answer<W: Sink, P: Port, O: Observer>(
         payload,
     } = request;
     let reply = port.command(lun, &cdb, payload);
-    let sent = send_reply(writer, &mut state.buffer, tag, &reply);
+    let sent = send_reply(writer, tag, &reply);
     observer.after(host, state.given, sent);
     result_of(sent)
 }
@@ -112,11 +103,11 @@ fn answer<W: Sink, P: Port, O: Observer>(
 // Replies BUSY to a frame whose data couldn't be allocated.
 fn refuse<W: Sink>(writer: &mut W, state: &mut SessionState, tag: u64) -> FrameResult
     ensures answers { RefusesRequest (W.state writer.old) (W.state writer.new) tag result
-        (record { room = vec_capacity state.old.buffer; bytes = state.old.buffer.items; given = state.old.given })
-        (record { room = vec_capacity state.new.buffer; bytes = state.new.buffer.items; given = state.new.given }) }
+        state.old.given
+        state.new.given }
     ensures given { state.new.given ≡ state.old.given }
 {
-    result_of(send_reply(writer, &mut state.buffer, tag, &Reply::busy()))
+    result_of(send_reply(writer, tag, &Reply::busy()))
 }
 
 fn result_of(sent: Sent) -> FrameResult

@@ -25,7 +25,7 @@ pub use client::{AskFault, ask, hello};
 pub use end::{EndReason, SessionEnd};
 pub use fill::{Sent, send};
 pub use frame::{MOST_DATA, Request};
-pub use linked::Linked;
+pub use linked::{Linked, PairWrite};
 pub use login::LOGIN_NAME;
 pub use memory::{MemSink, MemSource};
 pub use observer::{Gate, NoGate, Observer};

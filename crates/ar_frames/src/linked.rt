@@ -1,11 +1,37 @@
 // Streams over std's readers and writers. Read faults and write faults are counted apart.
-ghost use Rattle.std.specs.Prelude.{◌≡◌, ◌<◌, ◌≤◌, length, is_none, None, IfSome};
-ghost use Rattle.std.specs.Io.KnownBytes.{IsAtEnd};
+ghost use Rattle.std.specs.Prelude.{◌≡◌, ◌<◌, ◌≤◌, ◌++◌, length, is_none, None, IfSome};
+ghost use Rattle.std.specs.Io.{WritesAtMost};
+ghost use Rattle.std.specs.Io.KnownBytes.{IsAtEnd, WriteAppends};
 ghost use Rattle.ar_disks.specs.Disk.{counted};
 ghost use Rattle.ar_frames.specs.Stream.{Reading, Writing, moved};
 
 use crate::stream::{Sink, Source};
-use std::io::{ErrorKind, Read, Write};
+use std::io::{self, ErrorKind, IoSlice, Read, Write};
+use std::net::TcpStream;
+use std::sync::Arc;
+use std::sync::atomic::{AtomicBool, Ordering};
+
+/// A std writer that takes two pieces by one call.
+pub trait PairWrite: Write {
+    /// Writes some bytes from the front of two pieces, one after the other, as `write` does of one.
+    fn write_pair(&mut self, front: &[u8], rest: &[u8]) -> io::Result<usize>
+        ensures bound { WritesAtMost result (front.now ++ rest.now) }
+        ensures bytes { WriteAppends (Self.contents self.old) (Self.contents self.new) result (front.now ++ rest.now) };
+}
+
+impl PairWrite for TcpStream {
+    // One system call.
+    fn write_pair(&mut self, front: &[u8], rest: &[u8]) -> io::Result<usize> {
+        TcpStream::write_vectored(self, &[IoSlice::new(front), IoSlice::new(rest)])
+    }
+}
+
+impl PairWrite for &TcpStream {
+    // One system call.
+    fn write_pair(&mut self, front: &[u8], rest: &[u8]) -> io::Result<usize> {
+        TcpStream::write_vectored(self, &[IoSlice::new(front), IoSlice::new(rest)])
+    }
+}
 
 /// A source over a std reader, or a sink over a std writer. A fault is an error other than an interruption, the 1,001st
 /// interruption in a row, or a write that takes no byte of a piece that isn't empty. Read faults and write faults are
@@ -13,6 +39,8 @@ use std::io::{ErrorKind, Read, Write};
 #[derive(Drop)]
 pub struct Linked<S> {
     stream: S,
+    // Set once the login is accepted, if the time of the login is limited.
+    has_login: Option<Arc<AtomicBool>>,
     read_faults: u64,
     write_faults: u64,
 }
@@ -28,6 +56,21 @@ impl<S> Linked<S> {
     {
         Linked {
             stream,
+            has_login: None,
+            read_faults: 0,
+            write_faults: 0,
+        }
+    }
+
+    /// A source over a stream that limits the time of its session's login until `has_login` is set: it is set once the
+    /// login is accepted.
+    pub fn with_login(stream: S, has_login: Arc<AtomicBool>) -> Linked<S>
+        ensures stream { result.stream ≡ stream }
+        ensures sound { (result.read_faults ≡ 0) × (result.write_faults ≡ 0) }
+    {
+        Linked {
+            stream,
+            has_login: Some(has_login),
             read_faults: 0,
             write_faults: 0,
         }
@@ -39,6 +82,13 @@ impl<S> Linked<S> {
     {
         let Linked { stream, .. } = self;
         stream
+    }
+
+    // Sets the flag of an accepted login, if there is one.
+    fn note_login(&self) {
+        if let Some(has_login) = &self.has_login {
+            has_login.store(true, Ordering::SeqCst);
+        }
     }
 
     // Counts a read fault.
@@ -85,9 +135,15 @@ impl<R: Read> Source for Linked<R> {
     fn faults(&self) -> u64 {
         self.read_faults
     }
+
+    fn lift_login_limit(&mut self)
+        ensures { self.new ≡ self.old }
+    {
+        self.note_login();
+    }
 }
 
-impl<W: Write> Sink for Linked<W> {
+impl<W: PairWrite> Sink for Linked<W> {
     ghost state = { λ linked. record { taken = W.contents linked.stream; faults = linked.write_faults } };
 
     fn write(&mut self, from: &[u8]) -> Option<usize>
@@ -102,6 +158,26 @@ impl<W: Write> Sink for Linked<W> {
         for _ in 0..=INTERRUPTIONS {
             match self.stream.write(from) {
                 Ok(0) if !from.is_empty() => return self.write_fault(),
+                Ok(n) => return Some(n),
+                Err(error) if error.kind() == ErrorKind::Interrupted => {}
+                Err(_) => return self.write_fault(),
+            }
+        }
+        self.write_fault()
+    }
+
+    fn write_pair(&mut self, front: &[u8], rest: &[u8]) -> Option<usize>
+        ensures bound { IfSome result (λ n. n ≤ length (front.now ++ rest.now)) }
+        ensures some { IfSome result (λ n. 0 < length (front.now ++ rest.now) → 0 < n) }
+        ensures written { Writing (record { taken = W.contents self.old.stream; faults = self.old.write_faults })
+            (record { taken = W.contents self.new.stream; faults = self.new.write_faults })
+            (moved result (front.now ++ rest.now)) (is_none result) }
+        // The read faults stay.
+        ensures apart { self.new.read_faults ≡ self.old.read_faults }
+    {
+        for _ in 0..=INTERRUPTIONS {
+            match self.stream.write_pair(front, rest) {
+                Ok(0) if front.len() + rest.len() > 0 => return self.write_fault(),
                 Ok(n) => return Some(n),
                 Err(error) if error.kind() == ErrorKind::Interrupted => {}
                 Err(_) => return self.write_fault(),

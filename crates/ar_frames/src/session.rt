@@ -1,6 +1,6 @@
 // A session from its login to its end, in at most `MOST_FRAMES` steps. Each step begins with the state that the one
 // before left.
-ghost use Rattle.std.specs.Prelude.{◌≡◌, true, false, vec_capacity};
+ghost use Rattle.std.specs.Prelude.{◌≡◌, true, false};
 ghost use Rattle.ar_frames.specs.Session.{Session};
 ghost use Rattle.ar_frames.specs.FrameStep.{ServesAll, RunsInSteps, RunsObserved};
 ghost use Rattle.ar_frames.specs.Login.{ObservesSession};
@@ -68,7 +68,10 @@ pub fn serve_observed<R: Source, W: Sink, P: Port, O: Observer>(
         (W.state writer.old) (W.state writer.new) port.old port.new observer.old observer.new result }
 {
     match enter(reader, writer, port) {
-        LoginResult::Admitted(host) => serve_frames(alloc, reader, writer, port, observer, host),
+        LoginResult::Admitted(host) => {
+            reader.lift_login_limit();
+            serve_frames(alloc, reader, writer, port, observer, host)
+        }
         LoginResult::Ended(reason) => SessionEnd { frames: 0, reason },
     }
 }
@@ -88,12 +91,12 @@ fn serve_frames<R: Source, W: Sink, P: Port, O: Observer>(
     ensures observed { RunsObserved P.commands O.announces O.reports host (R.state reader.old) (R.state reader.new)
         (W.state writer.old) (W.state writer.new) port.old port.new observer.old observer.new result }
 {
-    let mut state = SessionState::new(alloc);
+    let mut state = SessionState::new();
     converse(alloc, reader, writer, port, observer, host, &mut state)
 }
 
-// Serves frames from a state that has counted no command, and whose buffer may have capacity already. Nothing but steps
-// changes the state, so that each begins with what the one before left.
+// Serves frames from a state that has counted no command. Nothing but steps changes the state, so that each begins with
+// what the one before left.
 fn converse<R: Source, W: Sink, P: Port, O: Observer>(
     alloc: Global,
     reader: &mut R,
@@ -113,22 +116,14 @@ fn converse<R: Source, W: Sink, P: Port, O: Observer>(
           sink = W.state writer.old;
           port = port.old;
           observer = observer.old;
-          state = record {
-            room = vec_capacity state.old.buffer;
-            bytes = state.old.buffer.items;
-            given = state.old.given;
-          };
+          given = state.old.given;
         })
         (record {
           source = R.state reader.new;
           sink = W.state writer.new;
           port = port.new;
           observer = observer.new;
-          state = record {
-            room = vec_capacity state.new.buffer;
-            bytes = state.new.buffer.items;
-            given = state.new.given;
-          };
+          given = state.new.given;
         })
         result }
 {

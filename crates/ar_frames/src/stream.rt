@@ -1,5 +1,5 @@
 // Byte streams as a session uses them. A call transfers some bytes, or faults and transfers none; faults are counted.
-ghost use Rattle.std.specs.Prelude.{◌≡◌, ◌<◌, ◌≤◌, length, IfSome, is_none};
+ghost use Rattle.std.specs.Prelude.{◌≡◌, ◌<◌, ◌≤◌, ◌++◌, length, IfSome, is_none};
 ghost use Rattle.std.specs.Io.KnownBytes.{IsAtEnd};
 ghost use Rattle.ar_frames.specs.Stream.{SourceState, SinkState, Reading, Writing, moved};
 
@@ -18,6 +18,11 @@ pub trait Source {
     /// The number of reads that have returned None; it saturates at the greatest value of its type.
     fn faults(&self) -> u64
         ensures { result ≡ (state self.now).faults };
+
+    /// Lifts a limit on the time of the session's login, if the stream has one: the login was accepted.
+    fn lift_login_limit(&mut self)
+        ensures { state self.new ≡ state self.old }
+    {}
 }
 
 /// A stream of bytes to write to.
@@ -31,6 +36,21 @@ pub trait Sink {
         ensures bound { IfSome result (λ n. n ≤ length from.now) }
         ensures some { IfSome result (λ n. 0 < length from.now → 0 < n) }
         ensures written { Writing (state self.old) (state self.new) (moved result from.now) (is_none result) };
+
+    /// Writes some bytes from the front of two pieces, one after the other, as `write` does of one. A stream that can
+    /// takes bytes of both by one call, since what it sends it may send piece by piece.
+    fn write_pair(&mut self, front: &[u8], rest: &[u8]) -> Option<usize>
+        ensures bound { IfSome result (λ n. n ≤ length (front.now ++ rest.now)) }
+        ensures some { IfSome result (λ n. 0 < length (front.now ++ rest.now) → 0 < n) }
+        ensures written { Writing (state self.old) (state self.new) (moved result (front.now ++ rest.now))
+            (is_none result) }
+    {
+        if front.is_empty() {
+            self.write(rest)
+        } else {
+            self.write(front)
+        }
+    }
 
     /// The number of writes that have returned None; it saturates at the greatest value of its type.
     fn faults(&self) -> u64

@@ -167,9 +167,14 @@ impl Sink for Counter {
     ghost state = { λ sink. record { taken = None; faults = 0 } };
 
     fn write(&mut self, from: &[u8]) -> Option<usize> {
-        self.bytes = self.bytes.saturating_add(from.len() as u64);
+        self.write_pair(from, &[])
+    }
+
+    fn write_pair(&mut self, front: &[u8], rest: &[u8]) -> Option<usize> {
+        let both = front.len() + rest.len();
+        self.bytes = self.bytes.saturating_add(both as u64);
         self.calls = self.calls.saturating_add(1);
-        Some(from.len())
+        Some(both)
     }
 
     fn faults(&self) -> u64 {

@@ -1,6 +1,6 @@
 // Streams of std: interruptions, other errors, and a write that takes no byte.
 use crate::fakes::Fake;
-use ar_frames::{EndReason, Linked, Sink, Source, serve_session};
+use ar_frames::{EndReason, Linked, PairWrite, Sink, Source, serve_session};
 use std::alloc::Global;
 use std::io::{self, ErrorKind, Read, Write};
 use std::process::Abort;
@@ -47,6 +47,14 @@ impl Write for Noisy<'_> {
 
     fn flush(&mut self) -> io::Result<()> {
         Ok(())
+    }
+}
+
+impl PairWrite for Noisy<'_> {
+    fn write_pair(&mut self, front: &[u8], rest: &[u8]) -> io::Result<usize> {
+        self.error()?;
+        let both = front.len() + rest.len();
+        Ok(both.min(self.most))
     }
 }
 

@@ -268,6 +268,23 @@ fn the_most_frames(rt: HostRuntime) {
     counts(&rt, port.commands, 1_000_000);
 }
 
+// A reply with data is written by one call, head and data at once.
+#[test]
+fn replies_with_data(rt: HostRuntime) {
+    let mut reader = Repeats {
+        front: LOGIN,
+        frame: ECHO,
+        at: 0,
+        end: 9 + 33 * 100,
+    };
+    let mut writer = Counter { bytes: 0, calls: 0 };
+    let mut port = Fake::new();
+    let end = serve_session(rt.alloc(), &mut reader, &mut writer, &mut port);
+    ends(&rt, ECHO, end, 100, EndReason::End);
+    counts(&rt, writer.bytes, 1 + 18 * 100);
+    counts(&rt, writer.calls, 1 + 100);
+}
+
 pub fn counts(rt: &impl Abort, count: u64, wanted: u64) {
     assert!(rt; count == wanted, "{count} for {wanted}");
 }

@@ -9,5 +9,5 @@ returns g c = record {
       (record { tag = c.args.tag; lun = c.args.lun; cdb = c.args.cdb.now; payload = c.args.payload.now })
       c.request_head-head.result
       c.requires c.ranges.tag.fits c.told-cdb c.request_head-head.ensures;
-  sending = c.send_joined.ensures.sends;
+  sending = c.send_pair.ensures;
 }

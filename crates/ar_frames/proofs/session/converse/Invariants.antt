@@ -1,5 +1,5 @@
 -- `frames` frames were answered, one step each, and at most as many commands were given
-use Rattle.std.proofs.Common.{◌≡◌, ◌≤◌, true, vec_capacity}
+use Rattle.std.proofs.Common.{◌≡◌, ◌≤◌, true}
 use Rattle.ar_frames.specs.FrameStep.{Served, HasStepped}
 use Rattle.ar_frames.proofs.session.converse.Given as goal
 
@@ -13,18 +13,14 @@ invariant-loop-frames g l = record {
         sink = g.W.Sink.state l.initial.writer;
         port = l.initial.port;
         observer = l.initial.observer;
-        state = record {
-          room = vec_capacity l.initial.state.buffer;
-          bytes = l.initial.state.buffer.items;
-          given = l.initial.state.given;
-        };
+        given = l.initial.state.given;
       })
       (record {
         source = g.R.Source.state l.reader;
         sink = g.W.Sink.state l.writer;
         port = l.port;
         observer = l.observer;
-        state = record { room = vec_capacity l.state.buffer; bytes = l.state.buffer.items; given = l.state.given };
+        given = l.state.given;
       });
   logged : g.P.Port.has_login l.port ≡ true;
   given : l.state.given ≤ l.frames;
