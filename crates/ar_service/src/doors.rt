@@ -4,7 +4,7 @@ use crate::monitoring::Monitor;
 use crate::operators::{OperatorHandler, PendingStops};
 use crate::shown::ShownArray;
 use crate::watching::Watch;
-use ar_frames::{Gate, Linked, Sink, Source};
+use ar_frames::{Gate, Linked, PairWrite, Sink, Source};
 use ar_operator::{Fuse, OperableArray};
 use ar_sessions::{
     ANY_NUMBER, Desk, Door, FlushedArray, Handler, MaintainedArray, NoMemory, ServedArray,
@@ -14,7 +14,7 @@ use ar_status::{ArrayStatus, EventLog};
 use log::Log;
 use std::alloc::{AllocError, Global};
 use std::hash::RandomState;
-use std::io::{Read, Write};
+use std::io::Read;
 use std::net::{Net, TcpListener, TcpStream};
 use std::sync::atomic::AtomicBool;
 use std::sync::ledger::Ledger;
@@ -130,7 +130,7 @@ pub fn run_operated<
     H: Door + Drop + Send,
     O: Door<Reader = Linked<S>, Writer = Linked<W>> + Drop + Send,
     S: Read + Send + Drop,
-    W: Write + Send + Drop,
+    W: PairWrite + Send + Drop,
     G: Gate + Sync,
 >(
     array: &OperatedArray<'_, R, A, L, M>,

@@ -2,8 +2,9 @@
 // flag, so that no peer holds a session for longer than the limits say. A limit that is reached is a fault of the
 // stream.
 use crate::tcp::Timeouts;
+use ar_frames::PairWrite;
 use std::alloc::Global;
-use std::io::{self, ErrorKind, Read, Write};
+use std::io::{self, ErrorKind, IoSlice, Read, Write};
 use std::net::{Shutdown, TcpStream};
 use std::sync::Arc;
 use std::sync::atomic::{AtomicBool, Ordering};
@@ -11,9 +12,6 @@ use std::time::{Clock, Duration, Instant};
 
 /// Milliseconds that a stream waits before it looks at its limits and at the stop flag.
 const SLICE: u64 = 250;
-
-/// Bytes of a login.
-const LOGIN_LEN: usize = 9;
 
 /// Milliseconds that a peer has to take what it is owed once the stop flag is set.
 const GRACE: u64 = 5_000;
@@ -42,8 +40,8 @@ pub struct SocketReader<'a, R: Clock> {
     limits: Limits<'a>,
     // When the connection was opened.
     opened: Instant,
-    // Bytes of the login that have not come.
-    login_left: usize,
+    // Set once its login is accepted.
+    has_login: Arc<AtomicBool>,
     // Milliseconds since the last byte, in whole slices.
     silent: u64,
     // Whether more may come.
@@ -58,6 +56,8 @@ pub struct SocketWriter<'a, R: Clock> {
     limits: Limits<'a>,
     // When the connection was opened.
     opened: Instant,
+    // Set once its login is accepted.
+    has_login: Arc<AtomicBool>,
     // When a write first saw the stop flag set.
     stopped: Option<Instant>,
 }
@@ -87,12 +87,14 @@ impl Limits<'_> {
 }
 
 impl<'a, R: Clock> SocketReader<'a, R> {
-    /// The two streams of a connection that was opened now. Their waits are cut into slices here, once.
+    /// The two streams of a connection that was opened now, whose login counts as accepted once `has_login` is set.
+    /// Their waits are cut into slices here, once.
     pub fn open(
         rt: &'a R,
         alloc: Global,
         stream: TcpStream,
         limits: Limits<'a>,
+        has_login: &Arc<AtomicBool>,
     ) -> io::Result<(SocketReader<'a, R>, SocketWriter<'a, R>)> {
         stream.set_nodelay(true)?;
         stream.set_read_timeout(Some(Duration::from_millis(SLICE)))?;
@@ -104,6 +106,7 @@ impl<'a, R: Clock> SocketReader<'a, R> {
             socket: Arc::try_clone(&socket)?,
             limits,
             opened,
+            has_login: Arc::try_clone(has_login)?,
             stopped: None,
         };
         let reader = SocketReader {
@@ -111,7 +114,7 @@ impl<'a, R: Clock> SocketReader<'a, R> {
             socket,
             limits,
             opened,
-            login_left: LOGIN_LEN,
+            has_login: Arc::try_clone(has_login)?,
             silent: 0,
             is_open: true,
         };
@@ -122,18 +125,12 @@ impl<'a, R: Clock> SocketReader<'a, R> {
     fn is_over(&self) -> bool {
         self.limits.is_stopped()
             || self.limits.is_idle(self.silent)
-            || self.is_login_late()
+            || is_login_late(self.rt, self.opened, &self.has_login, self.limits.timeouts)
             || is_past(self.rt, self.opened, self.limits.timeouts.whole)
-    }
-
-    // Whether the login should have come whole by now.
-    fn is_login_late(&self) -> bool {
-        self.login_left > 0 && is_past(self.rt, self.opened, self.limits.timeouts.login)
     }
 
     // Notes what a read has brought.
     fn note(&mut self, count: usize) {
-        self.login_left = self.login_left.saturating_sub(count);
         self.silent = 0;
         self.is_open = count > 0;
     }
@@ -167,6 +164,7 @@ impl<R: Clock> SocketWriter<'_, R> {
     // Whether a peer that has taken nothing for this many milliseconds is waited for no longer.
     fn is_over(&mut self, silent: u64) -> bool {
         self.limits.is_idle(silent)
+            || is_login_late(self.rt, self.opened, &self.has_login, self.limits.timeouts)
             || is_past(self.rt, self.opened, self.limits.timeouts.whole)
             || (self.limits.is_stopped() && self.is_grace_over())
     }
@@ -186,12 +184,26 @@ impl<R: Clock> SocketWriter<'_, R> {
 
 impl<R: Clock> Write for SocketWriter<'_, R> {
     fn write(&mut self, buf: &[u8]) -> io::Result<usize> {
+        self.write_pair(buf, &[])
+    }
+
+    fn flush(&mut self) -> io::Result<()> {
+        Ok(())
+    }
+}
+
+impl<R: Clock> PairWrite for SocketWriter<'_, R> {
+    // One system call, unless the peer takes nothing for a slice.
+    fn write_pair(&mut self, front: &[u8], rest: &[u8]) -> io::Result<usize> {
         let mut silent: u64 = 0;
         for _ in 0..u64::MAX {
             if self.is_over(silent) {
                 break;
             }
-            match (&*self.socket).write(buf) {
+            match self
+                .socket
+                .write_vectored(&[IoSlice::new(front), IoSlice::new(rest)])
+            {
                 Err(error) if error.kind() == ErrorKind::WouldBlock => {
                     silent = silent.saturating_add(SLICE);
                 }
@@ -199,10 +211,6 @@ impl<R: Clock> Write for SocketWriter<'_, R> {
             }
         }
         Err(ErrorKind::TimedOut.into())
-    }
-
-    fn flush(&mut self) -> io::Result<()> {
-        Ok(())
     }
 }
 
@@ -218,7 +226,7 @@ impl<R: Clock> Drop for SocketReader<'_, R> {
             socket: _socket,
             limits: _,
             opened: _,
-            login_left: _,
+            has_login: _has_login,
             silent: _,
             is_open: _,
         } = self;
@@ -244,6 +252,16 @@ fn linger<R: Clock>(rt: &R, socket: &TcpStream) {
             return;
         }
     }
+}
+
+// Whether the login of a connection should have been accepted by now.
+fn is_login_late<R: Clock>(
+    rt: &R,
+    opened: Instant,
+    has_login: &AtomicBool,
+    timeouts: Timeouts,
+) -> bool {
+    !has_login.load(Ordering::SeqCst) && is_past(rt, opened, timeouts.login)
 }
 
 // Whether a connection has lasted for this many seconds, if there is a limit. A clock that can't be read ends it, too.

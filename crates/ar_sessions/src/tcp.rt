@@ -10,6 +10,7 @@ use std::alloc::Global;
 use std::io::{self, BufReader, ErrorKind};
 use std::marker::Model;
 use std::net::{Net, TcpListener, TcpStream};
+use std::sync::Arc;
 use std::sync::atomic::AtomicBool;
 use std::thread;
 use std::time::{Clock, Duration};
@@ -21,7 +22,7 @@ pub struct ListenFault;
 /// How long a connection may be silent, and how long it may last, in seconds. None: for good.
 #[derive(Clone, Copy, Debug, PartialEq, Eq)]
 pub struct Timeouts {
-    /// From its opening until the nine bytes of its login have come.
+    /// From its opening until its login is accepted.
     pub login: Option<u32>,
     /// Until the next byte comes, or the peer takes more of a reply.
     pub idle: Option<u32>,
@@ -197,9 +198,10 @@ fn opened<'a, R: Clock>(
     stream: TcpStream,
     limits: Limits<'a>,
 ) -> io::Result<(TcpReader<'a, R>, TcpWriter<'a, R>)> {
-    let (reader, writer) = SocketReader::open(rt, alloc, stream, limits)?;
+    let has_login = Arc::new(alloc, AtomicBool::new(false))?;
+    let (reader, writer) = SocketReader::open(rt, alloc, stream, limits, &has_login)?;
     let reader = BufReader::new(alloc, reader)?;
-    Ok((Linked::new(reader), Linked::new(writer)))
+    Ok((Linked::with_login(reader, has_login), Linked::new(writer)))
 }
 
 /// Ends a wait for a connection at the door of a port whose stop flag is set, by a connection. It is tried again while
