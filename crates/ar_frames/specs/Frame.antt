@@ -43,10 +43,6 @@ Suits Busy sense payload = (sense ≡ None) × (payload ≡ [])
 abbrev pub IsReply : Reply → Type 0
 IsReply reply = Suits reply.status reply.sense reply.payload
 
--- the most bytes of a reply's frame
-abbrev pub most_bytes : ℕ
-most_bytes = 14 + most_data
-
 -- a reply frame: N, the tag of the request, the status, the length of the sense data, the sense data, the payload
 pub record IsReplyFrame (tag : ℕ) (reply : Reply) (bytes : List ℕ) : Type 0 where
   pub count : List ℕ

@@ -1,5 +1,5 @@
-// Writes reply frames. Head and payload are written by one call if the stream takes both at once, since it may send every
-// piece on by itself; they are never joined in memory.
+// Writes reply frames. Head and payload are written by one call if the stream takes both at once, since it may send
+// every piece on by itself; they are never joined in memory.
 ghost use Rattle.std.specs.Prelude.{◌≡◌};
 ghost use Rattle.ar_frames.specs.Frame.{IsReply};
 ghost use Rattle.ar_frames.specs.FrameStep.{SendsReply};
