@@ -183,6 +183,12 @@ pub lost_broken : (broken : Bool) → Lost ≡ stored broken → broken ≡ true
 lost_broken true is = refl
 lost_broken false is = absurd (cc)
 
+-- a reply that is the table's is given
+given_as : (payload : List ℕ) (reply : Reply) → reply ≡ good payload → IsGiven (good payload) reply
+given_as payload reply is =
+    subst (λ (r : Reply). IsGiven (good payload) r) (sym is)
+    (record { answered = λ _. refl; refused = λ e. absurd (cc); memory = λ e. absurd (cc) })
+
 -- how a READ ends
 pub serves_read : (old new : ArrayState) (addr : Addr) (lba count : ℕ) (reply : Reply) (status : Status) → reply.status ≡ status
     → ArrayFollows old new → sectors_read old addr lba count ≢ []
@@ -203,8 +209,7 @@ serves_read old new addr lba count reply Good is follows some seen sound broken 
     record {
       follows = follows;
       sound = λ now. record {
-        given = subst (λ (r : Reply). IsGiven (good (sectors_read old addr lba count)) r) (sym (done is))
-            (given_same (good (sectors_read old addr lba count)) (λ e. cc));
+        given = given_as (sectors_read old addr lba count) reply (done is);
         left = λ _. same;
         unchanged = λ _. same;
       };
