@@ -1,6 +1,7 @@
 pub mod Balancing
 pub mod Calm
 pub mod Causes
+pub mod Costs
 pub mod Commanding
 pub mod Events
 pub mod Everywhere

@@ -1,4 +1,5 @@
 pub mod Causes
+pub mod Costs
 pub mod Events
 pub mod Laws
 pub mod Map

@@ -1,5 +1,5 @@
 // Laws of steps and runs, in the terms of a host. A law is the contract of a function that does nothing.
-ghost use Rattle.std.specs.Prelude.{◌≡◌, ℕ, suc, [], false, Some, List, take, slice_get};
+ghost use Rattle.std.specs.Prelude.{◌≡◌, ℕ, suc, [], ◌++◌, false, Some, Ok, List, take, slice_get};
 ghost use Rattle.ar_disks.specs.declared.address.Host.{Host};
 ghost use Rattle.ar_scsi.specs.declared.reply.Reply.{Reply};
 ghost use Rattle.ar_scsi.specs.Reply.{good};
@@ -7,15 +7,21 @@ ghost use Rattle.ar_unit.specs.Sectors.{Sector, written};
 ghost use Rattle.ar_unit.specs.Unit.{Present};
 ghost use Rattle.ar_store.specs.Kept.{IsKept};
 ghost use Rattle.ar_store.specs.Slots.{SurvivesLossOf};
-ghost use Rattle.ar_volume.specs.Image.{ArrayState, is_broken, image};
+ghost use Rattle.ar_volume.specs.Image.{ArrayState, geometry_of, is_broken, image};
 ghost use Rattle.ar_core.specs.Run.{AreCalm, IsIsolated, Run, Turn};
-ghost use Rattle.ar_core.specs.Step.{Steps};
+ghost use Rattle.ar_core.specs.Step.{Steps, addr_in};
+ghost use Rattle.ar_core.specs.Costs.{reads_of};
+ghost use Rattle.ar_scsi.specs.Reading.{reading};
+ghost use Rattle.ar_scsi.specs.declared.reply.Status.TheVariants.{Good};
+ghost use Rattle.ar_extents.specs.Plans.{NoneFaults};
+ghost use Rattle.ar_volume.specs.Sectors.{keys_in};
 ghost use Rattle.ar_core.specs.Laws.{RunOf, IsAlikeAt, IsShapedAlikeAt, IsAnsweredSoundly, IsAnsweredBroken, IsWriteWithin};
 ghost use Rattle.ar_extents.specs.declared.health.Health.TheVariants.{Whole};
 ghost use Rattle.ar_core.specs.Causes.{HurtsNone};
 ghost use Rattle.ar_core.specs.Events.{Event, Outcome};
 
 use crate::{EventOf, OutcomeOf};
+use ar_scsi::Command;
 
 /// A unit's own entries decide its replies. In two runs, on any arrays that haven't failed, a command has the same
 /// reply, BUSY apart, if its unit began the same and had the same create, resize, delete and I/O commands before it,
@@ -59,4 +65,14 @@ pub fn writes_that_fit_are_done()
         → Steps old (EventOf.Cmd host lun cdb payload) (OutcomeOf.Cmd reply) new
         → is_broken new ≡ false → IsWriteWithin old (host.number, lun) cdb payload sectors lba count
         → (reply ≡ good []) × (image new (host.number, lun) ≡ Present (written sectors lba count payload) false) }
+{}
+
+/// The cost of a READ: where no disk faults, a GOOD one makes for each of its blocks, in ascending order, exactly the
+/// reads that the block's home plans (one if its disk is present), none for a block that is cached or has no home, and
+/// no other access. The function does nothing.
+pub fn reads_are_accounted_for()
+    ensures { (old new : ArrayState) (host : Host) (lun : ℕ) (cdb payload : List ℕ) (reply : Reply) (lba count : ℕ)
+        → Steps old (EventOf.Cmd host lun cdb payload) (OutcomeOf.Cmd reply) new
+        → reading cdb ≡ Ok (Command.Read lba count) → reply.status ≡ Good → NoneFaults old.store.disks new.store.disks
+        → new.store.disks.log ≡ old.store.disks.log ++ reads_of old (keys_in (geometry_of old) (addr_in host lun) lba count) }
 {}

@@ -26,7 +26,8 @@ pub use ar_volume::{Counters, NewDisk, Refusal, UnitFlush};
 pub use array::Array;
 pub use event::{Event, EventOf, Outcome, OutcomeOf};
 pub use laws::{
-    any_disk_may_go, own_entries_decide_replies, whole_disks_stay_whole, writes_that_fit_are_done,
+    any_disk_may_go, own_entries_decide_replies, reads_are_accounted_for, whole_disks_stay_whole,
+    writes_that_fit_are_done,
 };
 pub use map::GroupView;
 pub use views::{GroupUse, HomeOf, LevelOf, Shown};
