@@ -102,6 +102,13 @@ impl<D: Disk, L: Ledger> Kept<D, L> {
         self.live.counts()
     }
 
+    /// Lends the array memory for the data of a READ (`Array::lend_memory`).
+    pub fn lend_memory(&mut self, memory: Vec<u8>)
+        ensures { self.new ≡ self.old }
+    {
+        self.live.lend_memory(memory);
+    }
+
     /// Returns a number that is raised by each command, each operation, each flush of a unit, and each step of
     /// background work that did something. While it stays, nothing has changed the array.
     pub fn events(&self) -> u64

@@ -136,10 +136,8 @@ impl<
         let port = PatientPort {
             rt,
             desk,
-            port: LockPort::new(rt, array, desk),
+            port: LockPort::new(rt, alloc, array, desk),
         };
-        // (A login of several requests, which no limit ends as a whole.)
-        reader.lift_login_limit();
         let mut server = DeviceServer::new(alloc, port, self.attributes);
         let end = serve_target(alloc, &mut reader, &mut writer, &mut server, &self.address);
         let PatientPort { port, .. } = server.into_port();

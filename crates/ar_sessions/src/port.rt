@@ -8,8 +8,9 @@ use crate::{Desk, Receipt, SeatDesk, SeatSlot, ServedArray};
 use ar_disks::Host;
 use ar_frames::{Login, Port};
 use ar_history::Seat;
-use ar_scsi::Reply;
+use ar_scsi::{Command, Reply, decode};
 use bytes::Bytes;
+use std::alloc::Global;
 use std::hint::spin_loop;
 use std::marker::Model;
 use std::sync::ledger::Ledger;
@@ -21,11 +22,18 @@ const LOOKS: u32 = 64;
 
 const PAUSES: u32 = 16;
 
+/// The least sectors of a READ for which memory is lent, 16 KiB, and the most, 1 MiB: so much each session may hold while
+/// it waits for the array.
+const LEAST_LENT: u16 = 32;
+
+const MOST_LENT: u16 = 2_048;
+
 /// A session's port to an array behind a lock. A login takes the host's seat from the desk, which has a lock of its
 /// own; a command holds the array's lock while it is executed.
 #[derive(Drop)]
 pub struct LockPort<'a, R: Wait, A: Drop, K: Drop, L: Ledger> {
     pub(crate) rt: &'a R,
+    alloc: Global,
     pub(crate) array: &'a Mutex<A>,
     desk: &'a Mutex<K>,
     pub(crate) seat: Option<Seat<L>>,
@@ -42,11 +50,17 @@ impl<'a, R: Wait, A: Drop, K: Drop, L: Ledger> Model for LockPort<'a, R, A, K, L
 
 impl<'a, R: Wait, A: Drop, K: Drop, L: Ledger> LockPort<'a, R, A, K, L> {
     /// A port without a seat: no host is logged in.
-    pub fn new(rt: &'a R, array: &'a Mutex<A>, desk: &'a Mutex<K>) -> LockPort<'a, R, A, K, L>
+    pub fn new(
+        rt: &'a R,
+        alloc: Global,
+        array: &'a Mutex<A>,
+        desk: &'a Mutex<K>,
+    ) -> LockPort<'a, R, A, K, L>
         ensures { result ≡ None }
     {
         LockPort {
             rt,
+            alloc,
             array,
             desk,
             seat: None,
@@ -89,7 +103,12 @@ impl<'a, R: Wait, A: ServedArray<L> + Drop, K: SeatDesk<L> + Drop, L: Ledger> Po
 
     fn command(&mut self, lun: u8, cdb: &[u8; 16], payload: Bytes) -> Reply {
         match &mut self.seat {
-            Some(seat) => ask_counted(self.rt, self.array, self.desk, seat, lun, cdb, payload),
+            Some(seat) => {
+                let memory = memory_for(self.alloc, cdb);
+                ask_counted(
+                    self.rt, self.array, self.desk, memory, seat, lun, cdb, payload,
+                )
+            }
             None => unreachable!(),
         }
     }
@@ -100,6 +119,7 @@ fn ask_counted<R: Wait, A: ServedArray<L> + Drop, K: SeatDesk<L> + Drop, L: Ledg
     rt: &R,
     array: &Mutex<A>,
     desk: &Mutex<K>,
+    memory: Option<Vec<u8>>,
     seat: &mut Seat<L>,
     lun: u8,
     cdb: &[u8; 16],
@@ -110,7 +130,7 @@ fn ask_counted<R: Wait, A: ServedArray<L> + Drop, K: SeatDesk<L> + Drop, L: Ledg
 {
     let host = seat.host();
     let sent = payload.len();
-    let reply = ask_locked(rt, array, seat, lun, cdb, payload);
+    let reply = ask_locked(rt, array, memory, seat, lun, cdb, payload);
     desk.lock(rt).count_command(host, sent, &reply);
     reply
 }
@@ -119,6 +139,7 @@ fn ask_counted<R: Wait, A: ServedArray<L> + Drop, K: SeatDesk<L> + Drop, L: Ledg
 fn ask_locked<R: Wait, A: ServedArray<L> + Drop, L: Ledger>(
     rt: &R,
     array: &Mutex<A>,
+    memory: Option<Vec<u8>>,
     seat: &mut Seat<L>,
     lun: u8,
     cdb: &[u8; 16],
@@ -127,7 +148,22 @@ fn ask_locked<R: Wait, A: ServedArray<L> + Drop, L: Ledger>(
     ensures asks { A.asks seat.old lun cdb.now payload result seat.new }
     ensures reply { IsReply result }
 {
-    lock_soon(rt, array).ask(seat, lun, cdb, payload)
+    let mut array = lock_soon(rt, array);
+    if let Some(memory) = memory {
+        array.lend_memory(memory);
+    }
+    array.ask(seat, lun, cdb, payload)
+}
+
+// Memory for the data of a long READ, allocated and touched before the array is locked. None for other commands, and if
+// it can't be allocated: the array allocates its own then.
+fn memory_for(alloc: Global, cdb: &[u8; 16]) -> Option<Vec<u8>> {
+    match decode(cdb) {
+        Ok(Command::Read { count, .. }) if LEAST_LENT <= count && count <= MOST_LENT => {
+            vec![in alloc; 0; usize::from(count) * 512].ok()
+        }
+        _ => None,
+    }
 }
 
 // Takes the lock. While another thread holds it, this one looks again for a while before it sleeps.

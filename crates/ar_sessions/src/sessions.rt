@@ -408,7 +408,7 @@ impl<
             mut reader,
             mut writer,
         } = self;
-        let mut port = LockPort::new(shared.rt, shared.array, shared.desk);
+        let mut port = LockPort::new(shared.rt, shared.alloc, shared.array, shared.desk);
         let end = serve_gated(
             shared.alloc,
             &mut reader,

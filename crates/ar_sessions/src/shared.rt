@@ -25,6 +25,9 @@ pub trait ServedArray<L: Ledger> {
     fn ask(&mut self, seat: &mut Seat<L>, lun: u8, cdb: &[u8; 16], payload: Bytes) -> Reply
         ensures asks { asks seat.old lun cdb.now payload result seat.new }
         ensures reply { IsReply result };
+
+    /// Lends memory for the data of a READ, so that it was allocated before the array was waited for.
+    fn lend_memory(&mut self, memory: Vec<u8>);
 }
 
 /// An array that the background maintenance works on.
@@ -87,6 +90,10 @@ impl<D: Disk + Drop, L: Ledger> ServedArray<L> for Kept<D, L> {
         let served = self.host(seat, lun, *cdb, payload);
         served.reply
     }
+
+    fn lend_memory(&mut self, memory: Vec<u8>) {
+        Kept::lend_memory(self, memory);
+    }
 }
 
 impl<D: Disk + Drop, L: Ledger> ServedArray<L> for LiveArray<D> {
@@ -94,5 +101,9 @@ impl<D: Disk + Drop, L: Ledger> ServedArray<L> for LiveArray<D> {
 
     fn ask(&mut self, seat: &mut Seat<L>, lun: u8, cdb: &[u8; 16], payload: Bytes) -> Reply {
         self.host(seat.host(), lun, *cdb, payload)
+    }
+
+    fn lend_memory(&mut self, memory: Vec<u8>) {
+        LiveArray::lend_memory(self, memory);
     }
 }

@@ -48,7 +48,7 @@ pub fn works<L: Ledger + Send + Sync, R: Threads + Wait + Clock + Abort + Sync>(
 // A host writes a block, which the cache takes.
 fn write<L: Ledger, R: Wait + Abort>(rt: &R, alloc: Global, rig: &Rig<L>) {
     let payload = filled(alloc, 2, 0xAA).expect(rt, "memory");
-    let mut port = LockPort::new(rt, &rig.kept, &rig.desk);
+    let mut port = LockPort::new(rt, alloc, &rig.kept, &rig.desk);
     if let Login::Taken = port.login(0) {
         let reply = port.command(0, &WRITE, payload);
         was_good(rt, &reply);

@@ -207,7 +207,7 @@ pub fn serves<R: Wait + Abort, L: Ledger, S: Source>(
     reader: &mut S,
     writer: &mut MemSink,
 ) -> SessionEnd {
-    let mut port = LockPort::new(rt, &rig.kept, &rig.desk);
+    let mut port = LockPort::new(rt, alloc, &rig.kept, &rig.desk);
     let end = serve_session(alloc, reader, writer, &mut port);
     let _receipt = port.finish();
     end
