@@ -16,7 +16,8 @@ use Rattle.ar_iscsi.specs.LoginTurn.{LoginSpot}
 use Rattle.ar_iscsi.specs.Negotiation.{at_first}
 use Rattle.ar_iscsi.specs.Phase.{Place}
 use Rattle.ar_iscsi.specs.Session.{RunsFeature}
-use Rattle.ar_iscsi.specs.Target.{login_start}
+use Rattle.ar_iscsi.specs.Target.{login_start, IsFeature}
+use Rattle.ar_iscsi.specs.declared.login.LoginState.{LoginState}
 
 -- without collected data, and with none that wait
 pub feature_from :
@@ -91,3 +92,11 @@ login_from logins source sink so_far text port reason new first none runs =
       port = port;
     }) reason new)
     first runs)
+
+-- a full feature phase behind a login whose reader's limit was lifted
+pub feature_behind : {P : Type 0} (commands : Commands P) (resets : UnitResets P) (address : List ℕ) (state : LoginState)
+    (s0 s1 s2 : SourceState) (w0 w1 : SinkState) (p0 p1 : P) (reason : FeatureEnd)
+    → s1 ≡ s0 → IsFeature commands resets address state s1 s2 w0 w1 p0 p1 reason
+    → IsFeature commands resets address state s0 s2 w0 w1 p0 p1 reason
+feature_behind commands resets address state s0 s1 s2 w0 w1 p0 p1 reason same feature =
+    subst (λ (s : SourceState). IsFeature commands resets address state s s2 w0 w1 p0 p1 reason) same feature

@@ -121,6 +121,7 @@ fn serve_buffered<R: Source, W: Sink, P: ResetPort>(
     };
     match log_in(alloc, reader, writer, port, &mut work, buffer) {
         LoginEnd::Entered => {
+            reader.lift_login_limit();
             let state = work.state;
             let reason = serve_entered(alloc, reader, writer, port, address, state, buffer);
             IscsiEnd::Feature(reason)
