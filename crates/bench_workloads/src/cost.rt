@@ -233,7 +233,7 @@ impl Round {
     }
 }
 
-// So many whole blocks are read, each without a copy on the way.
+// `times` whole blocks are read, each without a copy on the way.
 fn fetched(times: u32) -> Moves {
     Moves {
         times,
@@ -242,7 +242,7 @@ fn fetched(times: u32) -> Moves {
     }
 }
 
-// So many blocks of zeros are written.
+// `times` blocks of zeros are written.
 fn zeroed(times: u32) -> Moves {
     Moves {
         times,
