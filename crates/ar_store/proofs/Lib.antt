@@ -17,6 +17,10 @@ pub mod Accesses
 pub mod Costs
 pub mod SqueezeCosts
 pub mod Planned
+pub mod Deciding
+pub mod PutPlans
+pub mod PutCosts
+pub mod DegradedCosts
 pub mod Steps
 pub mod Zeros
 pub mod UnitChanges

@@ -23,7 +23,7 @@ use Rattle.ar_store.specs.Store.{StoreState, members_of, class_in}
 use Rattle.ar_store.specs.Placing.{slot_at, moved_from, moved_first, squeezed, LeadsHome, LeadsToHole, Leads, IsReadyFor, HasNoWay, LeavesOpened}
 use Rattle.ar_store.specs.Calls.{IsZerosOnWay}
 use Rattle.ar_store.specs.Plans.{slot_write, home_read, get_plan, write_of, move_plan, fill_plan, open_plan, WritesSlot, WritesSlotOf, Squeezes, SqueezesThenWrites}
-use Rattle.ar_store.specs.Plans.{CarriesOutPut, CarriesOutSqueeze, AccessesNothing, CarriesOutSearch, WritesWay}
+use Rattle.ar_store.specs.Plans.{AccessesByCase, CarriesOutSqueeze, AccessesNothing, CarriesOutSearch, WritesWay}
 use Rattle.ar_store.proofs.Squeezing.{same_full, same_free}
 use Rattle.ar_store.proofs.Ways.{parity_not_mirrored, unplaced_not_mirrored, unplaced_not_parity, nowhere}
 
@@ -56,7 +56,7 @@ broken_slot class a b m i broken same =
     })
 
 -- nothing was accessed, as the array had failed
-pub put_still : (s : StoreState) (k : Key) → s.disks.health ≡ AllBroken → CarriesOutPut s k s
+pub put_still : (s : StoreState) (k : Key) → s.disks.health ≡ AllBroken → AccessesByCase s k s
 put_still s k broken = record {
   mirrored = λ r at is. broken_slot _ s.disks s.disks _ _ broken refl;
   mirrored_hole = λ r low hole. broken_slot _ s.disks s.disks _ _ broken refl;
@@ -68,7 +68,7 @@ put_still s k broken = record {
 
 -- all that a squeeze needs
 put_squeezed : (a c : StoreState) (k : Key) → HasNoWay a.book k a.book
-    → ((from to : ℕ) → IsFullMirrored a.book from → IsLowestFree a.book to → SqueezesThenWrites from to a c) → CarriesOutPut a k c
+    → ((from to : ℕ) → IsFullMirrored a.book from → IsLowestFree a.book to → SqueezesThenWrites from to a c) → AccessesByCase a k c
 put_squeezed a c k needs writes =
     let at = nowhere a.book k needs.unplaced in
     record {
@@ -102,7 +102,7 @@ module _ (a b c : StoreState) (k : Key) where
       let S : Slot → Type 0 = λ x. WritesSlotOf class x a c in
       subst S same (subst R disks (subst Q members (subst P is writes)))
 
-  put_home : (s : Slot) → LeadsHome a.book k b.book s → b.disks ≡ a.disks → WritesSlotOf (class_in b s.group) s b c → CarriesOutPut a k c
+  put_home : (s : Slot) → LeadsHome a.book k b.book s → b.disks ≡ a.disks → WritesSlotOf (class_in b s.group) s b c → AccessesByCase a k c
   put_home s leads disks writes =
       let class = ap (λ (x : Tables). class_of x s.group) leads.same in
       let members = ap (λ (x : Tables). (group_in x.groups s.group).members) leads.same in
@@ -135,7 +135,7 @@ module _ (a b c : StoreState) (k : Key) where
       let R : ℕ → Type 0 = λ i. WritesSlot Parity b.disks c.disks (members_of a to) i in
       subst R (ap (λ (x : Slot). x.slot) at) (subst Q members (subst P class writes))
 
-  put_hole : (s : Slot) → LeadsToHole a.book k b.book s → AccessesNothing a k b → WritesSlotOf (class_in b s.group) s b c → CarriesOutPut a k c
+  put_hole : (s : Slot) → LeadsToHole a.book k b.book s → AccessesNothing a k b → WritesSlotOf (class_in b s.group) s b c → AccessesByCase a k c
   put_hole s leads nothing writes =
       let disks = nothing.same in
       let t = a.book in
@@ -184,7 +184,7 @@ module _ (a b c : StoreState) (k : Key) where
 
   -- What a put accesses: what was accessed for a slot to be found, and then that slot.
   pub put_way : (way : Way) → a.disks.health ≢ AllBroken → Leads a.book k b.book way → IsReadyFor b k way → IsZerosOnWay a.book k b way
-      → CarriesOutSearch a k b → WritesWay way b c → (c.disks.health ≡ AllBroken → c.book ≡ b.book) → CarriesOutPut a k c
+      → CarriesOutSearch a k b → WritesWay way b c → (c.disks.health ≡ AllBroken → c.book ≡ b.book) → AccessesByCase a k c
   put_way (Home s) sound leads ready zeros (inl nothing) writes unwritten = put_home s leads nothing.same writes
   put_way (Home s) sound leads ready zeros (inr squeeze) writes unwritten = absurd (none-some s (sym squeeze.0.unplaced ∙ leads.home))
   put_way (Hole s) sound leads ready zeros (inl nothing) writes unwritten = put_hole s leads nothing writes

@@ -23,11 +23,11 @@ use Rattle.ar_store.specs.Plans.{fill_plan, copy_plan, CopiesFirst, CopiesSome, 
 use Rattle.ar_store.proofs.Costs.{kinds_of, makes}
 
 -- where no disk has faulted in two runs, none has in the first, nor in the second
-calm_first : (a b c : SetState) → Follows a b → Follows b c → NoneFaults a c → NoneFaults a b
+pub calm_first : (a b c : SetState) → Follows a b → Follows b c → NoneFaults a c → NoneFaults a b
 calm_first a b c ab bc none =
     record { faults = λ d. let n = none.faults d in let x = ab.faults d in let y = bc.faults d in omega arith }
 
-calm_second : (a b c : SetState) → Follows a b → Follows b c → NoneFaults a c → NoneFaults b c
+pub calm_second : (a b c : SetState) → Follows a b → Follows b c → NoneFaults a c → NoneFaults b c
 calm_second a b c ab bc none =
     record { faults = λ d. let n = none.faults d in let x = ab.faults d in let y = bc.faults d in omega arith }
 
@@ -50,13 +50,13 @@ still_by a b AllBroken is whole ab none =
     ]
 
 -- and all disks are present still
-still_whole : (a b : SetState) → a.health ≡ Whole → Follows a b → NoneFaults a b → b.health ≡ Whole
+pub still_whole : (a b : SetState) → a.health ≡ Whole → Follows a b → NoneFaults a b → b.health ≡ Whole
 still_whole a b whole ab none = still_by a b b.health refl whole ab none
 
-made_none : (s : SetState) → MakesAccesses [] s s
+pub made_none : (s : SetState) → MakesAccesses [] s s
 made_none s = record { made = []; log = sym (append-nil s.log); kinds_are = refl }
 
-made_then : (ks ls : List AccessKind) (a b c : SetState) → MakesAccesses ks a b → MakesAccesses ls b c → MakesAccesses (ks ++ ls) a c
+pub made_then : (ks ls : List AccessKind) (a b c : SetState) → MakesAccesses ks a b → MakesAccesses ls b c → MakesAccesses (ks ++ ls) a c
 made_then ks ls a b c first last = record {
   made = first.made ++ last.made;
   log = last.log ∙ ap (λ l. l ++ last.made) first.log ∙ append_assoc a.log first.made last.made;
@@ -65,7 +65,7 @@ made_then ks ls a b c first last = record {
       ∙ ap (λ l. ks ++ l) last.kinds_are;
 }
 
-stripes_kinds : (m : Members) (row n : ℕ) → kinds_of (each_of (stripes_from m row n)) ≡ fill_kinds n
+pub stripes_kinds : (m : Members) (row n : ℕ) → kinds_of (each_of (stripes_from m row n)) ≡ fill_kinds n
 stripes_kinds m row zero = refl
 stripes_kinds m row (suc n) = ap (λ l. Write ∷ Write ∷ Write ∷ Write ∷ l) (stripes_kinds m (row + 1) n)
 

@@ -161,7 +161,7 @@ pub waits : (t u : Tables) (k : Key) → u ≡ t → HasBlock t k → home t k �
 waits t u k same block none = subst (λ (x : Tables). HasUnplacedBlock x) (sym same) (record { key = k; block = block; unplaced = none })
 
 -- a block with a home stands at a level
-placed : (t : Tables) (k : Key) (s : Slot) → TablesAgree t → home t k ≡ Some s → level t k ≢ Unplaced
+pub placed : (t : Tables) (k : Key) (s : Slot) → TablesAgree t → home t k ≡ Some s → level t k ≢ Unplaced
 placed t k s ok is nowhere_k =
     by (class_of t s.group) (key_class t ok s k (home_key t ok k s is)) (sym (home_level t k s is) ∙ nowhere_k)
   where

@@ -9,9 +9,11 @@ use Rattle.ar_extents.specs.declared.health.Health.TheVariants.{Broken as AllBro
 use Rattle.ar_extents.specs.declared.log.AccessKind.{AccessKind}
 use Rattle.ar_extents.specs.declared.log.AccessKind.TheVariants.{Read, Write}
 use Rattle.ar_extents.specs.declared.log.RowAccess.{RowAccess}
-use Rattle.ar_extents.specs.Set.{SetState}
+use Rattle.ar_extents.specs.Set.{SetState, IsLost, IsSound}
 use Rattle.ar_extents.specs.Plans.{AccessPlan, Stop, both_of, each_of, CarriesOut}
+use Rattle.ar_disks.specs.Members.{member}
 use Rattle.ar_mirror.specs.Plans.{mirror_read, mirror_write}
+use Rattle.ar_mirror.specs.Slots.{one_of, other_of}
 use Rattle.ar_parity.specs.Plans.{parity_read, parity_write, stripes_from}
 use Rattle.ar_book.specs.declared.class.Class.{Class}
 use Rattle.ar_book.specs.declared.class.Class.TheVariants.{Free, Mirrored, Parity}
@@ -77,6 +79,17 @@ pub record MakesAccesses (kinds : List AccessKind) (old new : SetState) : Type 0
   pub made : List RowAccess
   pub log : new.log ≡ old.log ++ made
   pub kinds_are : map (λ (a : RowAccess). a.kind) made ≡ kinds
+
+-- of the four extents of a group only the one at this position is lost
+pub record LacksOnly (s : SetState) (m : Members) (position : ℕ) : Type 0 where
+  pub lost : IsLost s (member m position)
+  pub others : (j : ℕ) → j < 4 → j ≢ position → IsSound s (member m j)
+
+-- of the two extents of a mirrored slot exactly one is lost
+abbrev pub LacksOneOf : SetState → Members → ℕ → Type 0
+LacksOneOf s m i =
+    (IsLost s (one_of s.geometry m i) × IsSound s (other_of s.geometry m i))
+    ⊎ (IsSound s (one_of s.geometry m i) × IsLost s (other_of s.geometry m i))
 
 -- the kinds of the accesses by which n rows of four extents are filled with zeros
 abbrev pub fill_kinds : ℕ → List AccessKind
@@ -164,7 +177,7 @@ pub record SqueezesThenWrites (from to : ℕ) (old new : StoreState) : Type 0 wh
 
 -- What a put accesses, by the cases of `Puts`: its slot is written, after a squeeze in the last case. An array that had
 -- failed before squeezes nothing.
-pub record CarriesOutPut (old : StoreState) (k : Key) (new : StoreState) : Type 0 where
+pub record AccessesByCase (old : StoreState) (k : Key) (new : StoreState) : Type 0 where
   pub mirrored : (s : Slot) → level old.book k ≡ MirroredLevel → home old.book k ≡ Some s
       → WritesSlotOf Mirrored s old new
   pub mirrored_hole : (s : Slot) → level old.book k ≢ MirroredLevel → IsLowestHole old.book Mirrored s
@@ -179,10 +192,64 @@ pub record CarriesOutPut (old : StoreState) (k : Key) (new : StoreState) : Type 
       → HasNoHole old.book Parity → free_groups old.book < 2 → IsFullMirrored old.book from → IsLowestFree old.book to
       → WasBroken old new ⊎ SqueezesThenWrites from to old new
 
+-- the first n slots of a mirrored group are copied to a parity group, one after another
+abbrev pub copies_plan : Geometry → Members → Members → ℕ → AccessPlan
+copies_plan g from to zero = Stop
+copies_plan g from to (suc n) = both_of (copies_plan g from to n) (copy_plan g from to n)
+
+-- the squeeze of a mirrored group to a free one, and then the write of the first slot that it leaves
+abbrev pub squeeze_plan : Geometry → Members → Members → ℕ → AccessPlan
+squeeze_plan g from to slots =
+    both_of (fill_plan g to) (both_of (copies_plan g from to slots) (slot_write Parity g to slots))
+
+-- the write of a slot of a store in the layout of a class
+abbrev pub write_as : Class → StoreState → Slot → AccessPlan
+write_as class s slot = slot_write class s.disks.geometry (members_of s slot.group) slot.slot
+
+-- The plan of a put of the block, by the cases of `Puts`, of which it is the first that applies.
+pub data IsPutPlan : StoreState → Key → AccessPlan → Type 0 where
+  in_place : (s : StoreState) (k : Key) (slot : Slot) → level s.book k ≡ MirroredLevel → home s.book k ≡ Some slot
+      → IsPutPlan s k (write_as Mirrored s slot)
+  to_mirrored_hole : (s : StoreState) (k : Key) (slot : Slot) → level s.book k ≢ MirroredLevel
+      → IsLowestHole s.book Mirrored slot → IsPutPlan s k (write_as Mirrored s slot)
+  to_opened_group : (s : StoreState) (k : Key) (g : ℕ) → level s.book k ≢ MirroredLevel → HasNoHole s.book Mirrored
+      → 2 ≤ free_groups s.book → IsLowestFree s.book g → IsPutPlan s k (write_as Mirrored s (slot_at g 0))
+  in_parity_place : (s : StoreState) (k : Key) (slot : Slot) → level s.book k ≡ ParityLevel
+      → home s.book k ≡ Some slot → HasNoHole s.book Mirrored → free_groups s.book < 2
+      → IsPutPlan s k (write_as Parity s slot)
+  to_parity_hole : (s : StoreState) (k : Key) (slot : Slot) → level s.book k ≡ Unplaced → HasNoHole s.book Mirrored
+      → free_groups s.book < 2 → IsLowestHole s.book Parity slot → IsPutPlan s k (write_as Parity s slot)
+  by_squeeze : (s : StoreState) (k : Key) (from to : ℕ) → level s.book k ≡ Unplaced → HasNoHole s.book Mirrored
+      → HasNoHole s.book Parity → free_groups s.book < 2 → IsFullMirrored s.book from → IsLowestFree s.book to
+      → IsPutPlan s k (squeeze_plan s.disks.geometry (members_of s from) (members_of s to)
+      (slots_of s.book.geometry Mirrored))
+
+-- one of the cases applied, and its plan was carried out, so that nothing else was accessed
+pub record CarriesOutPlan (old : StoreState) (k : Key) (new : StoreState) : Type 0 where
+  pub plan : AccessPlan
+  pub is_plan : IsPutPlan old k plan
+  pub carried : CarriesOut plan old.disks new.disks
+
+-- What a put accesses: exactly the plan of one of the cases; and what that case says besides. An array that had failed
+-- before is unchanged.
+pub record CarriesOutPut (old : StoreState) (k : Key) (new : StoreState) : Type 0 where
+  pub cases : AccessesByCase old k new
+  pub one : WasBroken old new ⊎ CarriesOutPlan old k new
+
 -- a squeeze was carried out in its steps
 abbrev pub CarriesOutSqueeze : StoreState → StoreState → Type 0
 CarriesOutSqueeze old new = (from to : ℕ) → IsFullMirrored old.book from → IsLowestFree old.book to
     → Squeezes from to old new
+
+-- a put of the block goes to a mirrored slot: it is mirrored, or a mirrored group has a hole, or two groups are free
+pub record GoesToMirrored (t : Tables) (k : Key) : Type 0 where
+  pub way : level t k ≢ MirroredLevel → HasNoHole t Mirrored → free_groups t < 2 → ⊥
+
+-- a put of the block goes to no mirrored slot
+pub record GoesToParity (t : Tables) (k : Key) : Type 0 where
+  pub low : level t k ≢ MirroredLevel
+  pub none : HasNoHole t Mirrored
+  pub few : free_groups t < 2
 
 -- a put of the block needs no squeeze: it has a home, or there is a slot for it
 pub record NeedsNoSqueeze (t : Tables) (k : Key) : Type 0 where

@@ -13,6 +13,9 @@ ghost use Rattle.ar_book.specs.Tables.{home, slots_of};
 ghost use Rattle.ar_store.specs.Store.{StoreState, class_in};
 ghost use Rattle.ar_store.specs.Plans.{get_plan, move_plan, WritesSlot, Squeezes};
 ghost use Rattle.ar_store.specs.Plans.{MakesAccesses, fill_kinds, copies_kinds};
+ghost use Rattle.ar_store.specs.Plans.{CarriesOutPut, GoesToMirrored, GoesToParity, NeedsNoSqueeze};
+ghost use Rattle.ar_store.specs.Plans.{slot_read, LacksOnly, LacksOneOf};
+ghost use Rattle.ar_parity.specs.Row.{row_of, data_position, parity_position};
 
 /// With all disks present, and where none faults: the get of a block without a home accesses nothing, of another one it
 /// is one read; a put to a mirrored slot is two writes, to a parity slot two reads and then two writes; a move is one
@@ -44,4 +47,40 @@ pub fn store_accesses()
         → NoneFaults old.disks new.disks → Squeezes from to old new
         → MakesAccesses (fill_kinds (rows_of old.disks.geometry)
         ++ copies_kinds (slots_of old.book.geometry Mirrored)) old.disks new.disks }
+{}
+
+/// A put with all disks present, where none faults: to a mirrored slot it is two writes; to a slot with parity two reads
+/// and then two writes; and if it needs a squeeze, those of the squeeze, and then these. A call has no effect.
+pub fn put_accesses()
+    ensures mirrored { (old new : StoreState) (k : Key) → old.disks.health ≡ Whole → NoneFaults old.disks new.disks
+        → CarriesOutPut old k new → GoesToMirrored old.book k
+        → MakesAccesses (Write ∷ Write ∷ []) old.disks new.disks }
+    ensures parity { (old new : StoreState) (k : Key) → old.disks.health ≡ Whole → NoneFaults old.disks new.disks
+        → CarriesOutPut old k new → GoesToParity old.book k → NeedsNoSqueeze old.book k
+        → MakesAccesses (Read ∷ Read ∷ Write ∷ Write ∷ []) old.disks new.disks }
+    ensures squeeze { (old new : StoreState) (k : Key) → old.disks.health ≡ Whole → NoneFaults old.disks new.disks
+        → CarriesOutPut old k new → GoesToParity old.book k → (NeedsNoSqueeze old.book k → ⊥)
+        → MakesAccesses (fill_kinds (rows_of old.disks.geometry) ++ copies_kinds (slots_of old.book.geometry Mirrored)
+        ++ Read ∷ Read ∷ Write ∷ Write ∷ []) old.disks new.disks }
+{}
+
+/// Reads and writes of slots while one extent of the group is lost, and where no disk faults. A mirrored slot with one
+/// extent left is one read or one write. A slot with parity whose own extent is lost is three reads, or two reads and
+/// one write; one whose parity is lost is one write. A call has no effect.
+pub fn degraded_accesses()
+    ensures mirrored_read { (old new : SetState) (m : Members) (i : ℕ) → NoneFaults old new
+        → CarriesOut (slot_read Mirrored old.geometry m i) old new → LacksOneOf old m i
+        → MakesAccesses (Read ∷ []) old new }
+    ensures mirrored_write { (old new : SetState) (m : Members) (i : ℕ) → NoneFaults old new
+        → WritesSlot Mirrored old new m i → LacksOneOf old m i → MakesAccesses (Write ∷ []) old new }
+
+    ensures parity_read { (old new : SetState) (m : Members) (i : ℕ) → NoneFaults old new
+        → CarriesOut (slot_read Parity old.geometry m i) old new → LacksOnly old m (data_position i)
+        → MakesAccesses (Read ∷ Read ∷ Read ∷ []) old new }
+    ensures parity_write { (old new : SetState) (m : Members) (i : ℕ) → NoneFaults old new
+        → WritesSlot Parity old new m i → LacksOnly old m (data_position i)
+        → MakesAccesses (Read ∷ Read ∷ Write ∷ []) old new }
+    ensures parity_lost { (old new : SetState) (m : Members) (i : ℕ) → NoneFaults old new
+        → WritesSlot Parity old new m i → LacksOnly old m (parity_position (row_of i))
+        → MakesAccesses (Write ∷ []) old new }
 {}

@@ -18,7 +18,8 @@ use Rattle.ar_store.proofs.Stays.{stays_then}
 use Rattle.ar_store.proofs.Fields.{ready_in, fields_stay, put_others, way_sound, placed_stand, written_home}
 use Rattle.ar_store.proofs.Ways.{puts_way}
 use Rattle.ar_store.proofs.Zeros.{zeros_put}
-use Rattle.ar_store.proofs.Planned.{put_way, put_still, leaves_opened}
+use Rattle.ar_store.proofs.Planned.{put_way, leaves_opened}
+use Rattle.ar_store.proofs.PutPlans.{put_one, put_none}
 use Rattle.ar_store.proofs.store.Store.place.Goals as goal
 
 pub find_way-way-requires : goal.find_way-way-requires
@@ -96,9 +97,12 @@ returns g c =
           (way_sound (store_in b) d.disks c.args.key c.find_way-way.result way.way wrote.stays.accessed.follows (done_sound d.disks.health (sym done ∙ wrote.outcome)))
           way.zeros wrote.beside);
       plan = subst (λ (s : StoreState). CarriesOutPut s c.args.key (store_in d)) view
+          (put_one (store_in a) (store_in d) c.args.key
           (put_way (store_in a) (store_in b) (store_in d) c.args.key c.find_way-way.result
           (λ broken. c.in_default.not-Broken (c.health.ensures.same ∙ broken)) way.leads way.way way.zeros
-          way.search wrote.writes (λ broken. wrote.unwritten (wrote.outcome ∙ ap outcome_of broken)));
+          way.search wrote.writes (λ broken. wrote.unwritten (wrote.outcome ∙ ap outcome_of broken)))
+          c.self.invariant.kept (subst (λ (s : StoreState). HasBlock s.book c.args.key) (sym view) c.requires.block)
+          (λ broken. c.in_default.not-Broken (c.health.ensures.same ∙ broken)));
       follows = subst (λ (s : StoreState). StoreFollows s (store_in d)) view (record { units = both.units; accessed = both.accessed });
     }
 
@@ -113,6 +117,6 @@ returns-in-Broken g c =
       stands = record { blocks = λ _ k. refl };
       breaks = λ _. record { unmoved = refl; opened = λ sound. absurd (sound broken); prepared = inl refl; lost = λ _. refl };
       zeros = λ done. absurd (done_not_broken (sym done));
-      plan = put_still s c.args.key broken;
+      plan = put_none s c.args.key broken;
       follows = record { units = units_refl s.book; accessed = accessed_refl s.disks };
     }
