@@ -97,3 +97,10 @@ pub moved_beside : (old new : StoreState) (m : Move) (t u : Tables) (key : Key) 
     → IfMoved m (λ k s. BesideHold old new s)
 moved_beside old new m t u key to moved beside =
     if_moved_then m (IsMovedTo t key to u) (λ k s. BesideHold old new s) moved (λ k s has. subst (λ x. BesideHold old new x) (sym has.slot_is) beside)
+
+-- all that follows of the block that moved, in one record
+pub if_moved_all : (m : Move) (P Q R T : Key → Slot → Type 0) → IfMoved m P → IfMoved m Q → IfMoved m R
+    → ((k : Key) (s : Slot) → P k s → Q k s → R k s → T k s) → IfMoved m T
+if_moved_all (Moved key to) P Q R T one two three then = then key to one two three
+if_moved_all Idle P Q R T one two three then = tt
+if_moved_all Broken P Q R T one two three then = tt

@@ -4,3 +4,4 @@ pub mod Work
 pub mod Ending
 pub mod Single
 pub mod Planned
+pub mod Costs

@@ -1,5 +1,5 @@
 -- The rule of cleaning: which block moves to which slot; and the measure by which cleaning ends.
-use Rattle.std.specs.Prelude.{◌⊎◌, ℕ, ◌-◌, ◌*◌, ◌==◌, if◌then◌else◌, sum_by}
+use Rattle.std.specs.Prelude.{◌⊎◌, ℕ, ◌-◌, ◌*◌, ◌==◌, ◌<◌, if◌then◌else◌, sum_by}
 use Rattle.ar_disks.specs.declared.address.Key.{Key}
 use Rattle.ar_book.specs.declared.class.Class.{Class}
 use Rattle.ar_book.specs.declared.class.Class.TheVariants.{Free, Mirrored, Parity}
@@ -9,6 +9,7 @@ use Rattle.ar_book.specs.Changes.{Moved}
 use Rattle.ar_book.specs.Cleaning.{CanBeEmptied, IsEmptiest, IsFirstBlock, IsLowestHoleBeside}
 use Rattle.ar_store.specs.Store.{StoreState}
 use Rattle.ar_extents.specs.Plans.{CarriesOut}
+use Rattle.ar_store.specs.Slots.{BesideHold}
 use Rattle.ar_store.specs.Plans.{move_plan}
 
 -- no group of a class has blocks that all fit in the holes of the others
@@ -60,3 +61,10 @@ work_of Parity blocks = work_in blocks
 -- falls with each block that cleaning moves, so it bounds how many more it moves
 abbrev pub cleaning_left : Tables → ℕ
 cleaning_left t = sum_by (λ (g : GroupState). work_of g.class (used g)) t.groups
+
+-- What a cleaning step makes of a store, and of the block's new group: the rule's move of the tables, which leaves less
+-- to clean; each other slot of the group keeps its block.
+pub record CleansBlock (old new : StoreState) (key : Key) (to : Slot) : Type 0 where
+  pub tables : Cleans old.book key to new.book
+  pub less : cleaning_left new.book < cleaning_left old.book
+  pub beside : BesideHold old new to

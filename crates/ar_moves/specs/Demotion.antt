@@ -9,7 +9,7 @@ use Rattle.ar_book.specs.Tables.{Tables, free_groups}
 use Rattle.ar_book.specs.Changes.{Moved}
 use Rattle.ar_book.specs.Choices.{IsMirrored, IsNoNewer, IsLowestFree}
 use Rattle.ar_store.specs.Store.{StoreState}
-use Rattle.ar_store.specs.Slots.{SlotHolds}
+use Rattle.ar_store.specs.Slots.{SlotHolds, BesideHold}
 use Rattle.ar_store.specs.Placing.{slot_at, IsLowestHole, HasNoHole}
 use Rattle.ar_store.specs.Calls.{IsOpened}
 use Rattle.ar_extents.specs.Plans.{CarriesOut}
@@ -56,6 +56,17 @@ pub record Demotes (t : Tables) (key : Key) (to : Slot) (new : Tables) : Type 0 
   pub names : NamesDemotion t key to ready
   pub moved : Moved ready key to new
 
+-- each other slot of the parity group holds the zero block
+pub record HoldsZerosBeside (s : StoreState) (to : Slot) : Type 0 where
+  pub slots : (i : ℕ) → i < 3 * rows_of s.disks.geometry → i ≢ to.slot → SlotHolds s (slot_at to.group i) (zeros (block_len_of s.disks.geometry))
+
+-- What a demotion makes of a store, and of the block's new group: the rule's move of the tables; each other slot of the
+-- group keeps its block, and holds the zero block if the group was opened for it.
+pub record DemotesBlock (old new : StoreState) (key : Key) (to : Slot) : Type 0 where
+  pub tables : Demotes old.book key to new.book
+  pub zeros : HasNoHole old.book Parity → HoldsZerosBeside new to
+  pub beside : BesideHold old new to
+
 -- the same of a block that is already known to be the oldest
 pub record DemotesTo (t : Tables) (key : Key) (new : Tables) (moved_key : Key) (to : Slot) : Type 0 where
   pub key_is : moved_key ≡ key
@@ -71,10 +82,6 @@ MayHaveOpened t new = (new ≡ t) ⊎ ((key : Key) × (to : Slot) × NamesDemoti
 -- array failed then.
 pub record LeavesReady (t new : Tables) : Type 0 where
   pub ready : (key : Key) (to : Slot) (tables : Tables) → NamesDemotion t key to tables → new ≡ tables
-
--- each other slot of the parity group holds the zero block
-pub record HoldsZerosBeside (s : StoreState) (to : Slot) : Type 0 where
-  pub slots : (i : ℕ) → i < 3 * rows_of s.disks.geometry → i ≢ to.slot → SlotHolds s (slot_at to.group i) (zeros (block_len_of s.disks.geometry))
 
 -- Exactly the rule's move was carried out: the old slot was read, and then the new one written. If a group is opened
 -- for it, that was filled with zeros first.

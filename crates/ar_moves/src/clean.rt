@@ -1,11 +1,10 @@
 // Cleaning compacts the groups of a class: block by block the emptiest group moves into the holes of the others, until
 // it is free. Each step leaves less to be done (`cleaning_left`), so cleaning ends.
-ghost use Rattle.std.specs.Prelude.{◌≡◌, ◌↔◌, ◌≤◌, ◌<◌, IfSome, IfNone};
+ghost use Rattle.std.specs.Prelude.{◌≡◌, ◌↔◌, ◌≤◌, IfSome, IfNone};
 ghost use Rattle.ar_book.specs.Tables.{free_groups};
-ghost use Rattle.ar_store.specs.Slots.{BesideHold};
 ghost use Rattle.ar_moves.specs.Moves.{IfMoved, LeavesBlocks, IsLeft};
-ghost use Rattle.ar_moves.specs.Cleaning.{Cleans, NamesCleaning, NamesCleaningOf, HasNothingIn, NothingToClean};
-ghost use Rattle.ar_moves.specs.Cleaning.{CarriesOutCleaning, cleaning_left};
+ghost use Rattle.ar_moves.specs.Cleaning.{CleansBlock, NamesCleaning, NamesCleaningOf, HasNothingIn, NothingToClean};
+ghost use Rattle.ar_moves.specs.Cleaning.{CarriesOutCleaning};
 
 use crate::Move;
 use crate::step::move_to;
@@ -25,14 +24,12 @@ use ar_store::Store;
 ///
 /// `Broken`: the array has failed, and the tables are as they were. A store that had failed before is unchanged.
 pub fn clean_one<D: Disk>(store: &mut Store<D>) -> Move
-    ensures moved { IfMoved result (λ key to. Cleans store.old.book key to store.new.book) }
+    ensures moved { IfMoved result (CleansBlock store.old store.new) }
     ensures idle { result ≡ Move.Idle → IsLeft store.old store.new (NothingToClean store.old.book) }
     ensures nothing { NothingToClean store.old.book → store.new ≡ store.old }
     ensures broken { (result ≡ Move.Broken) ↔ (store.new.disks.health ≡ Health.Broken) }
     ensures unmoved { result ≡ Move.Broken → store.new.book ≡ store.old.book }
     ensures free { free_groups store.old.book ≤ free_groups store.new.book }
-    ensures less { IfMoved result (λ key to. cleaning_left store.new.book < cleaning_left store.old.book) }
-    ensures beside { IfMoved result (λ key to. BesideHold store.old store.new to) }
     ensures plan { CarriesOutCleaning store.old store.new }
     ensures leaves { LeavesBlocks store.old store.new }
 {

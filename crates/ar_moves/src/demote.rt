@@ -6,7 +6,7 @@ ghost use Rattle.ar_store.specs.Kept.{IsKept};
 ghost use Rattle.ar_store.specs.Slots.{BesideHold};
 ghost use Rattle.ar_store.specs.Placing.{HasNoHole};
 ghost use Rattle.ar_moves.specs.Moves.{IfMoved, LeavesBlocks, IsLeft};
-ghost use Rattle.ar_moves.specs.Demotion.{IsOldestMirrored, Demotes, DemotesTo, NamesNoSlot, NamesNoDemotion};
+ghost use Rattle.ar_moves.specs.Demotion.{IsOldestMirrored, DemotesBlock, DemotesTo, NamesNoSlot, NamesNoDemotion};
 ghost use Rattle.ar_moves.specs.Demotion.{MayHaveOpened, LeavesReady, HoldsZerosBeside, CarriesOutDemotion};
 
 use crate::Move;
@@ -28,14 +28,12 @@ use ar_store::{Opening, Store};
 /// `Broken`: the array has failed. A group that the rule opens is open then, and every block has its old home. A store
 /// that had failed before is unchanged.
 pub fn demote_one<D: Disk>(store: &mut Store<D>) -> Move
-    ensures moved { IfMoved result (λ key to. Demotes store.old.book key to store.new.book) }
+    ensures moved { IfMoved result (DemotesBlock store.old store.new) }
     ensures idle { result ≡ Move.Idle → IsLeft store.old store.new (NamesNoDemotion store.old.book) }
     ensures nothing { NamesNoDemotion store.old.book → store.new ≡ store.old }
     ensures broken { (result ≡ Move.Broken) ↔ (store.new.disks.health ≡ Health.Broken) }
     ensures opened { result ≡ Move.Broken → MayHaveOpened store.old.book store.new.book }
     ensures ready { result ≡ Move.Broken → store.old.disks.health ≢ Health.Broken → LeavesReady store.old.book store.new.book }
-    ensures zeros { IfMoved result (λ key to. HasNoHole store.old.book Parity → HoldsZerosBeside store.new to) }
-    ensures beside { IfMoved result (λ key to. BesideHold store.old store.new to) }
     ensures plan { CarriesOutDemotion store.old store.new }
     ensures leaves { LeavesBlocks store.old store.new }
 {

@@ -9,5 +9,5 @@ mod step;
 
 pub use clean::clean_one;
 pub use demote::demote_one;
-pub use laws::{cleaning_ends, rules_name_one_move};
+pub use laws::{cleaning_ends, move_accesses, rules_name_one_move};
 pub use step::Move;

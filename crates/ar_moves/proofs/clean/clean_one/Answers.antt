@@ -1,10 +1,11 @@
-use Rattle.std.proofs.Common.{◌<◌, sym, subst, ◌∙◌}
+use Rattle.std.proofs.Common.{sym, subst, ◌∙◌}
 use Rattle.ar_book.specs.declared.class.Slot.{Slot}
 use Rattle.ar_disks.specs.declared.address.Key.{Key}
 use Rattle.ar_book.specs.Tables.{Tables}
 use Rattle.ar_moves.specs.Moves.{IsMovedTo}
-use Rattle.ar_moves.specs.Cleaning.{NamesCleaning, NothingToClean, Cleans, cleaning_left}
-use Rattle.ar_moves.proofs.Answers.{if_moved_then, named_cleaned, moved_free, moved_beside}
+use Rattle.ar_store.specs.Slots.{BesideHold}
+use Rattle.ar_moves.specs.Cleaning.{NamesCleaning, NothingToClean, CleansBlock}
+use Rattle.ar_moves.proofs.Answers.{if_moved_all, named_cleaned, moved_free, moved_beside}
 use Rattle.ar_moves.proofs.Readiness.{cleaning_ready}
 use Rattle.ar_moves.proofs.Ending.{cleans_fall}
 use Rattle.ar_moves.proofs.Single.{cleaned_single}
@@ -28,16 +29,17 @@ returns-in-Some g c =
     let names = subst (λ (x : Tables). NamesCleaning x c.in-Some.key c.in-Some.to) c.book.ensures c.in-Some.ensures.names in
     let moves = c.move_to.ensures in
     record {
-      moved = if_moved_then c.move_to.result (IsMovedTo t c.in-Some.key c.in-Some.to new) (λ k s. Cleans t k s new) moves.moved
-          (λ k s moved. named_cleaned t new c.in-Some.key c.in-Some.to names k s moved);
+      moved = if_moved_all c.move_to.result (IsMovedTo t c.in-Some.key c.in-Some.to new) (IsMovedTo t c.in-Some.key c.in-Some.to new)
+          (λ k s. BesideHold c.args.store.now c.move_to.new.store s) (CleansBlock c.args.store.now c.move_to.new.store) moves.moved moves.moved
+          (moved_beside c.args.store.now c.move_to.new.store c.move_to.result t new c.in-Some.key c.in-Some.to moves.moved moves.beside)
+          (λ k s moved same beside.
+          let cleans = named_cleaned t new c.in-Some.key c.in-Some.to names k s moved in
+          record { tables = cleans; less = cleans_fall t new k s c.health.ensures.kept.space.tables cleans; beside = beside });
       idle = λ idle. absurd (moves.idle idle);
       nothing = λ none. absurd (cleans_nothing t c.in-Some.key c.in-Some.to none names);
       broken = moves.broken;
       unmoved = moves.unmoved;
       free = moved_free c.move_to.result t new c.in-Some.key c.in-Some.to moves.moved moves.idle moves.unmoved;
-      less = if_moved_then c.move_to.result (IsMovedTo t c.in-Some.key c.in-Some.to new) (λ k s. cleaning_left new < cleaning_left t) moves.moved
-          (λ k s moved. cleans_fall t new k s c.health.ensures.kept.space.tables (named_cleaned t new c.in-Some.key c.in-Some.to names k s moved));
-      beside = moved_beside c.args.store.now c.move_to.new.store c.move_to.result t new c.in-Some.key c.in-Some.to moves.moved moves.beside;
       plan = λ key to named.
           let a = c.args.store.now in
           let b = c.move_to.new.store in

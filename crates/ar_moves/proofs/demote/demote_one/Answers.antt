@@ -1,8 +1,11 @@
 use Rattle.std.proofs.Common.{sym, subst, ◌∙◌}
 use Rattle.ar_book.specs.Tables.{Tables}
 use Rattle.ar_book.specs.Choices.{IsMirrored}
-use Rattle.ar_moves.specs.Demotion.{IsOldestMirrored, Demotes, DemotesTo}
-use Rattle.ar_moves.proofs.Answers.{if_moved_then, oldest_demoted}
+use Rattle.ar_book.specs.declared.class.Class.TheVariants.{Parity}
+use Rattle.ar_store.specs.Placing.{HasNoHole}
+use Rattle.ar_store.specs.Slots.{BesideHold}
+use Rattle.ar_moves.specs.Demotion.{IsOldestMirrored, DemotesBlock, DemotesTo, HoldsZerosBeside}
+use Rattle.ar_moves.proofs.Answers.{if_moved_all, oldest_demoted}
 use Rattle.ar_moves.proofs.Planned.{demotes_none, demotes_nothing}
 use Rattle.ar_moves.proofs.demote.demote_one.Goals as goal
 
@@ -14,7 +17,10 @@ returns-in-Some g c =
     let oldest = subst (λ (x : Tables). IsOldestMirrored x c.in-Some.key) c.book.ensures (record { mirrored = found.found; oldest = found.oldest }) in
     let demoted = c.demote.ensures in
     record {
-      moved = if_moved_then c.demote.result (DemotesTo t c.in-Some.key new) (λ k s. Demotes t k s new) demoted.moved (λ k s moved. oldest_demoted t new c.in-Some.key oldest k s moved);
+      moved = if_moved_all c.demote.result (DemotesTo t c.in-Some.key new) (λ k s. HasNoHole t Parity → HoldsZerosBeside c.demote.new.store s)
+          (λ k s. BesideHold c.args.store.now c.demote.new.store s) (DemotesBlock c.args.store.now c.demote.new.store)
+          demoted.moved demoted.zeros demoted.beside
+          (λ k s moved zeros beside. record { tables = oldest_demoted t new c.in-Some.key oldest k s moved; zeros = zeros; beside = beside });
       idle = λ idle.
           let left = demoted.idle idle in
           record { why = record { none = λ key to ready names. left.why.none to ready names.slot }; same = left.same };
@@ -22,8 +28,6 @@ returns-in-Some g c =
       broken = demoted.broken;
       opened = demoted.opened;
       ready = demoted.ready;
-      zeros = demoted.zeros;
-      beside = demoted.beside;
       plan = demoted.plan;
       leaves = demoted.leaves;
     }
