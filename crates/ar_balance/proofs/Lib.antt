@@ -6,3 +6,4 @@ pub mod Less
 pub mod Single
 pub mod Falling
 pub mod Copying
+pub mod Costs

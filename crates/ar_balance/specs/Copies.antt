@@ -3,6 +3,8 @@ use Rattle.std.specs.Prelude.{◌≡◌, ◌≢◌, ◌⊎◌, ℕ, zero, suc, �
 use Rattle.ar_disks.specs.declared.address.Place.{Place}
 use Rattle.ar_disks.specs.Geometry.{rows_of}
 use Rattle.ar_extents.specs.declared.health.Health.TheVariants.{Whole, Out}
+use Rattle.ar_extents.specs.declared.log.AccessKind.{AccessKind}
+use Rattle.ar_extents.specs.declared.log.AccessKind.TheVariants.{Read, Write}
 use Rattle.ar_extents.specs.Set.{SetState, faults_of, content}
 use Rattle.ar_extents.specs.Follows.{Follows, Faulted, Keeps}
 use Rattle.ar_extents.specs.Plans.{Attempt, read_at, write_at, AttemptsAll}
@@ -17,6 +19,11 @@ row_copy from to row = read_at from row ∷ write_at to row ∷ []
 abbrev pub rows_copy : Place → Place → ℕ → List Attempt
 rows_copy from to zero = []
 rows_copy from to (suc n) = rows_copy from to n ++ row_copy from to n
+
+-- the kinds of the accesses by which n rows are copied from one extent to another
+abbrev pub row_copies_kinds : ℕ → List AccessKind
+row_copies_kinds zero = []
+row_copies_kinds (suc n) = row_copies_kinds n ++ Read ∷ Write ∷ []
 
 -- accesses in which no disk faulted, and which wrote to one extent only
 pub record HasWritten (old new : SetState) (to : Place) : Type 0 where

@@ -9,5 +9,5 @@ mod laws;
 mod shift;
 mod step;
 
-pub use laws::{balancing_ends, idle_is_even, rule_names_one_action};
+pub use laws::{balancing_ends, idle_is_even, rule_names_one_action, shift_accesses};
 pub use step::{Balance, balance_one};
