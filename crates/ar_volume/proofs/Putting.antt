@@ -1,5 +1,5 @@
 -- Blocks that are put, and forced to the disks.
-use Rattle.std.proofs.Common.{◌≡◌, ◌⊎◌, true, false, ℕ, ◌==◌, ◌&&◌, nat_le, ◌+◌, ◌*◌, ◌-◌, ◌/◌, ◌%◌, ◌<◌, ◌≤◌, List, [], ◌∷◌, ◌++◌, drop, Option, None, Some, IsSome, true≢false, min, refl, sym, ap, subst, ◌∙◌, inl, inr, arith}
+use Rattle.std.proofs.Common.{◌≡◌, ◌⊎◌, true, false, ℕ, ◌==◌, ◌&&◌, nat_le, ◌+◌, ◌*◌, ◌-◌, ◌/◌, ◌%◌, ◌<◌, ◌≤◌, List, [], ◌∷◌, ◌++◌, drop, length, Option, None, Some, IsSome, true≢false, min, refl, sym, ap, subst, ◌∙◌, inl, inr, arith}
 use Rattle.std.proofs.lemmas.Bool.{cases_eq, cases_lt, ne_eqb}
 use Rattle.std.proofs.lemmas.Bool.Decides.{nat_tests}
 use Rattle.std.proofs.lemmas.List.{take-append-drop}
@@ -27,14 +27,16 @@ pub put_stored : {S : Type 0} (store : S → StoreState) (b n : S) (before after
     → Sees before (stands (store b)) after (stands (store n)) key block
     → (IsSome (cached before key) → after ≡ with_entries before ((key, block) ∷ without_key before.entries key))
     → (cached before key ≡ None → TakesIn before after key block)
+    → length after.entries ≤ after.capacity
     → InTurn (λ (o : S) (k : Key) (m : S). PutsStored (store o) k (store m)) (destaged before key after) b n
     → PutsBlock (record { store = store b; cache = before }) key (record { store = store n; cache = after })
-put_stored store b n before after key block sees present absent puts =
+put_stored store b n before after key block sees present absent fits puts =
     let new : ArrayState = record { store = store n; cache = after } in
     let is : block ≡ seen_at new key = sym (seen_by new key ∙ sees.put) in
     record {
       present = λ some. subst (λ (x : List ℕ). after ≡ with_entries before ((key, x) ∷ without_key before.entries key)) is (present some);
       absent = λ none. subst (λ (x : List ℕ). TakesIn before after key x) is (absent none);
+      fits = fits;
       stored = in_turn_seen store (λ o k m. PutsStored (store o) k (store m)) PutsStored (λ o m k h. h) (destaged before key after) b n puts;
       kept = λ none.
           let same = subst (λ ks. InTurn (λ o k m. PutsStored (store o) k (store m)) ks b n) none puts in
@@ -255,3 +257,11 @@ pub part-whole : (g : Geometry) (addr : Addr) (lba count at part : ℕ) → part
 part-whole g addr lba count at part is from until edge =
     same_tests part (sectors_of g) lba (at / sectors_of g * sectors_of g) ((at / sectors_of g + 1) * sectors_of g) (lba + count)
     (part-full g lba count at part is from until) (full-part g lba count at part is from until edge)
+
+-- a range without a sector: nothing was overwritten
+pub nothing_put : {S : Type 0} (step stop : S → Key → S → Type 0) (g : Geometry) (addr : Addr) (lba count : ℕ) (a b : S) (answer : Completion) → count ≡ 0
+    → (answer ≡ answers.Done → InTurn step (keys_in g addr lba count) a b) → (answer ≡ answers.Broken → StopsInTurn step stop (keys_in g addr lba count) a b)
+    → b ≡ a
+nothing_put step stop g addr lba count a b answers.Done none puts stops = subst (λ n. InTurn step (keys_in g addr lba n) a b) none (puts refl)
+nothing_put step stop g addr lba count a b answers.Broken none puts stops =
+    absurd (subst (λ n. StopsInTurn step stop (keys_in g addr lba n) a b) none (stops refl))

@@ -1,16 +1,12 @@
 -- What a demotion and a cleaning step do.
-use Rattle.std.specs.Prelude.{◌≡◌, ◌≢◌, ◌↔◌, ◌<◌, ◌≤◌, IsTrue}
+use Rattle.std.specs.Prelude.{◌≡◌, ◌≢◌, ◌↔◌, ◌≤◌, IsTrue}
 use Rattle.ar_extents.specs.declared.health.Health.TheVariants.{Broken as AllBroken}
-use Rattle.ar_book.specs.declared.class.Class.TheVariants.{Parity}
 use Rattle.ar_book.specs.Tables.{free_groups}
-use Rattle.ar_store.specs.Placing.{HasNoHole}
-use Rattle.ar_store.specs.Slots.{BesideHold}
 use Rattle.ar_moves.specs.declared.step.Move.{Move}
 use Rattle.ar_moves.specs.declared.step.Move.TheVariants.{Idle, Broken}
 use Rattle.ar_moves.specs.Moves.{IfMoved, LeavesBlocks, IsLeft}
-use Rattle.ar_moves.specs.Demotion.{Demotes, NamesNoDemotion, MayHaveOpened, LeavesReady}
-use Rattle.ar_moves.specs.Demotion.{HoldsZerosBeside, CarriesOutDemotion}
-use Rattle.ar_moves.specs.Cleaning.{Cleans, NothingToClean, CarriesOutCleaning, cleaning_left}
+use Rattle.ar_moves.specs.Demotion.{DemotesBlock, NamesNoDemotion, MayHaveOpened, LeavesReady, CarriesOutDemotion}
+use Rattle.ar_moves.specs.Cleaning.{CleansBlock, NothingToClean, CarriesOutCleaning}
 use Rattle.ar_volume.specs.Image.{ArrayState, is_broken}
 
 -- Both keep the contents of every block, and the cache. Broken is returned exactly if the array has failed afterwards.
@@ -24,9 +20,7 @@ pub record MovesBlock (old : ArrayState) (answer : Move) (new : ArrayState) : Ty
 -- open. The other slots of the block's new group keep their blocks, and exactly the move's accesses were made.
 pub record DemotesOne (old : ArrayState) (answer : Move) (new : ArrayState) : Type 0 where
   pub moves : MovesBlock old answer new
-  pub moved : IfMoved answer (λ key to. Demotes old.store.book key to new.store.book)
-  pub zeros : IfMoved answer (λ key to. HasNoHole old.store.book Parity → HoldsZerosBeside new.store to)
-  pub beside : IfMoved answer (λ key to. BesideHold old.store new.store to)
+  pub moved : IfMoved answer (DemotesBlock old.store new.store)
   pub idle : answer ≡ Idle → IsLeft old.store new.store (NamesNoDemotion old.store.book)
   pub nothing : NamesNoDemotion old.store.book → new.store ≡ old.store
   pub opened : answer ≡ Broken → MayHaveOpened old.store.book new.store.book
@@ -38,9 +32,7 @@ pub record DemotesOne (old : ArrayState) (answer : Move) (new : ArrayState) : Ty
 -- and exactly the move's accesses were made.
 pub record CleansOne (old : ArrayState) (answer : Move) (new : ArrayState) : Type 0 where
   pub moves : MovesBlock old answer new
-  pub moved : IfMoved answer (λ key to. Cleans old.store.book key to new.store.book)
-  pub less : IfMoved answer (λ key to. cleaning_left new.store.book < cleaning_left old.store.book)
-  pub beside : IfMoved answer (λ key to. BesideHold old.store new.store to)
+  pub moved : IfMoved answer (CleansBlock old.store new.store)
   pub idle : answer ≡ Idle → IsLeft old.store new.store (NothingToClean old.store.book)
   pub nothing : NothingToClean old.store.book → new.store ≡ old.store
   pub unmoved : answer ≡ Broken → new.store.book ≡ old.store.book

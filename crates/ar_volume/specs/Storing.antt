@@ -49,12 +49,13 @@ pub record StopsReading {S : Type 0} (gets : S → Key → S → Type 0) (broken
 abbrev pub destaged : CacheState → Key → CacheState → List Key
 destaged old key new = pushed_out old key ++ put_through new key
 
--- A block was put: it is the most recently used entry, or was written through. The store changed by the puts of the
--- destaged blocks, in order, and not at all if there are none.
+-- A block was put: it is the most recently used entry, or was written through; the cache has no more entries than it
+-- may. The store changed by the puts of the destaged blocks, in order, and not at all if there are none.
 pub record PutsBlock (old : ArrayState) (key : Key) (new : ArrayState) : Type 0 where
   pub present : IsSome (cached old.cache key)
       → new.cache ≡ with_entries old.cache ((key, seen_at new key) ∷ without_key old.cache.entries key)
   pub absent : cached old.cache key ≡ None → TakesIn old.cache new.cache key (seen_at new key)
+  pub fits : length new.cache.entries ≤ new.cache.capacity
   pub stored : InTurn PutsStored (destaged old.cache key new.cache) old.store new.store
   pub kept : destaged old.cache key new.cache ≡ [] → new.store ≡ old.store
 

@@ -167,7 +167,6 @@ pub fn write_sectors<B: Backing>(
     ensures puts { result ≡ Completion.Done → InTurn (Overwrites B.gets B.puts geometry lba count) (keys_in geometry addr lba count) blocks.old blocks.new }
     ensures stopped { result ≡ Completion.Broken → StopsInTurn (Overwrites B.gets B.puts geometry lba count)
         (StopsOver B.gets B.breaks B.is_broken geometry lba count) (keys_in geometry addr lba count) blocks.old blocks.new }
-    ensures nothing { count ≡ 0 → blocks.new ≡ blocks.old }
 
     ensures answer { result ≡ stored (B.is_broken blocks.new) }
     ensures keeps { KeepsBacking B.geometry B.knows B.is_broken B.follows blocks.old blocks.new }

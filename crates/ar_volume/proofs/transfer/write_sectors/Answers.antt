@@ -56,7 +56,6 @@ loop-at-preserved g c =
           turn-more (Overwrites g.B.Backing.gets g.B.Backing.puts c.args.geometry c.args.lba c.args.count) c.args.geometry c.args.addr c.args.lba at part c.args.blocks.now c.loop-at.blocks c.write_part.new.blocks
           c.loop-at.invariant.from some within edge c.loop-at.invariant.put put;
       edge = ended;
-      untouched = λ same. absurd (omega (arith, same, c.loop-at.invariant.from, some));
       sound = stored_done _ (sym c.write_part.ensures.answer ∙ c.in-Done.is);
       keeps = keeps_then _ _ _ _ g.met.B.Backing.follows_trans _ _ _ c.loop-at.invariant.keeps c.write_part.ensures.keeps;
       len = c.write_part.ensures.len ∙ c.loop-at.invariant.len;

@@ -16,7 +16,6 @@ invariant-loop-at g l = record {
   others : (k : Key) → k.addr ≢ l.addr → g.B.Backing.block_at l.blocks k ≡ g.B.Backing.block_at l.fn.blocks k;
   put : InTurn (Overwrites g.B.Backing.gets g.B.Backing.puts l.geometry l.lba l.count) (keys_in l.geometry l.addr l.lba (l.at - l.lba)) l.fn.blocks l.blocks;
   edge : ((l.at ≡ l.lba) ⊎ (l.at % sectors_of l.geometry ≡ 0)) ⊎ (l.at ≡ l.end);
-  untouched : l.at ≡ l.lba → l.blocks ≡ l.fn.blocks;
   sound : g.B.Backing.is_broken l.blocks ≡ false;
   keeps : KeepsBacking g.B.Backing.geometry g.B.Backing.knows g.B.Backing.is_broken g.B.Backing.follows l.fn.blocks l.blocks;
   len : length l.block ≡ length l.fn.block;

@@ -14,7 +14,7 @@ returns-clause-cleans g c =
     let call = c.clean_one.ensures in
     let new : ArrayState = record { store = c.clean_one.new.store; cache = c.self.inside.cache } in
     subst (λ (s : ArrayState). CleansOne s c.clean_one.result new) c.self.view_is
-    (record { moves = moves_block c.self.inside.behind.store c.clean_one.new.store c.self.inside.cache c.clean_one.result call.leaves call.broken; moved = call.moved; less = call.less; beside = call.beside; idle = call.idle; nothing = call.nothing; unmoved = call.unmoved; free = call.free; plan = call.plan })
+    (record { moves = moves_block c.self.inside.behind.store c.clean_one.new.store c.self.inside.cache c.clean_one.result call.leaves call.broken; moved = call.moved; idle = call.idle; nothing = call.nothing; unmoved = call.unmoved; free = call.free; plan = call.plan })
 
 pub returns-clause-seen : goal.returns-clause-seen
 returns-clause-seen g c = λ sound.

@@ -14,7 +14,7 @@ returns-clause-demotes g c =
     let call = c.demote_one.ensures in
     let new : ArrayState = record { store = c.demote_one.new.store; cache = c.self.inside.cache } in
     subst (λ (s : ArrayState). DemotesOne s c.demote_one.result new) c.self.view_is
-    (record { moves = moves_block c.self.inside.behind.store c.demote_one.new.store c.self.inside.cache c.demote_one.result call.leaves call.broken; moved = call.moved; zeros = call.zeros; beside = call.beside; idle = call.idle; nothing = call.nothing; opened = call.opened; ready = call.ready; plan = call.plan })
+    (record { moves = moves_block c.self.inside.behind.store c.demote_one.new.store c.self.inside.cache c.demote_one.result call.leaves call.broken; moved = call.moved; idle = call.idle; nothing = call.nothing; opened = call.opened; ready = call.ready; plan = call.plan })
 
 pub returns-clause-seen : goal.returns-clause-seen
 returns-clause-seen g c = λ sound.
