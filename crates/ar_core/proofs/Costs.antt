@@ -32,14 +32,14 @@ planned_health (Try t next other) h =
 planned_health (IfMissing p next other) h =
     either_health (is_missing h p.disk p.extent) h (planned next h) (planned other h) (planned_health next h) (planned_health other h)
 
-calm_health : (plan : AccessPlan) (a b : SetState) → CarriesOut plan a b → NoneFaults a b → b.health ≡ a.health
+pub calm_health : (plan : AccessPlan) (a b : SetState) → CarriesOut plan a b → NoneFaults a b → b.health ≡ a.health
 calm_health plan a b carried none =
     let all = accounted plan a b carried in
     let same : all.made ≡ planned plan a.health =
     append_cancel_left a.log all.made (planned plan a.health) (sym all.accounts.log ∙ planned_made plan a b carried none) in
     all.accounts.health ∙ ap (health_after a.health) same ∙ planned_health plan a.health
 
-faults_grow : (plan : AccessPlan) (a b : SetState) → CarriesOut plan a b → (d : ℕ) → faults_of a d ≤ faults_of b d
+pub faults_grow : (plan : AccessPlan) (a b : SetState) → CarriesOut plan a b → (d : ℕ) → faults_of a d ≤ faults_of b d
 faults_grow plan a b carried d = let n = (accounted plan a b carried).accounts.faults d in omega arith
 
 calm_geometry : (plan : AccessPlan) (a b : SetState) → CarriesOut plan a b → b.geometry ≡ a.geometry
@@ -62,11 +62,11 @@ same_plan a b k tables geometry =
     ∙ sym (home_by_is a (home a.book k))
 
 -- what a read of a block leaves, where it faults or not: the cache, the tables and the geometry; faults are counted up
-record Leaves (a b : ArrayState) : Type 0 where
-  cache : b.cache ≡ a.cache
-  book : b.store.book ≡ a.store.book
-  geometry : b.store.disks.geometry ≡ a.store.disks.geometry
-  faults : (d : ℕ) → faults_of a.store.disks d ≤ faults_of b.store.disks d
+pub record Leaves (a b : ArrayState) : Type 0 where
+  pub cache : b.cache ≡ a.cache
+  pub book : b.store.book ≡ a.store.book
+  pub geometry : b.store.disks.geometry ≡ a.store.disks.geometry
+  pub faults : (d : ℕ) → faults_of a.store.disks d ≤ faults_of b.store.disks d
 
 leaves_at : (a b : ArrayState) (k : Key) (o : Option (List ℕ)) → cached a.cache k ≡ o → ReadsBlock a k b → Leaves a b
 leaves_at a b k None is read =
@@ -86,7 +86,7 @@ leaves_at a b k (Some block) is read =
       faults = λ d. let n = ap (λ (s : StoreState). faults_of s.disks d) same in omega arith;
     }
 
-leaves : (a b : ArrayState) (k : Key) → ReadsBlock a k b → Leaves a b
+pub leaves : (a b : ArrayState) (k : Key) → ReadsBlock a k b → Leaves a b
 leaves a b k read = leaves_at a b k (cached a.cache k) refl read
 
 all_grow : (keys : List Key) (a b : ArrayState) → InTurn ReadsBlock keys a b → (d : ℕ) → faults_of a.store.disks d ≤ faults_of b.store.disks d
@@ -97,13 +97,13 @@ all_grow (k ∷ rest) a b read d =
     omega arith
 
 -- the log and the health after the read of one block
-one_logged : (a b : ArrayState) (k : Key) (o : Option (List ℕ)) → cached a.cache k ≡ o → ReadsBlock a k b → NoneFaults a.store.disks b.store.disks
+pub one_logged : (a b : ArrayState) (k : Key) (o : Option (List ℕ)) → cached a.cache k ≡ o → ReadsBlock a k b → NoneFaults a.store.disks b.store.disks
     → b.store.disks.log ≡ a.store.disks.log ++ unless_cached o (planned (get_plan a.store k) a.store.disks.health)
 one_logged a b k None is read none = planned_made (get_plan a.store k) a.store.disks b.store.disks (read.miss is).plan none
 one_logged a b k (Some block) is read none =
     ap (λ (s : StoreState). s.disks.log) (read.hit (ap is_some is)) ∙ sym (append-nil a.store.disks.log)
 
-one_health : (a b : ArrayState) (k : Key) (o : Option (List ℕ)) → cached a.cache k ≡ o → ReadsBlock a k b → NoneFaults a.store.disks b.store.disks
+pub one_health : (a b : ArrayState) (k : Key) (o : Option (List ℕ)) → cached a.cache k ≡ o → ReadsBlock a k b → NoneFaults a.store.disks b.store.disks
     → b.store.disks.health ≡ a.store.disks.health
 one_health a b k None is read none = calm_health (get_plan a.store k) a.store.disks b.store.disks (read.miss is).plan none
 one_health a b k (Some block) is read none = ap (λ (s : StoreState). s.disks.health) (read.hit (ap is_some is))

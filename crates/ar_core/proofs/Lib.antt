@@ -2,6 +2,8 @@ pub mod Balancing
 pub mod Calm
 pub mod Causes
 pub mod Costs
+pub mod WriteCosts
+pub mod ThroughCosts
 pub mod Commanding
 pub mod Events
 pub mod Everywhere

@@ -1,5 +1,6 @@
 pub mod Causes
 pub mod Costs
+pub mod WriteCosts
 pub mod Events
 pub mod Laws
 pub mod Map

@@ -1,5 +1,5 @@
 // Laws of steps and runs, in the terms of a host. A law is the contract of a function that does nothing.
-ghost use Rattle.std.specs.Prelude.{◌≡◌, ℕ, suc, [], ◌++◌, false, Some, Ok, List, take, slice_get};
+ghost use Rattle.std.specs.Prelude.{◌≡◌, ℕ, suc, [], ◌∷◌, ◌++◌, false, Some, Ok, List, take, slice_get, Bool};
 ghost use Rattle.ar_disks.specs.declared.address.Host.{Host};
 ghost use Rattle.ar_scsi.specs.declared.reply.Reply.{Reply};
 ghost use Rattle.ar_scsi.specs.Reply.{good};
@@ -10,7 +10,16 @@ ghost use Rattle.ar_store.specs.Slots.{SurvivesLossOf};
 ghost use Rattle.ar_volume.specs.Image.{ArrayState, geometry_of, is_broken, image};
 ghost use Rattle.ar_core.specs.Run.{AreCalm, IsIsolated, Run, Turn};
 ghost use Rattle.ar_core.specs.Step.{Steps, addr_in};
+ghost use Rattle.ar_disks.specs.declared.address.Addr.{Addr};
+ghost use Rattle.ar_disks.specs.declared.address.Key.{Key};
+ghost use Rattle.ar_extents.specs.declared.log.AccessKind.TheVariants.{Read, Write};
+ghost use Rattle.ar_store.specs.Plans.{MakesAccesses};
+ghost use Rattle.ar_cache.specs.declared.answers.Flush.TheVariants.{Flushed};
+ghost use Rattle.ar_volume.specs.declared.flush.UnitFlush.TheVariants.{Done};
+ghost use Rattle.ar_volume.specs.Flush.{unit_keys};
 ghost use Rattle.ar_core.specs.Costs.{reads_of};
+ghost use Rattle.ar_core.specs.WriteCosts.{CostsExactly, MakesInTurn, PutMakes, ForceMakes, WriteMakes};
+ghost use Rattle.ar_core.specs.WriteCosts.{for_each, WritesThrough, AreMirrored, StayAtParity};
 ghost use Rattle.ar_scsi.specs.Reading.{reading};
 ghost use Rattle.ar_scsi.specs.declared.reply.Status.TheVariants.{Good};
 ghost use Rattle.ar_extents.specs.Plans.{NoneFaults};
@@ -75,4 +84,47 @@ pub fn reads_are_accounted_for()
         → Steps old (EventOf.Cmd host lun cdb payload) (OutcomeOf.Cmd reply) new
         → reading cdb ≡ Ok (Command.Read lba count) → reply.status ≡ Good → NoneFaults old.store.disks new.store.disks
         → new.store.disks.log ≡ old.store.disks.log ++ reads_of old (keys_in (geometry_of old) (addr_in host lun) lba count) }
+{}
+
+/// The cost of a WRITE: where no disk faults, a GOOD one makes for each of its blocks, in ascending order, the reads that
+/// the block's home plans if it is covered in part, not cached and has a home, and then a put of each block that is
+/// destaged for it: the one that it evicts, and its own if it is written through. With FORCE UNIT ACCESS it then puts
+/// each of its blocks that is cached. There is no other access. The function does nothing.
+pub fn writes_are_accounted_for()
+    ensures { (old new : ArrayState) (host : Host) (lun : ℕ) (cdb payload : List ℕ) (reply : Reply) (lba count : ℕ) (fua : Bool)
+        → Steps old (EventOf.Cmd host lun cdb payload) (OutcomeOf.Cmd reply) new
+        → reading cdb ≡ Ok (Command.Write lba count fua) → reply.status ≡ Good → NoneFaults old.store.disks new.store.disks
+        → CostsExactly (WriteMakes (addr_in host lun) lba count fua old new) old.store.disks new.store.disks }
+{}
+
+/// The cost of a WRITE in numbers, of whole blocks, with all disks present and nothing cached: two writes for each of
+/// its blocks if these are mirrored, two reads and two writes if they stay at the parity level. The function does
+/// nothing.
+pub fn write_accesses()
+    ensures mirrored { (old new : ArrayState) (host : Host) (lun : ℕ) (cdb payload : List ℕ) (reply : Reply) (lba count : ℕ) (fua : Bool)
+        → Steps old (EventOf.Cmd host lun cdb payload) (OutcomeOf.Cmd reply) new
+        → reading cdb ≡ Ok (Command.Write lba count fua) → reply.status ≡ Good → NoneFaults old.store.disks new.store.disks
+        → WritesThrough (addr_in host lun) lba count old
+        → AreMirrored old.store.book (keys_in (geometry_of old) (addr_in host lun) lba count)
+        → MakesAccesses (for_each (keys_in (geometry_of old) (addr_in host lun) lba count) (Write ∷ Write ∷ []))
+        old.store.disks new.store.disks }
+    ensures parity { (old new : ArrayState) (host : Host) (lun : ℕ) (cdb payload : List ℕ) (reply : Reply) (lba count : ℕ) (fua : Bool)
+        → Steps old (EventOf.Cmd host lun cdb payload) (OutcomeOf.Cmd reply) new
+        → reading cdb ≡ Ok (Command.Write lba count fua) → reply.status ≡ Good → NoneFaults old.store.disks new.store.disks
+        → WritesThrough (addr_in host lun) lba count old
+        → StayAtParity old.store.book (keys_in (geometry_of old) (addr_in host lun) lba count)
+        → MakesAccesses (for_each (keys_in (geometry_of old) (addr_in host lun) lba count) (Read ∷ Read ∷ Write ∷ Write ∷ []))
+        old.store.disks new.store.disks }
+{}
+
+/// The cost of a flush: where no disk faults, a flush of one cached block is one put, and that of a unit one put for each
+/// of its cached blocks, in ascending order. The function does nothing.
+pub fn flushes_are_accounted_for()
+    ensures one { (old new : ArrayState) (key : Key) → Steps old EventOf.Flush (OutcomeOf.Flush (Flushed key)) new
+        → NoneFaults old.store.disks new.store.disks
+        → CostsExactly (PutMakes old.store key new.store) old.store.disks new.store.disks }
+    ensures unit { (old new : ArrayState) (addr : Addr)
+        → Steps old (EventOf.FlushUnit addr) (OutcomeOf.FlushUnit Done) new
+        → NoneFaults old.store.disks new.store.disks
+        → CostsExactly (MakesInTurn ForceMakes (unit_keys old addr) old new) old.store.disks new.store.disks }
 {}

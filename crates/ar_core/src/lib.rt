@@ -26,7 +26,8 @@ pub use ar_volume::{Counters, NewDisk, Refusal, UnitFlush};
 pub use array::Array;
 pub use event::{Event, EventOf, Outcome, OutcomeOf};
 pub use laws::{
-    any_disk_may_go, own_entries_decide_replies, reads_are_accounted_for, whole_disks_stay_whole,
+    any_disk_may_go, flushes_are_accounted_for, own_entries_decide_replies,
+    reads_are_accounted_for, whole_disks_stay_whole, write_accesses, writes_are_accounted_for,
     writes_that_fit_are_done,
 };
 pub use map::GroupView;

@@ -7,6 +7,7 @@ use Rattle.ar_volume.specs.Sectors.{keys_in}
 use Rattle.ar_volume.specs.Storing.{BreaksBlock, Overwrites, PutsBlock, PutsBlocks, ReadsBlock, StopsOver, StopsPutting}
 use Rattle.ar_volume.specs.Following.{ArrayFollows}
 use Rattle.ar_volume.specs.Seen.{IsUnit, WritesSectors}
+use Rattle.ar_volume.proofs.Putting.{nothing_put}
 use Rattle.ar_core.proofs.Serving.{key_known, padded_written, range_written}
 use Rattle.ar_core.proofs.array.Array.put_range.Goals as goal
 
@@ -30,7 +31,12 @@ invariant_of-self g c =
     )
 
 pub returns-clause-nothing : goal.returns-clause-nothing
-returns-clause-nothing g c = λ none. c.write_sectors.ensures.nothing none ∙ c.self.view_is
+returns-clause-nothing g c = λ none.
+    nothing_put (Overwrites ReadsBlock PutsBlock c.geometry-geometry.result c.args.lba c.args.count)
+    (StopsOver ReadsBlock BreaksBlock is_broken c.geometry-geometry.result c.args.lba c.args.count)
+    c.geometry-geometry.result c.args.addr c.args.lba c.args.count c.self.inside.blocks c.write_sectors.new.blocks c.write_sectors.result none
+    c.write_sectors.ensures.puts c.write_sectors.ensures.stopped
+    ∙ c.self.view_is
 
 pub returns-clause-writes : goal.returns-clause-writes
 returns-clause-writes g c = λ done.
