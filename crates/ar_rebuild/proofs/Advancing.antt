@@ -1,21 +1,19 @@
 -- How a step of a rebuild moves health, and what can be used after it.
 use Rattle.std.proofs.Common.{◌≡◌, ◌≢◌, inl, inr, ℕ, ◌+◌, ◌-◌, ◌<◌, Bool, true, false, if◌then◌else◌, refl, sym, ap, subst, ◌∙◌, true≢false, arith}
-use Rattle.std.proofs.lemmas.Bool.{cases_lt}
 use Rattle.std.proofs.lemmas.Bool.Decides.{eqb_tells}
 use Rattle.ar_disks.specs.declared.address.Place.{Place}
 use Rattle.ar_extents.specs.declared.health.Health.{Health}
 use Rattle.ar_extents.specs.declared.health.Health.TheVariants.{Whole, Out, Rebuilding, Broken}
-use Rattle.ar_extents.specs.Health.{is_out, IsDown, IsRebuilding, rebuilt_disk, next_extent, after_done}
-use Rattle.ar_extents.specs.Set.{SetState, faults_of}
-use Rattle.ar_extents.specs.Follows.{Follows, Faulted, Keeps}
+use Rattle.ar_extents.specs.Health.{IsDown, IsRebuilding, rebuilt_disk, next_extent, after_done}
+use Rattle.ar_extents.specs.Set.{SetState}
+use Rattle.ar_extents.specs.Follows.{Faulted}
 use Rattle.ar_extents.specs.Access.{next_place, IsGivenUp}
 use Rattle.ar_extents.specs.Changes.{is_broken_set, with_done}
-use Rattle.ar_extents.proofs.Follows.{keeps_then, keeps_disks}
 use Rattle.ar_extents.proofs.GroupLemmas.{same_place}
 use Rattle.ar_extents.proofs.Losses.{sound_with_done}
-use Rattle.ar_rebuild.specs.Rows.{IsBesideNext, HasNotFaulted, WritesNext}
+use Rattle.ar_rebuild.specs.Rows.{WritesNext}
 use Rattle.ar_rebuild.specs.Rebuild.{NothingToRebuild, IsLostAgain, Advances}
-use Rattle.ar_rebuild.proofs.RowLemmas.{next_same}
+use Rattle.ar_rebuild.proofs.Writing.{next_same, calm}
 
 -- what a kind of health isn't
 is_rebuilding : Health → Bool
@@ -54,26 +52,6 @@ out_not_broken x e = true≢false (sym (ap is_broken_set e))
 quiet_not_rebuilding : (h : Health) (x n : ℕ) → NothingToRebuild h → h ≢ Rebuilding x n
 unfolding is_rebuilding
 quiet_not_rebuilding h x n quiet is = subst (λ (y : Health). NothingToRebuild y) is quiet
-
-none_out : (h : Health) (d : ℕ) → IsRebuilding h → is_out h d ≡ false
-none_out Whole d is = absurd is
-none_out (Out x) d is = absurd is
-none_out (Rebuilding x done) d is = refl
-none_out Broken d is = absurd is
-
--- as long as a disk is being rebuilt none has faulted
-pub calm : (a b : SetState) → Follows a b → IsRebuilding b.health → (d : ℕ) → faults_of b d ≡ faults_of a d
-calm a b ab is d =
-    elim (cases_lt (faults_of a d) (faults_of b d)) [
-      | inl more ↦ absurd (true≢false (sym (ab.noticed d more) ∙ none_out b.health d is))
-      | inr none ↦ (let grown = ab.faults d in omega arith)
-    ]
-
--- the disk that is rebuilt has not faulted in what was done before
-pub spared_then : (a b c : SetState) → Follows a b → b.health ≡ a.health → IsRebuilding a.health → HasNotFaulted b c → HasNotFaulted a c
-spared_then a b c ab same rebuilding spared =
-    subst (λ (h : Health). faults_of c (rebuilt_disk h) ≡ faults_of b (rebuilt_disk h)) same spared
-    ∙ calm a b ab (subst (λ (h : Health). IsRebuilding h) (sym same) rebuilding) (rebuilt_disk a.health)
 
 -- nothing was to be rebuilt, or the set was broken
 pub advances_idle : (s : SetState) → ((x n : ℕ) → s.health ≢ Rebuilding x n) → Advances s s
@@ -194,10 +172,3 @@ advances_done a b place is rebuilding writes health =
       broken = λ broken. absurd (marked.sound broken);
       stays_broken = λ broken. absurd (rebuilding_not_broken place.disk place.extent (sym is ∙ broken));
     }
-
-pub done_not_broken : (b : SetState) (place : Place) → b.health ≡ Rebuilding place.disk place.extent → (with_done b).health ≢ Broken
-done_not_broken b place is = (marks b.health place b.extents is).sound
-
--- no row is written where an extent counts as done
-pub keeps_done : (a b : SetState) → WritesNext a b → Keeps (IsBesideNext a) a (with_done b)
-keeps_done a b writes = keeps_then (IsBesideNext a) a b (with_done b) writes.keeps (keeps_disks (IsBesideNext a) b (with_done b) refl)

@@ -1,5 +1,5 @@
 -- An extent whose rows are written can count as done, whatever it is used for.
-use Rattle.std.proofs.Common.{◌≡◌, ◌≢◌, inl, inr, ℕ, ◌<◌, false, List, length, refl, sym, ap, subst, ◌∙◌}
+use Rattle.std.proofs.Common.{◌≡◌, ◌≢◌, inl, inr, ℕ, zero, suc, ◌<◌, true, false, List, [], length, refl, sym, ap, subst, ◌∙◌}
 use Rattle.std.proofs.lemmas.Bool.Decides.{eqb_tells}
 use Rattle.ar_disks.specs.declared.address.Place.{Place}
 use Rattle.ar_disks.specs.declared.address.Members.{Members}
@@ -10,12 +10,13 @@ use Rattle.ar_extents.specs.declared.outcome.RowOutcome.{RowOutcome}
 use Rattle.ar_extents.specs.declared.outcome.RowOutcome.TheVariants.{Done, GivenUp, Broken}
 use Rattle.ar_extents.specs.Health.{IsRebuilding, rebuilt_disk, next_extent}
 use Rattle.ar_extents.specs.Set.{SetState}
-use Rattle.ar_extents.specs.Follows.{LeavesDisks, HasNoneOf, IsEither}
+use Rattle.ar_extents.specs.Plans.{AttemptsAll, all_done, CarriesOut}
+use Rattle.ar_extents.proofs.Plans.{all_more}
 use Rattle.ar_extents.specs.Access.{next_place}
 use Rattle.ar_extents.specs.Changes.{with_done}
 use Rattle.ar_extents.specs.Groups.{IsGroup, IsOutside}
 use Rattle.ar_extents.proofs.GroupLemmas.{group_then, member_not_outside}
-use Rattle.ar_mirror.specs.Slots.{partner_of}
+use Rattle.ar_disks.specs.Geometry.{rows_of}
 use Rattle.ar_mirror.proofs.SlotLemmas.{members_differ}
 use Rattle.ar_mirror.proofs.Frames.{done_holds as mirror_done, pair_is_member}
 use Rattle.ar_parity.proofs.Frames.{done_holds as parity_done}
@@ -24,13 +25,15 @@ use Rattle.ar_book.specs.declared.class.Class.TheVariants.{Free, Mirrored, Parit
 use Rattle.ar_book.specs.Tables.{Tables, group_in, class_of, slots_of}
 use Rattle.ar_book.specs.Choices.{IsUnused}
 use Rattle.ar_book.proofs.GroupChanges.{not_member}
-use Rattle.ar_store.specs.Store.{StoreState, store_of}
+use Rattle.ar_store.specs.Store.{store_of}
 use Rattle.ar_store.specs.Slots.{ClassHolds}
 use Rattle.ar_store.specs.Kept.{IsSpace}
 use Rattle.ar_store.proofs.Spaces.{slot_group, slot_inside, groups_apart}
 use Rattle.ar_store.proofs.Alike.{class_alike}
-use Rattle.ar_rebuild.specs.Rows.{WritesNext, HasNothingNext, GroupIsWhole, WritesRows, CanBeDone, NeedsNext, AsksNext, WritesExtent, StopsAtRow, StopsWriting}
-use Rattle.ar_rebuild.proofs.RowLemmas.{next_same, writes_refl, writes_alike}
+use Rattle.ar_rebuild.specs.Plans.{rows_attempts, member_plan, HasNothingNext, AccessesNext}
+use Rattle.ar_rebuild.specs.Rows.{WritesNext, GroupIsWhole, WritesRows, CanBeDone, WritesExtent, StopsAtRow, StopsWriting}
+use Rattle.ar_rebuild.proofs.Attempts.{rows_carried}
+use Rattle.ar_rebuild.proofs.Writing.{next_same, writes_refl, writes_alike}
 
 -- the extent at the mark is the next one
 pub next_is : (s : SetState) (place : Place) → s.health ≡ Rebuilding place.disk place.extent → place ≡ next_place s
@@ -126,21 +129,6 @@ rows_done Done c a b t place m g position space is inside c_is m_is below at wri
 rows_done GivenUp c a b t place m g position space is inside c_is m_is below at writes rows = rows
 rows_done Broken c a b t place m g position space is inside c_is m_is below at writes rows = rows
 
--- no disk is accessed where nothing is written
-pub asks_none : (s : StoreState) → AsksNext s s.disks
-asks_none s = record { spares = λ g i inside below at. record { disks = λ d none. refl } }
-
--- and none where an extent counts as done
-pub asks_done : (s : StoreState) (b : SetState) → AsksNext s b → AsksNext s (with_done b)
-asks_done s b asks = record { spares = λ g i inside below at. record { disks = (asks.spares g i inside below at).disks } }
-
--- the pair of the extent that is rebuilt next is that of its position
-pub pair_asked : (a b : SetState) (place : Place) (m : Members) (position : ℕ) → a.health ≡ Rebuilding place.disk place.extent → member m position ≡ place
-    → LeavesDisks (HasNoneOf (IsEither (member m (partner_of position)) (next_place a))) a b → LeavesDisks (HasNoneOf (NeedsNext Mirrored m position)) a b
-pair_asked a b place m position is at touches =
-    let P : Place → Type 0 = λ p. LeavesDisks (HasNoneOf (IsEither (member m (partner_of position)) p)) a b in
-    subst P (sym (at ∙ next_is a place is)) touches
-
 -- What holds of the member that has the next extent holds wherever that extent is met: no other group has it, nor another position.
 member_alone : (Holds : Class → Members → ℕ → Type 0) (c : Class) (a : SetState) (t : Tables) (place : Place) (m : Members) (g position : ℕ)
     → IsSpace (store_of a t) → a.health ≡ Rebuilding place.disk place.extent → g < length t.groups → c ≡ class_of t g
@@ -172,22 +160,14 @@ member_alone Holds c a t place m g position space is inside c_is m_is below at h
         subst P (sym position_is)
         (subst (λ (x : Class). Holds x (group_in t.groups g).members position) c_is (subst (λ (x : Members). Holds c x position) m_is holds))
 
--- What was accessed for a member of one group is what the next extent needs.
-pub asks_member : (c : Class) (a b : SetState) (t : Tables) (place : Place) (m : Members) (g position : ℕ) → IsSpace (store_of a t)
-    → a.health ≡ Rebuilding place.disk place.extent → g < length t.groups → c ≡ class_of t g → m ≡ (group_in t.groups g).members → position < 4 → member m position ≡ place
-    → LeavesDisks (HasNoneOf (NeedsNext c m position)) a b → AsksNext (store_of a t) b
-asks_member c a b t place m g position space is inside c_is m_is below at touches = record {
-  spares =
-      member_alone (λ class members i. LeavesDisks (HasNoneOf (NeedsNext class members i)) a b) c a t place m g position space is inside c_is m_is below
-      at touches;
-}
-
 -- where the writing of a member of one group stopped, that of the next extent did
 pub stops_member : (c : Class) (a b : SetState) (t : Tables) (place : Place) (m : Members) (g position : ℕ) → IsSpace (store_of a t)
     → a.health ≡ Rebuilding place.disk place.extent → g < length t.groups → c ≡ class_of t g → m ≡ (group_in t.groups g).members → position < 4 → member m position ≡ place
     → StopsAtRow c a b m position → StopsWriting (store_of a t) b
 stops_member c a b t place m g position space is inside c_is m_is below at stopped = record {
-  stops = member_alone (λ class members i. StopsAtRow class a b members i) c a t place m g position space is inside c_is m_is below at stopped;
+  stops = λ h i next.
+      member_alone (λ class members i. StopsAtRow class a b members i) c a t place m g position space is inside c_is m_is below at stopped h i
+      next.there next.below next.is;
 }
 
 -- An extent whose group is in use isn't nothing to write.
@@ -203,3 +183,40 @@ mirrored_used e = cc
 
 pub parity_used : Parity ≢ Free
 parity_used e = cc
+
+-- of a free group no row is rebuilt
+free_rows : (m : Members) (i n : ℕ) (s : SetState) → AttemptsAll (rows_attempts Free m i n) true s s
+free_rows m i zero s = all_done s
+free_rows m i (suc n) s = all_more (rows_attempts Free m i n) [] true s s s (free_rows m i n s) (all_done s)
+
+-- An extent that is in no group was to be rebuilt, and nothing was accessed.
+pub none_accessed : (s : SetState) (t : Tables) (place : Place) → s.health ≡ Rebuilding place.disk place.extent → IsUnused t place
+    → AccessesNext (store_of s t) s
+none_accessed s t place is unused = record {
+  plan = λ g i next.
+      absurd
+      (let same = next_is s place is ∙ sym next.is in
+      not_member (group_in t.groups g).members place (unused g next.there) i (ap (λ (p : Place). p.disk) (sym same)) (ap (λ (p : Place). p.extent) (sym same)));
+  nothing = λ none. refl;
+  idle = λ no. refl;
+}
+
+-- The plan of the member that it is was carried out.
+pub member_accessed : (c : Class) (a b : SetState) (t : Tables) (place : Place) (m : Members) (g position : ℕ) → IsSpace (store_of a t)
+    → a.health ≡ Rebuilding place.disk place.extent → g < length t.groups → c ≡ class_of t g → m ≡ (group_in t.groups g).members → position < 4 → member m position ≡ place
+    → CarriesOut (member_plan c m position (rows_of a.geometry)) a b → (HasNothingNext (store_of a t) → b ≡ a) → AccessesNext (store_of a t) b
+member_accessed c a b t place m g position space is inside c_is m_is below at carried nothing = record {
+  plan = λ h i next.
+      member_alone (λ class members i. CarriesOut (member_plan class members i (rows_of a.geometry)) a b) c a t place m g position space is inside c_is
+      m_is below at carried h i next.there next.below next.is;
+  nothing = nothing;
+  idle = λ no. absurd (no (rebuilding_is a place is));
+}
+
+-- that of a free group's makes no access
+pub free_accessed : (a : SetState) (t : Tables) (place : Place) (m : Members) (g position : ℕ) → IsSpace (store_of a t)
+    → a.health ≡ Rebuilding place.disk place.extent → g < length t.groups → class_of t g ≡ Free → m ≡ (group_in t.groups g).members → position < 4
+    → member m position ≡ place → AccessesNext (store_of a t) a
+free_accessed a t place m g position space is inside free m_is below at =
+    member_accessed Free a a t place m g position space is inside (sym free) m_is below at
+    (rows_carried Free m position (rows_of a.geometry) a a (free_rows m position (rows_of a.geometry) a)) (λ none. refl)

@@ -1,4 +1,9 @@
+pub mod Writing
+pub mod Attempts
+pub mod Told
 pub mod RowLemmas
 pub mod ExtentLemmas
 pub mod Advancing
 pub mod StepLemmas
+pub mod Accesses
+pub mod Costs

@@ -1,26 +1,27 @@
 -- What a step of a rebuild leaves of a store.
-use Rattle.std.proofs.Common.{◌≡◌, ◌≢◌, ℕ, ◌+◌, ◌<◌, List, Bool, true, false, sym, ap, subst, ◌∙◌, true≢false}
+use Rattle.std.proofs.Common.{◌≡◌, ◌≢◌, ℕ, ◌+◌, ◌<◌, List, refl, sym, ap, subst, ◌∙◌}
 use Rattle.ar_disks.specs.declared.address.Place.{Place}
 use Rattle.ar_disks.specs.Geometry.{block_len_of}
 use Rattle.ar_extents.specs.declared.health.Health.{Health}
-use Rattle.ar_extents.specs.declared.health.Health.TheVariants.{Rebuilding, Broken}
+use Rattle.ar_extents.specs.declared.health.Health.TheVariants.{Whole, Out, Rebuilding, Broken}
 use Rattle.ar_extents.specs.declared.outcome.RowOutcome.TheVariants.{Done as RowDone, GivenUp as RowGivenUp, Broken as RowBroken}
 use Rattle.ar_extents.specs.Health.{IsRebuilding, rebuilt_disk, next_extent}
 use Rattle.ar_extents.specs.Set.{SetState, faults_of}
 use Rattle.ar_extents.specs.Changes.{with_done}
 use Rattle.ar_book.specs.Tables.{Tables, free_groups}
-use Rattle.ar_store.specs.Store.{store_of}
+use Rattle.ar_store.specs.Store.{StoreState, store_of}
 use Rattle.ar_store.specs.Slots.{SlotsHold, AllStand}
 use Rattle.ar_store.specs.Kept.{IsSpace, FieldsAgree}
 use Rattle.ar_store.specs.declared.space.Space.{Space}
 use Rattle.ar_store.specs.Spaces.{store_in, IsReady}
 use Rattle.ar_store.proofs.Spaces.{HaveShape}
 use Rattle.ar_store.proofs.Alike.{slots_alike, space_alike, all_alike}
-use Rattle.ar_rebuild.specs.Rows.{WritesNext, CanBeDone}
+use Rattle.ar_rebuild.specs.Plans.{after_answer, CarriesOutRebuild}
+use Rattle.ar_rebuild.specs.Rows.{WritesNext, CanBeDone, StopsWriting}
 use Rattle.ar_rebuild.specs.declared.step.Rebuild.{Rebuild}
 use Rattle.ar_rebuild.specs.declared.step.Rebuild.TheVariants.{Rebuilt, Finished, Idle, GivenUp, Broken as Lost}
-use Rattle.ar_rebuild.specs.Rebuild.{RebuildsExtent, MarksDone, Advances}
-use Rattle.ar_rebuild.proofs.RowLemmas.{writes_alike}
+use Rattle.ar_rebuild.specs.Rebuild.{NothingToRebuild, IsRebuildFailed, RebuildsExtent, StopsRebuild, MarksDone, Advances}
+use Rattle.ar_rebuild.proofs.Writing.{writes_alike}
 use Rattle.ar_rebuild.proofs.ExtentLemmas.{rebuilding_is}
 use Rattle.ar_rebuild.proofs.Advancing.{rebuilding_not_broken}
 
@@ -59,68 +60,74 @@ unharmed_done a b d t u place same space is writes done counted =
     (record { geometry = shape.geometry; extents = shape.extents; count = shape.count; loose = shape.loose })
     (subst (λ (x : Tables). SlotsHold (store_of a t) (store_of (with_done b) x)) same done.slots))
 
-is_idle : Rebuild → Bool
-is_idle (Rebuilt extent left) = false
-is_idle Finished = false
-is_idle Idle = true
-is_idle GivenUp = false
-is_idle Lost = false
-
-is_lost : Rebuild → Bool
-is_lost (Rebuilt extent left) = false
-is_lost Finished = false
-is_lost Idle = false
-is_lost GivenUp = false
-is_lost Lost = true
-
--- what is answered of an extent that counts as done
-pub record IsCounted (a d : SetState) (r : Rebuild) : Type 0 where
-  pub answer : RebuildsExtent a d r
-  pub some : r ≢ Idle
-  pub sound : r ≢ Lost
-
+-- what is returned of an extent that counts as done
 pub counted : (r : Rebuild) (a b d : SetState) → b.health ≡ a.health → b.extents ≡ a.extents → ((x : ℕ) → faults_of b x ≡ faults_of a x)
-    → MarksDone b d r → IsCounted a d r
-unfolding is_idle is_lost
+    → MarksDone b d r → RebuildsExtent a d r
 counted (Rebuilt extent left) a b d health extents calm counts = record {
-  answer = record {
-    was = sym health ∙ counts.was ∙ ap (λ h. Rebuilding (rebuilt_disk h) extent) health;
-    rest = counts.rest ∙ extents;
-    some = counts.some;
-    health = counts.health ∙ ap (λ h. Rebuilding (rebuilt_disk h) (extent + 1)) health;
-    calm = λ x. counts.calm x ∙ calm x;
-  };
-  some = λ e. true≢false (sym (ap is_idle e));
-  sound = λ e. true≢false (sym (ap is_lost e));
+  was = sym health ∙ counts.was ∙ ap (λ h. Rebuilding (rebuilt_disk h) extent) health;
+  rest = counts.rest ∙ extents;
+  some = counts.some;
+  health = counts.health ∙ ap (λ h. Rebuilding (rebuilt_disk h) (extent + 1)) health;
+  calm = λ x. counts.calm x ∙ calm x;
 }
 counted Finished a b d health extents calm counts = record {
-  answer = record {
-    was = subst (λ (h : Health). IsRebuilding h) health counts.was;
-    last = ap (λ h. next_extent h + 1) (sym health) ∙ counts.last ∙ extents;
-    health = counts.health;
-    calm = λ x. counts.calm x ∙ calm x;
-  };
-  some = λ e. true≢false (sym (ap is_idle e));
-  sound = λ e. true≢false (sym (ap is_lost e));
+  was = subst (λ (h : Health). IsRebuilding h) health counts.was;
+  last = ap (λ h. next_extent h + 1) (sym health) ∙ counts.last ∙ extents;
+  health = counts.health;
+  calm = λ x. counts.calm x ∙ calm x;
 }
 counted Idle a b d health extents calm counts = absurd counts
 counted GivenUp a b d health extents calm counts = absurd counts
 counted Lost a b d health extents calm counts = absurd counts
 
--- a disk that gave up isn't nothing to do, nor a broken set
-pub gave_up : GivenUp ≢ Idle
-unfolding is_idle
-gave_up e = true≢false (sym (ap is_idle e))
+-- then it does
+pub counted_is : (r : Rebuild) (b d : SetState) → d ≡ with_done b → MarksDone b d r → d ≡ after_answer r b
+counted_is (Rebuilt extent left) b d is counts = is
+counted_is Finished b d is counts = is
+counted_is Idle b d is counts = absurd counts
+counted_is GivenUp b d is counts = absurd counts
+counted_is Lost b d is counts = absurd counts
 
-pub gave_up_alone : GivenUp ≢ Lost
-unfolding is_lost
-gave_up_alone e = true≢false (sym (ap is_lost e))
+-- and no row was left
+pub done_stops : (r : Rebuild) (s : StoreState) (b d : SetState) → MarksDone b d r → StopsRebuild s d r
+done_stops (Rebuilt extent left) s b d counts = tt
+done_stops Finished s b d counts = tt
+done_stops Idle s b d counts = absurd counts
+done_stops GivenUp s b d counts = absurd counts
+done_stops Lost s b d counts = absurd counts
 
-pub lost_not_idle : Lost ≢ Idle
-unfolding is_idle
-lost_not_idle e = true≢false (sym (ap is_idle e))
+-- where a disk is being rebuilt there is something to rebuild
+pub was_rebuilding : (h : Health) → IsRebuilding h → NothingToRebuild h → ⊥
+was_rebuilding Whole is quiet = is
+was_rebuilding (Out x) is quiet = is
+was_rebuilding (Rebuilding x done) is quiet = quiet
+was_rebuilding Broken is quiet = is
 
--- nor is a row that wasn't written done
+-- no disk is being rebuilt, and nothing is accessed
+unasked : (s : StoreState) (r : Rebuild) → (IsRebuilding s.disks.health → ⊥) → after_answer r s.disks ≡ s.disks → CarriesOutRebuild s r s.disks
+unasked s r none same = record {
+  written = s.disks;
+  accesses = record { plan = λ g i next. absurd (none next.rebuilding); nothing = λ _. refl; idle = λ _. refl };
+  done = sym same;
+}
+
+pub idle_accesses : (s : StoreState) → NothingToRebuild s.disks.health → CarriesOutRebuild s Idle s.disks
+idle_accesses s quiet = unasked s Idle (λ is. was_rebuilding s.disks.health is quiet) refl
+
+pub failed_accesses : (s : StoreState) → s.disks.health ≡ Broken → CarriesOutRebuild s Lost s.disks
+failed_accesses s broken = unasked s Lost (λ is. subst (λ (h : Health). IsRebuilding h) broken is) refl
+
+-- an array that had failed before
+pub failed_before : (s : SetState) → s.health ≡ Broken → IsRebuildFailed s s
+failed_before s broken = record {
+  was = λ quiet. subst (λ (h : Health). NothingToRebuild h) broken quiet;
+  failed = record { broken = broken; spared = refl };
+}
+
+pub failed_stops : (s : StoreState) → s.disks.health ≡ Broken → StopsWriting s s.disks
+failed_stops s broken = record { stops = λ g i next. absurd (subst (λ (h : Health). IsRebuilding h) broken next.rebuilding) }
+
+-- a row that wasn't written isn't done
 pub given_up_not_done : RowGivenUp ≢ RowDone
 given_up_not_done e = cc
 
@@ -135,7 +142,3 @@ fields_advanced a b block sound old ready book advances = record {
   block_len = old.block_len ∙ ap block_len_of (sym advances.geometry);
   scratch_same = ready.scratch;
 }
-
--- what counts as done isn't given up
-pub done_gave : (r : Rebuild) (b d : SetState) → r ≡ GivenUp → MarksDone b d r → ⊥
-done_gave r b d is counts = subst (λ (x : Rebuild). MarksDone b d x) is counts

@@ -1,3 +1,4 @@
+pub mod Plans
 pub mod Rows
 pub mod Rebuild
 -- the words of lower crates that clauses of this crate cite

@@ -7,6 +7,8 @@ use Rattle.ar_extents.specs.Health.{is_out, IsDown, IsRebuilding, rebuilt_disk, 
 use Rattle.ar_extents.specs.Set.{SetState, faults_of, IsSound}
 use Rattle.ar_extents.specs.Follows.{Faulted, TwoHit}
 use Rattle.ar_extents.specs.Access.{next_place, IsGivenUp}
+use Rattle.ar_rebuild.specs.Rows.{FailsByOthers, StopsWriting}
+use Rattle.ar_store.specs.Store.{StoreState}
 use Rattle.ar_rebuild.specs.declared.step.Rebuild.{Rebuild}
 use Rattle.ar_rebuild.specs.declared.step.Rebuild.TheVariants.{Rebuilt, Finished, Idle, GivenUp, Broken}
 
@@ -52,13 +54,26 @@ pub record IsRebuildGivenUp (old new : SetState) : Type 0 where
   pub was : IsRebuilding old.health
   pub given_up : IsGivenUp old new
 
+-- A disk was being rebuilt, or the array had failed before. It has failed now, and not by a fault of the new disk.
+pub record IsRebuildFailed (old new : SetState) : Type 0 where
+  pub was : NothingToRebuild old.health → ⊥
+  pub failed : FailsByOthers old new
+
 -- what a step returns
 abbrev pub RebuildsExtent : SetState → SetState → Rebuild → Type 0
 RebuildsExtent old new (Rebuilt extent left) = IsExtentRebuilt old new extent left
 RebuildsExtent old new Finished = IsFinished old new
 RebuildsExtent old new Idle = IsRebuildIdle old new
 RebuildsExtent old new GivenUp = IsRebuildGivenUp old new
-RebuildsExtent old new Broken = new.health ≡ AllBroken
+RebuildsExtent old new Broken = IsRebuildFailed old new
+
+-- a step that is given up, or in which the array fails, stopped at a row of the extent
+abbrev pub StopsRebuild : StoreState → SetState → Rebuild → Type 0
+StopsRebuild old new (Rebuilt extent left) = Unit {0}
+StopsRebuild old new Finished = Unit {0}
+StopsRebuild old new Idle = Unit {0}
+StopsRebuild old new GivenUp = StopsWriting old new
+StopsRebuild old new Broken = StopsWriting old new
 
 -- what is returned once an extent counts as done
 abbrev pub MarksDone : SetState → SetState → Rebuild → Type 0

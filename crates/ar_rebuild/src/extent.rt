@@ -1,11 +1,11 @@
 // The rebuild of one extent: all its rows are written, and only then is it counted as done.
-ghost use Rattle.std.specs.Prelude.{◌≡◌, ◌≢◌, ◌↔◌, ◌<◌};
-ghost use Rattle.ar_extents.specs.Follows.{Keeps};
+ghost use Rattle.std.specs.Prelude.{◌≡◌, ◌≢◌, ◌<◌};
 ghost use Rattle.ar_extents.specs.Changes.{with_done};
 ghost use Rattle.ar_store.specs.Slots.{AllStand, SlotsHold};
 ghost use Rattle.ar_store.specs.Spaces.{store_in, IsReady};
-ghost use Rattle.ar_rebuild.specs.Rows.{IsBesideNext, HasNothingNext, HasNotFaulted, WritesNext, WritesExtent, AsksNext, StopsWriting};
-ghost use Rattle.ar_rebuild.specs.Rebuild.{RebuildsExtent, MarksDone, Advances};
+ghost use Rattle.ar_rebuild.specs.Plans.{AccessesNext, CarriesOutRebuild};
+ghost use Rattle.ar_rebuild.specs.Rows.{WritesNext, WritesExtent, StopsWriting};
+ghost use Rattle.ar_rebuild.specs.Rebuild.{RebuildsExtent, StopsRebuild, MarksDone, Advances};
 
 use crate::Rebuild;
 use crate::rows::{copy_rows, position_of, sum_rows};
@@ -21,20 +21,13 @@ pub(crate) fn rebuild_extent<D: Disk>(space: &mut Space<D>, place: Place) -> Reb
     requires exists { place.extent < space.old.disks.extents }
 
     ensures answer { RebuildsExtent space.old.disks space.new.disks result }
-    ensures spared { result ≡ Rebuild.Broken → HasNotFaulted space.old.disks space.new.disks }
-    ensures given_up { result ≡ Rebuild.GivenUp → StopsWriting (store_in space.old) space.new.disks }
-    ensures lost { result ≡ Rebuild.Broken → StopsWriting (store_in space.old) space.new.disks }
-    ensures idle { result ≢ Rebuild.Idle }
-    ensures broken { (result ≡ Rebuild.Broken) ↔ (space.new.disks.health ≡ Health.Broken) }
+    ensures plan { CarriesOutRebuild (store_in space.old) result space.new.disks }
+    ensures stops { StopsRebuild (store_in space.old) space.new.disks result }
 
     ensures ready { IsReady space.new }
     ensures book { space.new.book ≡ space.old.book }
     ensures stand { AllStand (store_in space.old) (store_in space.new) }
     ensures slots { SlotsHold (store_in space.old) (store_in space.new) }
-    ensures keeps { Keeps (IsBesideNext space.old.disks) space.old.disks space.new.disks }
-
-    ensures asks { AsksNext (store_in space.old) space.new.disks }
-    ensures nothing { HasNothingNext (store_in space.old) → space.new.disks ≡ with_done space.old.disks }
     ensures advances { Advances space.old.disks space.new.disks }
 {
     match write_extent(space, place) {
@@ -49,11 +42,9 @@ fn write_extent<D: Disk>(space: &mut Space<D>, place: Place) -> RowOutcome
     requires ready { IsReady space.old }
     requires rebuilding { space.old.disks.health ≡ Health.Rebuilding place.disk place.extent }
     ensures answer { WritesExtent (store_in space.old) (store_in space.new) result }
-    ensures spared { result ≡ RowOutcome.Broken → HasNotFaulted space.old.disks space.new.disks }
+    ensures plan { AccessesNext (store_in space.old) space.new.disks }
     ensures stopped { result ≢ RowOutcome.Done → StopsWriting (store_in space.old) space.new.disks }
     ensures writes { WritesNext space.old.disks space.new.disks }
-    ensures asks { AsksNext (store_in space.old) space.new.disks }
-    ensures nothing { HasNothingNext (store_in space.old) → (space.new.disks ≡ space.old.disks) × (result ≡ RowOutcome.Done) }
     ensures book { space.new.book ≡ space.old.book }
     ensures scratch { space.new.scratch.geometry ≡ space.old.scratch.geometry }
 {

@@ -10,5 +10,5 @@ mod laws;
 mod rows;
 mod step;
 
-pub use laws::rebuild_ends;
+pub use laws::{rebuild_accesses, rebuild_ends};
 pub use step::{Rebuild, rebuild_one};

@@ -1,14 +1,15 @@
 // Writes every row of one member of a group from the group's other members, in ascending order. Only the rows of that
 // member change.
 ghost use Rattle.std.specs.Prelude.{◌≡◌, ◌≢◌, ◌<◌, IsTrue};
+ghost use Rattle.ar_disks.specs.Geometry.{rows_of};
 ghost use Rattle.ar_disks.specs.Members.{member, stands_on};
 ghost use Rattle.ar_extents.specs.Health.{IsRebuilding};
 ghost use Rattle.ar_extents.specs.Access.{next_place};
-ghost use Rattle.ar_extents.specs.Follows.{LeavesDisks, HasNoneOf, IsEither};
-ghost use Rattle.ar_extents.specs.Groups.{IsGroup, IsMember};
-ghost use Rattle.ar_mirror.specs.Slots.{partner_of};
+ghost use Rattle.ar_extents.specs.Groups.{IsGroup};
+ghost use Rattle.ar_extents.specs.Plans.{CarriesOut};
 ghost use Rattle.ar_book.specs.declared.class.Class.TheVariants.{Mirrored, Parity};
-ghost use Rattle.ar_rebuild.specs.Rows.{HasNotFaulted, WritesNext, WritesRows, StopsAtRow};
+ghost use Rattle.ar_rebuild.specs.Plans.{member_plan};
+ghost use Rattle.ar_rebuild.specs.Rows.{WritesNext, WritesRows, StopsAtRow};
 
 use ar_disks::{Disk, Members, Place, Scratch};
 use ar_extents::{DiskSet, RowOutcome};
@@ -45,10 +46,10 @@ pub(crate) fn copy_rows<D: Disk>(
 
     ensures answer { WritesRows Mirrored set.old set.new members.now result }
     ensures writes { WritesNext set.old set.new }
-    ensures spared { result ≡ RowOutcome.Broken → HasNotFaulted set.old set.new }
+    // Exactly these accesses are made, the rows in ascending order.
+    ensures plan { CarriesOut (member_plan Mirrored members.now position (rows_of set.old.geometry)) set.old set.new }
     ensures stopped { result ≢ RowOutcome.Done → StopsAtRow Mirrored set.old set.new members.now position }
 
-    ensures touches { LeavesDisks (HasNoneOf (IsEither (member members.now (partner_of position)) (next_place set.old))) set.old set.new }
     ensures scratch { scratch.new.geometry ≡ scratch.old.geometry }
 {
     for row in 0..set.geometry().rows() {
@@ -76,10 +77,10 @@ pub(crate) fn sum_rows<D: Disk>(
 
     ensures answer { WritesRows Parity set.old set.new members.now result }
     ensures writes { WritesNext set.old set.new }
-    ensures spared { result ≡ RowOutcome.Broken → HasNotFaulted set.old set.new }
+    // Exactly these accesses are made, the rows in ascending order.
+    ensures plan { CarriesOut (member_plan Parity members.now position (rows_of set.old.geometry)) set.old set.new }
     ensures stopped { result ≢ RowOutcome.Done → StopsAtRow Parity set.old set.new members.now position }
 
-    ensures touches { LeavesDisks (HasNoneOf (IsMember members.now)) set.old set.new }
     ensures scratch { scratch.new.geometry ≡ scratch.old.geometry }
 {
     for row in 0..set.geometry().rows() {

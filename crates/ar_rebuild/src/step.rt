@@ -1,11 +1,8 @@
 // One step of a rebuild, and its result.
-ghost use Rattle.std.specs.Prelude.{◌≡◌, ◌↔◌};
-ghost use Rattle.ar_extents.specs.Follows.{Keeps};
-ghost use Rattle.ar_extents.specs.Changes.{with_done};
+ghost use Rattle.std.specs.Prelude.{◌≡◌};
 ghost use Rattle.ar_store.specs.Slots.{AllStand, SlotsHold};
-ghost use Rattle.ar_extents.specs.Health.{IsRebuilding};
-ghost use Rattle.ar_rebuild.specs.Rows.{IsBesideNext, HasNothingNext, HasNotFaulted, AsksNext, StopsWriting};
-ghost use Rattle.ar_rebuild.specs.Rebuild.{NothingToRebuild, RebuildsExtent, Advances};
+ghost use Rattle.ar_rebuild.specs.Plans.{CarriesOutRebuild};
+ghost use Rattle.ar_rebuild.specs.Rebuild.{RebuildsExtent, StopsRebuild, Advances};
 
 use crate::extent::rebuild_extent;
 use ar_disks::{Disk, Place};
@@ -30,30 +27,23 @@ pub enum Rebuild {
 /// Rebuilds the lowest extent of the replaced disk that isn't done. Each of its rows is written from the other members
 /// of its group (the partner of a mirrored pair, the three others of a stripe), also for empty slots; an extent that is
 /// unassigned or in a free group needs no write. Then it counts as done and is used again; until then no other call
-/// accesses it. Only its own disk and the disks of these sources are accessed. No memory is allocated.
+/// accesses it. Each row's sources are read, and then it is written; nothing else is accessed. No memory is allocated.
 ///
 /// Every slot and every block keeps its contents. After `Finished` the array survives the loss of any one disk again
-/// (`Store::health`). `GivenUp` and `Broken` count no extent as done; an array that had failed before is unchanged.
+/// (`Store::health`). `Idle` is returned exactly where nothing is being rebuilt and the array hasn't failed; `GivenUp`
+/// and `Broken` count no extent as done. Only another disk than the replaced one fails the array, and an array that had
+/// failed before is unchanged.
 pub fn rebuild_one<D: Disk>(store: &mut Store<D>) -> Rebuild
     ensures answer { RebuildsExtent store.old.disks store.new.disks result }
-    ensures idle { (result ≡ Rebuild.Idle) ↔ NothingToRebuild store.old.disks.health }
-    ensures broken { (result ≡ Rebuild.Broken) ↔ (store.new.disks.health ≡ Health.Broken) }
-    // Another disk than the replaced one fails the array: once that has faulted, nothing more is accessed.
-    ensures spared { result ≡ Rebuild.Broken → HasNotFaulted store.old.disks store.new.disks }
-    // If the step ends so, the extent's rows are written in order, and none past the one that failed. If that is the
-    // first row and its sources can't be read, the new disk isn't accessed.
-    ensures given_up { result ≡ Rebuild.GivenUp → StopsWriting store.old store.new.disks }
-    ensures lost { result ≡ Rebuild.Broken → IsRebuilding store.old.disks.health → StopsWriting store.old store.new.disks }
+    // Exactly these accesses are made, of the extent's rows in ascending order, up to the first that fails.
+    ensures plan { CarriesOutRebuild store.old result store.new.disks }
+    // If the step ends so, the rows below the one that failed have their contents.
+    ensures stops { StopsRebuild store.old store.new.disks result }
 
     ensures book { store.new.book ≡ store.old.book }
     ensures stands { AllStand store.old store.new }
     ensures slots { SlotsHold store.old store.new }
-
-    // Only the rows of the rebuilt extent are written, and none if no used group has it. Only the disks of that extent
-    // and of its sources are accessed, and disks fail only by faults.
-    ensures keeps { Keeps (IsBesideNext store.old.disks) store.old.disks store.new.disks }
-    ensures asks { AsksNext store.old store.new.disks }
-    ensures nothing { HasNothingNext store.old → store.new.disks ≡ with_done store.old.disks }
+    // Disks fail only by faults.
     ensures advances { Advances store.old.disks store.new.disks }
 {
     match store.disks().health() {

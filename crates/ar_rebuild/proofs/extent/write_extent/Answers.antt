@@ -1,7 +1,6 @@
 use Rattle.std.proofs.Common.{sym}
-use Rattle.ar_store.specs.Store.{store_of}
 use Rattle.ar_book.specs.declared.class.Class.TheVariants.{Mirrored, Parity}
-use Rattle.ar_rebuild.proofs.ExtentLemmas.{loose_done, free_done, rows_done, asks_none, asks_member, stops_member, pair_asked, used_next, mirrored_used, parity_used}
+use Rattle.ar_rebuild.proofs.ExtentLemmas.{loose_done, free_done, rows_done, none_accessed, free_accessed, member_accessed, stops_member, used_next, mirrored_used, parity_used}
 use Rattle.ar_rebuild.proofs.extent.write_extent.Goals as goal
 
 pub returns-in_default-clause-answer : goal.returns-in_default-clause-answer
@@ -29,39 +28,41 @@ returns-in-Parity-clause-answer g c =
     c.position_of-position.result c.requires.ready.space c.requires.rebuilding c.in-Some.ensures.there c.in-Parity.ensures c.members-members.ensures
     c.position_of-position.ensures.below c.position_of-position.ensures.is c.sum_rows.ensures.writes c.sum_rows.ensures.answer
 
-pub returns-in-Mirrored-clause-nothing : goal.returns-in-Mirrored-clause-nothing
-returns-in-Mirrored-clause-nothing g c = λ none.
+pub returns-in_default-clause-plan : goal.returns-in_default-clause-plan
+returns-in_default-clause-plan g c =
     let s = c.args.space.now in
-    absurd (used_next Mirrored s.disks s.book c.args.place c.members-members.result c.in-Some.group c.position_of-position.result c.requires.rebuilding
-    c.in-Some.ensures.there c.in-Mirrored.ensures mirrored_used c.members-members.ensures c.position_of-position.ensures.below c.position_of-position.ensures.is none)
+    none_accessed s.disks s.book c.args.place c.requires.rebuilding c.in_default.ensures.none
 
-pub returns-in-Parity-clause-nothing : goal.returns-in-Parity-clause-nothing
-returns-in-Parity-clause-nothing g c = λ none.
+pub returns-in-Free-clause-plan : goal.returns-in-Free-clause-plan
+returns-in-Free-clause-plan g c =
     let s = c.args.space.now in
-    absurd (used_next Parity s.disks s.book c.args.place c.members-members.result c.in-Some.group c.position_of-position.result c.requires.rebuilding
-    c.in-Some.ensures.there c.in-Parity.ensures parity_used c.members-members.ensures c.position_of-position.ensures.below c.position_of-position.ensures.is none)
+    free_accessed s.disks s.book c.args.place c.members-members.result c.in-Some.group c.position_of-position.result c.requires.ready.space
+    c.requires.rebuilding c.in-Some.ensures.there (sym c.in-Free.ensures) c.members-members.ensures c.position_of-position.ensures.below
+    c.position_of-position.ensures.is
 
-pub returns-in_default-clause-asks : goal.returns-in_default-clause-asks
-returns-in_default-clause-asks g c = let s = c.args.space.now in asks_none (store_of s.disks s.book)
-
-pub returns-in-Free-clause-asks : goal.returns-in-Free-clause-asks
-returns-in-Free-clause-asks g c = let s = c.args.space.now in asks_none (store_of s.disks s.book)
-
-pub returns-in-Mirrored-clause-asks : goal.returns-in-Mirrored-clause-asks
-returns-in-Mirrored-clause-asks g c =
+pub returns-in-Mirrored-clause-plan : goal.returns-in-Mirrored-clause-plan
+returns-in-Mirrored-clause-plan g c =
     let s = c.args.space.now in
-    asks_member Mirrored s.disks c.copy_rows.new.set s.book c.args.place c.members-members.result c.in-Some.group c.position_of-position.result
+    member_accessed Mirrored s.disks c.copy_rows.new.set s.book c.args.place c.members-members.result c.in-Some.group c.position_of-position.result
     c.requires.ready.space c.requires.rebuilding c.in-Some.ensures.there c.in-Mirrored.ensures c.members-members.ensures
-    c.position_of-position.ensures.below c.position_of-position.ensures.is
-    (pair_asked s.disks c.copy_rows.new.set c.args.place c.members-members.result c.position_of-position.result c.requires.rebuilding
-    c.position_of-position.ensures.is c.copy_rows.ensures.touches)
+    c.position_of-position.ensures.below c.position_of-position.ensures.is c.copy_rows.ensures.plan
+    (λ none.
+    absurd
+    (used_next Mirrored s.disks s.book c.args.place c.members-members.result c.in-Some.group c.position_of-position.result c.requires.rebuilding
+    c.in-Some.ensures.there c.in-Mirrored.ensures mirrored_used c.members-members.ensures c.position_of-position.ensures.below c.position_of-position.ensures.is
+    none))
 
-pub returns-in-Parity-clause-asks : goal.returns-in-Parity-clause-asks
-returns-in-Parity-clause-asks g c =
+pub returns-in-Parity-clause-plan : goal.returns-in-Parity-clause-plan
+returns-in-Parity-clause-plan g c =
     let s = c.args.space.now in
-    asks_member Parity s.disks c.sum_rows.new.set s.book c.args.place c.members-members.result c.in-Some.group c.position_of-position.result
+    member_accessed Parity s.disks c.sum_rows.new.set s.book c.args.place c.members-members.result c.in-Some.group c.position_of-position.result
     c.requires.ready.space c.requires.rebuilding c.in-Some.ensures.there c.in-Parity.ensures c.members-members.ensures
-    c.position_of-position.ensures.below c.position_of-position.ensures.is c.sum_rows.ensures.touches
+    c.position_of-position.ensures.below c.position_of-position.ensures.is c.sum_rows.ensures.plan
+    (λ none.
+    absurd
+    (used_next Parity s.disks s.book c.args.place c.members-members.result c.in-Some.group c.position_of-position.result c.requires.rebuilding
+    c.in-Some.ensures.there c.in-Parity.ensures parity_used c.members-members.ensures c.position_of-position.ensures.below c.position_of-position.ensures.is
+    none))
 
 pub returns-in-Mirrored-clause-stopped : goal.returns-in-Mirrored-clause-stopped
 returns-in-Mirrored-clause-stopped g c = λ no.

@@ -1,27 +1,29 @@
-use Rattle.std.proofs.Common.{◌≡◌, ℕ, ◌<◌, sym, ◌∙◌, ap, subst, refl, arith}
+use Rattle.std.proofs.Common.{◌≡◌, ℕ, ◌<◌, true, sym, ◌∙◌, ap, subst, refl, arith}
 use Rattle.ar_disks.specs.Geometry.{rows_of}
-use Rattle.ar_extents.specs.declared.health.Health.{Health}
-use Rattle.ar_extents.specs.Health.{IsRebuilding}
-use Rattle.ar_extents.proofs.GroupLemmas.{group_then}
 use Rattle.ar_disks.specs.declared.address.Members.{Members}
 use Rattle.ar_disks.specs.Members.{member}
+use Rattle.ar_extents.specs.declared.health.Health.{Health}
+use Rattle.ar_extents.specs.Health.{IsRebuilding}
 use Rattle.ar_extents.specs.Set.{SetState}
 use Rattle.ar_extents.specs.Access.{next_place}
-use Rattle.ar_extents.specs.Follows.{Follows}
 use Rattle.ar_extents.specs.Groups.{IsGroup}
-use Rattle.ar_extents.specs.Plans.{CarriesOut}
+use Rattle.ar_extents.specs.Plans.{AttemptsAll, all_done, CarriesOut}
+use Rattle.ar_extents.proofs.GroupLemmas.{group_then}
 use Rattle.ar_mirror.specs.Slots.{partner_of}
 use Rattle.ar_mirror.specs.Plans.{copy_row}
-use Rattle.ar_mirror.proofs.Told.{CopyTold, row_told, copy_spared}
-use Rattle.ar_rebuild.proofs.RowLemmas.{AreCopied, copied_stops, next_same, none_copied, copied_then, copied_whole, pair_then, writes_then, stopped_then}
-use Rattle.ar_rebuild.proofs.Advancing.{spared_then}
+use Rattle.ar_book.specs.declared.class.Class.TheVariants.{Mirrored}
+use Rattle.ar_rebuild.specs.Plans.{rows_attempts}
+use Rattle.ar_rebuild.proofs.Attempts.{rows_carried}
+use Rattle.ar_rebuild.proofs.Told.{OneMore, one_more, rows_effect, copied_carried, given_up_changes, broken_changes}
+use Rattle.ar_rebuild.proofs.Writing.{next_same, stopped_then}
+use Rattle.ar_rebuild.proofs.RowLemmas.{AreCopied, none_copied, copied_then, copied_whole, copied_stops}
 use Rattle.ar_rebuild.proofs.rows.copy_rows.Goals as goal
 
 pub rebuild_row-requires : goal.rebuild_row-requires
 rebuild_row-requires g c =
     let a = c.args.set.now in
     let b = c.loop-row.set in
-    let before = c.loop-row.invariant.copied in
+    let before = rows_effect Mirrored c.args.members.now c.args.position a c.requires.group c.requires.position c.requires.rebuilding c.requires.next c.loop-row.row b c.loop-row.invariant.made in
     let rows = c.rows-row-end.ensures ∙ ap rows_of c.geometry.ensures in
     let below = c.loop-row-test.true in
     record {
@@ -34,70 +36,92 @@ rebuild_row-requires g c =
     }
 
 pub loop-row-init : goal.loop-row-init
-loop-row-init g c = record { copied = none_copied c.args.set.now c.args.members.now c.args.position; begun = λ _. refl; scratch = refl }
+loop-row-init g c = record {
+  copied = none_copied c.args.set.now c.args.members.now c.args.position;
+  made = all_done c.args.set.now;
+  scratch = refl;
+}
 
--- what the plan of a row's rebuild tells, in the state that earlier rows left
-told_at : (m : Members) (position row : ℕ) (a b c : SetState) → Follows a b → b.health ≡ a.health → IsGroup a m → position < 4 → IsRebuilding a.health
-    → member m position ≡ next_place a → CarriesOut (copy_row (member m (partner_of position)) (next_place b) row) b c → CopyTold (member m (partner_of position)) row b c
-told_at m position row a b c ab same group lt rebuilding next carried =
-    row_told m position row b c (group_then a b m ab group) lt (subst (λ (h : Health). IsRebuilding h) (sym same) rebuilding) (next ∙ sym (next_same a b same)) carried
+-- a row more, in the state that earlier rows left
+one_at : (m : Members) (i row : ℕ) (a b c : SetState) → IsGroup a m → i < 4 → IsRebuilding a.health → member m i ≡ next_place a
+    → AttemptsAll (rows_attempts Mirrored m i row) true a b → CarriesOut (copy_row (member m (partner_of i)) (next_place b) row) b c → OneMore Mirrored m i row a b c
+one_at m i row a b c group below is next made carried =
+    let before = rows_effect Mirrored m i a group below is next row b made in
+    one_more Mirrored m i row a b c group below is next made (copied_carried m i row b c (next ∙ sym (next_same a b before.health)) carried)
 
 pub loop-row-preserved : goal.loop-row-preserved
 loop-row-preserved g c =
-    let call = c.rebuild_row.ensures in
-    let before = c.loop-row.invariant.copied in
-    let told = told_at c.args.members.now c.args.position c.loop-row.row c.args.set.now c.loop-row.set c.rebuild_row.new.set before.writes.follows before.health c.requires.group c.requires.position c.requires.rebuilding c.requires.next call.plan in
+    let a = c.args.set.now in
+    let b = c.loop-row.set in
+    let d = c.rebuild_row.new.set in
+    let m = c.args.members.now in
+    let i = c.args.position in
+    let row = c.loop-row.row in
+    let more = one_at c.args.members.now c.args.position c.loop-row.row a b d c.requires.group c.requires.position c.requires.rebuilding c.requires.next
+    c.loop-row.invariant.made c.rebuild_row.ensures.plan in
     record {
-      copied = copied_then c.args.set.now c.loop-row.set c.rebuild_row.new.set c.args.members.now c.args.position c.loop-row.row c.requires.rebuilding
-          c.loop-row.invariant.copied c.in-Done.ensures.answer told.follows told.keeps told.touches told.loose;
-      begun = λ none. absurd (omega arith);
-      scratch = call.scratch ∙ c.loop-row.invariant.scratch;
+      copied = copied_then a b d m i row c.requires.rebuilding more.before c.loop-row.invariant.copied c.in-Done.ensures.answer more.here;
+      made = more.all c.in-Done.ensures.answer.health;
+      scratch = c.rebuild_row.ensures.scratch ∙ c.loop-row.invariant.scratch;
     }
 
 pub returns : goal.returns
 returns g c =
     let a = c.args.set.now in
     let b = c.loop-row.set in
-    let copied = c.loop-row.invariant.copied in
+    let m = c.args.members.now in
+    let i = c.args.position in
     let rows : c.loop-row.row ≡ rows_of a.geometry =
     (let end = c.rows-row-end.ensures ∙ ap rows_of c.geometry.ensures in let past = c.loop-row-test.false in let fits = c.loop-row.auto.row-end in omega arith) in
+    let made = subst (λ n. AttemptsAll (rows_attempts Mirrored m i n) true a b) rows c.loop-row.invariant.made in
+    let effect = rows_effect Mirrored m i a c.requires.group c.requires.position c.requires.rebuilding c.requires.next (rows_of a.geometry) b made in
     record {
-      answer = copied_whole a b c.args.members.now c.args.position c.requires.group c.requires.position c.requires.rebuilding c.requires.next
-          (subst (λ n. AreCopied a b c.args.members.now c.args.position n) rows copied);
-      writes = copied.writes;
-      spared = λ broken. absurd (cc);
+      answer = copied_whole a b m i c.requires.group c.requires.position c.requires.rebuilding c.requires.next effect
+          (subst (λ n. AreCopied a b m i n) rows c.loop-row.invariant.copied);
+      writes = effect.writes;
+      plan = rows_carried Mirrored m i (rows_of a.geometry) a b made;
       stopped = λ no. absurd (no refl);
-      touches = copied.touches;
       scratch = c.loop-row.invariant.scratch;
     }
 
 pub returns-in-GivenUp : goal.returns-in-GivenUp
 returns-in-GivenUp g c =
-    let before = c.loop-row.invariant.copied in
-    let call = c.rebuild_row.ensures in
-    let told = told_at c.args.members.now c.args.position c.loop-row.row c.args.set.now c.loop-row.set c.rebuild_row.new.set before.writes.follows before.health c.requires.group c.requires.position c.requires.rebuilding c.requires.next call.plan in
+    let a = c.args.set.now in
+    let b = c.loop-row.set in
+    let d = c.rebuild_row.new.set in
+    let m = c.args.members.now in
+    let i = c.args.position in
+    let row = c.loop-row.row in
+    let more = one_at c.args.members.now c.args.position c.loop-row.row a b d c.requires.group c.requires.position c.requires.rebuilding c.requires.next
+    c.loop-row.invariant.made c.rebuild_row.ensures.plan in
+    let lt : row < rows_of a.geometry = (let rows = c.rows-row-end.ensures ∙ ap rows_of c.geometry.ensures in let below = c.loop-row-test.true in omega arith) in
+    let still = subst (λ (h : Health). IsRebuilding h) (sym more.before.health) c.requires.rebuilding in
+    let changed = given_up_changes b d still c.in-GivenUp.ensures.answer in
     record {
-      answer = stopped_then c.args.set.now c.loop-row.set c.rebuild_row.new.set before.writes.follows before.health c.in-GivenUp.ensures.answer;
-      writes = writes_then c.args.set.now c.loop-row.set c.rebuild_row.new.set c.loop-row.row before.writes before.health told.follows told.keeps told.loose;
-      spared = λ broken. absurd (cc);
-      stopped = λ no. copied_stops c.args.set.now c.loop-row.set c.rebuild_row.new.set c.args.members.now c.args.position c.loop-row.row (let rows = c.rows-row-end.ensures ∙ ap rows_of c.geometry.ensures in let below = c.loop-row-test.true in omega arith) before c.loop-row.invariant.begun told.keeps
-          (λ broken. absurd (let out = sym c.in-GivenUp.ensures.answer.out ∙ broken in cc))
-          (λ broken. absurd (let out = sym c.in-GivenUp.ensures.answer.out ∙ broken in cc));
-      touches = pair_then c.args.set.now c.loop-row.set c.rebuild_row.new.set _ before.health before.touches told.touches;
-      scratch = call.scratch ∙ c.loop-row.invariant.scratch;
+      answer = stopped_then a b d more.before.writes.follows more.before.health c.in-GivenUp.ensures.answer;
+      writes = more.writes;
+      plan = more.plan changed lt;
+      stopped = λ no. copied_stops a b d m i row lt more.before c.loop-row.invariant.copied more.here c.loop-row.invariant.made (more.failed changed);
+      scratch = c.rebuild_row.ensures.scratch ∙ c.loop-row.invariant.scratch;
     }
 
 pub returns-in-Broken : goal.returns-in-Broken
 returns-in-Broken g c =
-    let before = c.loop-row.invariant.copied in
-    let call = c.rebuild_row.ensures in
-    let told = told_at c.args.members.now c.args.position c.loop-row.row c.args.set.now c.loop-row.set c.rebuild_row.new.set before.writes.follows before.health c.requires.group c.requires.position c.requires.rebuilding c.requires.next call.plan in
+    let a = c.args.set.now in
+    let b = c.loop-row.set in
+    let d = c.rebuild_row.new.set in
+    let m = c.args.members.now in
+    let i = c.args.position in
+    let row = c.loop-row.row in
+    let more = one_at c.args.members.now c.args.position c.loop-row.row a b d c.requires.group c.requires.position c.requires.rebuilding c.requires.next
+    c.loop-row.invariant.made c.rebuild_row.ensures.plan in
+    let lt : row < rows_of a.geometry = (let rows = c.rows-row-end.ensures ∙ ap rows_of c.geometry.ensures in let below = c.loop-row-test.true in omega arith) in
+    let still = subst (λ (h : Health). IsRebuilding h) (sym more.before.health) c.requires.rebuilding in
+    let changed = broken_changes b d still c.in-Broken.ensures.answer in
     record {
-      answer = c.in-Broken.ensures.answer;
-      writes = writes_then c.args.set.now c.loop-row.set c.rebuild_row.new.set c.loop-row.row before.writes before.health told.follows told.keeps told.loose;
-      spared = λ _. spared_then c.args.set.now c.loop-row.set c.rebuild_row.new.set before.writes.follows before.health c.requires.rebuilding (copy_spared (member c.args.members.now (partner_of c.args.position)) c.loop-row.row c.loop-row.set c.rebuild_row.new.set told c.in-Broken.ensures.answer);
-      stopped = λ no. copied_stops c.args.set.now c.loop-row.set c.rebuild_row.new.set c.args.members.now c.args.position c.loop-row.row (let rows = c.rows-row-end.ensures ∙ ap rows_of c.geometry.ensures in let below = c.loop-row-test.true in omega arith) before c.loop-row.invariant.begun told.keeps
-          (λ _. told.unwritten c.in-Broken.ensures.answer) (λ _. told.unasked c.in-Broken.ensures.answer);
-      touches = pair_then c.args.set.now c.loop-row.set c.rebuild_row.new.set _ before.health before.touches told.touches;
-      scratch = call.scratch ∙ c.loop-row.invariant.scratch;
+      answer = more.spared c.in-Broken.ensures.answer;
+      writes = more.writes;
+      plan = more.plan changed lt;
+      stopped = λ no. copied_stops a b d m i row lt more.before c.loop-row.invariant.copied more.here c.loop-row.invariant.made (more.failed changed);
+      scratch = c.rebuild_row.ensures.scratch ∙ c.loop-row.invariant.scratch;
     }

@@ -1,10 +1,13 @@
-use Rattle.std.proofs.Common.{◌≡◌}
+use Rattle.std.proofs.Common.{◌≡◌, true}
+use Rattle.ar_extents.specs.Plans.{AttemptsAll}
+use Rattle.ar_book.specs.declared.class.Class.TheVariants.{Parity}
+use Rattle.ar_rebuild.specs.Plans.{rows_attempts}
 use Rattle.ar_rebuild.proofs.RowLemmas.{AreSummed}
 use Rattle.ar_rebuild.proofs.rows.sum_rows.Given as goal
 
 abbrev pub invariant-loop-row : goal.invariant-loop-row
 invariant-loop-row g l = record {
   summed : AreSummed l.initial.set l.set l.members l.position l.row;
-  begun : l.row ≡ 0 → l.set ≡ l.initial.set;
+  made : AttemptsAll (rows_attempts Parity l.members l.position l.row) true l.initial.set l.set;
   scratch : l.scratch.geometry ≡ l.initial.scratch.geometry;
 }
