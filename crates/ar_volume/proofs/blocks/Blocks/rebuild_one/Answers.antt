@@ -1,10 +1,8 @@
-use Rattle.std.proofs.Common.{refl, ap, subst}
-use Rattle.ar_extents.specs.Changes.{is_broken_set}
+use Rattle.std.proofs.Common.{refl, subst}
 use Rattle.ar_volume.specs.Image.{ArrayState}
 use Rattle.ar_volume.specs.Rebuild.{RebuildsOne}
 use Rattle.ar_volume.specs.Seen.{SameSeen}
 use Rattle.ar_volume.proofs.Rebuilding.{rebuild_seen, rebuild_joined}
-use Rattle.ar_volume.proofs.Breaking.{broken_is}
 use Rattle.ar_volume.proofs.blocks.Blocks.rebuild_one.Goals as goal
 
 pub invariant_of-self : goal.invariant_of-self
@@ -18,17 +16,11 @@ returns-clause-rebuilds g c =
     subst (λ (s : ArrayState). RebuildsOne s c.rebuild_one.result new) c.self.view_is
     (record {
       answers = call.answer;
-      idle = call.idle;
-      broken = (λ is. ap is_broken_set (call.broken.0 is), λ lost. call.broken.1 (broken_is new.store.disks.health lost));
-      spared = call.spared;
-      given_up = call.given_up;
-      lost = call.lost;
+      plan = call.plan;
+      stops = call.stops;
       tables = call.book;
       stands = call.stands;
       slots = call.slots;
-      rows = call.keeps;
-      asks = call.asks;
-      nothing = call.nothing;
       advances = call.advances;
       cache = refl;
     })
