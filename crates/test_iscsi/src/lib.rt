@@ -7,6 +7,12 @@ mod cuts;
 #[cfg(test)]
 mod fake;
 #[cfg(test)]
+mod fields;
+#[cfg(test)]
+mod garbage;
+#[cfg(test)]
 mod pdus;
+#[cfg(test)]
+mod scarce;
 #[cfg(test)]
 mod sessions;
