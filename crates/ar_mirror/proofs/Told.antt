@@ -5,14 +5,13 @@ use Rattle.ar_disks.specs.declared.address.Members.{Members}
 use Rattle.ar_disks.specs.Disk.{DiskState}
 use Rattle.ar_extents.specs.declared.health.Health.TheVariants.{Broken}
 use Rattle.ar_extents.specs.Health.{IsRebuilding, rebuilt_disk}
-use Rattle.ar_extents.specs.Set.{SetState, IsSound, faults_of}
+use Rattle.ar_extents.specs.Set.{SetState, faults_of}
 use Rattle.ar_extents.specs.Follows.{Follows, Keeps, KeepsBut, Anywhere, IsPlace, IsEither, LeavesDisks, HasNoneOf, WorksOn, WorksInTurn}
 use Rattle.ar_extents.specs.Access.{next_place}
 use Rattle.ar_extents.specs.Plans.{AccessPlan, Stop, Try, Attempts, CarriesOut, read_at, write_at, rebuild_at}
 use Rattle.ar_extents.proofs.Follows.{keeps_then, works_then, works_more, works_in_turn, follows_then}
-use Rattle.ar_extents.proofs.Losses.{lost_not_sound}
 use Rattle.ar_extents.proofs.Plans.{answered_health}
-use Rattle.ar_extents.proofs.Asking.{went, tried_one, nothing_done, read_changes_none, read_works, write_works, unread_lost, attempt_follows, attempt_keeps, attempt_leaves, keeps_but_after, rebuilt_sound}
+use Rattle.ar_extents.proofs.Asking.{went, tried_one, nothing_done, read_changes_none, read_works, write_works, attempt_follows, attempt_keeps, attempt_leaves, keeps_but_after, rebuilt_sound}
 use Rattle.ar_mirror.specs.Slots.{one_of, other_of, row_of}
 use Rattle.ar_mirror.specs.Calls.{IsInPair, KeepsButSlot}
 use Rattle.ar_mirror.specs.Plans.{copy_row, mirror_read, mirror_write}
@@ -22,11 +21,10 @@ use Rattle.ar_mirror.specs.Slots.{partner_of}
 use Rattle.ar_mirror.proofs.SlotLemmas.{partner_apart}
 use Rattle.ar_mirror.proofs.Holding.{pair_kept}
 
--- a read changes no row; it accesses the two extents, and the first alone where that one is usable afterwards
+-- a read changes no row, and accesses the two extents alone
 pub record ReadTold (one other : Place) (a b : SetState) : Type 0 where
   pub keeps : Keeps Anywhere a b
   pub works : WorksOn (IsEither one other) a b
-  pub first : IsSound b one → WorksOn (IsPlace one) a b
 
 read_by : (one other : Place) (row : ℕ) (a b c : SetState) (done : Bool) → Attempts (read_at one row) done a b
     → CarriesOut (cond done Stop (Try (read_at other row) Stop Stop)) b c → ReadTold one other a c
@@ -34,7 +32,6 @@ read_by one other row a b c true tried rest =
     subst (λ (s : SetState). ReadTold one other a s) (nothing_done b c rest) (record {
       keeps = read_changes_none one row true a b tried;
       works = works_more (IsPlace one) (IsEither one other) a b (λ p is. inl is) (read_works one row true a b tried);
-      first = λ sound. read_works one row true a b tried;
     })
 read_by one other row a b c false tried rest =
     let second = tried_one (read_at other row) b c rest in
@@ -44,7 +41,6 @@ read_by one other row a b c false tried rest =
       works = works_then (IsEither one other) a b c
           (works_more (IsPlace one) (IsEither one other) a b (λ p is. inl is) (read_works one row false a b tried))
           (works_more (IsPlace other) (IsEither one other) b c (λ p is. inr is) works);
-      first = λ sound. absurd (lost_not_sound b one (unread_lost one row a b tried) (works.follows.usable one sound));
     }
 
 pub read_told : (m : Members) (slot : ℕ) (a c : SetState) → CarriesOut (mirror_read a.geometry m slot) a c
@@ -60,7 +56,6 @@ read_told m slot a c carried =
 pub record WriteTold (m : Members) (slot : ℕ) (a b : SetState) : Type 0 where
   pub keeps : KeepsButSlot m slot a b
   pub works : WorksOn (IsInPair a.geometry m slot) a b
-  pub order : WorksInTurn (one_of a.geometry m slot) (other_of a.geometry m slot) a b
 
 either : (done : Bool) (plan : AccessPlan) → cond done plan plan ≡ plan
 either true plan = refl
@@ -84,7 +79,6 @@ write_told m slot a c carried =
       keeps = pair_kept m slot a first.between c (attempt_keeps (write_at one row) first.done a first.between first.tried)
           (attempt_keeps (write_at other row) second.done first.between c second.tried);
       works = works_in_turn one other a c order;
-      order = order;
     }
 
 -- the copy of a row to the extent that is rebuilt next, from another disk

@@ -1,5 +1,5 @@
 -- What the plans of calls imply, in the relations of `Follows`.
-use Rattle.std.proofs.Common.{◌≡◌, ◌≢◌, ◌⊎◌, inl, inr, ℕ, zero, suc, List, ◌++◌, ◌<◌, ◌≤◌, ◌+◌, ◌%◌, Bool, true, false, cond, refl, sym, ◌∙◌, ap, subst, arith, true≢false}
+use Rattle.std.proofs.Common.{◌≡◌, ◌≢◌, ◌⊎◌, inl, inr, ℕ, zero, suc, List, ◌++◌, ◌<◌, ◌≤◌, ◌+◌, ◌%◌, Bool, true, false, cond, refl, sym, ◌∙◌, ap, subst, arith}
 use Rattle.std.proofs.lemmas.Bool.Decides.{nat_tests}
 use Rattle.ar_disks.specs.declared.address.Place.{Place}
 use Rattle.ar_disks.specs.declared.address.Members.{Members}
@@ -7,7 +7,7 @@ use Rattle.ar_disks.specs.Disk.{DiskState}
 use Rattle.ar_disks.specs.Members.{member, AreApart}
 use Rattle.ar_extents.specs.declared.health.Health.TheVariants.{Broken}
 use Rattle.ar_extents.specs.Health.{IsRebuilding, rebuilt_disk, is_missing}
-use Rattle.ar_extents.specs.Set.{SetState, content, IsSound, IsMissing, faults_of}
+use Rattle.ar_extents.specs.Set.{SetState, content, IsSound, faults_of}
 use Rattle.ar_extents.specs.Follows.{Follows, Keeps, KeepsBut, Anywhere, IsPlace, IsEither, LeavesDisks, HasNoneOf, WorksOn, WorksInTurn}
 use Rattle.ar_extents.specs.Access.{next_place}
 use Rattle.ar_extents.specs.Groups.{IsGroup, IsMember, IsOutside}
@@ -20,9 +20,9 @@ use Rattle.ar_extents.proofs.Asking.{went_if, went, tried_one, nothing_done, rea
 use Rattle.ar_parity.specs.Row.{row_of, data_position, parity_position}
 use Rattle.ar_parity.specs.Group.{KeepsButRow}
 use Rattle.ar_parity.specs.Others.{low_other, high_other}
-use Rattle.ar_parity.specs.Call.{IsOffDiskOf, ReadsBefore, WritesInTurn, AsksOwnFirst}
+use Rattle.ar_parity.specs.Call.{WritesInTurn}
 use Rattle.ar_parity.specs.Plans.{three_reads, parity_read, parity_write, parity_rebuild, write_member, write_two, write_known, write_lost, write_by_reading, stripe_write, writes_from, stripes_from}
-use Rattle.ar_parity.proofs.Working.{first_of_two, in_order_works, own_alone, row_unasked}
+use Rattle.ar_parity.proofs.Working.{first_of_two, in_order_works, row_unasked}
 
 -- reads, of these extents alone
 pub record OnlyReads (these : Place → Type 0) (a b : SetState) : Type 0 where
@@ -251,150 +251,84 @@ known_told m i j row a c carried =
     let first = went (read_at (member m j) row) (write_two m i j row) (write_member m i row) a c carried in
     known_by m i j row first.done a first.between c first.tried first.rest
 
-low_apart : (i j : ℕ) → low_other i j ≢ j
-low_apart i j same = grind (arith, nat_tests)
-
-high_apart : (i j : ℕ) → high_other i j ≢ j
-high_apart i j same = grind (arith, nat_tests)
-
-low_below : (i j : ℕ) → low_other i j < 4
-low_below i j = grind (arith, nat_tests)
-
-high_below : (i j : ℕ) → high_other i j < 4
-high_below i j = grind (arith, nat_tests)
-
--- a member on another disk than the parity's
-abbrev IsBeside : Members → ℕ → Place → Type 0
-IsBeside m j p = IsMember m p × IsOffDiskOf (member m j) p
-
-beside_at : (m : Members) (k j : ℕ) → AreApart m → k < 4 → j < 4 → k ≢ j → IsBeside m j (member m k)
-beside_at m k j apart hk hj ne = (member_is m k, apart k j hk hj ne)
-
 -- a write whose own block isn't known
 record Lost (m : Members) (i j row : ℕ) (a b : SetState) : Type 0 where
-  before : ReadsBefore (member m i) (member m j) a b
   works : WorksOn (IsMember m) a b
   left : RowsLeft (member m i) (member m j) row a b
 
-lost_by : (m : Members) (i j row : ℕ) (a b c : SetState) → j < 4 → OnlyReads (IsBeside m j) a b → (b ≡ c) ⊎ WentOn (write_member m j row) a b c → Lost m i j row a c
+lost_by : (m : Members) (i j row : ℕ) (a b c : SetState) → j < 4 → OnlyReads (IsMember m) a b → (b ≡ c) ⊎ WentOn (write_member m j row) a b c → Lost m i j row a c
 lost_by m i j row a b c lt reads (inl same) = subst (λ (s : SetState). Lost m i j row a s) same (record {
-  before = record {
-    read = b;
-    reads = works_more (IsBeside m j) (IsOffDiskOf (member m j)) a b (λ p is. is.1) reads.works;
-    kept = reads.keeps;
-    writes = works_refl (IsEither (member m i) (member m j)) b;
-  };
-  works = works_more (IsBeside m j) (IsMember m) a b (λ p is. is.0) reads.works;
+  works = reads.works;
   left = left_same (member m i) (member m j) row a b reads.keeps;
 })
 lost_by m i j row a b c lt reads (inr on) =
     let last = tried_one (write_at (member m j) row) b c on.carried in
     let written = write_works (member m j) row last.done b c last.tried in
     record {
-      before = record {
-        read = b;
-        reads = works_more (IsBeside m j) (IsOffDiskOf (member m j)) a b (λ p is. is.1) reads.works;
-        kept = reads.keeps;
-        writes = works_more (IsPlace (member m j)) (IsEither (member m i) (member m j)) b c (λ p is. inr is) written;
-      };
-      works = works_then (IsMember m) a b c (works_more (IsBeside m j) (IsMember m) a b (λ p is. is.0) reads.works) (works_member m j b c lt written);
+      works = works_then (IsMember m) a b c reads.works (works_member m j b c lt written);
       left = left_then (member m i) (member m j) row a b c (left_same (member m i) (member m j) row a b reads.keeps)
           (left_parity (member m i) (member m j) row last.done b c last.tried);
     }
 
-lost_told : (m : Members) (i j row : ℕ) (a c : SetState) → AreApart m → j < 4 → CarriesOut (write_lost m i j row) a c → Lost m i j row a c
-lost_told m i j row a c apart lt carried =
-    let two = two_told (IsBeside m j) (member m (low_other i j)) (member m (high_other i j)) row (write_member m j row) a c
-    (beside_at m (low_other i j) j apart (low_below i j) lt (low_apart i j)) (beside_at m (high_other i j) j apart (high_below i j) lt (high_apart i j)) carried in
+lost_told : (m : Members) (i j row : ℕ) (a c : SetState) → j < 4 → CarriesOut (write_lost m i j row) a c → Lost m i j row a c
+lost_told m i j row a c lt carried =
+    let two = two_told (IsMember m) (member m (low_other i j)) (member m (high_other i j)) row (write_member m j row) a c
+    (member_is m (low_other i j)) (member_is m (high_other i j)) carried in
     lost_by m i j row a two.between c lt two.reads two.rest
 
--- what the write of a block tells: which rows may have changed, and which extents were accessed, in which order
+-- what the write of a block tells: which rows may have changed, and that only the group's extents were accessed
 pub record StripeTold (m : Members) (i j row : ℕ) (a b : SetState) : Type 0 where
   pub left : RowsLeft (member m i) (member m j) row a b
   pub works : WorksOn (IsMember m) a b
-  pub known : IsSound b (member m i) → WorksOn (IsEither (member m i) (member m j)) a b
-  pub first : AsksOwnFirst (member m i) (member m j) a b
-  pub alone : IsMissing a (member m j) → WorksOn (IsPlace (member m i)) a b
 
 alone_told : (m : Members) (i j row : ℕ) (a c : SetState) → i < 4 → CarriesOut (write_member m i row) a c → StripeTold m i j row a c
 alone_told m i j row a c lt carried =
-    let own = member m i in
-    let parity = member m j in
-    let one = tried_one (write_at own row) a c carried in
-    let works = write_works own row one.done a c one.tried in
-    let either_works = first_of_two m i j a c works in
+    let one = tried_one (write_at (member m i) row) a c carried in
     record {
-      left = left_own own parity row one.done a c one.tried;
-      works = works_member m i a c lt works;
-      known = λ sound. either_works;
-      first = record {
-        between = a;
-        reads = works_refl (IsPlace own) a;
-        kept = keeps_refl Anywhere a;
-        known = λ sound. own_alone own parity a c works;
-        before = record { read = a; reads = works_refl (IsOffDiskOf parity) a; kept = keeps_refl Anywhere a; writes = either_works };
-      };
-      alone = λ missing. works;
+      left = left_own (member m i) (member m j) row one.done a c one.tried;
+      works = works_member m i a c lt (write_works (member m i) row one.done a c one.tried);
     }
 
-reading_by : (m : Members) (i j row : ℕ) (done : Bool) (a b c : SetState) → AreApart m → i < 4 → j < 4 → is_missing a.health (member m j).disk (member m j).extent ≡ false
+reading_by : (m : Members) (i j row : ℕ) (done : Bool) (a b c : SetState) → i < 4 → j < 4
     → Attempts (read_at (member m i) row) done a b → CarriesOut (cond done (write_known m i j row) (write_lost m i j row)) b c → StripeTold m i j row a c
-reading_by m i j row true a b c apart hi hj there tried rest =
+reading_by m i j row true a b c hi hj tried rest =
     let own = member m i in
     let parity = member m j in
-    let read = read_works own row true a b tried in
-    let keeps = read_changes_none own row true a b tried in
     let known = known_told m i j row b c rest in
-    let later = in_order_works own parity b c known.order in
-    let all = works_then (IsEither own parity) a b c (first_of_two m i j a b read) later in
+    let all = works_then (IsEither own parity) a b c (first_of_two m i j a b (read_works own row true a b tried)) (in_order_works own parity b c known.order) in
     record {
-      left = left_then own parity row a b c (left_same own parity row a b keeps) known.left;
+      left = left_then own parity row a b c (left_same own parity row a b (read_changes_none own row true a b tried)) known.left;
       works = works_pair m i j a c hi hj all;
-      known = λ sound. all;
-      first = record {
-        between = b;
-        reads = read;
-        kept = keeps;
-        known = λ sound. known.order;
-        before = record { read = b; reads = works_refl (IsOffDiskOf parity) b; kept = keeps_refl Anywhere b; writes = later };
-      };
-      alone = λ missing. absurd (true≢false (sym missing ∙ there));
     }
-reading_by m i j row false a b c apart hi hj there tried rest =
+reading_by m i j row false a b c hi hj tried rest =
     let own = member m i in
     let parity = member m j in
-    let read = read_works own row false a b tried in
-    let keeps = read_changes_none own row false a b tried in
-    let lost = lost_told m i j row b c apart hj rest in
-    let gone = unread_lost own row a b tried in
+    let lost = lost_told m i j row b c hj rest in
     record {
-      left = left_then own parity row a b c (left_same own parity row a b keeps) lost.left;
-      works = works_then (IsMember m) a b c (works_member m i a b hi read) lost.works;
-      known = λ sound. absurd (lost_not_sound b own gone (lost.works.follows.usable own sound));
-      first = record { between = b; reads = read; kept = keeps; known = λ sound. absurd (lost_not_sound b own gone sound); before = lost.before };
-      alone = λ missing. absurd (true≢false (sym missing ∙ there));
+      left = left_then own parity row a b c (left_same own parity row a b (read_changes_none own row false a b tried)) lost.left;
+      works = works_then (IsMember m) a b c (works_member m i a b hi (read_works own row false a b tried)) lost.works;
     }
 
-stripe_by : (m : Members) (i j row : ℕ) (missing : Bool) (a c : SetState) → AreApart m → i < 4 → j < 4 → is_missing a.health (member m j).disk (member m j).extent ≡ missing
+stripe_by : (m : Members) (i j row : ℕ) (missing : Bool) (a c : SetState) → i < 4 → j < 4
     → CarriesOut (cond missing (write_member m i row) (write_by_reading m i j row)) a c → StripeTold m i j row a c
-stripe_by m i j row true a c apart hi hj is carried = alone_told m i j row a c hi carried
-stripe_by m i j row false a c apart hi hj is carried =
+stripe_by m i j row true a c hi hj carried = alone_told m i j row a c hi carried
+stripe_by m i j row false a c hi hj carried =
     let first = went (read_at (member m i) row) (write_known m i j row) (write_lost m i j row) a c carried in
-    reading_by m i j row first.done a first.between c apart hi hj is first.tried first.rest
+    reading_by m i j row first.done a first.between c hi hj first.tried first.rest
 
-pub stripe_told : (m : Members) (i j row : ℕ) (a c : SetState) → AreApart m → i < 4 → j < 4 → CarriesOut (stripe_write m i j row) a c → StripeTold m i j row a c
-stripe_told m i j row a c apart hi hj carried =
-    stripe_by m i j row (is_missing a.health (member m j).disk (member m j).extent) a c apart hi hj refl
+pub stripe_told : (m : Members) (i j row : ℕ) (a c : SetState) → i < 4 → j < 4 → CarriesOut (stripe_write m i j row) a c → StripeTold m i j row a c
+stripe_told m i j row a c hi hj carried =
+    stripe_by m i j row (is_missing a.health (member m j).disk (member m j).extent) a c hi hj
     (went_if (member m j) (write_member m i row) (write_by_reading m i j row) a c carried)
 
 data_below : (slot : ℕ) → data_position slot < 4
 data_below slot = grind (arith, nat_tests)
 
 -- the write of a slot
-pub slot_told : (m : Members) (slot : ℕ) (a c : SetState) → AreApart m → CarriesOut (parity_write m slot) a c
+pub slot_told : (m : Members) (slot : ℕ) (a c : SetState) → CarriesOut (parity_write m slot) a c
     → StripeTold m (data_position slot) (parity_position (row_of slot)) (row_of slot) a c
-slot_told m slot a c apart carried =
-    stripe_told m (data_position slot) (parity_position (row_of slot)) (row_of slot) a c apart (data_below slot) (omega arith) carried
+slot_told m slot a c carried =
+    stripe_told m (data_position slot) (parity_position (row_of slot)) (row_of slot) a c (data_below slot) (omega arith) carried
 
 -- only its row may have changed,
 pub stripe_keeps : (m : Members) (i j row : ℕ) (a b : SetState) → i < 4 → j < 4 → StripeTold m i j row a b → KeepsButRow m row a b

@@ -1,8 +1,8 @@
 -- Which members of a group are worked on.
-use Rattle.std.proofs.Common.{◌≡◌, ◌≢◌, inl, inr, ℕ, ◌<◌, Bool, refl, sym, ◌∙◌, ap, subst}
+use Rattle.std.proofs.Common.{◌≡◌, inl, inr, ℕ, ◌<◌, Bool, refl, sym, ◌∙◌, ap, subst}
 use Rattle.ar_disks.specs.declared.address.Place.{Place}
 use Rattle.ar_disks.specs.declared.address.Members.{Members}
-use Rattle.ar_disks.specs.Members.{member, AreApart}
+use Rattle.ar_disks.specs.Members.{member}
 use Rattle.ar_extents.specs.declared.health.Health.{Health}
 use Rattle.ar_extents.specs.Health.{IsRebuilding, rebuilt_disk}
 use Rattle.ar_extents.specs.Set.{SetState, IsSound, IsMissing}
@@ -10,12 +10,12 @@ use Rattle.ar_extents.specs.Follows.{Follows, Keeps, KeepsBut, Anywhere, LeavesD
 use Rattle.ar_extents.specs.Access.{Accesses, Touches, next_place}
 use Rattle.std.proofs.lemmas.Bool.Decides.{eqb_tells}
 use Rattle.ar_extents.specs.Groups.{IsGroup, IsMember}
-use Rattle.ar_extents.proofs.Follows.{keeps_refl, works_refl, works_then, works_more, works_in_turn, in_turn_first}
+use Rattle.ar_extents.proofs.Follows.{works_then, works_more, works_in_turn}
 use Rattle.ar_extents.proofs.Access.{works_read}
 use Rattle.ar_extents.proofs.Losses.{missing_lost, next_missing, lost_not_sound}
 use Rattle.ar_parity.specs.Row.{Blocks}
 use Rattle.ar_parity.specs.Group.{RowAgrees}
-use Rattle.ar_parity.specs.Call.{IsOffDiskOf, WritesInTurn}
+use Rattle.ar_parity.specs.Call.{WritesInTurn}
 use Rattle.ar_parity.proofs.Agrees.{add_up_then, agrees_read}
 
 -- a member was read, by its place
@@ -28,31 +28,12 @@ member_read m i a b place answered at access keeps =
 pub first_of_two : (m : Members) (i j : ℕ) (a b : SetState) → WorksOn (IsPlace (member m i)) a b → WorksOn (IsEither (member m i) (member m j)) a b
 first_of_two m i j a b works = works_more (IsPlace (member m i)) (IsEither (member m i) (member m j)) a b (λ p is. inl is) works
 
-pub second_of_two : (m : Members) (i j : ℕ) (a b : SetState) → WorksOn (IsPlace (member m j)) a b → WorksOn (IsEither (member m i) (member m j)) a b
-second_of_two m i j a b works = works_more (IsPlace (member m j)) (IsEither (member m i) (member m j)) a b (λ p is. inr is) works
-
 -- where the parity is read before both are written, no other extent is asked
 pub in_order_works : (own parity : Place) (a b : SetState) → WritesInTurn own parity a b → WorksOn (IsEither own parity) a b
 in_order_works own parity a b order =
     works_then (IsEither own parity) a order.read b
     (works_more (IsPlace parity) (IsEither own parity) a order.read (λ p is. inr is) order.reads)
     (works_in_turn own parity order.read b order.writes)
-
--- the parity wasn't read, and the own extent alone written
-pub own_alone : (own parity : Place) (a b : SetState) → WorksOn (IsPlace own) a b → WritesInTurn own parity a b
-own_alone own parity a b works = record {
-  read = a;
-  reads = works_refl (IsPlace parity) a;
-  kept = keeps_refl Anywhere a;
-  writes = in_turn_first own parity a b works;
-}
-
--- work on a member leaves the disk of another
-pub off_disk : (m : Members) (i j : ℕ) (a b : SetState) → AreApart m → i < 4 → j < 4 → i ≢ j → WorksOn (IsPlace (member m i)) a b
-    → WorksOn (IsOffDiskOf (member m j)) a b
-off_disk m i j a b apart li lj ne works =
-    works_more (IsPlace (member m i)) (IsOffDiskOf (member m j)) a b
-    (λ p is same. apart i j li lj ne (sym (ap (λ (x : Place). x.disk) is) ∙ same)) works
 
 -- The extent that is rebuilt was written, once its group was read: no disk but the members' was accessed,
 pub row_spares : (a b c : SetState) (m : Members) (position : ℕ) (answered : Bool) → position < 4 → member m position ≡ next_place a

@@ -4,8 +4,8 @@ use Rattle.ar_disks.specs.declared.address.Members.{Members}
 use Rattle.ar_disks.specs.declared.address.Place.{Place}
 use Rattle.ar_disks.specs.Members.{member}
 use Rattle.ar_extents.specs.declared.health.Health.TheVariants.{Broken as AllBroken}
-use Rattle.ar_extents.specs.Set.{SetState, content, IsSound}
-use Rattle.ar_extents.specs.Follows.{Keeps, Anywhere, IsPlace, IsEither, WorksOn, WorksInTurn}
+use Rattle.ar_extents.specs.Set.{SetState, content}
+use Rattle.ar_extents.specs.Follows.{Keeps, Anywhere, IsPlace, WorksOn, WorksInTurn}
 use Rattle.ar_extents.specs.Access.{IsGivenUp}
 use Rattle.ar_disks.specs.declared.completion.Completion.{Completion}
 use Rattle.ar_disks.specs.declared.completion.Completion.TheVariants.{Done, Broken}
@@ -24,19 +24,6 @@ pub record UpdatesStripe (old new : SetState) (m : Members) (row position : ℕ)
   pub agrees : (blocks : Blocks) → RowAgrees old m row blocks
       → RowAgrees new m row (changed blocks position (parity_position row) bytes)
 
--- the extent is on another disk than this one
-abbrev pub IsOffDiskOf : Place → Place → Type 0
-IsOffDiskOf one place = place.disk ≢ one.disk
-
--- Rows of disks other than the parity's were read, and nothing was written; then only the slot's own extent and the
--- parity's were accessed. So each new block was computed before the first write, and no member that is only read for it
--- is accessed later.
-pub record ReadsBefore (own parity : Place) (old new : SetState) : Type 0 where
-  pub read : SetState
-  pub reads : WorksOn (IsOffDiskOf parity) old read
-  pub kept : Keeps Anywhere old read
-  pub writes : WorksOn (IsEither own parity) read new
-
 -- First only the parity's extent was accessed, and nothing was written; then the slot's own was accessed, and the
 -- parity's after it.
 pub record WritesInTurn (own parity : Place) (old new : SetState) : Type 0 where
@@ -44,16 +31,6 @@ pub record WritesInTurn (own parity : Place) (old new : SetState) : Type 0 where
   pub reads : WorksOn (IsPlace parity) old read
   pub kept : Keeps Anywhere old read
   pub writes : WorksInTurn own parity read new
-
--- First only the slot's own extent was accessed, and nothing was written. If it was usable after that, no other was
--- accessed but the parity's, whatever faulted then, and that one was written after the own. In any case the others were
--- read before anything was written.
-pub record AsksOwnFirst (own parity : Place) (old new : SetState) : Type 0 where
-  pub between : SetState
-  pub reads : WorksOn (IsPlace own) old between
-  pub kept : Keeps Anywhere old between
-  pub known : IsSound between own → WritesInTurn own parity between new
-  pub before : ReadsBefore own parity between new
 
 -- The member's row has the block that agrees with the three others, and health is unchanged.
 pub record IsRebuilt (old new : SetState) (m : Members) (position row : ℕ) : Type 0 where
