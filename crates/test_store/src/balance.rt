@@ -9,7 +9,7 @@ use ar_book::Class;
 use ar_extents::{DiskRefusal, Health};
 
 /// Three of the four groups get an extent of the disk that is added, and a fifth is formed of the extents that are loose then.
-pub const EVENED_OUT: [Step; 14] = [
+const EVENED_OUT: [Step; 14] = [
     (Room, Count(18)),
     (Balance, Idle),
     (Add, Added),

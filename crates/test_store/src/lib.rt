@@ -1,6 +1,6 @@
 //! Tests of the store and of what is done in it, with one rig: where blocks go (`placing`), demotion and cleaning (`moves`),
-//! added disks and balancing (`balance`), replacement and rebuilding (`mirrors`, `parity`, `survivors`, `unused`), which disks
-//! are refused, disks that are lost at each of their calls, and how stores begin.
+//! added disks and balancing (`balance`), replacement and rebuilding (`mirrors`, `parity`, `survivors`), which disks are
+//! refused, disks that are lost at each of their calls, and how stores begin.
 #![tactic(auto)]
 
 #[cfg(test)]
@@ -25,5 +25,3 @@ mod refusals;
 mod start;
 #[cfg(test)]
 mod survivors;
-#[cfg(test)]
-mod unused;

@@ -1,5 +1,4 @@
 // A disk lost at each of its calls while blocks and extents are moved, and how many calls it gets.
-use crate::balance::EVENED_OUT;
 use crate::calls::{Answer, Call, Step, play};
 use crate::fixtures::{FOUR_GROUPS, Shape, THREE_GROUPS, WHOLE};
 use crate::moves::{DEMOTED_AND_CLEANED, DEMOTED_AND_PROMOTED};
@@ -210,15 +209,4 @@ fn a_shift_is_given_up_where_a_disk_faults(rt: HostRuntime) {
         );
         is_health(&rt, health, Health::Out(lost), calls);
     }
-}
-
-// Disks that fault at their first call: a free group is shifted without any, and so is one formed.
-#[test]
-fn free_groups_are_shifted_without_an_access(rt: HostRuntime) {
-    let no_calls = Shape {
-        fuses: [0; 5],
-        ..FOUR_GROUPS
-    };
-    let health = play(&rt, rt.alloc(), no_calls, &[&EVENED_OUT]);
-    is_health(&rt, health, Health::Whole, 0);
 }
