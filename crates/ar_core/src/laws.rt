@@ -77,7 +77,7 @@ pub fn writes_that_fit_are_done()
 {}
 
 /// The cost of a READ: where no disk faults, a GOOD one makes for each of its blocks, in ascending order, exactly the
-/// reads that the block's home plans (one if its disk is present), none for a block that is cached or has no home, and
+/// reads that the block's home plans (one if its extent is usable), none for a block that is cached or has no home, and
 /// no other access. The function does nothing.
 pub fn reads_are_accounted_for()
     ensures { (old new : ArrayState) (host : Host) (lun : ℕ) (cdb payload : List ℕ) (reply : Reply) (lba count : ℕ)
@@ -97,9 +97,9 @@ pub fn writes_are_accounted_for()
         → CostsExactly (WriteMakes (addr_in host lun) lba count fua old new) old.store.disks new.store.disks }
 {}
 
-/// The cost of a WRITE in numbers, of whole blocks, with all disks present and nothing cached: two writes for each of
-/// its blocks if these are mirrored, two reads and two writes if they stay at the parity level. The function does
-/// nothing.
+/// The cost of a WRITE in numbers, of whole blocks that have homes, on healthy disks and without a cache: two writes for
+/// each of its blocks if these are mirrored, two reads and two writes if they stay at the parity level. The function
+/// does nothing.
 pub fn write_accesses()
     ensures mirrored { (old new : ArrayState) (host : Host) (lun : ℕ) (cdb payload : List ℕ) (reply : Reply) (lba count : ℕ) (fua : Bool)
         → Steps old (EventOf.Cmd host lun cdb payload) (OutcomeOf.Cmd reply) new

@@ -1,4 +1,4 @@
-// Laws of the store's calls: what they access while all disks are present and none faults.
+// Laws of the store's calls: what they access where no disk faults.
 ghost use Rattle.std.specs.Prelude.{◌≡◌, ◌≢◌, ℕ, [], ◌∷◌, ◌++◌, None, Some};
 ghost use Rattle.ar_disks.specs.Geometry.{rows_of};
 ghost use Rattle.ar_disks.specs.declared.address.Key.{Key};
