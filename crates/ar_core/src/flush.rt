@@ -1,12 +1,10 @@
 // Destaging: cached blocks go to the disks, least recently used first. Until data loss no unit changes.
-ghost use Rattle.std.specs.Prelude.{◌≡◌, IsTrue, false, [], reverse};
+ghost use Rattle.std.specs.Prelude.{◌≡◌, IsTrue, false, []};
 ghost use Rattle.ar_disks.specs.declared.address.Addr.{Addr};
-ghost use Rattle.std.specs.Map.{keys_of};
-ghost use Rattle.ar_cache.specs.Backing.{InTurn, stored};
-ghost use Rattle.ar_cache.specs.Cache.{with_entries};
-ghost use Rattle.ar_volume.specs.Following.{ArrayFollows, PutsStored};
+ghost use Rattle.ar_cache.specs.Backing.{stored};
+ghost use Rattle.ar_volume.specs.Following.{ArrayFollows};
 ghost use Rattle.ar_volume.specs.Image.{is_broken, image_at, image_on_disks};
-ghost use Rattle.ar_volume.specs.Storing.{LeavesSome};
+ghost use Rattle.ar_volume.specs.Storing.{EmptiesCache, LeavesSome};
 
 use crate::{Array, Completion, EventOf, Flush, OutcomeOf, UnitFlush};
 use ar_disks::{Addr, Disk};
@@ -37,9 +35,7 @@ impl<D: Disk> Array<D> {
         ensures lost { IsTrue (is_broken self.old) → self.new ≡ self.old }
         ensures images { result ≡ Completion.Done → (addr : Addr) → image_at self.new addr ≡ image_at self.old addr }
         ensures on_disks { result ≡ Completion.Done → (addr : Addr) → image_at self.new addr ≡ image_on_disks self.new.store addr }
-        ensures emptied { result ≡ Completion.Done → self.new.cache ≡ with_entries self.old.cache [] }
-        ensures puts { result ≡ Completion.Done
-            → InTurn PutsStored (reverse (keys_of self.old.cache.entries)) self.old.store self.new.store }
+        ensures emptied { result ≡ Completion.Done → EmptiesCache self.old self.new }
         ensures quiet { self.old.cache.entries ≡ [] → self.new ≡ self.old }
         ensures stopped { result ≡ Completion.Broken → is_broken self.old ≡ false → LeavesSome self.old self.new }
         ensures follows { ArrayFollows self.old self.new }

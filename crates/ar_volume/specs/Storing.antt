@@ -130,6 +130,11 @@ StopsStoring addr lba count true old new =
     StopsPutting addr lba count old new
     ⊎ ((put : ArrayState) × PutsBlocks addr lba count old put × StopsInTurn ForcesBlock BreaksForced (keys_in (geometry_of old) addr lba count) put new)
 
+-- every cached block was put, the least recently used first, and the cache is empty
+pub record EmptiesCache (old new : ArrayState) : Type 0 where
+  pub cache : new.cache ≡ with_entries old.cache []
+  pub put : InTurn PutsStored (reverse (keys_of old.cache.entries)) old.store new.store
+
 -- The cache was being emptied when the array failed: the most recently used `left` entries stay, at least the one whose
 -- block was being destaged. The others had been put in order, the least recently used first, without failing the array;
 -- then the put of that one failed it.

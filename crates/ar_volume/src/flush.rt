@@ -1,15 +1,14 @@
 // Destages cached blocks to the disks. No block changes its contents unless the array fails.
-ghost use Rattle.std.specs.Prelude.{◌≡◌, ◌≢◌, ◌≤◌, ◌+◌, ◌-◌, ℕ, None, false, IsTrue, [], reverse};
+ghost use Rattle.std.specs.Prelude.{◌≡◌, ◌≢◌, ◌≤◌, ◌+◌, ◌-◌, ℕ, None, false, IsTrue, []};
 ghost use Rattle.ar_disks.specs.declared.address.Key.{Key};
-ghost use Rattle.std.specs.Map.{keys_of};
 ghost use Rattle.ar_cache.specs.Backing.{InTurn, StopsInTurn, stored};
-ghost use Rattle.ar_cache.specs.Cache.{cached, with_entries};
+ghost use Rattle.ar_cache.specs.Cache.{cached};
 ghost use Rattle.ar_volume.specs.Flush.{FlushesOne, FlushesUnit};
-ghost use Rattle.ar_volume.specs.Following.{ArrayFollows, PutsStored};
+ghost use Rattle.ar_volume.specs.Following.{ArrayFollows};
 ghost use Rattle.ar_volume.specs.Image.{is_broken};
 ghost use Rattle.ar_volume.specs.Sectors.{key_of, keys_from};
 ghost use Rattle.ar_volume.specs.Seen.{SameSeen, KeepsCachedBut};
-ghost use Rattle.ar_volume.specs.Storing.{BreaksForced, ForcesBlock, LeavesSome};
+ghost use Rattle.ar_volume.specs.Storing.{BreaksForced, EmptiesCache, ForcesBlock, LeavesSome};
 
 use crate::{Blocks, Flush, Health};
 use ar_disks::{Addr, Completion, Disk, Key};
@@ -41,9 +40,7 @@ impl<D: Disk> Blocks<D> {
     /// Destages all cached blocks, the least recently used first. With an empty cache nothing changes.
     pub fn flush_all(&mut self) -> Completion
         ensures answer { result ≡ stored (is_broken self.new) }
-        ensures emptied { result ≡ Completion.Done → self.new.cache ≡ with_entries self.old.cache [] }
-        ensures puts { result ≡ Completion.Done
-            → InTurn PutsStored (reverse (keys_of self.old.cache.entries)) self.old.store self.new.store }
+        ensures emptied { result ≡ Completion.Done → EmptiesCache self.old self.new }
         ensures quiet { self.old.cache.entries ≡ [] → self.new ≡ self.old }
         ensures stopped { result ≡ Completion.Broken → is_broken self.old ≡ false → LeavesSome self.old self.new }
         ensures lost { IsTrue (is_broken self.old) → self.new ≡ self.old }

@@ -24,4 +24,4 @@ returns-clause-images g c = λ done addr.
 pub returns-clause-on_disks : goal.returns-clause-on_disks
 returns-clause-on_disks g c = λ done addr.
     unit_same c.flush_all.new.self.store (seen_at c.flush_all.new.self) (stands c.flush_all.new.self.store) addr
-    (seen_empty c.flush_all.new.self (ap (λ (e : CacheState). e.entries) (c.flush_all.ensures.emptied done)))
+    (seen_empty c.flush_all.new.self (ap (λ (e : CacheState). e.entries) (c.flush_all.ensures.emptied done).cache))

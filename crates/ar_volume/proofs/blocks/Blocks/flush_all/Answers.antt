@@ -1,13 +1,12 @@
 use Rattle.std.proofs.Common.{◌≡◌, false, [], drop, reverse, sym, ap, subst, ◌∙◌}
 use Rattle.std.specs.Map.{keys_of}
 use Rattle.ar_disks.specs.declared.address.Key.{Key}
-use Rattle.ar_cache.specs.Backing.{InTurn}
 use Rattle.ar_cache.specs.Cache.{last_keys}
 use Rattle.ar_cache.proofs.Turns.{in_turn_seen, stops_seen}
 use Rattle.ar_volume.specs.declared.behind.Behind.{Behind}
 use Rattle.ar_volume.specs.Following.{PutsStored, BreaksStored}
 use Rattle.ar_volume.specs.Image.{ArrayState, is_broken}
-use Rattle.ar_volume.specs.Storing.{LeavesSome}
+use Rattle.ar_volume.specs.Storing.{EmptiesCache, LeavesSome}
 use Rattle.ar_volume.specs.Seen.{SameSeen}
 use Rattle.ar_volume.proofs.Seeing.{seen_kept, emptied_same}
 use Rattle.ar_volume.proofs.blocks.Blocks.flush_all.Goals as goal
@@ -18,11 +17,17 @@ returns-clause-seen g c = λ done.
     let new : ArrayState = record { store = c.flush_all.new.backing.store; cache = c.flush_all.new.self } in
     subst (λ (s : ArrayState). SameSeen s new) c.self.view_is (seen_kept old new (c.flush_all.ensures.seen done))
 
-pub returns-clause-puts : goal.returns-clause-puts
-returns-clause-puts g c = λ done.
-    subst (λ (s : ArrayState). InTurn PutsStored (reverse (keys_of s.cache.entries)) s.store c.flush_all.new.backing.store) c.self.view_is
-    (in_turn_seen (λ (b : Behind g.row.D.Denot). b.store) (λ (o : Behind g.row.D.Denot) (k : Key) (n : Behind g.row.D.Denot). PutsStored o.store k n.store) PutsStored (λ o m k h. h)
-    (reverse (keys_of c.self.inside.cache.entries)) c.self.inside.behind c.flush_all.new.backing (c.flush_all.ensures.emptied.put done))
+pub returns-clause-emptied : goal.returns-clause-emptied
+returns-clause-emptied g c = λ done.
+    let new : ArrayState = record { store = c.flush_all.new.backing.store; cache = c.flush_all.new.self } in
+    let puts = λ (o : Behind g.row.D.Denot) (k : Key) (n : Behind g.row.D.Denot). PutsStored o.store k n.store in
+    subst (λ (s : ArrayState). EmptiesCache s new) c.self.view_is
+    (record {
+      cache = c.flush_all.ensures.emptied.entries done;
+      put = in_turn_seen (λ (b : Behind g.row.D.Denot). b.store) puts PutsStored (λ o m k h. h)
+          (reverse (keys_of c.self.inside.cache.entries)) c.self.inside.behind c.flush_all.new.backing
+          (c.flush_all.ensures.emptied.put done);
+    })
 
 pub returns-clause-stopped : goal.returns-clause-stopped
 returns-clause-stopped g c = λ lost.
