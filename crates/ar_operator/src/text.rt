@@ -39,7 +39,7 @@ stop
     )
 }
 
-/// Writes a connected host, as a line: the frames of its session, the bytes read from it, and those written to it.
+/// Writes a connected host, as a line: the frames of its session, and the bytes that it has read and written.
 pub fn write_session<W: Write>(
     out: &mut W,
     host: Host,

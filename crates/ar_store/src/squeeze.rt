@@ -25,7 +25,7 @@ impl<D: Disk> Space<D> {
     ghost use Rattle.ar_store.specs.Placing.{slot_at, moved_first, IsVacant, IsSqueezed, HasNoHole, CanMove, HasBegunSqueeze};
     ghost use Rattle.ar_store.specs.Spaces.{store_in, IsReady, Stays};
 
-    /// Opens the only free group for parity, moves all blocks of the lowest mirrored group there, and returns the first
+    /// Opens the only free group for parity, moves all blocks of the lowest full mirrored group there, and returns the first
     /// hole behind them. None if the array failed.
     pub(crate) fn squeeze(&mut self, block: &mut Block) -> Option<Slot>
         requires ready { IsReady self.old }
