@@ -6,16 +6,22 @@ use Rattle.ar_disks.specs.Disk.{DiskState, AccessesDisk, Reads, Writes, counted,
 use Rattle.ar_extents.specs.declared.health.Health.{Health}
 use Rattle.ar_extents.specs.declared.health.Health.TheVariants.{Whole, Out, Rebuilding, Broken}
 use Rattle.ar_extents.specs.Health.{is_lost, is_out, IsDown, after_fault, HealthFits, rebuilt_disk, next_extent}
-use Rattle.ar_extents.specs.Set.{SetState, IsValidSet, HasShape, HasExtent, disk_in, faults_of, content, IsSound, IsLost}
-use Rattle.ar_extents.specs.Follows.{Follows, Faulted, TwoHit, Keeps, KeepsBut, Anywhere, IsPlace, HasNoUsed, LeavesDisks, WorksOn}
+use Rattle.ar_extents.specs.Set.{SetState, IsValidSet, HasShape, disk_in, faults_of, content, IsSound}
+use Rattle.ar_extents.specs.Follows.{Follows, Faulted, TwoHit, Keeps, KeepsBut, Anywhere}
 use Rattle.ar_extents.specs.declared.log.RowAccess.{RowAccess}
-use Rattle.ar_extents.specs.declared.answers.Got.{Got}
-use Rattle.ar_extents.specs.declared.answers.Put.{Put}
-use Rattle.ar_extents.specs.Access.{OthersStay, Touches, Accesses, IsRead, IsWritten, next_place, is_read, is_written, lost_got, lost_put}
-use Rattle.ar_extents.proofs.Follows.{follows_refl, keeps_fewer}
-use Rattle.ar_extents.proofs.Losses.{lost_or_sound}
-use Rattle.ar_extents.proofs.GroupLemmas.{place_is, same_place}
-use Rattle.ar_extents.proofs.Faults.{is_out-sound, is_out-after_fault, sound_before, other_in_use, in_use_before, out_fault, rebuilding_fault, down_disk, broken_fault}
+use Rattle.ar_extents.specs.Access.{OthersStay, IsRead, IsWritten, next_place, is_read, is_written, lost_got, lost_put}
+use Rattle.ar_extents.proofs.GroupLemmas.{place_is}
+use Rattle.ar_extents.proofs.Faults.{is_out-after_fault, sound_before, other_in_use, in_use_before, out_fault, rebuilding_fault, down_disk, broken_fault}
+
+-- Disk `d` was accessed, with or without a fault. Shape, unassigned extents and the other disks are unchanged; a fault
+-- is counted, and moves health.
+pub record Touches (old new : SetState) (d : ℕ) (answered : Bool) : Type 0 where
+  pub geometry : new.geometry ≡ old.geometry
+  pub extents : new.extents ≡ old.extents
+  pub others : OthersStay old.disks new.disks d
+  pub health : new.health ≡ cond answered old.health (after_fault old.health d)
+  pub faults : faults_of new d ≡ cond answered (faults_of old d) (faults_of old d + 1)
+  pub loose : new.loose ≡ old.loose
 
 -- the set once one of its disks has answered
 abbrev pub answered_set : SetState → List DiskState → List RowAccess → ℕ → Bool → SetState
@@ -219,62 +225,7 @@ keeps_written old new place row answered from others writes = record {
   };
 }
 
--- a lost extent isn't accessed
-pub accesses_lost : (s : SetState) (place : Place) (answered : Bool) → IsLost s place → Accesses s s place answered
-accesses_lost s place answered lost = record {
-  lost = λ is. refl;
-  sound = λ sound. absurd (let k : true ≡ false = sym lost ∙ sound in cc);
-  follows = follows_refl s;
-  loose = refl;
-}
-
--- a sound one's disk is
-pub accesses_sound : (old new : SetState) (place : Place) (answered : Bool) → IsSound old place → Touches old new place.disk answered
-    → Accesses old new place answered
-accesses_sound old new place answered sound t = record {
-  lost = λ lost. absurd (let k : true ≡ false = sym lost ∙ sound in cc);
-  sound = λ is. t;
-  follows = follows_touched old new place.disk answered t;
-  loose = t.loose;
-}
-
-access_touches : (a b : SetState) (place : Place) (answered : Bool) → Accesses a b place answered → LeavesDisks (HasNoUsed a (IsPlace place)) a b
-access_touches a b place answered access = record {
-  disks = λ d none.
-      elim (lost_or_sound a place) [
-        | inl lost ↦ ap (λ (s : SetState). disk_in s.disks d) (access.lost lost)
-        | inr sound ↦ (access.sound sound).others.others d (none place refl sound)
-      ];
-}
-
--- a read is work on its extent
-pub works_read : (a b : SetState) (place : Place) (answered : Bool) → Accesses a b place answered → Keeps Anywhere a b → WorksOn (IsPlace place) a b
-works_read a b place answered access keeps = record {
-  follows = access.follows;
-  loose = access.loose;
-  lost = keeps_fewer Anywhere (IsLost a) a b (λ p is. tt) keeps;
-  touches = access_touches a b place answered access;
-}
-
--- and so is a write
-pub works_written : (a b : SetState) (place : Place) (row : ℕ) (answered : Bool) → Accesses a b place answered → KeepsBut place row a b
-    → WorksOn (IsPlace place) a b
-works_written a b place row answered access keeps = record {
-  follows = access.follows;
-  loose = access.loose;
-  lost = record {
-    rows = λ p lost r.
-        elim (same_place p place) [
-          | inl same ↦
-              (let P : Place → Type 0 = λ q. IsLost a q in
-              ap (λ (s : SetState). content s p r) (access.lost (subst P same lost)))
-          | inr ne ↦ keeps.other_places.rows p ne r
-        ];
-  };
-  touches = access_touches a b place answered access;
-}
-
--- The answers of a read, told of the state `self` that the call began with: `old` is what its fields show.
+-- The answers of a call, told of the state `self` that the call began with: `old` is what its fields show.
 
 pub read_answer : (old self : SetState) (disks : List DiskState) (log : List RowAccess) (place : Place) (row : ℕ) (into : List ℕ) → old ≡ self → IsSound old place
     → Reads (disk_in old.disks place.disk) (disk_in disks place.disk) place.extent row true into
@@ -284,13 +235,6 @@ read_answer old self disks log place row into same sound reads =
     subst (λ (s : SetState). IsRead s (answered_set old disks log place.disk true) place row into) same
     (record { bytes_are = reads.content refl; was_sound = sound; sound = sound })
 
-pub read_keeps : (old self : SetState) (disks : List DiskState) (h : Health) (log : List RowAccess) (place : Place) (row : ℕ) (answered : Bool) (into : List ℕ) → old ≡ self
-    → OthersStay old.disks disks place.disk → Reads (disk_in old.disks place.disk) (disk_in disks place.disk) place.extent row answered into
-    → Keeps Anywhere self (record old { disks = disks; health = h; log = log })
-read_keeps old self disks h log place row answered into same others reads =
-    let new : SetState = record old { disks = disks; health = h; log = log } in
-    subst (λ (s : SetState). Keeps Anywhere s new) same (keeps_read old new place.disk place.extent row answered into others reads)
-
 pub write_answer : (old self : SetState) (disks : List DiskState) (log : List RowAccess) (place : Place) (row : ℕ) (from : List ℕ) → old ≡ self → IsSound old place
     → Writes (disk_in old.disks place.disk) (disk_in disks place.disk) place.extent row true from
     → IsWritten self (answered_set old disks log place.disk true) place row from
@@ -298,25 +242,6 @@ unfolding content
 write_answer old self disks log place row from same sound writes =
     subst (λ (s : SetState). IsWritten s (answered_set old disks log place.disk true) place row from) same
     (record { content_is = writes.written refl; was_sound = sound; sound = sound })
-
-pub write_keeps : (old self : SetState) (disks : List DiskState) (h : Health) (log : List RowAccess) (place : Place) (row : ℕ) (answered : Bool) (from : List ℕ) → old ≡ self
-    → OthersStay old.disks disks place.disk → Writes (disk_in old.disks place.disk) (disk_in disks place.disk) place.extent row answered from
-    → KeepsBut place row self (record old { disks = disks; health = h; log = log })
-write_keeps old self disks h log place row answered from same others writes =
-    let new : SetState = record old { disks = disks; health = h; log = log } in
-    subst (λ (s : SetState). KeepsBut place row s new) same (keeps_written old new place row answered from others writes)
-
--- the disk faulted
-pub fault_access : (old self : SetState) (disks : List DiskState) (h : Health) (log : List RowAccess) (place : Place) → old ≡ self → IsValidSet old → HasExtent self place → IsSound old place
-    → h ≡ after_fault old.health place.disk → AccessesDisk (disk_in old.disks place.disk) (disk_in disks place.disk) false → OthersStay old.disks disks place.disk
-    → Accesses self (record old { disks = disks; health = h; log = log }) place false
-fault_access old self disks h log place same kept exists sound is answers others =
-    let new : SetState = record old { disks = disks; health = h; log = log } in
-    let used = is_out-sound old.health place.disk place.extent sound in
-    let here = (subst (λ (s : SetState). HasExtent s place) (sym same) exists).disk in
-    let touched = touches old disks log place.disk false kept here used answers others in
-    subst (λ (s : SetState). Accesses s new place false) same
-    (accesses_sound old new place false sound (subst (λ (x : Health). Touches old (record old { disks = disks; health = x; log = log }) place.disk false) (sym is) touched))
 
 pub is_read-lost : (h : Health) → is_read (lost_got h) ≡ false
 is_read-lost Whole = refl
@@ -329,13 +254,6 @@ is_written-lost Whole = refl
 is_written-lost (Out x) = refl
 is_written-lost (Rebuilding x done) = refl
 is_written-lost Broken = refl
-
--- an answer at a lost extent is one of a disk that didn't answer
-pub got_access : (self new : SetState) (place : Place) (h : Health) (got : Got) → got ≡ lost_got h → Accesses self new place false → Accesses self new place (is_read got)
-got_access self new place h got is access = subst (λ (b : Bool). Accesses self new place b) (sym (ap is_read is ∙ is_read-lost h)) access
-
-pub put_access : (self new : SetState) (place : Place) (h : Health) (answer : Put) → answer ≡ lost_put h → Accesses self new place false → Accesses self new place (is_written answer)
-put_access self new place h answer is access = subst (λ (b : Bool). Accesses self new place b) (sym (ap is_written is ∙ is_written-lost h)) access
 
 -- the place that is rebuilt next, where the disk and its mark are known
 pub next_place_is : (old self : SetState) (place : Place) → old ≡ self → old.health ≡ Rebuilding place.disk place.extent → next_place self ≡ place
@@ -352,12 +270,3 @@ new_answer old self disks log place row from same is writes =
       subst (λ (p : Place). content new p row ≡ from) (sym (next_place_is old self place same is)) (writes.written refl),
       ap (λ (s : SetState). s.health) same,
     )
-
-pub new_keeps : (old self : SetState) (disks : List DiskState) (h : Health) (log : List RowAccess) (place : Place) (row : ℕ) (answered : Bool) (from : List ℕ) → old ≡ self
-    → old.health ≡ Rebuilding place.disk place.extent
-    → OthersStay old.disks disks place.disk → Writes (disk_in old.disks place.disk) (disk_in disks place.disk) place.extent row answered from
-    → KeepsBut (next_place self) row self (record old { disks = disks; health = h; log = log })
-new_keeps old self disks h log place row answered from same is others writes =
-    let new : SetState = record old { disks = disks; health = h; log = log } in
-    subst (λ (p : Place). KeepsBut p row self new) (sym (next_place_is old self place same is))
-    (write_keeps old self disks h log place row answered from same others writes)

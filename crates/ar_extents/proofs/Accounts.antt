@@ -14,10 +14,10 @@ use Rattle.ar_extents.specs.declared.answers.Put.{Put}
 use Rattle.ar_extents.specs.Health.{is_out, after_fault, HealthFits}
 use Rattle.ar_extents.specs.Set.{SetState, IsValidSet, HasExtent, IsSound, disk_in, faults_of, content}
 use Rattle.ar_extents.specs.Follows.{KeepsBut}
-use Rattle.ar_extents.specs.Access.{OthersStay, Touches, next_place, is_read, is_written, lost_got, lost_put}
+use Rattle.ar_extents.specs.Access.{OthersStay, next_place, is_read, is_written, lost_got, lost_put}
 use Rattle.ar_extents.specs.Log.{AccountsFor, accesses_of, is_on, is_fault_of, writes_row, health_then, health_after}
 use Rattle.ar_extents.specs.Plans.{Attempt, Attempts, read_at, write_at, rebuild_at, access_of, skips}
-use Rattle.ar_extents.proofs.Access.{touches, keeps_read, keeps_written, is_read-lost, is_written-lost, next_place_is}
+use Rattle.ar_extents.proofs.Access.{Touches, touches, keeps_read, keeps_written, is_read-lost, is_written-lost, next_place_is}
 use Rattle.ar_extents.proofs.Faults.{is_out-sound}
 use Rattle.ar_extents.proofs.GroupLemmas.{same_place}
 

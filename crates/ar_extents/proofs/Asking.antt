@@ -11,13 +11,13 @@ use Rattle.ar_extents.specs.Set.{SetState, IsLost, faults_of, disk_in, content}
 use Rattle.ar_extents.specs.Follows.{Follows, Keeps, KeepsBut, Anywhere, IsPlace, WorksOn}
 use Rattle.ar_extents.specs.declared.answers.Got.{Got}
 use Rattle.ar_extents.specs.declared.answers.Got.TheVariants.{Missing, Broken as ReadBroken}
-use Rattle.ar_extents.specs.Access.{Touches, is_read, next_place}
+use Rattle.ar_extents.specs.Access.{is_read, next_place}
 use Rattle.ar_extents.specs.Log.{AccountsFor, is_on, is_fault_of, is_writing, writes_row}
 use Rattle.ar_extents.specs.Plans.{Attempt, Attempts, AccessPlan, Stop, Try, IfMissing, both_of}
 use Rattle.ar_extents.specs.Plans.{CarriesOut, stops, goes_on, falls_back, without, with_it}
 use Rattle.ar_extents.specs.Plans.{access_of, read_at, write_at, skips, rebuild_at, rebuilds_none}
 use Rattle.ar_extents.proofs.Accounts.{count_one}
-use Rattle.ar_extents.proofs.Access.{follows_touched}
+use Rattle.ar_extents.proofs.Access.{Touches, follows_touched}
 use Rattle.ar_extents.proofs.Faults.{is_lost-after_fault}
 use Rattle.ar_extents.proofs.Losses.{lost_or_sound}
 use Rattle.ar_extents.proofs.GroupLemmas.{same_place, place_is}
@@ -46,6 +46,10 @@ touched_one t done a b made =
       loose = made.loose;
     }
 
+-- an attempt that isn't skipped touches its disk alone
+pub attempt_touches : (t : Attempt) (done : Bool) (a b : SetState) → skips a.health t ≡ false → Attempts t done a b → Touches a b t.place.disk done
+attempt_touches t done a b used tried = touched_one t done a b (one_made t done a b used tried)
+
 follows_none : (a b : SetState) → AccountsFor [] a b → Follows a b
 follows_none a b made = record {
   geometry = made.geometry;
@@ -68,7 +72,7 @@ pub attempt_follows : (t : Attempt) (done : Bool) (a b : SetState) → Attempts 
 attempt_follows t done a b tried =
     elim (by_skip (skips a.health t)) [
       | inl skip ↦ follows_none a b (none_made t done a b skip tried)
-      | inr used ↦ follows_touched a b t.place.disk done (touched_one t done a b (one_made t done a b used tried))
+      | inr used ↦ follows_touched a b t.place.disk done (attempt_touches t done a b used tried)
     ]
 
 pub attempt_loose : (t : Attempt) (done : Bool) (a b : SetState) → Attempts t done a b → b.loose ≡ a.loose
@@ -83,7 +87,7 @@ pub attempt_leaves : (t : Attempt) (done : Bool) (a b : SetState) → Attempts t
 attempt_leaves t done a b tried d ne =
     elim (by_skip (skips a.health t)) [
       | inl skip ↦ skipped_leaves t done a b skip tried d
-      | inr used ↦ (touched_one t done a b (one_made t done a b used tried)).others.others d ne
+      | inr used ↦ (attempt_touches t done a b used tried).others.others d ne
     ]
 
 -- it changes the row that it writes alone

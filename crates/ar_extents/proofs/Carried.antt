@@ -72,9 +72,13 @@ same_set a b made =
     ∙ ap (λ l. let s : SetState = record a { loose = l; log = b.log } in s) made.loose
     ∙ ap (λ (l : List RowAccess). let s : SetState = record a { log = l } in s) (made.log ∙ append-nil a.log)
 
+-- a skipped attempt changes nothing
+pub skipped_same : (t : Attempt) (answered : _) (a b : SetState) → skips a.health t ≡ true → Attempts t answered a b → b ≡ a
+skipped_same t answered a b skip tried = same_set a b (none_made t answered a b skip tried)
+
 broken_attempt : (t : Attempt) (answered : _) (a b : SetState) → a.health ≡ Broken → Attempts t answered a b → b ≡ a
 broken_attempt t answered a b broken tried =
-    same_set a b (none_made t answered a b (ap (λ (h : Health). skips h t) broken ∙ broken_skips t.kind t.place) tried)
+    skipped_same t answered a b (ap (λ (h : Health). skips h t) broken ∙ broken_skips t.kind t.place) tried
 
 -- a set that had failed is unchanged
 pub plan_broken : (plan : AccessPlan) (a b : SetState) → a.health ≡ Broken → CarriesOut plan a b → b ≡ a

@@ -1,5 +1,5 @@
 -- What a read and a write of a row change in a set.
-use Rattle.std.specs.Prelude.{◌≡◌, ◌≢◌, ℕ, ◌+◌, Bool, true, false, List, length, if◌then◌else◌}
+use Rattle.std.specs.Prelude.{◌≡◌, ◌≢◌, ℕ, Bool, true, false, List, length}
 use Rattle.ar_disks.specs.declared.address.Place.{Place}
 use Rattle.ar_disks.specs.Disk.{DiskState}
 use Rattle.ar_extents.specs.declared.health.Health.TheVariants.{Whole, Out, Rebuilding, Broken}
@@ -9,32 +9,15 @@ use Rattle.ar_extents.specs.declared.answers.Put.{Put}
 use Rattle.ar_extents.specs.declared.answers.Put.TheVariants.{Written, Missing as PutMissing, Broken as PutBroken}
 use Rattle.ar_extents.specs.declared.answers.PutNew.{PutNew}
 use Rattle.ar_extents.specs.declared.answers.PutNew.TheVariants.{Written as NewWritten, GivenUp}
-use Rattle.ar_extents.specs.Health.{after_fault, rebuilt_disk, next_extent}
+use Rattle.ar_extents.specs.Health.{rebuilt_disk, next_extent}
 use Rattle.ar_extents.specs.declared.health.Health.{Health}
-use Rattle.ar_extents.specs.Set.{SetState, disk_in, faults_of, content, IsLost, IsSound, IsMissing}
-use Rattle.ar_extents.specs.Follows.{Faulted, Follows}
+use Rattle.ar_extents.specs.Set.{SetState, disk_in, content, IsSound, IsMissing}
+use Rattle.ar_extents.specs.Follows.{Faulted}
 
 -- an access of disk `d` changes no other disk of the list
 pub record OthersStay (olds news : List DiskState) (d : ℕ) : Type 0 where
   pub others : (x : ℕ) → x ≢ d → disk_in news x ≡ disk_in olds x
   pub len : length news ≡ length olds
-
--- disk `d` was accessed, with or without a fault: nothing else changed, but that a fault is counted and moves health
-pub record Touches (old new : SetState) (d : ℕ) (answered : Bool) : Type 0 where
-  pub geometry : new.geometry ≡ old.geometry
-  pub extents : new.extents ≡ old.extents
-  pub others : OthersStay old.disks new.disks d
-  pub health : new.health ≡ (if answered then old.health else after_fault old.health d)
-  pub faults : faults_of new d ≡ (if answered then faults_of old d else faults_of old d + 1)
-  pub loose : new.loose ≡ old.loose
-
--- An access of a lost extent changes nothing, that of a usable one its disk alone. Whatever is returned, no disk fails
--- without a cause, and unassigned extents stay so.
-pub record Accesses (old new : SetState) (place : Place) (answered : Bool) : Type 0 where
-  pub lost : IsLost old place → new ≡ old
-  pub sound : IsSound old place → Touches old new place.disk answered
-  pub follows : Follows old new
-  pub loose : new.loose ≡ old.loose
 
 -- the bytes are those of the row, and the extent was and still is usable
 pub record IsRead (old new : SetState) (place : Place) (row : ℕ) (bytes : List ℕ) : Type 0 where

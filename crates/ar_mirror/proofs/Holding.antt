@@ -8,11 +8,12 @@ use Rattle.ar_disks.specs.Members.{member, AreApart, AreDisjoint}
 use Rattle.ar_extents.specs.declared.health.Health.TheVariants.{Broken}
 use Rattle.ar_extents.specs.Set.{SetState, content, IsSound}
 use Rattle.ar_extents.specs.Follows.{Follows, Keeps, KeepsBut, IsPlace, WorksOn, WorksInTurn}
-use Rattle.ar_extents.specs.Access.{Accesses, PutsRow, is_written}
+use Rattle.ar_extents.specs.Access.{PutsRow, is_written}
+use Rattle.ar_extents.specs.Plans.{Attempts, write_at}
 use Rattle.ar_extents.specs.declared.answers.Put.{Put}
 use Rattle.ar_extents.specs.declared.answers.Put.TheVariants.{Written, Missing, Broken as PutBroken}
 use Rattle.ar_extents.proofs.Follows.{works_in_turn}
-use Rattle.ar_extents.proofs.Access.{works_written}
+use Rattle.ar_extents.proofs.Asking.{attempt_keeps, write_works}
 use Rattle.ar_extents.proofs.Losses.{missing_lost, broken_lost, lost_not_sound}
 use Rattle.ar_extents.specs.Groups.{IsGroup}
 use Rattle.ar_extents.proofs.GroupLemmas.{same_place}
@@ -128,11 +129,13 @@ broken_has s one other row block is = record {
 -- what one write promised
 record Wrote (a b : SetState) (p : Place) (row : ℕ) (block : List ℕ) (answered : Put) : Type 0 where
   answer : PutsRow a b p row block answered
-  access : Accesses a b p (is_written answered)
-  keeps : KeepsBut p row a b
+  made : Attempts (write_at p row) (is_written answered) a b
 
 wrote_works : (a b : SetState) (p : Place) (row : ℕ) (block : List ℕ) (answered : Put) → Wrote a b p row block answered → WorksOn (IsPlace p) a b
-wrote_works a b p row block answered wrote = works_written a b p row (is_written answered) wrote.access wrote.keeps
+wrote_works a b p row block answered wrote = write_works p row (is_written answered) a b wrote.made
+
+wrote_keeps : (a b : SetState) (p : Place) (row : ℕ) (block : List ℕ) (answered : Put) → Wrote a b p row block answered → KeepsBut p row a b
+wrote_keeps a b p row block answered wrote = attempt_keeps (write_at p row) (is_written answered) a b wrote.made
 
 -- what it promised of a place, under that place's other name
 wrote_at : (a b : SetState) (p q : Place) (row r : ℕ) (block : List ℕ) (answered : Put) → p ≡ q → row ≡ r → Wrote a b p row block answered → Wrote a b q r block answered
@@ -154,18 +157,20 @@ both_written : (m : Members) (slot : ℕ) (a b c : SetState) (block : List ℕ) 
     → Wrote a b (one_of a.geometry m slot) (row_of a.geometry slot) block first → Wrote b c (other_of a.geometry m slot) (row_of a.geometry slot) block second
     → SlotWritten m slot a c block
 both_written m slot a b c block first second group hs one other =
+    let row = row_of a.geometry slot in
     let order : WorksInTurn (one_of a.geometry m slot) (other_of a.geometry m slot) a c = record {
       between = b;
-      first = wrote_works a b (one_of a.geometry m slot) (row_of a.geometry slot) block first one;
-      second = wrote_works b c (other_of a.geometry m slot) (row_of a.geometry slot) block second other;
+      first = wrote_works a b (one_of a.geometry m slot) row block first one;
+      second = wrote_works b c (other_of a.geometry m slot) row block second other;
     } in
+    let other_keeps = wrote_keeps b c (other_of a.geometry m slot) row block second other in
     let works = works_in_turn (one_of a.geometry m slot) (other_of a.geometry m slot) a c order in
     let follows = works.follows in
-    let keeps = pair_kept m slot a b c one.keeps other.keeps in
+    let keeps = pair_kept m slot a b c (wrote_keeps a b (one_of a.geometry m slot) row block first one) other_keeps in
     record {
       holds = holds_at c a.geometry m slot block follows.geometry
-          (puts_hold a b c (one_of a.geometry m slot) (other_of a.geometry m slot) (row_of a.geometry slot) block first second
-          (pair_apart a.geometry m slot group.apart hs) one.answer other.answer other.access.follows other.keeps);
+          (puts_hold a b c (one_of a.geometry m slot) (other_of a.geometry m slot) row block first second
+          (pair_apart a.geometry m slot group.apart hs) one.answer other.answer order.second.follows other_keeps);
       slots = slots_hold m slot a c group.apart hs follows keeps;
       groups = groups_hold m slot a c hs follows keeps;
       keeps = keeps;
@@ -176,16 +181,16 @@ both_written m slot a b c block first second group hs one other =
 -- the same, of extents and a row that are found to be the slot's
 pub slot_written : (m : Members) (slot : ℕ) (a b c : SetState) (g : Geometry) (one other : Place) (row : ℕ) (block : List ℕ) (first second : Put) → IsGroup a m → slot < mirror_slots_of a.geometry
     → g ≡ a.geometry → one ≡ one_of g m slot → other ≡ other_of g m slot → row ≡ row_of g slot
-    → PutsRow a b one row block first → Accesses a b one (is_written first) → KeepsBut one row a b
-    → PutsRow b c other row block second → Accesses b c other (is_written second) → KeepsBut other row b c
+    → PutsRow a b one row block first → Attempts (write_at one row) (is_written first) a b
+    → PutsRow b c other row block second → Attempts (write_at other row) (is_written second) b c
     → SlotWritten m slot a c block
-slot_written m slot a b c g one other row block first second group hs same is_one is_other is_row puts access keeps puts_other access_other keeps_other =
+slot_written m slot a b c g one other row block first second group hs same is_one is_other is_row puts made puts_other made_other =
     let row_is = is_row ∙ ap (λ (x : Geometry). row_of x slot) same in
     both_written m slot a b c block first second group hs
     (wrote_at a b one (one_of a.geometry m slot) row (row_of a.geometry slot) block first (is_one ∙ ap (λ (x : Geometry). one_of x m slot) same) row_is
-    (record { answer = puts; access = access; keeps = keeps }))
+    (record { answer = puts; made = made }))
     (wrote_at b c other (other_of a.geometry m slot) row (row_of a.geometry slot) block second (is_other ∙ ap (λ (x : Geometry). other_of x m slot) same) row_is
-    (record { answer = puts_other; access = access_other; keeps = keeps_other }))
+    (record { answer = puts_other; made = made_other }))
 
 -- no extent but the slot's pair is written
 pub keeps_other_pairs : (m : Members) (slot : ℕ) (a b : SetState) → KeepsButSlot m slot a b → Keeps (λ p. IsInPair a.geometry m slot p → ⊥) a b

@@ -1,18 +1,17 @@
 -- What slots hold while an extent is rebuilt.
-use Rattle.std.proofs.Common.{◌≡◌, ◌⊎◌, inl, inr, ℕ, zero, suc, ◌+◌, ◌*◌, ◌/◌, ◌<◌, Bool, List, refl, sym, ◌∙◌, ap, subst, arith}
+use Rattle.std.proofs.Common.{◌≡◌, ◌⊎◌, inl, inr, ℕ, zero, suc, ◌+◌, ◌*◌, ◌/◌, ◌<◌, List, refl, sym, ◌∙◌, ap, subst, arith}
 use Rattle.ar_disks.specs.declared.address.Place.{Place}
 use Rattle.ar_disks.specs.declared.address.Members.{Members}
-use Rattle.ar_extents.specs.Health.{IsRebuilding, rebuilt_disk}
+use Rattle.ar_extents.specs.Health.{IsRebuilding}
 use Rattle.ar_extents.specs.Set.{SetState, content, IsSound, IsMissing}
-use Rattle.ar_extents.specs.Follows.{Follows, Keeps, KeepsBut, Anywhere, LeavesDisks, HasNoneOf, IsEither}
-use Rattle.ar_extents.specs.Access.{Accesses, Touches, next_place}
+use Rattle.ar_extents.specs.Follows.{Follows, KeepsBut}
+use Rattle.ar_extents.specs.Access.{next_place}
 use Rattle.ar_extents.proofs.Losses.{missing_lost, next_missing, lost_not_sound}
-use Rattle.ar_extents.proofs.Access.{works_read}
 use Rattle.ar_mirror.specs.Slots.{one_of, other_of, row_of, mirror_slots_of, partner_of}
 use Rattle.ar_disks.specs.Geometry.{rows_of}
 use Rattle.ar_disks.specs.Members.{member}
 use Rattle.ar_mirror.specs.Holds.{Holds}
-use Rattle.ar_mirror.specs.Calls.{AllSlotsHold, IsCopied}
+use Rattle.ar_mirror.specs.Calls.{IsCopied}
 use Rattle.ar_mirror.proofs.SlotLemmas.{pair_fits}
 use Rattle.ar_mirror.proofs.Holding.{holds_at}
 
@@ -24,17 +23,16 @@ kept_when_sound a b p written row is ab keeps sound =
     row
 
 -- writing the extent that is rebuilt takes no slot's block away
-pub rebuild_holds : (a b : SetState) (written : ℕ) → IsRebuilding a.health → Follows a b → KeepsBut (next_place a) written a b → AllSlotsHold a b
-rebuild_holds a b written is ab keeps = record {
-  slots = λ m slot block has.
-      holds_at b a.geometry m slot block ab.geometry
-      (record {
-        one_has = λ sound.
-            kept_when_sound a b (one_of a.geometry m slot) written (row_of a.geometry slot) is ab keeps sound ∙ has.one_has (ab.usable (one_of a.geometry m slot) sound);
-        other_has = λ sound.
-            kept_when_sound a b (other_of a.geometry m slot) written (row_of a.geometry slot) is ab keeps sound ∙ has.other_has (ab.usable (other_of a.geometry m slot) sound);
-      });
-}
+pub rebuild_holds : (a b : SetState) (written : ℕ) → IsRebuilding a.health → Follows a b → KeepsBut (next_place a) written a b
+    → (m : Members) (slot : ℕ) (block : List ℕ) → Holds a m slot block → Holds b m slot block
+rebuild_holds a b written is ab keeps m slot block has =
+    holds_at b a.geometry m slot block ab.geometry
+    (record {
+      one_has = λ sound.
+          kept_when_sound a b (one_of a.geometry m slot) written (row_of a.geometry slot) is ab keeps sound ∙ has.one_has (ab.usable (one_of a.geometry m slot) sound);
+      other_has = λ sound.
+          kept_when_sound a b (other_of a.geometry m slot) written (row_of a.geometry slot) is ab keeps sound ∙ has.other_has (ab.usable (other_of a.geometry m slot) sound);
+    })
 
 partner_of_one : (pair : ℕ) → pair < 2 → partner_of (2 * pair) ≡ 2 * pair + 1
 partner_of_one zero lt = refl
@@ -58,17 +56,3 @@ rebuilt_has a b m slot position block lt (inr is) copied has =
     let partner = ap (λ n. member m (partner_of n)) is ∙ ap (λ n. member m n) (partner_of_other (slot / rows_of a.geometry) (pair_fits a.geometry slot lt)) in
     let P : Place → Type 0 = λ p. IsSound a p in
     copied.same ∙ ap (λ (p : Place). content a p (row_of a.geometry slot)) partner ∙ has.one_has (subst P partner copied.was_sound)
-
--- a read of one extent leaves all disks but its own,
-pub read_spares : (a b : SetState) (from next : Place) (answered : Bool) → Accesses a b from answered → Keeps Anywhere a b
-    → LeavesDisks (HasNoneOf (IsEither from next)) a b
-read_spares a b from next answered access keeps =
-    record { disks = λ d none. (works_read a b from answered access keeps).touches.disks d (λ p is sound. none p (inl is)) }
-
--- and a write to the extent that is rebuilt all but the replaced one
-pub write_spares : (a b c : SetState) (from : Place) (answered : Bool) → LeavesDisks (HasNoneOf (IsEither from (next_place a))) a b → b.health ≡ a.health
-    → Touches b c (rebuilt_disk b.health) answered → LeavesDisks (HasNoneOf (IsEither from (next_place a))) a c
-write_spares a b c from answered before health touched = record {
-  disks = λ d none.
-      touched.others.others d (λ is. none (next_place a) (inr refl) (is ∙ ap rebuilt_disk health)) ∙ before.disks d none;
-}

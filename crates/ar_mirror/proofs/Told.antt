@@ -1,5 +1,5 @@
 -- What the plans of calls imply, in the relations of `Follows`.
-use Rattle.std.proofs.Common.{◌≡◌, ◌≢◌, inl, inr, ℕ, ◌<◌, Bool, true, false, cond, refl, sym, ◌∙◌, ap, subst}
+use Rattle.std.proofs.Common.{◌≡◌, ◌≢◌, inl, inr, ℕ, ◌<◌, List, Bool, true, false, cond, refl, sym, ◌∙◌, ap, subst}
 use Rattle.ar_disks.specs.declared.address.Place.{Place}
 use Rattle.ar_disks.specs.declared.address.Members.{Members}
 use Rattle.ar_disks.specs.Disk.{DiskState}
@@ -20,6 +20,8 @@ use Rattle.ar_disks.specs.Members.{member}
 use Rattle.ar_mirror.specs.Slots.{partner_of}
 use Rattle.ar_mirror.proofs.SlotLemmas.{partner_apart}
 use Rattle.ar_mirror.proofs.Holding.{pair_kept}
+use Rattle.ar_mirror.specs.Holds.{Holds}
+use Rattle.ar_mirror.proofs.Rebuilding.{rebuild_holds}
 
 -- a read changes no row, and accesses the two extents alone
 pub record ReadTold (one other : Place) (a b : SetState) : Type 0 where
@@ -137,3 +139,11 @@ pub row_told : (m : Members) (position row : ℕ) (a c : SetState) → IsGroup a
 row_told m position row a c group lt rebuilding next carried =
     copy_told (member m (partner_of position)) row a c rebuilding
     (λ same. partner_apart m position group.apart lt (ap (λ (p : Place). p.disk) next ∙ same)) carried
+
+-- the rebuild of a row takes no slot's block away
+pub row_holds : (m : Members) (position row : ℕ) (a c : SetState) → IsGroup a m → position < 4 → IsRebuilding a.health → member m position ≡ next_place a
+    → CarriesOut (copy_row (member m (partner_of position)) (next_place a) row) a c
+    → (n : Members) (slot : ℕ) (block : List ℕ) → Holds a n slot block → Holds c n slot block
+row_holds m position row a c group lt rebuilding next carried =
+    let told = row_told m position row a c group lt rebuilding next carried in
+    rebuild_holds a c row rebuilding told.follows told.keeps

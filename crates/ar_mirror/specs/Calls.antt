@@ -48,10 +48,6 @@ pub record OtherGroupsHold (m : Members) (old new : SetState) : Type 0 where
   pub groups : (n : Members) → AreDisjoint m n → (t : ℕ) → t < mirror_slots_of old.geometry → (block : List ℕ)
       → Holds old n t block → Holds new n t block
 
--- every slot of every mirrored group keeps its block
-pub record AllSlotsHold (old new : SetState) : Type 0 where
-  pub slots : (m : Members) (slot : ℕ) (block : List ℕ) → Holds old m slot block → Holds new m slot block
-
 -- the row of the rebuilt extent has the content of its partner's, and health is unchanged
 pub record IsCopied (old new : SetState) (partner : Place) (row : ℕ) : Type 0 where
   pub same : content new (next_place old) row ≡ content old partner row

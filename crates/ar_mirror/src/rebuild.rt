@@ -3,14 +3,13 @@ ghost use Rattle.std.specs.Prelude.{◌≡◌, ◌≢◌, ◌<◌, length};
 ghost use Rattle.ar_disks.specs.Geometry.{rows_of, block_len_of};
 ghost use Rattle.ar_disks.specs.Members.{member};
 ghost use Rattle.ar_extents.specs.Health.{IsRebuilding};
-ghost use Rattle.ar_extents.specs.Follows.{Follows, KeepsBut};
 ghost use Rattle.ar_extents.specs.Access.{next_place};
 ghost use Rattle.ar_extents.specs.Set.{HasExtent};
 ghost use Rattle.ar_extents.specs.Groups.{IsGroup};
 ghost use Rattle.ar_mirror.specs.Slots.{partner_of};
 ghost use Rattle.ar_extents.specs.Plans.{CarriesOut};
 ghost use Rattle.ar_mirror.specs.Plans.{copy_row};
-ghost use Rattle.ar_mirror.specs.Calls.{Rebuilds, AllSlotsHold};
+ghost use Rattle.ar_mirror.specs.Calls.{Rebuilds};
 
 use crate::pair::partner;
 use ar_disks::{Block, Disk, Members, Place, Scratch};
@@ -38,7 +37,6 @@ pub fn rebuild_row<D: Disk>(
     // Exactly these accesses are made.
     ensures plan { CarriesOut (copy_row (member members.now (partner_of position)) (next_place set.old) row)
         set.old set.new }
-    ensures slots { AllSlotsHold set.old set.new }
 
     ensures scratch { scratch.new.geometry ≡ scratch.old.geometry }
 {
@@ -56,9 +54,7 @@ fn copy_row<D: Disk>(set: &mut DiskSet<D>, from: Place, row: u16, block: &mut Bl
 
     ensures answer { Rebuilds set.old set.new from row result }
     ensures plan { CarriesOut (copy_row from (next_place set.old) row) set.old set.new }
-    ensures keeps { KeepsBut (next_place set.old) row set.old set.new }
 
-    ensures follows { Follows set.old set.new }
     ensures len { length block.new ≡ length block.old }
 {
     match set.get(from, row, block.bytes_mut()) {

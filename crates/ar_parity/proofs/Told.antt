@@ -12,7 +12,7 @@ use Rattle.ar_extents.specs.Follows.{Follows, Keeps, KeepsBut, Anywhere, IsPlace
 use Rattle.ar_extents.specs.Access.{next_place}
 use Rattle.ar_extents.specs.Groups.{IsGroup, IsMember, IsOutside}
 use Rattle.ar_extents.specs.Plans.{AccessPlan, Stop, Try, Attempt, Attempts, CarriesOut, all_of, each_of, read_at, write_at, rebuild_at}
-use Rattle.ar_extents.proofs.Follows.{keeps_refl, keeps_then, works_refl, works_then, works_more, in_turn_first, follows_then}
+use Rattle.ar_extents.proofs.Follows.{keeps_refl, keeps_then, works_refl, works_then, works_more, works_in_turn, in_turn_first, follows_then}
 use Rattle.ar_extents.proofs.Losses.{lost_not_sound}
 use Rattle.ar_extents.proofs.Plans.{answered_health}
 use Rattle.ar_extents.proofs.GroupLemmas.{same_place, member_is, works_member, works_pair}
@@ -20,9 +20,8 @@ use Rattle.ar_extents.proofs.Asking.{went_if, went, tried_one, nothing_done, rea
 use Rattle.ar_parity.specs.Row.{row_of, data_position, parity_position}
 use Rattle.ar_parity.specs.Group.{KeepsButRow}
 use Rattle.ar_parity.specs.Others.{low_other, high_other}
-use Rattle.ar_parity.specs.Call.{WritesInTurn}
 use Rattle.ar_parity.specs.Plans.{three_reads, parity_read, parity_write, parity_rebuild, write_member, write_two, write_known, write_lost, write_by_reading, stripe_write, writes_from, stripes_from}
-use Rattle.ar_parity.proofs.Working.{first_of_two, in_order_works, row_unasked}
+use Rattle.ar_parity.proofs.Working.{first_of_two, row_unasked}
 
 -- reads, of these extents alone
 pub record OnlyReads (these : Place → Type 0) (a b : SetState) : Type 0 where
@@ -230,14 +229,16 @@ one_written m i j row a c carried =
     }
 
 record Known (own parity : Place) (row : ℕ) (a b : SetState) : Type 0 where
-  order : WritesInTurn own parity a b
+  works : WorksOn (IsEither own parity) a b
   left : RowsLeft own parity row a b
 
 known_then : (own parity : Place) (row : ℕ) (done : Bool) (a b c : SetState) → Attempts (read_at parity row) done a b → Turns own parity row b c → Known own parity row a c
 known_then own parity row done a b c tried turns =
     let keeps = read_changes_none parity row done a b tried in
     record {
-      order = record { read = b; reads = read_works parity row done a b tried; kept = keeps; writes = turns.order };
+      works = works_then (IsEither own parity) a b c
+          (works_more (IsPlace parity) (IsEither own parity) a b (λ p is. inr is) (read_works parity row done a b tried))
+          (works_in_turn own parity b c turns.order);
       left = left_then own parity row a b c (left_same own parity row a b keeps) turns.left;
     }
 
@@ -295,7 +296,7 @@ reading_by m i j row true a b c hi hj tried rest =
     let own = member m i in
     let parity = member m j in
     let known = known_told m i j row b c rest in
-    let all = works_then (IsEither own parity) a b c (first_of_two m i j a b (read_works own row true a b tried)) (in_order_works own parity b c known.order) in
+    let all = works_then (IsEither own parity) a b c (first_of_two m i j a b (read_works own row true a b tried)) known.works in
     record {
       left = left_then own parity row a b c (left_same own parity row a b (read_changes_none own row true a b tried)) known.left;
       works = works_pair m i j a c hi hj all;

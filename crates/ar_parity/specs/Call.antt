@@ -1,11 +1,9 @@
--- What calls on a parity group return, and in which order they access its members.
+-- What calls on a parity group return.
 use Rattle.std.specs.Prelude.{◌≡◌, ◌≢◌, ℕ, List}
 use Rattle.ar_disks.specs.declared.address.Members.{Members}
-use Rattle.ar_disks.specs.declared.address.Place.{Place}
 use Rattle.ar_disks.specs.Members.{member}
 use Rattle.ar_extents.specs.declared.health.Health.TheVariants.{Broken as AllBroken}
 use Rattle.ar_extents.specs.Set.{SetState, content}
-use Rattle.ar_extents.specs.Follows.{Keeps, Anywhere, IsPlace, WorksOn, WorksInTurn}
 use Rattle.ar_extents.specs.Access.{IsGivenUp}
 use Rattle.ar_disks.specs.declared.completion.Completion.{Completion}
 use Rattle.ar_disks.specs.declared.completion.Completion.TheVariants.{Done, Broken}
@@ -23,14 +21,6 @@ ReportsFailure s Broken = s.health ≡ AllBroken
 pub record UpdatesStripe (old new : SetState) (m : Members) (row position : ℕ) (bytes : List ℕ) : Type 0 where
   pub agrees : (blocks : Blocks) → RowAgrees old m row blocks
       → RowAgrees new m row (changed blocks position (parity_position row) bytes)
-
--- First only the parity's extent was accessed, and nothing was written; then the slot's own was accessed, and the
--- parity's after it.
-pub record WritesInTurn (own parity : Place) (old new : SetState) : Type 0 where
-  pub read : SetState
-  pub reads : WorksOn (IsPlace parity) old read
-  pub kept : Keeps Anywhere old read
-  pub writes : WorksInTurn own parity read new
 
 -- The member's row has the block that agrees with the three others, and health is unchanged.
 pub record IsRebuilt (old new : SetState) (m : Members) (position row : ℕ) : Type 0 where

@@ -3,13 +3,12 @@ ghost use Rattle.std.specs.Prelude.{◌≡◌, ◌≢◌, ℕ, ◌<◌, length};
 ghost use Rattle.ar_disks.specs.Geometry.{rows_of, block_len_of};
 ghost use Rattle.ar_disks.specs.Members.{member};
 ghost use Rattle.ar_extents.specs.Set.{IsLost, content};
-ghost use Rattle.ar_extents.specs.Follows.{WorksOn, WorksInTurn};
-ghost use Rattle.ar_extents.specs.Groups.{IsGroup, IsMember};
+ghost use Rattle.ar_extents.specs.Groups.{IsGroup};
 ghost use Rattle.ar_extents.specs.Plans.{CarriesOut};
 ghost use Rattle.ar_parity.specs.Plans.{write_two, write_known, write_lost, write_by_reading, stripe_write};
 ghost use Rattle.ar_parity.specs.Row.{Blocks, block, changed, parity_position};
-ghost use Rattle.ar_parity.specs.Group.{Stands, RowAgrees, KeepsButRow};
-ghost use Rattle.ar_parity.specs.Call.{ReportsFailure, UpdatesStripe, WritesInTurn};
+ghost use Rattle.ar_parity.specs.Group.{Stands, RowAgrees};
+ghost use Rattle.ar_parity.specs.Call.{ReportsFailure, UpdatesStripe};
 
 use crate::degraded::sum_of_two;
 use crate::slots::parity_at;
@@ -40,9 +39,6 @@ fn write_both<D: Disk>(
     ensures parity { Stands set.new members.now row parity sum.now }
     ensures others { (i : ℕ) → i < 4 → i ≢ position → i ≢ parity
         → content set.new (member members.now i) row ≡ content set.old (member members.now i) row }
-
-    ensures keeps { KeepsButRow members.now row set.old set.new }
-    ensures order { WorksInTurn (member members.now position) (member members.now parity) set.old set.new }
     ensures plan { CarriesOut (write_two members.now position parity row) set.old set.new }
 {
     match write(set, members, position, row, from) {
@@ -73,10 +69,6 @@ fn update<D: Disk>(
     ensures answer { ReportsFailure set.new result }
     ensures agrees { (blocks : Blocks) → RowAgrees set.old members.now row blocks → before.now ≡ block blocks position
         → RowAgrees set.new members.now row (changed blocks position (parity_position row) from.now) }
-
-    ensures keeps { KeepsButRow members.now row set.old set.new }
-    ensures order { WritesInTurn (member members.now position) (member members.now (parity_position row))
-        set.old set.new }
     ensures plan { CarriesOut (write_known members.now position (parity_position row) row) set.old set.new }
 {
     let parity = parity_at(row);
@@ -113,9 +105,6 @@ fn put_lost<D: Disk>(
     ensures answer { ReportsFailure set.new result }
     ensures agrees { (blocks : Blocks) → RowAgrees set.old members.now row blocks
         → RowAgrees set.new members.now row (changed blocks position (parity_position row) from.now) }
-
-    ensures keeps { KeepsButRow members.now row set.old set.new }
-    ensures works { WorksOn (IsMember members.now) set.old set.new }
     ensures plan { CarriesOut (write_lost members.now position (parity_position row) row) set.old set.new }
 {
     let parity = parity_at(row);
@@ -146,9 +135,6 @@ fn change_by_reading<D: Disk>(
 
     ensures answer { ReportsFailure set.new result }
     ensures changes { UpdatesStripe set.old set.new members.now row position from.now }
-
-    ensures keeps { KeepsButRow members.now row set.old set.new }
-    ensures works { WorksOn (IsMember members.now) set.old set.new }
     ensures plan { CarriesOut (write_by_reading members.now position (parity_position row) row) set.old set.new }
     ensures scratch { scratch.new.geometry ≡ scratch.old.geometry }
 {
@@ -179,9 +165,6 @@ pub(crate) fn change<D: Disk>(
 
     ensures answer { ReportsFailure set.new result }
     ensures changes { UpdatesStripe set.old set.new members.now row position from.now }
-
-    ensures keeps { KeepsButRow members.now row set.old set.new }
-    ensures works { WorksOn (IsMember members.now) set.old set.new }
     ensures plan { CarriesOut (stripe_write members.now position (parity_position row) row) set.old set.new }
     ensures scratch { scratch.new.geometry ≡ scratch.old.geometry }
 {

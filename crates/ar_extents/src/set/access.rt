@@ -3,11 +3,10 @@ ghost use Rattle.std.specs.Prelude.{◌≡◌, ◌<◌, ◌∷◌, ◌++◌, [],
 ghost use Rattle.ar_disks.specs.Geometry.{rows_of, block_len_of};
 ghost use Rattle.ar_disks.specs.Disk.{HasPlace, Reads, Writes};
 ghost use Rattle.ar_extents.specs.Set.{disk_in, HasExtent};
-ghost use Rattle.ar_extents.specs.Health.{IsRebuilding, rebuilt_disk};
+ghost use Rattle.ar_extents.specs.Health.{IsRebuilding};
 ghost use Rattle.ar_extents.specs.Plans.{Attempts, read_at, write_at, rebuild_at, access_of};
-ghost use Rattle.ar_extents.specs.Follows.{Follows, Keeps, KeepsBut, Anywhere};
-ghost use Rattle.ar_extents.specs.Access.{OthersStay, Touches, Accesses, Gets, PutsRow, PutsNew, is_read, is_written};
-ghost use Rattle.ar_extents.specs.Access.{is_new_written, next_place};
+ghost use Rattle.ar_extents.specs.Access.{OthersStay, Gets, PutsRow, PutsNew, is_read, is_written, is_new_written};
+ghost use Rattle.ar_extents.specs.Access.{next_place};
 
 use super::DiskSet;
 use crate::log::AccessLog;
@@ -22,8 +21,6 @@ impl<D: Disk> DiskSet<D> {
         requires row { row < rows_of self.old.geometry }
         requires whole { length into.old ≡ block_len_of self.old.geometry }
         ensures answer { Gets self.old self.new place row into.new result }
-        ensures access { Accesses self.old self.new place (is_read result) }
-        ensures keeps { Keeps Anywhere self.old self.new }
         ensures made { Attempts (read_at place row) (is_read result) self.old self.new }
     {
         if self.health.is_lost(place) {
@@ -43,8 +40,6 @@ impl<D: Disk> DiskSet<D> {
         requires row { row < rows_of self.old.geometry }
         requires whole { length from.now ≡ block_len_of self.old.geometry }
         ensures answer { PutsRow self.old self.new place row from.now result }
-        ensures access { Accesses self.old self.new place (is_written result) }
-        ensures keeps { KeepsBut place row self.old self.new }
         ensures made { Attempts (write_at place row) (is_written result) self.old self.new }
     {
         if self.health.is_lost(place) {
@@ -71,10 +66,7 @@ impl<D: Disk> DiskSet<D> {
         requires row { row < rows_of self.old.geometry }
         requires whole { length from.now ≡ block_len_of self.old.geometry }
         ensures answer { PutsNew self.old self.new row from.now result }
-        ensures touches { Touches self.old self.new (rebuilt_disk self.old.health) (is_new_written result) }
-        ensures keeps { KeepsBut (next_place self.old) row self.old self.new }
         ensures made { Attempts (rebuild_at (next_place self.old) row) (is_new_written result) self.old self.new }
-        ensures follows { Follows self.old self.new }
     {
         let Health::Rebuilding(disk, extent) = self.health else {
             unreachable!()

@@ -11,7 +11,7 @@ returns-in-Broken-put g c =
     let first = c.put.ensures in
     let second = c.put-in-Written.ensures in
     let written = slot_written c.args.members.now c.args.slot _ _ _ _ _ _ _ c.args.from.now _ _ c.requires.group c.requires.slot c.geometry.ensures pair.one
-    pair.other pair.row first.answer first.access first.keeps second.answer second.access second.keeps in
+    pair.other pair.row first.answer first.made second.answer second.made in
     record {
       outcome = search rules;
       holds = written.holds;
@@ -27,7 +27,7 @@ returns-in-Written-put g c =
     let first = c.put.ensures in
     let second = c.put-in-Written.ensures in
     let written = slot_written c.args.members.now c.args.slot _ _ _ _ _ _ _ c.args.from.now _ _ c.requires.group c.requires.slot c.geometry.ensures pair.one
-    pair.other pair.row first.answer first.access first.keeps second.answer second.access second.keeps in
+    pair.other pair.row first.answer first.made second.answer second.made in
     record {
       outcome = search rules;
       holds = written.holds;

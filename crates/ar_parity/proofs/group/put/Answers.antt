@@ -1,3 +1,6 @@
+use Rattle.std.proofs.Common.{arith}
+use Rattle.ar_parity.specs.Row.{parity_position}
+use Rattle.ar_parity.proofs.Told.{stripe_told, stripe_keeps}
 use Rattle.ar_parity.proofs.Outcomes.{outcome_told}
 use Rattle.ar_parity.proofs.SlotLemmas.{others_kept_at}
 use Rattle.ar_parity.proofs.Plans.{write_carried}
@@ -5,9 +8,15 @@ use Rattle.ar_parity.proofs.group.put.Goals as goal
 
 pub returns-clause-slots : goal.returns-clause-slots
 returns-clause-slots g c =
-    let done = c.change.ensures in
-    others_kept_at c.args.set.now c.change.new.set c.args.members.now c.args.slot c.row_of_slot.result c.data_at.result c.args.from.now
-    c.row_of_slot.ensures c.data_at.ensures.position done.works.follows done.changes done.keeps
+    let m = c.args.members.now in
+    let a = c.args.set.now in
+    let b = c.change.new.set in
+    let i = c.data_at.result in
+    let row = c.row_of_slot.result in
+    let j = parity_position row in
+    let told = stripe_told m i j row a b c.data_at.ensures.below (omega arith) c.change.ensures.plan in
+    others_kept_at a b m c.args.slot row i c.args.from.now c.row_of_slot.ensures c.data_at.ensures.position told.works.follows c.change.ensures.changes
+    (stripe_keeps m i j row a b c.data_at.ensures.below (omega arith) told)
 
 pub returns-clause-outcome : goal.returns-clause-outcome
 returns-clause-outcome g c = outcome_told c.change.new.set c.change.result c.change.ensures.answer

@@ -1,4 +1,5 @@
 use Rattle.ar_parity.proofs.Working.{rebuilt_agrees}
+use Rattle.ar_extents.proofs.Asking.{attempt_follows, attempt_keeps}
 use Rattle.ar_extents.proofs.Plans.{all_then, all_stopped, carries_one}
 use Rattle.ar_parity.proofs.Plans.{rebuilt_next}
 use Rattle.ar_parity.proofs.rebuild.rebuild_row.Goals as goal
@@ -6,7 +7,8 @@ use Rattle.ar_parity.proofs.rebuild.rebuild_row.Goals as goal
 pub returns-in-Written-clause-agrees : goal.returns-in-Written-clause-agrees
 returns-in-Written-clause-agrees g c =
     rebuilt_agrees c.args.set.now c.sum_of_three.new.set c.put_new.new.self c.args.members.now c.args.row c.requires.rebuilding
-    c.in-Done.ensures.works c.in-Done.ensures.keeps c.in-Done.ensures.health c.put_new.ensures.follows c.put_new.ensures.keeps
+    c.in-Done.ensures.works c.in-Done.ensures.keeps c.in-Done.ensures.health (attempt_follows _ _ _ _ c.put_new.ensures.made)
+    (attempt_keeps _ _ _ _ c.put_new.ensures.made)
 
 pub returns-in-Broken-clause-plan : goal.returns-in-Broken-clause-plan
 returns-in-Broken-clause-plan g c = all_stopped _ _ _ _ c.in-Broken.ensures.made

@@ -2,10 +2,7 @@ use Rattle.std.proofs.Common.{arith}
 use Rattle.ar_parity.proofs.Updates.{changes_known, changes_lost, changes_broken}
 use Rattle.ar_disks.specs.Members.{member}
 use Rattle.ar_parity.specs.Row.{parity_position}
-use Rattle.ar_extents.specs.Groups.{IsMember}
-use Rattle.ar_extents.proofs.Follows.{works_then}
-use Rattle.ar_extents.proofs.GroupLemmas.{works_member, works_pair}
-use Rattle.ar_parity.proofs.Working.{member_read, in_order_works}
+use Rattle.ar_extents.proofs.Asking.{attempt_follows, read_changes_none}
 use Rattle.ar_extents.specs.Plans.{read_at, goes_on, falls_back}
 use Rattle.ar_extents.proofs.Plans.{carries_broken}
 use Rattle.ar_parity.specs.Plans.{write_lost}
@@ -15,37 +12,17 @@ use Rattle.ar_parity.proofs.update.change_by_reading.Goals as goal
 pub returns-in-Read-clause-changes : goal.returns-in-Read-clause-changes
 returns-in-Read-clause-changes g c =
     changes_known c.args.set.now c.get.new.self c.update.new.set c.args.members.now c.args.row c.args.position c.at.result c.args.from.now c.get.new.into
-    c.at.ensures c.requires.below c.get.ensures.access.follows c.get.ensures.keeps c.in-Read.ensures.answer c.update.ensures.agrees
+    c.at.ensures c.requires.below (attempt_follows _ _ _ _ c.get.ensures.made) (read_changes_none _ _ _ _ _ c.get.ensures.made) c.in-Read.ensures.answer c.update.ensures.agrees
 
 pub returns-in-Missing-clause-changes : goal.returns-in-Missing-clause-changes
 returns-in-Missing-clause-changes g c =
     changes_lost c.args.set.now c.get.new.self c.put_lost.new.set c.args.members.now c.args.row c.args.position c.args.from.now
-    c.get.ensures.access.follows c.get.ensures.keeps c.put_lost.ensures.agrees
+    (attempt_follows _ _ _ _ c.get.ensures.made) (read_changes_none _ _ _ _ _ c.get.ensures.made) c.put_lost.ensures.agrees
 
 pub returns-in-Broken-clause-changes : goal.returns-in-Broken-clause-changes
 returns-in-Broken-clause-changes g c =
     changes_broken c.args.set.now c.get.new.self c.args.members.now c.args.row c.args.position c.args.from.now
-    c.get.ensures.access.follows c.in-Broken.ensures.answer c.requires.below (omega arith) c.requires.apart c.requires.whole
-
-pub returns-in-Read-clause-works : goal.returns-in-Read-clause-works
-returns-in-Read-clause-works g c =
-    let m = c.args.members.now in
-    let a = c.args.set.now in
-    let b = c.get.new.self in
-    let d = c.update.new.set in
-    works_then (IsMember m) a b d
-    (works_member m c.args.position a b c.requires.below (member_read m c.args.position a b c.at.result _ c.at.ensures c.get.ensures.access c.get.ensures.keeps))
-    (works_pair m c.args.position (parity_position c.args.row) b d c.requires.below (omega arith)
-    (in_order_works (member m c.args.position) (member m (parity_position c.args.row)) b d c.update.ensures.order))
-
-pub returns-in-Missing-clause-works : goal.returns-in-Missing-clause-works
-returns-in-Missing-clause-works g c =
-    let m = c.args.members.now in
-    let a = c.args.set.now in
-    let b = c.get.new.self in
-    works_then (IsMember m) a b c.put_lost.new.set
-    (works_member m c.args.position a b c.requires.below (member_read m c.args.position a b c.at.result _ c.at.ensures c.get.ensures.access c.get.ensures.keeps))
-    c.put_lost.ensures.works
+    (attempt_follows _ _ _ _ c.get.ensures.made) c.in-Broken.ensures.answer c.requires.below (omega arith) c.requires.apart c.requires.whole
 
 pub returns-in-Read-clause-plan : goal.returns-in-Read-clause-plan
 returns-in-Read-clause-plan g c =

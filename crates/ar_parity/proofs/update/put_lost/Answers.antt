@@ -1,9 +1,6 @@
 use Rattle.std.proofs.Common.{arith}
 use Rattle.ar_parity.specs.Row.{parity_position}
 use Rattle.ar_parity.proofs.Updates.{lost_changed, broken_changed}
-use Rattle.ar_extents.specs.Groups.{IsMember}
-use Rattle.ar_extents.proofs.Follows.{works_then}
-use Rattle.ar_extents.proofs.GroupLemmas.{works_member}
 use Rattle.ar_extents.proofs.Plans.{all_then, all_stopped}
 use Rattle.ar_parity.specs.Plans.{two_reads, write_member, write_lost}
 use Rattle.ar_parity.proofs.Plans.{carried_to}
@@ -21,14 +18,6 @@ pub returns-in-Broken-clause-agrees : goal.returns-in-Broken-clause-agrees
 returns-in-Broken-clause-agrees g c =
     broken_changed c.args.set.now c.sum_of_two.new.set c.args.members.now c.args.row c.args.position (parity_position c.args.row) c.args.from.now
     c.in-Broken.ensures.works.follows c.in-Broken.ensures.answer c.requires.below (omega arith) c.requires.apart c.requires.whole
-
-pub returns-in-Done-clause-works : goal.returns-in-Done-clause-works
-returns-in-Done-clause-works g c =
-    let m = c.args.members.now in
-    let b = c.sum_of_two.new.set in
-    let d = c.write.new.set in
-    works_then (IsMember m) c.args.set.now b d c.in-Done.ensures.works
-    (works_member m c.parity_at-parity.result b d c.parity_at-parity.ensures.below c.write.ensures.works)
 
 pub returns-in-Done-clause-plan : goal.returns-in-Done-clause-plan
 returns-in-Done-clause-plan g c =

@@ -1,12 +1,11 @@
 use Rattle.std.proofs.Common.{arith}
 use Rattle.ar_parity.specs.Row.{parity_position}
 use Rattle.ar_parity.proofs.Updates.{both_changed, alone_changed, broken_changed}
-use Rattle.std.proofs.Common.{◌∙◌, ℕ, ap, refl, subst}
+use Rattle.std.proofs.Common.{refl}
 use Rattle.ar_disks.specs.Block.{xor}
 use Rattle.ar_disks.specs.Members.{member}
-use Rattle.ar_extents.specs.Follows.{IsPlace, WorksInTurn}
-use Rattle.ar_extents.proofs.Follows.{works_refl, works_in_turn, in_turn_first}
-use Rattle.ar_parity.proofs.Working.{member_read}
+use Rattle.ar_extents.proofs.Carried.{plan_follows}
+use Rattle.ar_extents.proofs.Asking.{attempt_follows, read_changes_none}
 use Rattle.ar_extents.specs.Plans.{read_at, goes_on, falls_back}
 use Rattle.ar_extents.proofs.Plans.{carries_broken}
 use Rattle.ar_parity.specs.Plans.{write_two, write_member, write_known}
@@ -18,64 +17,20 @@ returns-in-Read-clause-agrees g c =
     both_changed c.args.set.now c.get.new.self c.write_both.new.set c.args.members.now c.args.row c.args.position c.parity_at-parity.result
     (parity_position c.args.row) c.at.result c.args.from.now c.args.before.now c.get.new.into (xor c.get.new.into c.args.before.now) c.add_both_into.new.target
     c.at.ensures c.parity_at-parity.ensures.position c.requires.below c.parity_at-parity.ensures.below c.requires.apart c.requires.whole
-    c.get.ensures.access.follows c.get.ensures.keeps c.in-Read.ensures.answer refl c.add_both_into.ensures
-    (works_in_turn (member c.args.members.now c.args.position) (member c.args.members.now c.parity_at-parity.result) c.get.new.self c.write_both.new.set
-    c.write_both.ensures.order).follows c.write_both.ensures.block c.write_both.ensures.parity c.write_both.ensures.others
+    (attempt_follows _ _ _ _ c.get.ensures.made) (read_changes_none _ _ _ _ _ c.get.ensures.made) c.in-Read.ensures.answer refl c.add_both_into.ensures
+    (plan_follows _ _ _ c.write_both.ensures.plan) c.write_both.ensures.block c.write_both.ensures.parity c.write_both.ensures.others
 
 pub returns-in-Missing-clause-agrees : goal.returns-in-Missing-clause-agrees
 returns-in-Missing-clause-agrees g c = λ blocks agrees before.
     alone_changed c.args.set.now c.get.new.self c.write.new.set c.args.members.now c.args.row c.args.position c.parity_at-parity.result
     (parity_position c.args.row) c.at.result c.args.from.now c.requires.group.apart c.at.ensures c.parity_at-parity.ensures.position c.requires.below
-    c.parity_at-parity.ensures.below c.requires.apart c.requires.whole c.get.ensures.access.follows c.get.ensures.keeps c.in-Missing.ensures.answer
+    c.parity_at-parity.ensures.below c.requires.apart c.requires.whole (attempt_follows _ _ _ _ c.get.ensures.made) (read_changes_none _ _ _ _ _ c.get.ensures.made) c.in-Missing.ensures.answer
     c.write.ensures.works.follows c.write.ensures.keeps c.write.ensures.here blocks agrees
 
 pub returns-in-Broken-clause-agrees : goal.returns-in-Broken-clause-agrees
 returns-in-Broken-clause-agrees g c = λ blocks agrees before.
     broken_changed c.args.set.now c.get.new.self c.args.members.now c.args.row c.args.position (parity_position c.args.row) c.args.from.now
-    c.get.ensures.access.follows c.in-Broken.ensures.answer c.requires.below (omega arith) c.requires.apart c.requires.whole blocks agrees
-
-pub returns-in-Read-clause-order : goal.returns-in-Read-clause-order
-returns-in-Read-clause-order g c =
-    let m = c.args.members.now in
-    let a = c.args.set.now in
-    let b = c.get.new.self in
-    let d = c.write_both.new.set in
-    let i = c.args.position in
-    let j = parity_position c.args.row in
-    let is = c.parity_at-parity.ensures.position in
-    let P : ℕ → Type 0 = λ n. WorksInTurn (member m i) (member m n) b d in
-    record {
-      read = b;
-      reads = member_read m j a b c.at.result _ (c.at.ensures ∙ ap (member m) is) c.get.ensures.access c.get.ensures.keeps;
-      kept = c.get.ensures.keeps;
-      writes = subst P is c.write_both.ensures.order;
-    }
-
-pub returns-in-Missing-clause-order : goal.returns-in-Missing-clause-order
-returns-in-Missing-clause-order g c =
-    let m = c.args.members.now in
-    let a = c.args.set.now in
-    let b = c.get.new.self in
-    let j = parity_position c.args.row in
-    record {
-      read = b;
-      reads = member_read m j a b c.at.result _ (c.at.ensures ∙ ap (member m) c.parity_at-parity.ensures.position) c.get.ensures.access c.get.ensures.keeps;
-      kept = c.get.ensures.keeps;
-      writes = in_turn_first (member m c.args.position) (member m j) b c.write.new.set c.write.ensures.works;
-    }
-
-pub returns-in-Broken-clause-order : goal.returns-in-Broken-clause-order
-returns-in-Broken-clause-order g c =
-    let m = c.args.members.now in
-    let a = c.args.set.now in
-    let b = c.get.new.self in
-    let j = parity_position c.args.row in
-    record {
-      read = b;
-      reads = member_read m j a b c.at.result _ (c.at.ensures ∙ ap (member m) c.parity_at-parity.ensures.position) c.get.ensures.access c.get.ensures.keeps;
-      kept = c.get.ensures.keeps;
-      writes = in_turn_first (member m c.args.position) (member m j) b b (works_refl (IsPlace (member m c.args.position)) b);
-    }
+    (attempt_follows _ _ _ _ c.get.ensures.made) c.in-Broken.ensures.answer c.requires.below (omega arith) c.requires.apart c.requires.whole blocks agrees
 
 pub returns-in-Read-clause-plan : goal.returns-in-Read-clause-plan
 returns-in-Read-clause-plan g c =

@@ -1,25 +1,11 @@
 use Rattle.std.proofs.Common.{true, false, refl, sym, ◌∙◌}
-use Rattle.ar_extents.proofs.Access.{read_answer, read_keeps, fault_access, got_access}
+use Rattle.ar_extents.proofs.Access.{read_answer}
 use Rattle.ar_extents.proofs.Accounts.{read_made, got_made}
 use Rattle.ar_extents.proofs.set.DiskSet.get.Goals as goal
 
 pub returns-then-read_disk-clause-answer : goal.returns-then-read_disk-clause-answer
 returns-then-read_disk-clause-answer g c =
     read_answer _ _ _ _ c.args.place c.args.row _ c.self.view_is (sym c.is_lost.ensures ∙ c.if-is_lost.false) c.if-read_disk.ensures.read
-
-pub returns-then-read_disk-clause-keeps : goal.returns-then-read_disk-clause-keeps
-returns-then-read_disk-clause-keeps g c =
-    read_keeps _ _ _ _ _ c.args.place c.args.row _ _ c.self.view_is c.read_disk.ensures.others c.read_disk.ensures.read
-
-pub returns-clause-access : goal.returns-clause-access
-returns-clause-access g c =
-    got_access _ _ _ _ _ c.lost-2.ensures
-    (fault_access _ _ _ _ _ c.args.place c.self.view_is c.self.invariant c.requires.place (sym c.is_lost.ensures ∙ c.if-is_lost.false)
-    c.after_fault-self-inside.ensures c.if-read_disk.ensures.read.answers c.read_disk.ensures.others)
-
-pub returns-clause-keeps : goal.returns-clause-keeps
-returns-clause-keeps g c =
-    read_keeps _ _ _ _ _ c.args.place c.args.row _ _ c.self.view_is c.read_disk.ensures.others c.read_disk.ensures.read
 
 pub returns-then-read_disk-clause-made : goal.returns-then-read_disk-clause-made
 returns-then-read_disk-clause-made g c =

@@ -1,25 +1,11 @@
 use Rattle.std.proofs.Common.{true, false, refl, sym, ◌∙◌}
-use Rattle.ar_extents.proofs.Access.{write_answer, write_keeps, fault_access, put_access}
+use Rattle.ar_extents.proofs.Access.{write_answer}
 use Rattle.ar_extents.proofs.Accounts.{write_made, put_made}
 use Rattle.ar_extents.proofs.set.DiskSet.put.Goals as goal
 
 pub returns-then-write_disk-clause-answer : goal.returns-then-write_disk-clause-answer
 returns-then-write_disk-clause-answer g c =
     write_answer _ _ _ _ c.args.place c.args.row _ c.self.view_is (sym c.is_lost.ensures ∙ c.if-is_lost.false) c.if-write_disk.ensures.written
-
-pub returns-then-write_disk-clause-keeps : goal.returns-then-write_disk-clause-keeps
-returns-then-write_disk-clause-keeps g c =
-    write_keeps _ _ _ _ _ c.args.place c.args.row _ _ c.self.view_is c.write_disk.ensures.others c.write_disk.ensures.written
-
-pub returns-clause-access : goal.returns-clause-access
-returns-clause-access g c =
-    put_access _ _ _ _ _ c.lost-2.ensures
-    (fault_access _ _ _ _ _ c.args.place c.self.view_is c.self.invariant c.requires.place (sym c.is_lost.ensures ∙ c.if-is_lost.false)
-    c.after_fault-self-inside.ensures c.if-write_disk.ensures.written.answers c.write_disk.ensures.others)
-
-pub returns-clause-keeps : goal.returns-clause-keeps
-returns-clause-keeps g c =
-    write_keeps _ _ _ _ _ c.args.place c.args.row _ _ c.self.view_is c.write_disk.ensures.others c.write_disk.ensures.written
 
 pub returns-then-write_disk-clause-made : goal.returns-then-write_disk-clause-made
 returns-then-write_disk-clause-made g c =
