@@ -7,9 +7,9 @@ use Rattle.ar_extents.specs.declared.health.Health.TheVariants.{Broken}
 use Rattle.ar_disks.specs.declared.completion.Completion.TheVariants.{Done, Broken as NotDone}
 use Rattle.ar_extents.specs.Set.{SetState, IsLost}
 use Rattle.ar_extents.specs.Follows.{Follows, Keeps, Anywhere, IsPlace, WorksOn}
-use Rattle.ar_extents.specs.Access.{Accesses}
+use Rattle.ar_extents.specs.Plans.{Attempts, read_at}
 use Rattle.ar_extents.proofs.Follows.{follows_refl, follows_then, keeps_refl, lost_then}
-use Rattle.ar_extents.proofs.Access.{works_read}
+use Rattle.ar_extents.proofs.Asking.{read_works}
 use Rattle.ar_book.specs.declared.class.Slot.{Slot}
 use Rattle.ar_book.specs.Tables.{Tables, home, class_of, free_groups, HasBlock, HasSlot}
 use Rattle.ar_book.specs.Changes.{assigned, stamped}
@@ -42,8 +42,8 @@ pub accessed_work : (these : Place → Type 0) (a b : SetState) → WorksOn thes
 accessed_work these a b works = record { follows = works.follows; loose = works.loose; lost = works.lost }
 
 -- the read of one
-pub accessed_read : (a b : SetState) (place : Place) (answered : Bool) → Accesses a b place answered → Keeps Anywhere a b → IsAccessed a b
-accessed_read a b place answered access keeps = accessed_work (IsPlace place) a b (works_read a b place answered access keeps)
+pub accessed_read : (place : Place) (row : ℕ) (answered : Bool) (a b : SetState) → Attempts (read_at place row) answered a b → IsAccessed a b
+accessed_read place row answered a b made = accessed_work (IsPlace place) a b (read_works place row answered a b made)
 
 -- what stands, over two calls
 pub stand_then : (a b c : StoreState) → Follows b.disks c.disks → AllStand a b → AllStand b c → AllStand a c

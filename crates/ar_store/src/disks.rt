@@ -10,8 +10,8 @@ impl<D: Disk> Store<D> {
     ghost use Rattle.ar_extents.specs.declared.refusal.DiskRefusal.TheVariants.{NoMemory};
     ghost use Rattle.ar_extents.specs.Set.{HasExtent, CanCount};
     ghost use Rattle.ar_extents.specs.Changes.{fail_refusal, failed, add_refusal, added};
-    ghost use Rattle.ar_extents.specs.Follows.{Keeps, Anywhere};
-    ghost use Rattle.ar_extents.specs.Access.{Accesses, Gets, is_read};
+    ghost use Rattle.ar_extents.specs.Access.{Gets, is_read};
+    ghost use Rattle.ar_extents.specs.Plans.{Attempts, read_at};
     ghost use Rattle.ar_store.specs.Slots.{AllStand};
     ghost use Rattle.ar_store.specs.Calls.{IsAccessed};
 
@@ -56,8 +56,8 @@ impl<D: Disk> Store<D> {
         requires whole { length into.old ≡ block_len_of self.old.disks.geometry }
 
         ensures answer { Gets self.old.disks self.new.disks place row into.new result }
-        ensures access { Accesses self.old.disks self.new.disks place (is_read result) }
-        ensures keeps { Keeps Anywhere self.old.disks self.new.disks }
+        // Exactly this access is made: one read, or none where the extent is lost.
+        ensures made { Attempts (read_at place row) (is_read result) self.old.disks self.new.disks }
 
         ensures book { self.new.book ≡ self.old.book }
         ensures stands { AllStand self.old self.new }

@@ -2,6 +2,7 @@ use Rattle.std.proofs.Common.{subst}
 use Rattle.ar_store.specs.Store.{StoreState, store_of}
 use Rattle.ar_store.specs.Slots.{AllStand}
 use Rattle.ar_store.specs.Calls.{IsAccessed}
+use Rattle.ar_extents.proofs.Asking.{read_changes_none}
 use Rattle.ar_store.proofs.SlotCalls.{read_leaves}
 use Rattle.ar_store.proofs.Fills.{accessed_read}
 use Rattle.ar_store.proofs.Fields.{fields_read}
@@ -12,7 +13,8 @@ invariant_of-self g c =
     let a = c.self.inside.space in
     let b = c.get.new.self in
     let read = c.get.ensures in
-    fields_read a b c.self.inside.block c.self.invariant (accessed_read a.disks b c.args.place _ read.access read.keeps) read.keeps
+    fields_read a b c.self.inside.block c.self.invariant (accessed_read c.args.place c.args.row _ a.disks b read.made)
+    (read_changes_none c.args.place c.args.row _ a.disks b read.made)
 
 pub returns-clause-stands : goal.returns-clause-stands
 returns-clause-stands g c =
@@ -20,11 +22,12 @@ returns-clause-stands g c =
     let b = c.get.new.self in
     let read = c.get.ensures in
     subst (λ (s : StoreState). AllStand s (store_of b a.book)) c.self.view_is
-    (read_leaves a.disks b a.book c.self.invariant.kept.space (accessed_read a.disks b c.args.place _ read.access read.keeps) read.keeps).stand
+    (read_leaves a.disks b a.book c.self.invariant.kept.space (accessed_read c.args.place c.args.row _ a.disks b read.made)
+    (read_changes_none c.args.place c.args.row _ a.disks b read.made)).stand
 
 pub returns-clause-accessed : goal.returns-clause-accessed
 returns-clause-accessed g c =
     let a = c.self.inside.space in
     let b = c.get.new.self in
     let read = c.get.ensures in
-    subst (λ (s : StoreState). IsAccessed s.disks b) c.self.view_is (accessed_read a.disks b c.args.place _ read.access read.keeps)
+    subst (λ (s : StoreState). IsAccessed s.disks b) c.self.view_is (accessed_read c.args.place c.args.row _ a.disks b read.made)
