@@ -1,17 +1,16 @@
--- What a demotion and a cleaning step cost while all disks are present and none faults.
-use Rattle.std.proofs.Common.{◌≡◌, ◌≢◌, inl, inr, ℕ, ◌≤◌, List, [], ◌∷◌, ◌++◌, Option, None, Some, refl, sym, ap, subst, ◌∙◌}
+-- What a demotion and a cleaning step cost where none faults, and the extents that they use are usable.
+use Rattle.std.proofs.Common.{◌≡◌, ◌≢◌, inl, inr, ℕ, ◌≤◌, [], ◌∷◌, ◌++◌, Option, None, Some, refl, sym, ap, ◌∙◌}
 use Rattle.std.proofs.lemmas.Bool.Decides.{eqb_tells}
+use Rattle.std.proofs.lemmas.Option.{same_Some}
 use Rattle.ar_disks.specs.Geometry.{rows_of}
 use Rattle.ar_disks.specs.declared.address.Key.{Key}
-use Rattle.ar_extents.specs.declared.health.Health.{Health}
 use Rattle.ar_extents.specs.declared.health.Health.TheVariants.{Whole}
 use Rattle.ar_extents.specs.declared.log.AccessKind.TheVariants.{Read, Write}
-use Rattle.ar_extents.specs.Set.{SetState}
-use Rattle.ar_extents.specs.Plans.{NoneFaults, CarriesOut}
+use Rattle.ar_extents.specs.Plans.{NoneFaults}
 use Rattle.ar_extents.proofs.Carried.{plan_follows}
 use Rattle.ar_book.specs.declared.class.Class.{Class}
 use Rattle.ar_book.specs.declared.class.Class.TheVariants.{Free, Mirrored, Parity}
-use Rattle.ar_book.specs.declared.class.Level.TheVariants.{Unplaced, Mirrored as MirroredLevel}
+use Rattle.ar_book.specs.declared.class.Level.TheVariants.{Mirrored as MirroredLevel}
 use Rattle.ar_book.specs.declared.class.Slot.{Slot}
 use Rattle.ar_book.specs.Tables.{Tables, home, level, level_of, class_of, free_groups}
 use Rattle.ar_book.specs.Changes.{opened}
@@ -21,11 +20,10 @@ use Rattle.ar_book.proofs.AfterOpen.{opened_class, opened_class_other}
 use Rattle.ar_book.proofs.Homes.{home_level, key_home}
 use Rattle.ar_store.specs.Store.{StoreState, store_of, class_in, members_of}
 use Rattle.ar_store.specs.Placing.{slot_at, IsLowestHole, HasNoHole}
-use Rattle.ar_store.specs.Plans.{move_plan, fill_plan, MakesAccesses, fill_kinds}
-use Rattle.ar_store.proofs.Costs.{makes, moved_to_mirrored, moved_to_parity}
+use Rattle.ar_store.specs.Plans.{move_plan, fill_plan, MakesAccesses, ReadsUsableOf, WritesUsableAs, fill_kinds}
+use Rattle.ar_store.proofs.Costs.{makes, moved_to_mirrored, moved_to_parity, whole_reads, whole_writes}
 use Rattle.ar_store.proofs.SqueezeCosts.{calm_first, calm_second, still_whole, made_then, stripes_kinds}
 use Rattle.ar_store.proofs.Ways.{nowhere, unplaced_not_mirrored}
-use Rattle.ar_moves.specs.Moves.{OpensThenMoves}
 use Rattle.ar_moves.specs.Demotion.{IsOldestMirrored, CarriesOutDemotion}
 use Rattle.ar_moves.specs.Cleaning.{NamesCleaningOf, NamesParityCleaning, CarriesOutCleaning}
 
@@ -42,12 +40,12 @@ mirrored_home t key at =
     let found = home_at t key (home t key) refl at in
     (found.0, found.1, level_used (class_of t found.0.group) (sym (home_level t key found.0 found.1) ∙ at))
 
-pub demotion_made : (old new : StoreState) (key : Key) (to : Slot) → old.disks.health ≡ Whole → NoneFaults old.disks new.disks
-    → CarriesOutDemotion old new → IsOldestMirrored old.book key → IsLowestHole old.book Parity to
-    → MakesAccesses (Read ∷ Read ∷ Read ∷ Write ∷ Write ∷ []) old.disks new.disks
-demotion_made old new key to whole none demotes oldest lowest =
-    let from = mirrored_home old.book key oldest.mirrored.level in
-    moved_to_parity old new.disks key from.0 to whole none from.1 from.2 lowest.hole.class (demotes.there key to oldest lowest)
+pub demotion_made : (old new : StoreState) (key : Key) (from to : Slot) → home old.book key ≡ Some from → ReadsUsableOf old from
+    → WritesUsableAs Parity old to → NoneFaults old.disks new.disks → CarriesOutDemotion old new → IsOldestMirrored old.book key
+    → IsLowestHole old.book Parity to → MakesAccesses (Read ∷ Read ∷ Read ∷ Write ∷ Write ∷ []) old.disks new.disks
+demotion_made old new key from to placed reads writes none demotes oldest lowest =
+    let used = level_used (class_of old.book from.group) (sym (home_level old.book key from placed) ∙ oldest.mirrored.level) in
+    moved_to_parity old new.disks key from to reads writes none placed used lowest.hole.class (demotes.there key to oldest lowest)
 
 -- a group that is opened for parity leaves the other groups used
 opened_used : (t : Tables) (g i : ℕ) → IsLowestFree t g → class_of t i ≢ Free → class_of (opened t g Parity) i ≢ Free
@@ -74,27 +72,33 @@ opening_made old new key group whole none demotes oldest full many lowest =
     let first = plan_follows (fill_plan a.geometry m) a b steps.fills.plan in
     let last = plan_follows (move_plan mid key (slot_at group 0)) b c steps.moves in
     let calm = calm_first a b c first last none in
+    let now = still_whole a b whole first calm in
+    let to = slot_at group 0 in
     made_then (fill_kinds (rows_of a.geometry)) (Read ∷ Read ∷ Read ∷ Write ∷ Write ∷ []) a b c
     (makes (fill_plan a.geometry m) (fill_kinds (rows_of a.geometry)) a b whole calm steps.fills.plan (stripes_kinds m 0 (rows_of a.geometry)))
-    (moved_to_parity mid c key from.0 (slot_at group 0) (still_whole a b whole first calm) (calm_second a b c first last none) from.1
+    (moved_to_parity mid c key from.0 to (whole_reads (class_in mid from.0.group) b (members_of mid from.0.group) from.0.slot now)
+    (whole_writes Parity b (members_of mid group) 0 now) (calm_second a b c first last none) from.1
     (opened_used old.book group from.0.group lowest from.2) (opened_class old.book group Parity lowest.there) steps.moves)
 
--- the home of a block that cleaning moves
-cleaned_home : (t : Tables) (c : Class) (key : Key) (to : Slot) → TablesAgree t → (names : NamesCleaningOf t c key to)
-    → home t key ≡ Some (slot_at names.group names.first.slot)
-cleaned_home t c key to ok names = key_home t ok (slot_at names.group names.first.slot) key names.first.names
+-- a home is in a group of the class that its block is cleaned from
+cleaned_used : (t : Tables) (c : Class) (key : Key) (from to : Slot) → TablesAgree t → (names : NamesCleaningOf t c key to)
+    → home t key ≡ Some from → c ≢ Free → class_of t from.group ≢ Free
+cleaned_used t c key from to ok names placed used free =
+    let same = same_Some from (slot_at names.group names.first.slot)
+    (sym placed ∙ key_home t ok (slot_at names.group names.first.slot) key names.first.names) in
+    used (sym names.emptiest.can.has.class ∙ sym (ap (λ (s : Slot). class_of t s.group) same) ∙ free)
 
-pub mirrored_cleaning_made : (old new : StoreState) (key : Key) (to : Slot) → old.disks.health ≡ Whole → NoneFaults old.disks new.disks
-    → CarriesOutCleaning old new → TablesAgree old.book → NamesCleaningOf old.book Mirrored key to
-    → MakesAccesses (Read ∷ Write ∷ Write ∷ []) old.disks new.disks
-mirrored_cleaning_made old new key to whole none cleans ok names =
-    moved_to_mirrored old new.disks key (slot_at names.group names.first.slot) to whole none (cleaned_home old.book Mirrored key to ok names)
-    (λ free. (let clash : Mirrored ≡ Free = sym names.emptiest.can.has.class ∙ free in cc)) names.hole.found.hole.class (cleans key to (inl names))
+pub mirrored_cleaning_made : (old new : StoreState) (key : Key) (from to : Slot) → home old.book key ≡ Some from → ReadsUsableOf old from
+    → WritesUsableAs Mirrored old to → NoneFaults old.disks new.disks → CarriesOutCleaning old new → TablesAgree old.book
+    → NamesCleaningOf old.book Mirrored key to → MakesAccesses (Read ∷ Write ∷ Write ∷ []) old.disks new.disks
+mirrored_cleaning_made old new key from to placed reads writes none cleans ok names =
+    moved_to_mirrored old new.disks key from to reads writes none placed (cleaned_used old.book Mirrored key from to ok names placed (λ e. cc))
+    names.hole.found.hole.class (cleans key to (inl names))
 
-pub parity_cleaning_made : (old new : StoreState) (key : Key) (to : Slot) → old.disks.health ≡ Whole → NoneFaults old.disks new.disks
-    → CarriesOutCleaning old new → TablesAgree old.book → NamesParityCleaning old.book key to
-    → MakesAccesses (Read ∷ Read ∷ Read ∷ Write ∷ Write ∷ []) old.disks new.disks
-parity_cleaning_made old new key to whole none cleans ok parity =
+pub parity_cleaning_made : (old new : StoreState) (key : Key) (from to : Slot) → home old.book key ≡ Some from → ReadsUsableOf old from
+    → WritesUsableAs Parity old to → NoneFaults old.disks new.disks → CarriesOutCleaning old new → TablesAgree old.book
+    → NamesParityCleaning old.book key to → MakesAccesses (Read ∷ Read ∷ Read ∷ Write ∷ Write ∷ []) old.disks new.disks
+parity_cleaning_made old new key from to placed reads writes none cleans ok parity =
     let names = parity.names in
-    moved_to_parity old new.disks key (slot_at names.group names.first.slot) to whole none (cleaned_home old.book Parity key to ok names)
-    (λ free. (let clash : Parity ≡ Free = sym names.emptiest.can.has.class ∙ free in cc)) names.hole.found.hole.class (cleans key to (inr parity))
+    moved_to_parity old new.disks key from to reads writes none placed (cleaned_used old.book Parity key from to ok names placed (λ e. cc))
+    names.hole.found.hole.class (cleans key to (inr parity))

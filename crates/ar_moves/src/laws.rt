@@ -1,5 +1,5 @@
 // Theorems about moves that other crates use: cleaning ends, each rule is deterministic, and what moves cost.
-ghost use Rattle.std.specs.Prelude.{◌≡◌, ◌<◌, ◌≤◌, ◌++◌, ◌∷◌, [], ℕ};
+ghost use Rattle.std.specs.Prelude.{◌≡◌, ◌<◌, ◌≤◌, ◌++◌, ◌∷◌, [], ℕ, Some};
 ghost use Rattle.ar_disks.specs.Geometry.{rows_of};
 ghost use Rattle.ar_disks.specs.declared.address.Key.{Key};
 ghost use Rattle.ar_extents.specs.declared.health.Health.TheVariants.{Whole};
@@ -7,12 +7,12 @@ ghost use Rattle.ar_extents.specs.declared.log.AccessKind.TheVariants.{Read, Wri
 ghost use Rattle.ar_extents.specs.Plans.{NoneFaults};
 ghost use Rattle.ar_book.specs.declared.class.Class.TheVariants.{Mirrored, Parity};
 ghost use Rattle.ar_book.specs.declared.class.Slot.{Slot};
-ghost use Rattle.ar_book.specs.Tables.{Tables, free_groups};
+ghost use Rattle.ar_book.specs.Tables.{Tables, home, free_groups};
 ghost use Rattle.ar_book.specs.Book.{TablesAgree};
 ghost use Rattle.ar_book.specs.Choices.{IsLowestFree};
 ghost use Rattle.ar_store.specs.Store.{StoreState};
 ghost use Rattle.ar_store.specs.Placing.{IsLowestHole, HasNoHole};
-ghost use Rattle.ar_store.specs.Plans.{MakesAccesses, fill_kinds};
+ghost use Rattle.ar_store.specs.Plans.{MakesAccesses, ReadsUsableOf, WritesUsableAs, fill_kinds};
 ghost use Rattle.ar_moves.specs.Demotion.{IsOldestMirrored, NamesDemotion, CarriesOutDemotion};
 ghost use Rattle.ar_moves.specs.Cleaning.{NamesCleaning, NamesCleaningOf, NamesParityCleaning, CarriesOutCleaning, Cleans, cleaning_left};
 
@@ -31,14 +31,14 @@ pub fn rules_name_one_move()
         → (key ≡ other) × (to ≡ at) }
 {}
 
-/// What a move costs with all disks present, where none faults. A demotion is one read, and then the two reads and two
-/// writes of a put to a parity slot; a group that is opened for it costs four writes for each row before. Cleaning is one
-/// read, and then two writes among the mirrored groups, two reads and two writes among the parity groups. A call does
-/// nothing.
+/// What a move costs where no disk faults. A demotion is one read, and then the two reads and two writes of a put to a
+/// parity slot; a group that is opened for it costs four writes for each row before. Cleaning is one read, and then two
+/// writes among the mirrored groups, two reads and two writes among the parity groups. If no group is opened, a disk may
+/// be missing: only the extents that the move uses have to be usable. A call does nothing.
 pub fn move_accesses()
-    ensures demotion { (old new : StoreState) (key : Key) (to : Slot) → old.disks.health ≡ Whole
-        → NoneFaults old.disks new.disks → CarriesOutDemotion old new → IsOldestMirrored old.book key
-        → IsLowestHole old.book Parity to
+    ensures demotion { (old new : StoreState) (key : Key) (from to : Slot) → home old.book key ≡ Some from
+        → ReadsUsableOf old from → WritesUsableAs Parity old to → NoneFaults old.disks new.disks
+        → CarriesOutDemotion old new → IsOldestMirrored old.book key → IsLowestHole old.book Parity to
         → MakesAccesses (Read ∷ Read ∷ Read ∷ Write ∷ Write ∷ []) old.disks new.disks }
     ensures opening { (old new : StoreState) (key : Key) (group : ℕ) → old.disks.health ≡ Whole
         → NoneFaults old.disks new.disks → CarriesOutDemotion old new → IsOldestMirrored old.book key
@@ -46,12 +46,14 @@ pub fn move_accesses()
         → MakesAccesses (fill_kinds (rows_of old.disks.geometry) ++ Read ∷ Read ∷ Read ∷ Write ∷ Write ∷ [])
         old.disks new.disks }
 
-    ensures mirrored_cleaning { (old new : StoreState) (key : Key) (to : Slot) → old.disks.health ≡ Whole
-        → NoneFaults old.disks new.disks → CarriesOutCleaning old new → TablesAgree old.book
+    ensures mirrored_cleaning { (old new : StoreState) (key : Key) (from to : Slot) → home old.book key ≡ Some from
+        → ReadsUsableOf old from → WritesUsableAs Mirrored old to → NoneFaults old.disks new.disks
+        → CarriesOutCleaning old new → TablesAgree old.book
         → NamesCleaningOf old.book Mirrored key to
         → MakesAccesses (Read ∷ Write ∷ Write ∷ []) old.disks new.disks }
-    ensures parity_cleaning { (old new : StoreState) (key : Key) (to : Slot) → old.disks.health ≡ Whole
-        → NoneFaults old.disks new.disks → CarriesOutCleaning old new → TablesAgree old.book
+    ensures parity_cleaning { (old new : StoreState) (key : Key) (from to : Slot) → home old.book key ≡ Some from
+        → ReadsUsableOf old from → WritesUsableAs Parity old to → NoneFaults old.disks new.disks
+        → CarriesOutCleaning old new → TablesAgree old.book
         → NamesParityCleaning old.book key to
         → MakesAccesses (Read ∷ Read ∷ Read ∷ Write ∷ Write ∷ []) old.disks new.disks }
 {}

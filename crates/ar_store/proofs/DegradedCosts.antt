@@ -1,49 +1,25 @@
 -- What reads and writes of slots cost while one of their extents is lost.
-use Rattle.std.proofs.Common.{◌≡◌, ◌≢◌, inl, inr, ℕ, ◌+◌, ◌%◌, ◌<◌, true, false, List, [], ◌∷◌, map, refl, sym, ◌∙◌, ap, subst, arith}
+use Rattle.std.proofs.Common.{◌≡◌, inl, inr, ℕ, ◌+◌, ◌%◌, true, false, [], ◌∷◌, refl, sym, ◌∙◌, arith}
 use Rattle.ar_disks.specs.declared.address.Members.{Members}
 use Rattle.ar_disks.specs.declared.address.Place.{Place}
 use Rattle.ar_disks.specs.Members.{member}
 use Rattle.ar_extents.specs.declared.health.Health.{Health}
-use Rattle.ar_extents.specs.declared.health.Health.TheVariants.{Whole, Out, Rebuilding, Broken as AllBroken}
-use Rattle.ar_extents.specs.declared.log.AccessKind.{AccessKind}
 use Rattle.ar_extents.specs.declared.log.AccessKind.TheVariants.{Read, Write}
-use Rattle.ar_extents.specs.declared.log.RowAccess.{RowAccess}
-use Rattle.ar_extents.specs.Health.{is_lost, is_missing}
-use Rattle.ar_extents.specs.Set.{SetState, IsLost, IsSound}
-use Rattle.ar_extents.specs.Plans.{AccessPlan, Stop, Try, IfMissing, CarriesOut, NoneFaults, planned, all_of, read_at, write_at}
-use Rattle.ar_extents.proofs.Plans.{planned_made}
+use Rattle.ar_extents.specs.Health.{is_missing}
+use Rattle.ar_extents.specs.Set.{SetState}
+use Rattle.ar_extents.specs.Plans.{AccessPlan, Stop, Try, IfMissing, CarriesOut, NoneFaults, all_of, read_at, write_at}
 use Rattle.ar_mirror.specs.Slots.{one_of, other_of, row_of as mirror_row}
-use Rattle.ar_mirror.specs.Plans.{read_either, write_pair}
+use Rattle.ar_mirror.specs.Plans.{write_pair}
 use Rattle.ar_parity.specs.Row.{row_of, data_position, parity_position}
 use Rattle.ar_parity.specs.Plans.{write_member, write_known, write_by_reading}
 use Rattle.ar_parity.specs.Others.{low_other, high_other}
 use Rattle.ar_parity.proofs.SlotLemmas.{position_apart, position_below}
 use Rattle.ar_parity.proofs.Sums.{low_apart, high_apart}
 use Rattle.ar_book.specs.declared.class.Class.TheVariants.{Mirrored, Parity}
-use Rattle.ar_store.specs.Plans.{slot_read, slot_write, WritesSlot, MakesAccesses, LacksOnly, LacksOneOf}
-
--- the kinds of the accesses that a plan makes, where none faults
-abbrev kinds_at : Health → AccessPlan → List AccessKind
-kinds_at h plan = map (λ (a : RowAccess). a.kind) (planned plan h)
-
-makes_at : (plan : AccessPlan) (kinds : List AccessKind) (a b : SetState) → NoneFaults a b → CarriesOut plan a b → kinds_at a.health plan ≡ kinds
-    → MakesAccesses kinds a b
-makes_at plan kinds a b none carried are =
-    record { made = planned plan a.health; log = planned_made plan a b carried none; kinds_are = are }
+use Rattle.ar_store.specs.Plans.{slot_read, slot_write, MakesAccesses, LacksOnly, LacksOneOf}
+use Rattle.ar_store.proofs.Costs.{kinds_at, makes_at, Lost, Sound, read_kinds, missing_is_lost, not_failed}
 
 -- the two extents of a mirrored slot
-abbrev Lost : Health → Place → Type 0
-Lost h p = is_lost h p.disk p.extent ≡ true
-
-abbrev Sound : Health → Place → Type 0
-Sound h p = is_lost h p.disk p.extent ≡ false
-
-read_first : (h : Health) (one other : Place) (row : ℕ) → Sound h one → kinds_at h (read_either one other row) ≡ Read ∷ []
-read_first h one other row sound = rw sound refl
-
-read_other : (h : Health) (one other : Place) (row : ℕ) → Lost h one → Sound h other → kinds_at h (read_either one other row) ≡ Read ∷ []
-read_other h one other row lost sound = rw (lost, sound) refl
-
 write_first : (h : Health) (one other : Place) (row : ℕ) → Sound h one → Lost h other → kinds_at h (write_pair one other row) ≡ Write ∷ []
 write_first h one other row sound lost = rw (sound, lost) refl
 
@@ -53,21 +29,16 @@ write_other h one other row lost sound = rw (lost, sound) refl
 pub mirrored_read_short : (a b : SetState) (m : Members) (i : ℕ) → NoneFaults a b → CarriesOut (slot_read Mirrored a.geometry m i) a b → LacksOneOf a m i
     → MakesAccesses (Read ∷ []) a b
 mirrored_read_short a b m i none carried lacks =
-    let one = one_of a.geometry m i in
-    let other = other_of a.geometry m i in
-    let row = mirror_row a.geometry i in
-    makes_at (read_either one other row) (Read ∷ []) a b none carried (elim lacks [
-      | inl first ↦ read_other a.health one other row first.0 first.1
-      | inr second ↦ read_first a.health one other row second.0
-    ])
+    makes_at (slot_read Mirrored a.geometry m i) (Read ∷ []) a b none carried
+    (read_kinds Mirrored a m i (λ e. cc) (elim lacks [ inl first ↦ inr first.1 | inr second ↦ inl second.0 ]))
 
-pub mirrored_write_short : (a b : SetState) (m : Members) (i : ℕ) → NoneFaults a b → WritesSlot Mirrored a b m i → LacksOneOf a m i
+pub mirrored_write_short : (a b : SetState) (m : Members) (i : ℕ) → NoneFaults a b → CarriesOut (slot_write Mirrored a.geometry m i) a b → LacksOneOf a m i
     → MakesAccesses (Write ∷ []) a b
-mirrored_write_short a b m i none writes lacks =
+mirrored_write_short a b m i none carried lacks =
     let one = one_of a.geometry m i in
     let other = other_of a.geometry m i in
     let row = mirror_row a.geometry i in
-    makes_at (write_pair one other row) (Write ∷ []) a b none writes.plan (elim lacks [
+    makes_at (write_pair one other row) (Write ∷ []) a b none carried (elim lacks [
       | inl first ↦ write_other a.health one other row first.0 first.1
       | inr second ↦ write_first a.health one other row second.0 second.1
     ])
@@ -88,18 +59,6 @@ parity_read_short a b m i none carried lacks =
     (read_three a.health (member m d) (member m (low_other d n)) (member m (high_other d n)) (member m n) (row_of i) lacks.lost
     (lacks.others (low_other d n) low.0 low.1) (lacks.others (high_other d n) high.0 high.1) (lacks.others n (omega arith) (λ same. (omega arith))))
 
-missing_is_lost : (h : Health) (p : Place) → h ≢ AllBroken → is_missing h p.disk p.extent ≡ is_lost h p.disk p.extent
-missing_is_lost Whole p sound = refl
-missing_is_lost (Out x) p sound = refl
-missing_is_lost (Rebuilding x done) p sound = refl
-missing_is_lost AllBroken p sound = absurd (sound refl)
-
--- an extent that is used shows that the array hasn't failed
-not_failed : (h : Health) (p : Place) → Sound h p → h ≢ AllBroken
-not_failed h p sound is = (
-    let lost : true ≡ false = sym (ap (λ (x : Health). is_lost x p.disk p.extent) is) ∙ sound in
-    cc)
-
 write_alone : (h : Health) (own parity : Place) (row : ℕ) (other : AccessPlan) → is_missing h parity.disk parity.extent ≡ true → Sound h own
     → kinds_at h (IfMissing parity (Try (write_at own row) Stop Stop) other) ≡ Write ∷ []
 write_alone h own parity row other missing sound = rw (missing, sound) refl
@@ -110,25 +69,25 @@ write_rebuilt : (h : Health) (own parity p q : Place) (row : ℕ) (first known :
     (all_of (read_at p row ∷ read_at q row ∷ []) (Try (write_at parity row) Stop Stop)))) ≡ Read ∷ Read ∷ Write ∷ []
 write_rebuilt h own parity p q row first known there lost sound one two = rw (there, lost, one, two, sound) refl
 
-pub parity_write_alone : (a b : SetState) (m : Members) (i : ℕ) → NoneFaults a b → WritesSlot Parity a b m i
+pub parity_write_alone : (a b : SetState) (m : Members) (i : ℕ) → NoneFaults a b → CarriesOut (slot_write Parity a.geometry m i) a b
     → LacksOnly a m (parity_position (row_of i)) → MakesAccesses (Write ∷ []) a b
-parity_write_alone a b m i none writes lacks =
+parity_write_alone a b m i none carried lacks =
     let d = data_position i in
     let p = parity_position (row_of i) in
     let own = lacks.others d (position_below i) (position_apart i) in
-    makes_at (slot_write Parity a.geometry m i) (Write ∷ []) a b none writes.plan
+    makes_at (slot_write Parity a.geometry m i) (Write ∷ []) a b none carried
     (write_alone a.health (member m d) (member m p) (row_of i) (write_by_reading m d p (row_of i))
     (missing_is_lost a.health (member m p) (not_failed a.health (member m d) own) ∙ lacks.lost) own)
 
-pub parity_write_short : (a b : SetState) (m : Members) (i : ℕ) → NoneFaults a b → WritesSlot Parity a b m i
+pub parity_write_short : (a b : SetState) (m : Members) (i : ℕ) → NoneFaults a b → CarriesOut (slot_write Parity a.geometry m i) a b
     → LacksOnly a m (data_position i) → MakesAccesses (Read ∷ Read ∷ Write ∷ []) a b
-parity_write_short a b m i none writes lacks =
+parity_write_short a b m i none carried lacks =
     let d = data_position i in
     let p = parity_position (row_of i) in
     let low = low_apart d p in
     let high = high_apart d p in
     let parity = lacks.others p (omega arith) (λ same. position_apart i (sym same)) in
-    makes_at (slot_write Parity a.geometry m i) (Read ∷ Read ∷ Write ∷ []) a b none writes.plan
+    makes_at (slot_write Parity a.geometry m i) (Read ∷ Read ∷ Write ∷ []) a b none carried
     (write_rebuilt a.health (member m d) (member m p) (member m (low_other d p)) (member m (high_other d p)) (row_of i) (write_member m d (row_of i)) (write_known m d p (row_of i))
     (missing_is_lost a.health (member m p) (not_failed a.health (member m p) parity) ∙ parity) lacks.lost parity
     (lacks.others (low_other d p) low.0 low.1) (lacks.others (high_other d p) high.0 high.1))

@@ -19,6 +19,7 @@ pub mod SqueezeCosts
 pub mod Planned
 pub mod Deciding
 pub mod PutPlans
+pub mod OnePlan
 pub mod PutCosts
 pub mod DegradedCosts
 pub mod Steps

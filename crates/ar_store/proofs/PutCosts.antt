@@ -1,49 +1,41 @@
--- What a put costs while all disks are present and none faults.
-use Rattle.std.proofs.Common.{◌≡◌, ◌≢◌, inl, inr, ℕ, zero, suc, ◌<◌, List, [], ◌∷◌, ◌++◌, map, refl, sym, ◌∙◌, ap, arith}
-use Rattle.std.proofs.lemmas.List.{map-append, append_assoc}
+-- What a put costs where none faults, and the extents that it uses are usable.
+use Rattle.std.proofs.Common.{◌≡◌, inl, inr, ℕ, zero, suc, List, [], ◌∷◌, ◌++◌, refl, sym, ◌∙◌, ap, arith}
+use Rattle.std.proofs.lemmas.List.{append_assoc}
 use Rattle.ar_disks.specs.declared.address.Key.{Key}
 use Rattle.ar_disks.specs.declared.address.Members.{Members}
 use Rattle.ar_disks.specs.declared.geometry.Geometry.{Geometry}
 use Rattle.ar_disks.specs.Geometry.{rows_of}
-use Rattle.ar_extents.specs.declared.health.Health.{Health}
 use Rattle.ar_extents.specs.declared.health.Health.TheVariants.{Whole, Broken as AllBroken}
 use Rattle.ar_extents.specs.declared.log.AccessKind.{AccessKind}
 use Rattle.ar_extents.specs.declared.log.AccessKind.TheVariants.{Read, Write}
-use Rattle.ar_extents.specs.declared.log.RowAccess.{RowAccess}
-use Rattle.ar_extents.specs.Plans.{AccessPlan, both_of, each_of, NoneFaults}
-use Rattle.ar_extents.proofs.Plans.{both_planned}
+use Rattle.ar_extents.specs.Plans.{AccessPlan, both_of, NoneFaults}
 use Rattle.ar_book.specs.declared.class.Class.TheVariants.{Mirrored, Parity}
+use Rattle.ar_book.specs.declared.class.Slot.{Slot}
 use Rattle.ar_book.specs.Tables.{slots_of}
-use Rattle.ar_store.specs.Store.{StoreState}
-use Rattle.ar_store.specs.Placing.{HasNoHole}
+use Rattle.ar_mirror.specs.Slots.{one_of}
+use Rattle.ar_parity.specs.Row.{data_position}
+use Rattle.ar_disks.specs.Members.{member}
+use Rattle.ar_store.specs.Store.{StoreState, members_of}
 use Rattle.ar_store.specs.Plans.{slot_write, fill_plan, copy_plan, copies_plan, squeeze_plan, MakesAccesses, fill_kinds, copies_kinds}
-use Rattle.ar_store.specs.Plans.{CarriesOutPut, NeedsNoSqueeze, GoesToMirrored, GoesToParity}
+use Rattle.ar_store.specs.Plans.{CarriesOutPut, NeedsNoSqueeze, GoesToMirrored, GoesToParity, write_as, WritesUsableAs}
 use Rattle.ar_store.specs.Plans.{IsPutPlan, in_place, to_mirrored_hole, to_opened_group, in_parity_place, to_parity_hole, by_squeeze}
-use Rattle.ar_store.proofs.Costs.{kinds_of, makes}
+use Rattle.ar_store.proofs.Costs.{kinds_of, makes, both_kinds, parity_kinds, mirrored_made, parity_made, not_failed}
 use Rattle.ar_store.proofs.SqueezeCosts.{stripes_kinds}
+use Rattle.ar_store.proofs.OnePlan.{put_carried}
 use Rattle.ar_store.proofs.Ways.{parity_not_mirrored, unplaced_not_mirrored, unplaced_not_parity}
-
--- the kinds of the accesses to write a parity slot
-abbrev parity_kinds : List AccessKind
-parity_kinds = Read ∷ Read ∷ Write ∷ Write ∷ []
-
-both_kinds : (first last : AccessPlan) → kinds_of (both_of first last) ≡ kinds_of first ++ kinds_of last
-both_kinds first last =
-    ap (λ l. map (λ (x : RowAccess). x.kind) l) (both_planned first last Whole)
-    ∙ map-append (λ (x : RowAccess). x.kind) _ _
 
 copies_are : (g : Geometry) (from to : Members) (n : ℕ) → kinds_of (copies_plan g from to n) ≡ copies_kinds n
 copies_are g from to zero = refl
 copies_are g from to (suc n) =
-    both_kinds (copies_plan g from to n) (copy_plan g from to n) ∙ ap (λ l. l ++ Read ∷ parity_kinds) (copies_are g from to n)
+    both_kinds (copies_plan g from to n) (copy_plan g from to n) Whole ∙ ap (λ l. l ++ Read ∷ parity_kinds) (copies_are g from to n)
 
 squeeze_are : (g : Geometry) (from to : Members) (slots : ℕ)
     → kinds_of (squeeze_plan g from to slots) ≡ fill_kinds (rows_of g) ++ copies_kinds slots ++ parity_kinds
 squeeze_are g from to slots =
-    both_kinds (fill_plan g to) (both_of (copies_plan g from to slots) (slot_write Parity g to slots))
+    both_kinds (fill_plan g to) (both_of (copies_plan g from to slots) (slot_write Parity g to slots)) Whole
     ∙ ap (λ l. l ++ kinds_of (both_of (copies_plan g from to slots) (slot_write Parity g to slots))) (stripes_kinds to 0 (rows_of g))
     ∙ ap (λ l. fill_kinds (rows_of g) ++ l)
-    (both_kinds (copies_plan g from to slots) (slot_write Parity g to slots) ∙ ap (λ l. l ++ parity_kinds) (copies_are g from to slots))
+    (both_kinds (copies_plan g from to slots) (slot_write Parity g to slots) Whole ∙ ap (λ l. l ++ parity_kinds) (copies_are g from to slots))
     ∙ sym (append_assoc (fill_kinds (rows_of g)) (copies_kinds slots) parity_kinds)
 
 -- the kinds of a put's accesses, by its case
@@ -99,3 +91,18 @@ pub put_squeezing : (old new : StoreState) (k : Key) → old.disks.health ≡ Wh
 put_squeezing old new k whole none put goes needs =
     put_by old new k (fill_kinds (rows_of old.disks.geometry) ++ copies_kinds (slots_of old.book.geometry Mirrored) ++ parity_kinds) whole none put
     (λ plan is. squeeze_by old k plan is goes needs)
+
+-- a put to a slot whose two extents are usable, whichever disk is missing
+pub put_to_mirrored_slot : (old new : StoreState) (k : Key) (slot : Slot) → WritesUsableAs Mirrored old slot → NoneFaults old.disks new.disks
+    → CarriesOutPut old k new → IsPutPlan old k (write_as Mirrored old slot) → MakesAccesses (Write ∷ Write ∷ []) old.disks new.disks
+put_to_mirrored_slot old new k slot usable none put is =
+    let m = members_of old slot.group in
+    let sound = not_failed old.disks.health (one_of old.disks.geometry m slot.slot) usable.0 in
+    mirrored_made old.disks new.disks m slot.slot usable none (put_carried old new k (write_as Mirrored old slot) sound put is)
+
+pub put_to_parity_slot : (old new : StoreState) (k : Key) (slot : Slot) → WritesUsableAs Parity old slot → NoneFaults old.disks new.disks
+    → CarriesOutPut old k new → IsPutPlan old k (write_as Parity old slot) → MakesAccesses (Read ∷ Read ∷ Write ∷ Write ∷ []) old.disks new.disks
+put_to_parity_slot old new k slot usable none put is =
+    let m = members_of old slot.group in
+    let sound = not_failed old.disks.health (member m (data_position slot.slot)) usable.0 in
+    parity_made old.disks new.disks m slot.slot usable none (put_carried old new k (write_as Parity old slot) sound put is)

@@ -13,15 +13,15 @@ use Rattle.ar_book.specs.declared.class.Class.TheVariants.{Mirrored, Parity}
 use Rattle.ar_book.specs.declared.class.Level.{Level}
 use Rattle.ar_book.specs.declared.class.Level.TheVariants.{Unplaced, Mirrored as MirroredLevel, Parity as ParityLevel}
 use Rattle.ar_book.specs.declared.class.Slot.{Slot}
-use Rattle.ar_book.specs.Tables.{Tables, home, level, slots_of, free_groups, HasBlock}
+use Rattle.ar_book.specs.Tables.{home, level, slots_of, free_groups, HasBlock}
 use Rattle.ar_book.specs.Changes.{opened}
-use Rattle.ar_book.specs.Choices.{IsFullMirrored, IsLowestFree, HasUnplacedBlock}
+use Rattle.ar_book.specs.Choices.{HasUnplacedBlock}
 use Rattle.ar_book.proofs.AfterOpen.{opened_members}
 use Rattle.ar_store.specs.Store.{StoreState, store_of, members_of}
 use Rattle.ar_store.specs.Kept.{IsKept}
-use Rattle.ar_store.specs.Placing.{slot_at, IsLowestHole, HasNoHole}
+use Rattle.ar_store.specs.Placing.{slot_at, HasNoHole}
 use Rattle.ar_store.specs.Calls.{WasBroken}
-use Rattle.ar_store.specs.Plans.{slot_write, write_as, fill_plan, copy_plan, copies_plan, squeeze_plan, CopiesFirst, CopiesSome, MovesInTurn, Squeezes, SqueezesThenWrites}
+use Rattle.ar_store.specs.Plans.{slot_write, write_as, fill_plan, copy_plan, copies_plan, squeeze_plan, CopiesFirst, CopiesSome, SqueezesThenWrites}
 use Rattle.ar_store.specs.Plans.{AccessesByCase, CarriesOutPlan, CarriesOutPut}
 use Rattle.ar_store.specs.Plans.{IsPutPlan, in_place, to_mirrored_hole, to_opened_group, in_parity_place, to_parity_hole, by_squeeze}
 use Rattle.ar_store.proofs.Deciding.{lowest_hole, lowest_free, full_mirrored}

@@ -121,7 +121,7 @@ leads_mirrored t u k s low same hole = record {
 }
 
 -- of two slots that each come first, one is the other
-first_is : (s r : Slot) → IsUpTo s r → IsUpTo r s → s ≡ r
+pub first_is : (s r : Slot) → IsUpTo s r → IsUpTo r s → s ≡ r
 first_is s r (inl lt) (inl gt) = absurd (omega arith)
 first_is s r (inl lt) (inr same) = absurd (let is = same.0 in omega arith)
 first_is s r (inr same) (inl gt) = absurd (let is = same.0 in omega arith)

@@ -15,6 +15,7 @@ use Rattle.ar_disks.specs.Members.{member}
 use Rattle.ar_mirror.specs.Plans.{mirror_read, mirror_write}
 use Rattle.ar_mirror.specs.Slots.{one_of, other_of}
 use Rattle.ar_parity.specs.Plans.{parity_read, parity_write, stripes_from}
+use Rattle.ar_parity.specs.Row.{row_of, data_position, parity_position}
 use Rattle.ar_book.specs.declared.class.Class.{Class}
 use Rattle.ar_book.specs.declared.class.Class.TheVariants.{Free, Mirrored, Parity}
 use Rattle.ar_book.specs.declared.class.Level.TheVariants.{Unplaced, Mirrored as MirroredLevel, Parity as ParityLevel}
@@ -90,6 +91,28 @@ abbrev pub LacksOneOf : SetState → Members → ℕ → Type 0
 LacksOneOf s m i =
     (IsLost s (one_of s.geometry m i) × IsSound s (other_of s.geometry m i))
     ⊎ (IsSound s (one_of s.geometry m i) × IsLost s (other_of s.geometry m i))
+
+-- The extents that a read of a slot uses are usable: one of a mirrored slot's pair, the own extent of one with parity.
+-- The group may lack another extent.
+abbrev pub ReadsUsable : Class → SetState → Members → ℕ → Type 0
+ReadsUsable Free s m i = Unit {0}
+ReadsUsable Mirrored s m i = IsSound s (one_of s.geometry m i) ⊎ IsSound s (other_of s.geometry m i)
+ReadsUsable Parity s m i = IsSound s (member m (data_position i))
+
+-- The two extents that a write of a slot uses are usable: a mirrored slot's pair; the own extent of one with parity, and
+-- that of its stripe's parity. The group may lack another extent.
+abbrev pub WritesUsable : Class → SetState → Members → ℕ → Type 0
+WritesUsable Free s m i = Unit {0}
+WritesUsable Mirrored s m i = IsSound s (one_of s.geometry m i) × IsSound s (other_of s.geometry m i)
+WritesUsable Parity s m i =
+    IsSound s (member m (data_position i)) × IsSound s (member m (parity_position (row_of i)))
+
+-- the same of a slot of a store, which is written in the layout of a class
+abbrev pub ReadsUsableOf : StoreState → Slot → Type 0
+ReadsUsableOf s slot = ReadsUsable (class_in s slot.group) s.disks (members_of s slot.group) slot.slot
+
+abbrev pub WritesUsableAs : Class → StoreState → Slot → Type 0
+WritesUsableAs class s slot = WritesUsable class s.disks (members_of s slot.group) slot.slot
 
 -- the kinds of the accesses by which n rows of four extents are filled with zeros
 abbrev pub fill_kinds : ℕ → List AccessKind

@@ -3,54 +3,74 @@ ghost use Rattle.std.specs.Prelude.{◌≡◌, ◌≢◌, ℕ, [], ◌∷◌, �
 ghost use Rattle.ar_disks.specs.Geometry.{rows_of};
 ghost use Rattle.ar_disks.specs.declared.address.Key.{Key};
 ghost use Rattle.ar_disks.specs.declared.address.Members.{Members};
-ghost use Rattle.ar_extents.specs.declared.health.Health.TheVariants.{Whole};
+ghost use Rattle.ar_extents.specs.declared.health.Health.TheVariants.{Whole, Broken};
 ghost use Rattle.ar_extents.specs.declared.log.AccessKind.TheVariants.{Read, Write};
 ghost use Rattle.ar_extents.specs.Set.{SetState};
-ghost use Rattle.ar_extents.specs.Plans.{CarriesOut, NoneFaults};
+ghost use Rattle.ar_extents.specs.Plans.{AccessPlan, CarriesOut, NoneFaults};
+ghost use Rattle.ar_book.specs.declared.class.Class.{Class};
 ghost use Rattle.ar_book.specs.declared.class.Class.TheVariants.{Free, Mirrored, Parity};
 ghost use Rattle.ar_book.specs.declared.class.Slot.{Slot};
 ghost use Rattle.ar_book.specs.Tables.{home, slots_of};
 ghost use Rattle.ar_store.specs.Store.{StoreState, class_in};
-ghost use Rattle.ar_store.specs.Plans.{get_plan, move_plan, WritesSlot, Squeezes};
+ghost use Rattle.ar_store.specs.Plans.{get_plan, move_plan, slot_write, write_as, IsPutPlan, Squeezes};
+ghost use Rattle.ar_store.specs.Plans.{ReadsUsable, WritesUsable, ReadsUsableOf, WritesUsableAs};
 ghost use Rattle.ar_store.specs.Plans.{MakesAccesses, fill_kinds, copies_kinds};
 ghost use Rattle.ar_store.specs.Plans.{CarriesOutPut, GoesToMirrored, GoesToParity, NeedsNoSqueeze};
 ghost use Rattle.ar_store.specs.Plans.{slot_read, LacksOnly, LacksOneOf};
 ghost use Rattle.ar_parity.specs.Row.{row_of, data_position, parity_position};
 
-/// With all disks present, and where none faults: the get of a block without a home accesses nothing, of another one it
-/// is one read; a put to a mirrored slot is two writes, to a parity slot two reads and then two writes; a move is one
-/// read, and then the accesses of a put to the new slot; a squeeze is four writes for each row of an extent, and then a
-/// move of each slot of the mirrored group. A call has no effect.
+/// Where no disk faults, and the extents that are used are usable, whichever disk is missing: the get of a block without a
+/// home accesses nothing, of another one it is one read; the write of a mirrored slot is two writes, of one with parity
+/// two reads and then two writes; a move is one read, and then the accesses of a write of the new slot. With all disks
+/// present every extent is usable, and a squeeze is four writes for each row of an extent, and then a move of each slot
+/// of the mirrored group. A call has no effect.
 pub fn store_accesses()
     ensures unplaced { (old : StoreState) (new : SetState) (k : Key) → home old.book k ≡ None
         → CarriesOut (get_plan old k) old.disks new → new ≡ old.disks }
-    ensures get { (old : StoreState) (new : SetState) (k : Key) (slot : Slot) → old.disks.health ≡ Whole
+    ensures get { (old : StoreState) (new : SetState) (k : Key) (slot : Slot) → ReadsUsableOf old slot
         → NoneFaults old.disks new → home old.book k ≡ Some slot → class_in old slot.group ≢ Free
         → CarriesOut (get_plan old k) old.disks new → MakesAccesses (Read ∷ []) old.disks new }
 
-    ensures put_mirrored { (old new : SetState) (m : Members) (i : ℕ) → old.health ≡ Whole → NoneFaults old new
-        → WritesSlot Mirrored old new m i → MakesAccesses (Write ∷ Write ∷ []) old new }
-    ensures put_parity { (old new : SetState) (m : Members) (i : ℕ) → old.health ≡ Whole → NoneFaults old new
-        → WritesSlot Parity old new m i → MakesAccesses (Read ∷ Read ∷ Write ∷ Write ∷ []) old new }
+    ensures put_mirrored { (old new : SetState) (m : Members) (i : ℕ) → WritesUsable Mirrored old m i
+        → NoneFaults old new → CarriesOut (slot_write Mirrored old.geometry m i) old new
+        → MakesAccesses (Write ∷ Write ∷ []) old new }
+    ensures put_parity { (old new : SetState) (m : Members) (i : ℕ) → WritesUsable Parity old m i
+        → NoneFaults old new → CarriesOut (slot_write Parity old.geometry m i) old new
+        → MakesAccesses (Read ∷ Read ∷ Write ∷ Write ∷ []) old new }
 
     ensures move_mirrored { (old : StoreState) (new : SetState) (k : Key) (from to : Slot)
-        → old.disks.health ≡ Whole → NoneFaults old.disks new → home old.book k ≡ Some from
-        → class_in old from.group ≢ Free → class_in old to.group ≡ Mirrored
+        → ReadsUsableOf old from → WritesUsableAs Mirrored old to → NoneFaults old.disks new
+        → home old.book k ≡ Some from → class_in old from.group ≢ Free → class_in old to.group ≡ Mirrored
         → CarriesOut (move_plan old k to) old.disks new → MakesAccesses (Read ∷ Write ∷ Write ∷ []) old.disks new }
     ensures move_parity { (old : StoreState) (new : SetState) (k : Key) (from to : Slot)
-        → old.disks.health ≡ Whole → NoneFaults old.disks new → home old.book k ≡ Some from
-        → class_in old from.group ≢ Free → class_in old to.group ≡ Parity
+        → ReadsUsableOf old from → WritesUsableAs Parity old to → NoneFaults old.disks new
+        → home old.book k ≡ Some from → class_in old from.group ≢ Free → class_in old to.group ≡ Parity
         → CarriesOut (move_plan old k to) old.disks new
         → MakesAccesses (Read ∷ Read ∷ Read ∷ Write ∷ Write ∷ []) old.disks new }
 
+    // With all disks present these extents are usable.
+    ensures healthy_reads { (class : Class) (old : SetState) (m : Members) (i : ℕ) → old.health ≡ Whole
+        → ReadsUsable class old m i }
+    ensures healthy_writes { (class : Class) (old : SetState) (m : Members) (i : ℕ) → old.health ≡ Whole
+        → WritesUsable class old m i }
     ensures squeeze { (old new : StoreState) (from to : ℕ) → old.disks.health ≡ Whole
         → NoneFaults old.disks new.disks → Squeezes from to old new
         → MakesAccesses (fill_kinds (rows_of old.disks.geometry)
         ++ copies_kinds (slots_of old.book.geometry Mirrored)) old.disks new.disks }
 {}
 
-/// A put with all disks present, where none faults: to a mirrored slot it is two writes; to a slot with parity two reads
-/// and then two writes; and if it needs a squeeze, those of the squeeze, and then these. A call has no effect.
+/// A put has one plan, that of the first case that applies; until the array has failed, it carries out this one. A call
+/// has no effect.
+pub fn a_put_has_one_plan()
+    ensures one { (old : StoreState) (k : Key) (plan other : AccessPlan) → IsPutPlan old k plan → IsPutPlan old k other
+        → plan ≡ other }
+    ensures carried { (old new : StoreState) (k : Key) (plan : AccessPlan) → old.disks.health ≢ Broken
+        → CarriesOutPut old k new → IsPutPlan old k plan → CarriesOut plan old.disks new.disks }
+{}
+
+/// A put where no disk faults: to a mirrored slot it is two writes; to a slot with parity two reads and then two writes;
+/// and if it needs a squeeze, those of the squeeze, and then these. So it is with all disks present and, of a put to a
+/// slot whose two extents are usable, whichever disk is missing. A call has no effect.
 pub fn put_accesses()
     ensures mirrored { (old new : StoreState) (k : Key) → old.disks.health ≡ Whole → NoneFaults old.disks new.disks
         → CarriesOutPut old k new → GoesToMirrored old.book k
@@ -62,6 +82,13 @@ pub fn put_accesses()
         → CarriesOutPut old k new → GoesToParity old.book k → (NeedsNoSqueeze old.book k → ⊥)
         → MakesAccesses (fill_kinds (rows_of old.disks.geometry) ++ copies_kinds (slots_of old.book.geometry Mirrored)
         ++ Read ∷ Read ∷ Write ∷ Write ∷ []) old.disks new.disks }
+
+    ensures mirrored_slot { (old new : StoreState) (k : Key) (slot : Slot) → WritesUsableAs Mirrored old slot
+        → NoneFaults old.disks new.disks → CarriesOutPut old k new → IsPutPlan old k (write_as Mirrored old slot)
+        → MakesAccesses (Write ∷ Write ∷ []) old.disks new.disks }
+    ensures parity_slot { (old new : StoreState) (k : Key) (slot : Slot) → WritesUsableAs Parity old slot
+        → NoneFaults old.disks new.disks → CarriesOutPut old k new → IsPutPlan old k (write_as Parity old slot)
+        → MakesAccesses (Read ∷ Read ∷ Write ∷ Write ∷ []) old.disks new.disks }
 {}
 
 /// Reads and writes of slots while one extent of the group is lost, and where no disk faults. A mirrored slot with one
@@ -72,15 +99,16 @@ pub fn degraded_accesses()
         → CarriesOut (slot_read Mirrored old.geometry m i) old new → LacksOneOf old m i
         → MakesAccesses (Read ∷ []) old new }
     ensures mirrored_write { (old new : SetState) (m : Members) (i : ℕ) → NoneFaults old new
-        → WritesSlot Mirrored old new m i → LacksOneOf old m i → MakesAccesses (Write ∷ []) old new }
+        → CarriesOut (slot_write Mirrored old.geometry m i) old new → LacksOneOf old m i
+        → MakesAccesses (Write ∷ []) old new }
 
     ensures parity_read { (old new : SetState) (m : Members) (i : ℕ) → NoneFaults old new
         → CarriesOut (slot_read Parity old.geometry m i) old new → LacksOnly old m (data_position i)
         → MakesAccesses (Read ∷ Read ∷ Read ∷ []) old new }
     ensures parity_write { (old new : SetState) (m : Members) (i : ℕ) → NoneFaults old new
-        → WritesSlot Parity old new m i → LacksOnly old m (data_position i)
+        → CarriesOut (slot_write Parity old.geometry m i) old new → LacksOnly old m (data_position i)
         → MakesAccesses (Read ∷ Read ∷ Write ∷ []) old new }
     ensures parity_lost { (old new : SetState) (m : Members) (i : ℕ) → NoneFaults old new
-        → WritesSlot Parity old new m i → LacksOnly old m (parity_position (row_of i))
+        → CarriesOut (slot_write Parity old.geometry m i) old new → LacksOnly old m (parity_position (row_of i))
         → MakesAccesses (Write ∷ []) old new }
 {}

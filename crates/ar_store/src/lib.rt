@@ -20,7 +20,7 @@ mod units;
 mod way;
 
 pub use form::{FourDisks, four_fullest};
-pub use laws::{degraded_accesses, put_accesses, store_accesses};
+pub use laws::{a_put_has_one_plan, degraded_accesses, put_accesses, store_accesses};
 pub use open::Opening;
 pub use space::Space;
 pub use store::Store;

@@ -1,4 +1,4 @@
-use Rattle.ar_store.proofs.Costs.{unplaced_made, get_made, mirrored_made, parity_made, moved_to_mirrored, moved_to_parity}
+use Rattle.ar_store.proofs.Costs.{unplaced_made, get_made, mirrored_made, parity_made, moved_to_mirrored, moved_to_parity, whole_reads, whole_writes}
 use Rattle.ar_store.proofs.SqueezeCosts.{squeeze_made}
 use Rattle.ar_store.proofs.laws.store_accesses.Goals as goal
 
@@ -19,6 +19,12 @@ returns-clause-move_mirrored c = moved_to_mirrored
 
 pub returns-clause-move_parity : goal.returns-clause-move_parity
 returns-clause-move_parity c = moved_to_parity
+
+pub returns-clause-healthy_reads : goal.returns-clause-healthy_reads
+returns-clause-healthy_reads c = whole_reads
+
+pub returns-clause-healthy_writes : goal.returns-clause-healthy_writes
+returns-clause-healthy_writes c = whole_writes
 
 pub returns-clause-squeeze : goal.returns-clause-squeeze
 returns-clause-squeeze c = squeeze_made
