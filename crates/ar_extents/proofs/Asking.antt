@@ -1,5 +1,6 @@
 -- What an attempt implies, in the relations of `Follows`: which disks were accessed, and which rows were written.
-use Rattle.std.proofs.Common.{◌≡◌, ◌≢◌, ◌⊎◌, inl, inr, ℕ, ◌+◌, Bool, true, false, not, ◌&&◌, cond, eqb, [], ◌∷◌, refl, sym, ◌∙◌, ap, subst, arith}
+use Rattle.std.proofs.Common.{◌≡◌, ◌≢◌, ◌⊎◌, inl, inr, ℕ, ◌+◌, Bool, true, false, not, ◌&&◌, cond, eqb, [], ◌∷◌, refl}
+use Rattle.std.proofs.Common.{sym, ◌∙◌, ap, subst, arith}
 use Rattle.std.specs.Prelude.{count_by}
 use Rattle.std.proofs.lemmas.Bool.Decides.{eqb_tells, nat_tests}
 use Rattle.ar_disks.specs.declared.address.Place.{Place}
@@ -28,7 +29,8 @@ fault_told n m k true is one = omega arith
 fault_told n m k false is one = omega arith
 
 -- one access touches its disk alone
-touched_one : (t : Attempt) (done : Bool) (a b : SetState) → AccountsFor (access_of t done ∷ []) a b → Touches a b t.place.disk done
+touched_one : (t : Attempt) (done : Bool) (a b : SetState) → AccountsFor (access_of t done ∷ []) a b
+    → Touches a b t.place.disk done
 touched_one t done a b made =
     let x : RowAccess = access_of t done in
     let d : ℕ = t.place.disk in
@@ -47,7 +49,8 @@ touched_one t done a b made =
     }
 
 -- an attempt that isn't skipped touches its disk alone
-pub attempt_touches : (t : Attempt) (done : Bool) (a b : SetState) → skips a.health t ≡ false → Attempts t done a b → Touches a b t.place.disk done
+pub attempt_touches : (t : Attempt) (done : Bool) (a b : SetState) → skips a.health t ≡ false → Attempts t done a b
+    → Touches a b t.place.disk done
 attempt_touches t done a b used tried = touched_one t done a b (one_made t done a b used tried)
 
 follows_none : (a b : SetState) → AccountsFor [] a b → Follows a b
@@ -79,11 +82,13 @@ pub attempt_loose : (t : Attempt) (done : Bool) (a b : SetState) → Attempts t 
 attempt_loose t done a b tried = tried.made.loose
 
 -- a skipped attempt leaves every disk,
-pub skipped_leaves : (t : Attempt) (done : Bool) (a b : SetState) → skips a.health t ≡ true → Attempts t done a b → (d : ℕ) → disk_in b.disks d ≡ disk_in a.disks d
+pub skipped_leaves : (t : Attempt) (done : Bool) (a b : SetState) → skips a.health t ≡ true → Attempts t done a b
+    → (d : ℕ) → disk_in b.disks d ≡ disk_in a.disks d
 skipped_leaves t done a b skip tried d = (none_made t done a b skip tried).disks d refl
 
 -- and another one those of other extents
-pub attempt_leaves : (t : Attempt) (done : Bool) (a b : SetState) → Attempts t done a b → (d : ℕ) → d ≢ t.place.disk → disk_in b.disks d ≡ disk_in a.disks d
+pub attempt_leaves : (t : Attempt) (done : Bool) (a b : SetState) → Attempts t done a b → (d : ℕ) → d ≢ t.place.disk
+    → disk_in b.disks d ≡ disk_in a.disks d
 attempt_leaves t done a b tried d ne =
     elim (by_skip (skips a.health t)) [
       | inl skip ↦ skipped_leaves t done a b skip tried d
@@ -96,7 +101,8 @@ pub attempt_rows : (t : Attempt) (done : Bool) (a b : SetState) → Attempts t d
 attempt_rows t done a b tried p r unwritten =
     elim (by_skip (skips a.health t)) [
       | inl skip ↦ (none_made t done a b skip tried).rows p r refl
-      | inr used ↦ (one_made t done a b used tried).rows p r (count_one (writes_row p r) (access_of t done) false unwritten)
+      | inr used ↦ (one_made t done a b used tried).rows p r
+          (count_one (writes_row p r) (access_of t done) false unwritten)
     ]
 
 and_false : (b : Bool) → (b && false) ≡ false
@@ -114,14 +120,17 @@ other_place p q ne =
           ]
     ]
 
-unwritten_place : (t : Attempt) (done : Bool) (q : Place) (r : ℕ) → q ≢ t.place → writes_row q r (access_of t done) ≡ false
+unwritten_place : (t : Attempt) (done : Bool) (q : Place) (r : ℕ) → q ≢ t.place
+    → writes_row q r (access_of t done) ≡ false
 unwritten_place t done q r ne =
-    ap (λ k. is_writing t.kind && (eqb t.row r && k)) (other_place t.place q ne) ∙ ap (λ k. is_writing t.kind && k) (and_false (eqb t.row r)) ∙ and_false (is_writing t.kind)
+    ap (λ k. is_writing t.kind && (eqb t.row r && k)) (other_place t.place q ne)
+    ∙ ap (λ k. is_writing t.kind && k) (and_false (eqb t.row r)) ∙ and_false (is_writing t.kind)
 
 unwritten_at : (t : Attempt) (done : Bool) (q : Place) (r : ℕ) → r ≢ t.row → writes_row q r (access_of t done) ≡ false
 unwritten_at t done q r ne =
     let other : eqb t.row r ≡ false = grind (arith, nat_tests) in
-    ap (λ k. is_writing t.kind && (k && (eqb t.place.disk q.disk && eqb t.place.extent q.extent))) other ∙ and_false (is_writing t.kind)
+    ap (λ k. is_writing t.kind && (k && (eqb t.place.disk q.disk && eqb t.place.extent q.extent))) other
+    ∙ and_false (is_writing t.kind)
 
 -- a write changes its own row alone
 pub attempt_keeps : (t : Attempt) (done : Bool) (a b : SetState) → Attempts t done a b → KeepsBut t.place t.row a b
@@ -131,11 +140,14 @@ attempt_keeps t done a b tried = record {
 }
 
 -- a read none
-pub read_changes_none : (p : Place) (row : ℕ) (done : Bool) (a b : SetState) → Attempts (read_at p row) done a b → Keeps Anywhere a b
-read_changes_none p row done a b tried = record { rows = λ q is r. attempt_rows (read_at p row) done a b tried q r refl }
+pub read_changes_none : (p : Place) (row : ℕ) (done : Bool) (a b : SetState) → Attempts (read_at p row) done a b
+    → Keeps Anywhere a b
+read_changes_none p row done a b tried =
+    record { rows = λ q is r. attempt_rows (read_at p row) done a b tried q r refl }
 
 -- reads and writes of usable extents are work on them
-pub works_attempt : (t : Attempt) (done : Bool) (a b : SetState) → skips a.health t ≡ is_lost a.health t.place.disk t.place.extent → Attempts t done a b
+pub works_attempt : (t : Attempt) (done : Bool) (a b : SetState)
+    → skips a.health t ≡ is_lost a.health t.place.disk t.place.extent → Attempts t done a b
     → WorksOn (IsPlace t.place) a b
 works_attempt t done a b when tried = record {
   follows = attempt_follows t done a b tried;
@@ -144,7 +156,8 @@ works_attempt t done a b when tried = record {
     rows = λ p lost r.
         elim (same_place p t.place) [
           | inl same ↦
-              (let P : Place → Type 0 = λ q. IsLost a q in (none_made t done a b (when ∙ subst P same lost) tried).rows p r refl)
+              (let P : Place → Type 0 = λ q. IsLost a q in
+              (none_made t done a b (when ∙ subst P same lost) tried).rows p r refl)
           | inr ne ↦ attempt_rows t done a b tried p r (unwritten_place t done p r ne)
         ];
   };
@@ -157,10 +170,12 @@ works_attempt t done a b when tried = record {
   };
 }
 
-pub read_works : (p : Place) (row : ℕ) (done : Bool) (a b : SetState) → Attempts (read_at p row) done a b → WorksOn (IsPlace p) a b
+pub read_works : (p : Place) (row : ℕ) (done : Bool) (a b : SetState) → Attempts (read_at p row) done a b
+    → WorksOn (IsPlace p) a b
 read_works p row done a b tried = works_attempt (read_at p row) done a b refl tried
 
-pub write_works : (p : Place) (row : ℕ) (done : Bool) (a b : SetState) → Attempts (write_at p row) done a b → WorksOn (IsPlace p) a b
+pub write_works : (p : Place) (row : ℕ) (done : Bool) (a b : SetState) → Attempts (write_at p row) done a b
+    → WorksOn (IsPlace p) a b
 write_works p row done a b tried = works_attempt (write_at p row) done a b refl tried
 
 -- a plan's first attempt, and the state that it left
@@ -170,9 +185,11 @@ pub record Went (t : Attempt) (next other : AccessPlan) (a c : SetState) : Type 
   pub tried : Attempts t done a between
   pub rest : CarriesOut (cond done next other) between c
 
-pub went : (t : Attempt) (next other : AccessPlan) (a c : SetState) → CarriesOut (Try t next other) a c → Went t next other a c
+pub went : (t : Attempt) (next other : AccessPlan) (a c : SetState) → CarriesOut (Try t next other) a c
+    → Went t next other a c
 went t next other a c (goes_on _ _ _ _ b _ tried rest) = record { between = b; done = true; tried = tried; rest = rest }
-went t next other a c (falls_back _ _ _ _ b _ tried rest) = record { between = b; done = false; tried = tried; rest = rest }
+went t next other a c (falls_back _ _ _ _ b _ tried rest) =
+    record { between = b; done = false; tried = tried; rest = rest }
 
 -- how a plan went on that goes by whether an extent is missing
 pub went_if : (p : Place) (next other : AccessPlan) (a b : SetState) → CarriesOut (IfMissing p next other) a b
@@ -188,14 +205,19 @@ pub record WentBoth (one other : AccessPlan) (a c : SetState) : Type 0 where
   pub first : CarriesOut one a between
   pub last : CarriesOut other between c
 
-pub went_both : (first last : AccessPlan) (a c : SetState) → CarriesOut (both_of first last) a c → WentBoth first last a c
+pub went_both : (first last : AccessPlan) (a c : SetState) → CarriesOut (both_of first last) a c
+    → WentBoth first last a c
 went_both Stop last a c carried = record { between = a; first = stops a; last = carried }
 went_both (Try t next other) last a c (goes_on _ _ _ _ b _ tried rest) =
     let both = went_both next last b c rest in
     record { between = both.between; first = goes_on t next other a b both.between tried both.first; last = both.last }
 went_both (Try t next other) last a c (falls_back _ _ _ _ b _ tried rest) =
     let both = went_both other last b c rest in
-    record { between = both.between; first = falls_back t next other a b both.between tried both.first; last = both.last }
+    record {
+      between = both.between;
+      first = falls_back t next other a b both.between tried both.first;
+      last = both.last;
+    }
 went_both (IfMissing p next other) last a c (without _ _ _ _ _ is rest) =
     let both = went_both next last a c rest in
     record { between = both.between; first = without p next other a both.between is both.first; last = both.last }
@@ -213,11 +235,13 @@ tried_one t a b (goes_on _ _ _ _ _ _ tried (stops _)) = record { done = true; tr
 tried_one t a b (falls_back _ _ _ _ _ _ tried (stops _)) = record { done = false; tried = tried }
 
 -- a read that returned no block wasn't answered
-pub unread : (t : Attempt) (a b : SetState) (got : Got) → (got ≡ Missing) ⊎ (got ≡ ReadBroken) → Attempts t (is_read got) a b → Attempts t false a b
+pub unread : (t : Attempt) (a b : SetState) (got : Got) → (got ≡ Missing) ⊎ (got ≡ ReadBroken)
+    → Attempts t (is_read got) a b → Attempts t false a b
 unread t a b got (inl missing) tried = subst (λ (k : Bool). Attempts t k a b) (ap is_read missing) tried
 unread t a b got (inr broken) tried = subst (λ (k : Bool). Attempts t k a b) (ap is_read broken) tried
 
-lost_after : (t : Attempt) (a b : SetState) (skip : Bool) → skips a.health t ≡ skip → skips a.health t ≡ is_lost a.health t.place.disk t.place.extent
+lost_after : (t : Attempt) (a b : SetState) (skip : Bool) → skips a.health t ≡ skip
+    → skips a.health t ≡ is_lost a.health t.place.disk t.place.extent
     → Attempts t false a b → IsLost b t.place
 lost_after t a b true skip when tried =
     let P : Health → Type 0 = λ h. is_lost h t.place.disk t.place.extent ≡ true in
@@ -235,7 +259,8 @@ pub nothing_done : (a b : SetState) → CarriesOut Stop a b → a ≡ b
 nothing_done a _ (stops _) = refl
 
 -- a read, and then a write of one row
-pub keeps_but_after : (p : Place) (row : ℕ) (a b c : SetState) → Keeps Anywhere a b → KeepsBut p row b c → KeepsBut p row a c
+pub keeps_but_after : (p : Place) (row : ℕ) (a b c : SetState) → Keeps Anywhere a b → KeepsBut p row b c
+    → KeepsBut p row a c
 keeps_but_after p row a b c first second = record {
   other_rows = λ r ne. second.other_rows r ne ∙ first.rows p tt r;
   other_places = record { rows = λ q ne r. second.other_places.rows q ne r ∙ first.rows q tt r };
@@ -251,11 +276,14 @@ out_of_rebuilding Broken is broken = is
 still_rebuilding : (h : Health) → IsRebuilding h → h ≡ Broken → ⊥
 still_rebuilding h is broken = let P : Health → Type 0 = λ x. IsRebuilding x in subst P broken is
 
-tried_rebuilding : (t : Attempt) (done : Bool) (b c : SetState) → IsRebuilding b.health → t.place.disk ≡ rebuilt_disk b.health → skips b.health t ≡ false
+tried_rebuilding : (t : Attempt) (done : Bool) (b c : SetState) → IsRebuilding b.health
+    → t.place.disk ≡ rebuilt_disk b.health → skips b.health t ≡ false
     → Attempts t done b c → c.health ≡ Broken → ⊥
-tried_rebuilding t true b c is place used tried broken = still_rebuilding b.health is (sym (one_made t true b c used tried).health ∙ broken)
+tried_rebuilding t true b c is place used tried broken =
+    still_rebuilding b.health is (sym (one_made t true b c used tried).health ∙ broken)
 tried_rebuilding t false b c is place used tried broken =
-    out_of_rebuilding b.health is (ap (λ d. after_fault b.health d) (sym place) ∙ sym (one_made t false b c used tried).health ∙ broken)
+    out_of_rebuilding b.health is (ap (λ d. after_fault b.health d) (sym place)
+    ∙ sym (one_made t false b c used tried).health ∙ broken)
 
 used_rebuilding : (h : Health) → IsRebuilding h → rebuilds_none h ≡ false
 used_rebuilding Whole is = absurd is
@@ -264,9 +292,11 @@ used_rebuilding (Rebuilding x done) is = refl
 used_rebuilding Broken is = absurd is
 
 -- a write to the new disk breaks no set: where it faults, the disk is out
-pub rebuilt_sound : (a b c : SetState) (row : ℕ) (done : Bool) → IsRebuilding a.health → b.health ≡ a.health → Attempts (rebuild_at (next_place a) row) done b c
+pub rebuilt_sound : (a b c : SetState) (row : ℕ) (done : Bool) → IsRebuilding a.health → b.health ≡ a.health
+    → Attempts (rebuild_at (next_place a) row) done b c
     → c.health ≡ Broken → ⊥
 rebuilt_sound a b c row done is same tried =
     let P : Health → Type 0 = λ x. IsRebuilding x in
     let here : IsRebuilding b.health = subst P (sym same) is in
-    tried_rebuilding (rebuild_at (next_place a) row) done b c here (sym (ap rebuilt_disk same)) (used_rebuilding b.health here) tried
+    tried_rebuilding (rebuild_at (next_place a) row) done b c here (sym (ap rebuilt_disk same))
+    (used_rebuilding b.health here) tried

@@ -1,5 +1,6 @@
 -- What the type keeps when a disk is replaced.
-use Rattle.std.proofs.Common.{◌≡◌, ◌≢◌, inl, inr, ℕ, ◌<◌, ◌≤◌, Bool, true, false, cond, leb, eqb, ◌&&◌, List, length, set, map, Some, None, refl, sym, ◌∙◌, ap, subst, arith}
+use Rattle.std.proofs.Common.{◌≡◌, ◌≢◌, inl, inr, ℕ, ◌<◌, ◌≤◌, Bool, true, false, cond, leb, eqb, ◌&&◌, List, length}
+use Rattle.std.proofs.Common.{set, map, Some, None, refl, sym, ◌∙◌, ap, subst, arith}
 use Rattle.std.specs.List.{list_all}
 use Rattle.std.proofs.lemmas.List.Folds.{list_all-map}
 use Rattle.std.proofs.lemmas.Bool.{eqb-true, le-leb}
@@ -10,7 +11,8 @@ use Rattle.ar_disks.specs.declared.geometry.Geometry.TheVariants.{Paper, Small}
 use Rattle.ar_disks.specs.Disk.{DiskState}
 use Rattle.ar_extents.specs.declared.health.Health.{Health}
 use Rattle.ar_extents.specs.declared.health.Health.TheVariants.{Whole, Out, Rebuilding, Broken}
-use Rattle.ar_extents.specs.declared.refusal.DiskRefusal.TheVariants.{NoSuchDisk, WrongSize, NotOut, Broken as AllBroken}
+use Rattle.ar_extents.specs.declared.refusal.DiskRefusal.TheVariants.{NoSuchDisk, WrongSize, NotOut}
+use Rattle.ar_extents.specs.declared.refusal.DiskRefusal.TheVariants.{Broken as AllBroken}
 use Rattle.ar_extents.specs.Health.{is_out}
 use Rattle.ar_extents.specs.Set.{SetState, IsValidSet, HasShape, CanCount, disk_in, no_disk}
 use Rattle.ar_extents.specs.Changes.{same_geometry, has_shape, is_broken_set, replace_refusal, replaced, are_alike}
@@ -26,10 +28,14 @@ both_true true b e = (refl, e)
 both_true false b e = absurd cc
 
 -- the test tells the shape
-pub HasShape-has_shape : (geometry : Geometry) (extents : ℕ) (disk : DiskState) → has_shape geometry extents disk ≡ true → HasShape geometry extents disk
+pub HasShape-has_shape : (geometry : Geometry) (extents : ℕ) (disk : DiskState) → has_shape geometry extents disk ≡ true
+    → HasShape geometry extents disk
 HasShape-has_shape geometry extents disk e =
     let both = both_true (same_geometry disk.geometry geometry) (eqb disk.extents extents) e in
-    record { geometry_same = same_geometry-is disk.geometry geometry both.0; extents_same = eqb-true disk.extents extents both.1 }
+    record {
+      geometry_same = same_geometry-is disk.geometry geometry both.0;
+      extents_same = eqb-true disk.extents extents both.1;
+    }
 
 none_of : {X : Type 0} (a b c e : Bool) (p q r s : X)
     → cond a (Some p) (cond b (Some q) (cond c (cond e None (Some r)) (Some s))) ≡ None
@@ -49,12 +55,15 @@ out_is Broken d broken out = absurd cc
 -- where a disk is taken, the one in whose place it goes is out
 pub taken_out : (s : SetState) (d : ℕ) (disk : DiskState) → replace_refusal s d disk ≡ None → s.health ≡ Out d
 taken_out s d disk taken =
-    let why = none_of (is_broken_set s.health) (leb (length s.disks) d) (is_out s.health d) (has_shape s.geometry s.extents disk) AllBroken NoSuchDisk WrongSize NotOut taken in
+    let why = none_of (is_broken_set s.health) (leb (length s.disks) d) (is_out s.health d)
+    (has_shape s.geometry s.extents disk) AllBroken NoSuchDisk WrongSize NotOut taken in
     out_is s.health d why.0 why.2
 
-pub kept_replaced : (s : SetState) (d : ℕ) (disk : DiskState) → IsValidSet s → replace_refusal s d disk ≡ None → CanCount disk → IsValidSet (replaced s d disk)
+pub kept_replaced : (s : SetState) (d : ℕ) (disk : DiskState) → IsValidSet s → replace_refusal s d disk ≡ None
+    → CanCount disk → IsValidSet (replaced s d disk)
 kept_replaced s d disk kept taken few =
-    let why = none_of (is_broken_set s.health) (leb (length s.disks) d) (is_out s.health d) (has_shape s.geometry s.extents disk) AllBroken NoSuchDisk WrongSize NotOut taken in
+    let why = none_of (is_broken_set s.health) (leb (length s.disks) d) (is_out s.health d)
+    (has_shape s.geometry s.extents disk) AllBroken NoSuchDisk WrongSize NotOut taken in
     let exists : d < length s.disks = let b = why.1 in grind (arith, nat_tests) in
     let was_out = out_is s.health d why.0 why.2 in
     let len = length-set s.disks d disk in
@@ -70,36 +79,47 @@ kept_replaced s d disk kept taken few =
       shapes = λ x lt.
           elim (eqb_tells x d) [
             | inl q ↦ (let P : ℕ → Type 0 = λ n. HasShape s.geometry s.extents (disk_in (set s.disks d disk) n) in
-                subst P (sym q.1) (subst (λ (y : DiskState). HasShape s.geometry s.extents y) (sym (get_or-set_same s.disks d disk no_disk exists))
+                subst P (sym q.1)
+                (subst (λ (y : DiskState). HasShape s.geometry s.extents y)
+                (sym (get_or-set_same s.disks d disk no_disk exists))
                 (HasShape-has_shape s.geometry s.extents disk why.3)))
-            | inr q ↦ subst (λ (y : DiskState). HasShape s.geometry s.extents y) (sym (get_or-set_other s.disks d x disk no_disk q.1)) (kept.shapes x (omega arith))
+            | inr q ↦ subst (λ (y : DiskState). HasShape s.geometry s.extents y)
+                (sym (get_or-set_other s.disks d x disk no_disk q.1)) (kept.shapes x (omega arith))
           ];
       counting = λ x lt used.
           elim (eqb_tells x d) [
             | inl q ↦ (let P : ℕ → Type 0 = λ n. CanCount (disk_in (set s.disks d disk) n) in
-                subst P (sym q.1) (subst (λ (y : DiskState). CanCount y) (sym (get_or-set_same s.disks d disk no_disk exists)) few))
+                subst P (sym q.1)
+                (subst (λ (y : DiskState). CanCount y) (sym (get_or-set_same s.disks d disk no_disk exists)) few))
             | inr q ↦ (let in_use : is_out s.health x ≡ false = ap (λ (h : Health). is_out h x) was_out ∙ q.0 in
-                subst (λ (y : DiskState). CanCount y) (sym (get_or-set_other s.disks d x disk no_disk q.1)) (kept.counting x (omega arith) in_use))
+                subst (λ (y : DiskState). CanCount y) (sym (get_or-set_other s.disks d x disk no_disk q.1))
+                (kept.counting x (omega arith) in_use))
           ];
       health_fits = (omega arith, omega arith);
       tables = kept.tables ∙ sym len;
       marks = kept.marks;
     }
 
--- the same, told of the disks themselves and of the state `self` that the call began with: `old` is what its fields show
-pub kept_replacing : {D : Type 0} (state : D → DiskState) (disks : List D) (d : ℕ) (x : D) (old self : SetState) → old.disks ≡ map state disks → old ≡ self
+-- the same, told of the disks themselves and of the state `self` that the call began with: `old` is what its fields
+-- show
+pub kept_replacing : {D : Type 0} (state : D → DiskState) (disks : List D) (d : ℕ) (x : D) (old self : SetState)
+    → old.disks ≡ map state disks → old ≡ self
     → IsValidSet old → replace_refusal self d (state x) ≡ None → CanCount (state x)
     → IsValidSet (record old { disks = map state (set disks d x); health = Rebuilding d 0 })
 kept_replacing state disks d x old self is same kept taken few =
     let taken_old = subst (λ (s : SetState). replace_refusal s d (state x) ≡ None) (sym same) taken in
-    let replaced_disks : set old.disks d (state x) ≡ map state (set disks d x) = ap (λ l. set l d (state x)) is ∙ sym (map-set state disks d x) in
-    subst (λ (l : List DiskState). IsValidSet (record old { disks = l; health = Rebuilding d 0 })) replaced_disks (kept_replaced old d (state x) kept taken_old few)
+    let replaced_disks : set old.disks d (state x) ≡ map state (set disks d x) =
+    ap (λ l. set l d (state x)) is ∙ sym (map-set state disks d x) in
+    subst (λ (l : List DiskState). IsValidSet (record old { disks = l; health = Rebuilding d 0 })) replaced_disks
+    (kept_replaced old d (state x) kept taken_old few)
 
-pub replacing : {D : Type 0} (state : D → DiskState) (disks : List D) (d : ℕ) (x : D) (old self : SetState) → old.disks ≡ map state disks → old ≡ self
+pub replacing : {D : Type 0} (state : D → DiskState) (disks : List D) (d : ℕ) (x : D) (old self : SetState)
+    → old.disks ≡ map state disks → old ≡ self
     → record old { disks = map state (set disks d x); health = Rebuilding d 0 } ≡ replaced self d (state x)
 replacing state disks d x old self is same =
     let with_disks : List DiskState → SetState = λ l. record old { disks = l; health = Rebuilding d 0 } in
-    ap with_disks (map-set state disks d x ∙ ap (λ l. set l d (state x)) (sym is)) ∙ ap (λ (s : SetState). replaced s d (state x)) same
+    ap with_disks (map-set state disks d x ∙ ap (λ l. set l d (state x)) (sym is))
+    ∙ ap (λ (s : SetState). replaced s d (state x)) same
 
 and_of : (a b c : Bool) → a ≡ true → b ≡ true → c ≡ (a && (b && c))
 and_of true true c p q = refl
@@ -107,8 +127,10 @@ and_of true false c p q = absurd cc
 and_of false b c p q = absurd cc
 
 -- the test of all disks, told of their states
-pub are_alike_is : {D : Type 0} (state : D → DiskState) (disks : List D) (geometry : Geometry) (extents : ℕ) (result : Bool)
-    → geometry ≡ (disk_in (map state disks) 0).geometry → extents ≡ (disk_in (map state disks) 0).extents → extents ≢ 0 → extents ≤ 1024
+pub are_alike_is : {D : Type 0} (state : D → DiskState) (disks : List D) (geometry : Geometry) (extents : ℕ)
+    (result : Bool)
+    → geometry ≡ (disk_in (map state disks) 0).geometry → extents ≡ (disk_in (map state disks) 0).extents → extents ≢ 0
+    → extents ≤ 1024
     → result ≡ list_all (λ disk. has_shape geometry extents (state disk)) disks → result ≡ are_alike (map state disks)
 are_alike_is state disks geometry extents result g e some few is =
     let first : DiskState = disk_in (map state disks) 0 in
@@ -117,4 +139,5 @@ are_alike_is state disks geometry extents result g e some few is =
     let at_most : leb first.extents 1024 ≡ true = le-leb first.extents 1024 (omega arith) in
     is ∙ ap (λ (h : Geometry). all h extents) g ∙ ap (λ (n : ℕ). all first.geometry n) e
     ∙ sym (list_all-map (has_shape first.geometry first.extents) state disks)
-    ∙ and_of (leb 1 first.extents) (leb first.extents 1024) (list_all (has_shape first.geometry first.extents) (map state disks)) at_least at_most
+    ∙ and_of (leb 1 first.extents) (leb first.extents 1024)
+    (list_all (has_shape first.geometry first.extents) (map state disks)) at_least at_most

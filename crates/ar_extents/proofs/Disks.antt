@@ -11,7 +11,8 @@ pub disk_in-map : {D : Type 0} (state : D → DiskState) (disks : List D) (d : �
 disk_in-map state disks d x lt = get_or-map state disks d x no_disk lt
 
 -- the state of a disk that was read
-pub disk_in-read : {D : Type 0} (state : D → DiskState) (disks : List D) (d : ℕ) (x : D) → d < length disks → x ≡ get_or disks d x
+pub disk_in-read : {D : Type 0} (state : D → DiskState) (disks : List D) (d : ℕ) (x : D) → d < length disks
+    → x ≡ get_or disks d x
     → disk_in (map state disks) d ≡ state x
 disk_in-read state disks d x lt is = disk_in-map state disks d x lt ∙ ap state (sym is)
 
@@ -20,18 +21,21 @@ pub disk_in-map_set : {D : Type 0} (state : D → DiskState) (disks : List D) (d
     → disk_in (map state (set disks d x)) d ≡ state x
 disk_in-map_set state disks d x lt =
     let in_range : d < length (map state disks) = omega (arith, length-map disks state) in
-    ap (λ xs. get_or xs d no_disk) (map-set state disks d x) ∙ get_or-set_same (map state disks) d (state x) no_disk in_range
+    ap (λ xs. get_or xs d no_disk) (map-set state disks d x)
+    ∙ get_or-set_same (map state disks) d (state x) no_disk in_range
 
 -- the other disks stay
 pub OthersStay-map_set : {D : Type 0} (state : D → DiskState) (disks : List D) (d : ℕ) (x : D)
     → OthersStay (map state disks) (map state (set disks d x)) d
 OthersStay-map_set state disks d x = record {
-  others = λ y ne. ap (λ xs. get_or xs y no_disk) (map-set state disks d x) ∙ get_or-set_other (map state disks) d y (state x) no_disk ne;
+  others = λ y ne. ap (λ xs. get_or xs y no_disk) (map-set state disks d x)
+      ∙ get_or-set_other (map state disks) d y (state x) no_disk ne;
   len = length-map (set disks d x) state ∙ length-set disks d x ∙ sym (length-map disks state);
 }
 
 -- what a disk of the list did, told of the list
-pub Reads-map_set : {D : Type 0} (state : D → DiskState) (disks : List D) (d : ℕ) (x y : D) (extent row : ℕ) (answer : Bool) (into : List ℕ)
+pub Reads-map_set : {D : Type 0} (state : D → DiskState) (disks : List D) (d : ℕ) (x y : D) (extent row : ℕ)
+    (answer : Bool) (into : List ℕ)
     → d < length disks → x ≡ get_or disks d x → Reads (state x) (state y) extent row answer into
     → Reads (disk_in (map state disks) d) (disk_in (map state (set disks d y)) d) extent row answer into
 Reads-map_set state disks d x y extent row answer into lt is reads =
@@ -40,7 +44,8 @@ Reads-map_set state disks d x y extent row answer into lt is reads =
     subst (λ (s : DiskState). Reads s (disk_in (map state (set disks d y)) d) extent row answer into) before
     (subst (λ (s : DiskState). Reads (state x) s extent row answer into) after reads)
 
-pub Writes-map_set : {D : Type 0} (state : D → DiskState) (disks : List D) (d : ℕ) (x y : D) (extent row : ℕ) (answer : Bool) (from : List ℕ)
+pub Writes-map_set : {D : Type 0} (state : D → DiskState) (disks : List D) (d : ℕ) (x y : D) (extent row : ℕ)
+    (answer : Bool) (from : List ℕ)
     → d < length disks → x ≡ get_or disks d x → Writes (state x) (state y) extent row answer from
     → Writes (disk_in (map state disks) d) (disk_in (map state (set disks d y)) d) extent row answer from
 Writes-map_set state disks d x y extent row answer from lt is writes =

@@ -1,5 +1,6 @@
 -- Runs of reads and writes: what holds of each holds of all together.
-use Rattle.std.proofs.Common.{◌≡◌, ◌≢◌, ◌⊎◌, inl, inr, ℕ, ◌<◌, Bool, true, List, [], ◌∷◌, length, refl, sym, ◌∙◌, ap, subst, arith}
+use Rattle.std.proofs.Common.{◌≡◌, ◌≢◌, ◌⊎◌, inl, inr, ℕ, ◌<◌, Bool, true, List, [], ◌∷◌, length, refl, sym, ◌∙◌, ap}
+use Rattle.std.proofs.Common.{subst, arith}
 use Rattle.std.proofs.lemmas.Bool.{cases_lt}
 use Rattle.std.proofs.lemmas.List.{get_or-set_other, get_or_append_left}
 use Rattle.ar_disks.specs.declared.address.Place.{Place}
@@ -26,12 +27,14 @@ follows_refl s = record {
   broken = λ is. inl is;
 }
 
-down_before : (a b c : SetState) (h : Health) (d : ℕ) → Follows a b → Follows b c → b.health ≡ h → IsDown h d → IsHit a c d
+down_before : (a b c : SetState) (h : Health) (d : ℕ) → Follows a b → Follows b c → b.health ≡ h → IsDown h d
+    → IsHit a c d
 down_before a b c Whole d ab bc is down = absurd down
 down_before a b c (Out x) d ab bc is down =
     elim (ab.out x is) [
       | inl was ↦ inl (let P : Health → Type 0 = λ h. IsDown h d in subst P (sym was) down)
-      | inr grew ↦ inr (let same = down in let more = bc.faults d in let P : ℕ → Type 0 = λ n. Faulted a b n in let grown : Faulted a b d = subst P (sym down) grew in omega arith)
+      | inr grew ↦ inr (let same = down in let more = bc.faults d in let P : ℕ
+          → Type 0 = λ n. Faulted a b n in let grown : Faulted a b d = subst P (sym down) grew in omega arith)
     ]
 down_before a b c (Rebuilding x done) d ab bc is down =
     inl (let P : Health → Type 0 = λ h. IsDown h d in subst P (sym (ab.rebuilding x done is)) down)
@@ -65,18 +68,21 @@ two_before a b c bc two = record {
   other_hit = hit_before a b c two.other bc two.other_hit;
 }
 
-out_then : (a b c : SetState) (d : ℕ) → Follows a b → Follows b c → (b.health ≡ Out d) ⊎ Faulted b c d → (a.health ≡ Out d) ⊎ Faulted a c d
+out_then : (a b c : SetState) (d : ℕ) → Follows a b → Follows b c → (b.health ≡ Out d) ⊎ Faulted b c d
+    → (a.health ≡ Out d) ⊎ Faulted a c d
 out_then a b c d ab bc (inl was) =
     elim (ab.out d was) [ inl is ↦ inl is | inr grew ↦ inr (let after = bc.faults d in omega arith) ]
 out_then a b c d ab bc (inr grew) = inr (let before = ab.faults d in omega arith)
 
-broken_then : (a b c : SetState) → Follows a b → Follows b c → (b.health ≡ Broken) ⊎ TwoHit b c → (a.health ≡ Broken) ⊎ TwoHit a c
+broken_then : (a b c : SetState) → Follows a b → Follows b c → (b.health ≡ Broken) ⊎ TwoHit b c
+    → (a.health ≡ Broken) ⊎ TwoHit a c
 broken_then a b c ab bc (inl was) = elim (ab.broken was) [ inl is ↦ inl is | inr two ↦ inr (two_before a b c bc two) ]
 broken_then a b c ab bc (inr two) = inr (two_then a b c ab bc two)
 
 noticed_then : (a b c : SetState) (d : ℕ) → Follows a b → Follows b c → Faulted a c d → is_out c.health d ≡ true
 noticed_then a b c d ab bc more =
-    elim (cases_lt (faults_of a d) (faults_of b d)) [ inl first ↦ stays_out b c d bc (ab.noticed d first) | inr none ↦ bc.noticed d (omega arith) ]
+    elim (cases_lt (faults_of a d) (faults_of b d))
+    [ inl first ↦ stays_out b c d bc (ab.noticed d first) | inr none ↦ bc.noticed d (omega arith) ]
 
 -- two runs, one after the other
 pub follows_then : (a b c : SetState) → Follows a b → Follows b c → Follows a c
@@ -101,16 +107,24 @@ pub keeps_then : (these : Place → Type 0) (a b c : SetState) → Keeps these a
 keeps_then these a b c ab bc = record { rows = λ place is row. bc.rows place is row ∙ ab.rows place is row }
 
 -- fewer places
-pub keeps_fewer : (these those : Place → Type 0) (a b : SetState) → ((place : Place) → those place → these place) → Keeps these a b → Keeps those a b
+pub keeps_fewer : (these those : Place → Type 0) (a b : SetState) → ((place : Place) → those place → these place)
+    → Keeps these a b → Keeps those a b
 keeps_fewer these those a b fewer ab = record { rows = λ place is row. ab.rows place (fewer place is) row }
 
 -- a lost extent that keeps its content in two runs keeps it in both together
 pub lost_then : (a b c : SetState) → Follows a b → Keeps (IsLost a) a b → Keeps (IsLost b) b c → Keeps (IsLost a) a c
-lost_then a b c ab first second = record { rows = λ p lost row. second.rows p (stays_lost a b p ab lost) row ∙ first.rows p lost row }
+lost_then a b c ab first second =
+    record { rows = λ p lost row. second.rows p (stays_lost a b p ab lost) row ∙ first.rows p lost row }
 
 -- no work
 pub works_refl : (these : Place → Type 0) (s : SetState) → WorksOn these s s
-works_refl these s = record { follows = follows_refl s; loose = refl; lost = keeps_refl (IsLost s) s; touches = record { disks = λ d none. refl } }
+works_refl these s =
+    record {
+      follows = follows_refl s;
+      loose = refl;
+      lost = keeps_refl (IsLost s) s;
+      touches = record { disks = λ d none. refl };
+    }
 
 -- work on some extents, and more on them
 pub works_then : (these : Place → Type 0) (a b c : SetState) → WorksOn these a b → WorksOn these b c → WorksOn these a c
@@ -125,7 +139,8 @@ works_then these a b c ab bc = record {
 }
 
 -- work on some extents is work on more
-pub works_more : (these those : Place → Type 0) (a b : SetState) → ((place : Place) → these place → those place) → WorksOn these a b → WorksOn those a b
+pub works_more : (these those : Place → Type 0) (a b : SetState) → ((place : Place) → these place → those place)
+    → WorksOn these a b → WorksOn those a b
 works_more these those a b more ab = record {
   follows = ab.follows;
   loose = ab.loose;
@@ -169,14 +184,16 @@ keeps_disks these old new same = record {
 pub keeps_replaced : (s : SetState) (d : ℕ) (disk : DiskState) → Keeps (λ p. p.disk ≢ d) s (replaced s d disk)
 unfolding content
 keeps_replaced s d disk = record {
-  rows = λ place ne row. ap (λ (x : DiskState). block_at x place.extent row) (get_or-set_other s.disks d place.disk disk no_disk ne);
+  rows = λ place ne row. ap (λ (x : DiskState). block_at x place.extent row)
+      (get_or-set_other s.disks d place.disk disk no_disk ne);
 }
 
 -- one more disk leaves the contents of all that were there
 pub keeps_added : (s : SetState) (disk : DiskState) → Keeps (λ p. p.disk < length s.disks) s (added s disk)
 unfolding content
 keeps_added s disk = record {
-  rows = λ place lt row. ap (λ (x : DiskState). block_at x place.extent row) (get_or_append_left s.disks (disk ∷ []) no_disk place.disk lt);
+  rows = λ place lt row. ap (λ (x : DiskState). block_at x place.extent row)
+      (get_or_append_left s.disks (disk ∷ []) no_disk place.disk lt);
 }
 
 -- an extent stays there

@@ -63,7 +63,8 @@ pub disjoint_sym : (m n : Members) → AreDisjoint m n → AreDisjoint n m
 disjoint_sym m n apart i j li lj disk extent = apart j i lj li (sym disk) (sym extent)
 
 -- where what is outside of a group stays, the members of a group without a common extent keep theirs
-pub disjoint_keeps : (a b : SetState) (m n : Members) → AreDisjoint m n → Keeps (IsOutside n) a b → Keeps (IsMember m) a b
+pub disjoint_keeps : (a b : SetState) (m n : Members) → AreDisjoint m n → Keeps (IsOutside n) a b
+    → Keeps (IsMember m) a b
 disjoint_keeps a b m n apart keeps = record {
   rows = λ place is row.
       keeps.rows place
@@ -79,7 +80,8 @@ pub sound_without : (s : SetState) (d : ℕ) (disk : DiskState) (p : Place) → 
 sound_without s d disk p sound = (
   (λ same.
       (let P : ℕ → Type 0 = λ n. is_lost (after_fault s.health n) p.disk p.extent ≡ false in
-      lost_not_sound (without_disk s p.disk disk) p (is_lost-after_fault s.health p.disk p.extent) (subst P (sym same) sound))),
+      lost_not_sound (without_disk s p.disk disk) p (is_lost-after_fault s.health p.disk p.extent)
+      (subst P (sym same) sound))),
   sound_before s.health d p.disk p.extent sound,
 )
 
@@ -110,12 +112,18 @@ content_with_done s p row block there has rebuilt sound =
     ]
 
 -- work on one member is work on the group
-pub works_member : (m : Members) (i : ℕ) (a b : SetState) → i < 4 → WorksOn (IsPlace (member m i)) a b → WorksOn (IsMember m) a b
+pub works_member : (m : Members) (i : ℕ) (a b : SetState) → i < 4 → WorksOn (IsPlace (member m i)) a b
+    → WorksOn (IsMember m) a b
 works_member m i a b lt works =
     works_more (IsPlace (member m i)) (IsMember m) a b (λ p is. record { position = i; below = lt; is = is }) works
 
 -- and so is work on two
-pub works_pair : (m : Members) (i j : ℕ) (a b : SetState) → i < 4 → j < 4 → WorksOn (IsEither (member m i) (member m j)) a b → WorksOn (IsMember m) a b
+pub works_pair : (m : Members) (i j : ℕ) (a b : SetState) → i < 4 → j < 4
+    → WorksOn (IsEither (member m i) (member m j)) a b → WorksOn (IsMember m) a b
 works_pair m i j a b li lj works =
     works_more (IsEither (member m i) (member m j)) (IsMember m) a b
-    (λ p is. elim is [ inl one ↦ record { position = i; below = li; is = one } | inr other ↦ record { position = j; below = lj; is = other } ]) works
+    (λ p is. elim is [
+      | inl one ↦ record { position = i; below = li; is = one }
+      | inr other ↦
+          record { position = j; below = lj; is = other }
+    ]) works

@@ -1,5 +1,7 @@
 -- How marks change, and what the lowest loose extent is.
-use Rattle.std.proofs.Common.{◌≡◌, ◌≢◌, inl, inr, ℕ, zero, suc, ◌<◌, ◌≤◌, Bool, true, false, List, [], ◌∷◌, ◌++◌, length, get_or, set, replicate, Some, None, position, count_by, refl, sym, ◌∙◌, ap, subst, arith}
+use Rattle.std.proofs.Common.{◌≡◌, ◌≢◌, inl, inr, ℕ, zero, suc, ◌<◌, ◌≤◌, Bool, true, false, List, [], ◌∷◌, ◌++◌}
+use Rattle.std.proofs.Common.{length, get_or, set, replicate, Some, None, position, count_by, refl, sym, ◌∙◌, ap, subst}
+use Rattle.std.proofs.Common.{arith}
 use Rattle.std.specs.List.{position_or_len}
 use Rattle.std.proofs.lemmas.Bool.{cases_lt}
 use Rattle.std.proofs.lemmas.Bool.Decides.{eqb_tells, leb_tells}
@@ -15,18 +17,24 @@ mark_other : (table : List (List Bool)) (d e : ℕ) (m : Bool) (x f : ℕ) → (
     → get_or (get_or (set table d (set (get_or table d []) e m)) x []) f false ≡ get_or (get_or table x []) f false
 mark_other table d e m x f ne =
     elim (eqb_tells x d) [
-      | inr q ↦ ap (λ (row : List Bool). get_or row f false) (get_or-set_other table d x (set (get_or table d []) e m) [] q.1)
+      | inr q ↦ ap (λ (row : List Bool). get_or row f false)
+          (get_or-set_other table d x (set (get_or table d []) e m) [] q.1)
       | inl q ↦
-          (let P : ℕ → Type 0 = λ y. get_or (get_or (set table d (set (get_or table d []) e m)) y []) f false ≡ get_or (get_or table y []) f false in
+          (let P : ℕ → Type 0 = λ y. get_or (get_or (set table d (set (get_or table d []) e m)) y []) f false
+          ≡ get_or (get_or table y []) f false in
           subst P (sym q.1)
           (elim (cases_lt d (length table)) [
-            | inl lt ↦ ap (λ (row : List Bool). get_or row f false) (get_or-set_same table d (set (get_or table d []) e m) [] lt) ∙ get_or-set_other (get_or table d []) e f m false (ne q.1)
-            | inr le ↦ ap (λ (rows : List (List Bool)). get_or (get_or rows d []) f false) (set_past table d (set (get_or table d []) e m) le)
+            | inl lt ↦ ap (λ (row : List Bool). get_or row f false)
+                (get_or-set_same table d (set (get_or table d []) e m) [] lt)
+                ∙ get_or-set_other (get_or table d []) e f m false (ne q.1)
+            | inr le ↦ ap (λ (rows : List (List Bool)). get_or (get_or rows d []) f false)
+                (set_past table d (set (get_or table d []) e m) le)
           ]))
     ]
 
 -- a mark changes no other
-pub is_loose-marked_other : (s : SetState) (p q : Place) (mark : Bool) → q ≢ p → is_loose (marked s p.disk p.extent mark) q ≡ is_loose s q
+pub is_loose-marked_other : (s : SetState) (p q : Place) (mark : Bool) → q ≢ p
+    → is_loose (marked s p.disk p.extent mark) q ≡ is_loose s q
 is_loose-marked_other s p q mark ne =
     mark_other s.loose p.disk p.extent mark q.disk q.extent
     (λ disk extent. ne (ap (λ (d : ℕ). let there : Place = record { disk = d; extent = q.extent } in there) disk
@@ -41,9 +49,12 @@ unmarked (m ∷ ms) (suc e) = unmarked ms e
 pub is_loose-taken : (s : SetState) (p : Place) → is_loose (marked s p.disk p.extent false) p ≡ false
 is_loose-taken s p =
     elim (cases_lt p.disk (length s.loose)) [
-      | inl lt ↦ ap (λ (row : List Bool). get_or row p.extent false) (get_or-set_same s.loose p.disk (set (marks_of s p.disk) p.extent false) [] lt) ∙ unmarked (marks_of s p.disk) p.extent
+      | inl lt ↦ ap (λ (row : List Bool). get_or row p.extent false)
+          (get_or-set_same s.loose p.disk (set (marks_of s p.disk) p.extent false) [] lt)
+          ∙ unmarked (marks_of s p.disk) p.extent
       | inr le ↦ ap (λ (row : List Bool). get_or row p.extent false)
-          (ap (λ (rows : List (List Bool)). get_or rows p.disk []) (set_past s.loose p.disk (set (marks_of s p.disk) p.extent false) le) ∙ none_past s.loose p.disk le)
+          (ap (λ (rows : List (List Bool)). get_or rows p.disk [])
+          (set_past s.loose p.disk (set (marks_of s p.disk) p.extent false) le) ∙ none_past s.loose p.disk le)
     ]
   where
     none_past : (rows : List (List Bool)) (d : ℕ) → length rows ≤ d → get_or rows d [] ≡ []
@@ -61,7 +72,8 @@ further m marks k n is = ap (λ (i : ℕ). get_or (m ∷ marks) i false) is
 first_is : (marks : List Bool) → first marks < length marks → get_or marks (first marks) false ≡ true
 first_is [] lt = absurd (omega arith)
 first_is (true ∷ marks) lt = refl
-first_is (false ∷ marks) lt = further false marks (first (false ∷ marks)) (first marks) (omega arith) ∙ first_is marks (omega arith)
+first_is (false ∷ marks) lt =
+    further false marks (first (false ∷ marks)) (first marks) (omega arith) ∙ first_is marks (omega arith)
 
 before_first : (marks : List Bool) (e : ℕ) → e < first marks → get_or marks e false ≡ false
 before_first [] e lt = refl
@@ -74,20 +86,27 @@ none_counted [] le = refl
 none_counted (true ∷ marks) le = absurd (omega arith)
 none_counted (false ∷ marks) le = let rest = none_counted marks (omega arith) in omega arith
 
-pub position_is : (marks : List Bool) (e : ℕ) → position (λ mark. mark) marks ≡ Some e → (e ≡ first marks) × (e < length marks)
+pub position_is : (marks : List Bool) (e : ℕ) → position (λ mark. mark) marks ≡ Some e
+    → (e ≡ first marks) × (e < length marks)
 position_is marks e is = elim (leb_tells (suc (first marks)) (length marks)) [
-  | inl t ↦ (let k : Some (first marks) ≡ Some e = rw t.0 at is in let same : e ≡ first marks = cc in let lt = t.1 in (same, omega arith))
+  | inl t ↦ (let k : Some (first marks) ≡ Some e = rw t.0 at is in let same : e
+      ≡ first marks = cc in let lt = t.1 in (same, omega arith))
   | inr t ↦ absurd (let k : None ≡ Some e = rw t.0 at is in cc)
 ]
 
 -- the lowest loose extent exists and is loose
-pub lowest_loose-is : (s : SetState) (d e : ℕ) → lowest_loose s d ≡ Some e → (e < length (marks_of s d)) × (get_or (marks_of s d) e false ≡ true)
+pub lowest_loose-is : (s : SetState) (d e : ℕ) → lowest_loose s d ≡ Some e
+    → (e < length (marks_of s d)) × (get_or (marks_of s d) e false ≡ true)
 lowest_loose-is s d e is =
-    let at = position_is (marks_of s d) e is in
-    (at.1, ap (λ (i : ℕ). get_or (marks_of s d) i false) at.0 ∙ first_is (marks_of s d) (let same = at.0 in let lt = at.1 in omega arith))
+    let at = position_is (marks_of s d) e is in (
+      at.1,
+      ap (λ (i : ℕ). get_or (marks_of s d) i false) at.0
+          ∙ first_is (marks_of s d) (let same = at.0 in let lt = at.1 in omega arith),
+    )
 
 -- none below it is loose
-pub lowest_loose-least : (s : SetState) (d e f : ℕ) → lowest_loose s d ≡ Some e → f < e → get_or (marks_of s d) f false ≡ false
+pub lowest_loose-least : (s : SetState) (d e f : ℕ) → lowest_loose s d ≡ Some e → f < e
+    → get_or (marks_of s d) f false ≡ false
 lowest_loose-least s d e f is lt =
     let at = position_is (marks_of s d) e is in
     before_first (marks_of s d) f (let same = at.0 in omega arith)
@@ -101,25 +120,32 @@ lowest_loose-none s d is =
     ]
 
 -- every extent of a new set is loose
-pub is_loose-started : (disks : List DiskState) (p : Place) → HasExtent (started disks) p → is_loose (started disks) p ≡ true
+pub is_loose-started : (disks : List DiskState) (p : Place) → HasExtent (started disks) p
+    → is_loose (started disks) p ≡ true
 is_loose-started disks p exists =
     let extents : ℕ = (started disks).extents in
-    ap (λ (row : List Bool). get_or row p.extent false) (get_or-replicate (length disks) p.disk (replicate extents true) [] exists.disk)
+    ap (λ (row : List Bool). get_or row p.extent false)
+    (get_or-replicate (length disks) p.disk (replicate extents true) [] exists.disk)
     ∙ get_or-replicate extents p.extent true false exists.extent
 
 -- every extent of an added disk is loose, and the marks of the others stay
-pub is_loose-added : (s : SetState) (disk : DiskState) (p : Place) → p.disk ≡ length s.loose → p.extent < s.extents → is_loose (added s disk) p ≡ true
+pub is_loose-added : (s : SetState) (disk : DiskState) (p : Place) → p.disk ≡ length s.loose → p.extent < s.extents
+    → is_loose (added s disk) p ≡ true
 is_loose-added s disk p last lt =
     ap (λ (d : ℕ). get_or (get_or (s.loose ++ replicate s.extents true ∷ []) d []) p.extent false) last
     ∙ ap (λ (row : List Bool). get_or row p.extent false) (get_or-append_seam s.loose (replicate s.extents true) [] [])
     ∙ get_or-replicate s.extents p.extent true false lt
 
-pub is_loose-added_other : (s : SetState) (disk : DiskState) (p : Place) → p.disk < length s.loose → is_loose (added s disk) p ≡ is_loose s p
+pub is_loose-added_other : (s : SetState) (disk : DiskState) (p : Place) → p.disk < length s.loose
+    → is_loose (added s disk) p ≡ is_loose s p
 is_loose-added_other s disk p lt =
-    ap (λ (row : List Bool). get_or row p.extent false) (get_or_append_left s.loose (replicate s.extents true ∷ []) [] p.disk lt)
+    ap (λ (row : List Bool). get_or row p.extent false)
+    (get_or_append_left s.loose (replicate s.extents true ∷ []) [] p.disk lt)
 
 -- an extent that was given is loose
-pub is_loose-given : (s : SetState) (p : Place) → p.disk < length s.loose → p.extent < length (marks_of s p.disk) → is_loose (marked s p.disk p.extent true) p ≡ true
+pub is_loose-given : (s : SetState) (p : Place) → p.disk < length s.loose → p.extent < length (marks_of s p.disk)
+    → is_loose (marked s p.disk p.extent true) p ≡ true
 is_loose-given s p disk extent =
-    ap (λ (row : List Bool). get_or row p.extent false) (get_or-set_same s.loose p.disk (set (marks_of s p.disk) p.extent true) [] disk)
+    ap (λ (row : List Bool). get_or row p.extent false)
+    (get_or-set_same s.loose p.disk (set (marks_of s p.disk) p.extent true) [] disk)
     ∙ get_or-set_same (marks_of s p.disk) p.extent true false extent

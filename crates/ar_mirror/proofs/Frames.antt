@@ -41,7 +41,8 @@ holds_kept a b m slot block ab keeps has =
 pub disjoint_holds : (a b : SetState) (m n : Members) (slot : ℕ) (block : List ℕ) → Follows a b
     → Keeps (IsOutside n) a b → AreDisjoint m n
     → Holds a m slot block → Holds b m slot block
-disjoint_holds a b m n slot block ab keeps apart has = holds_kept a b m slot block ab (disjoint_keeps a b m n apart keeps) has
+disjoint_holds a b m n slot block ab keeps apart has =
+    holds_kept a b m slot block ab (disjoint_keeps a b m n apart keeps) has
 
 -- and after reads
 pub read_holds : (a b : SetState) (m : Members) (slot : ℕ) (block : List ℕ) → Follows a b → Keeps Anywhere a b
@@ -52,11 +53,13 @@ read_holds a b m slot block ab keeps has =
 -- a slot's put leaves all that is outside of its group
 pub keeps_outside : (a b : SetState) (m : Members) (slot : ℕ) → KeepsButSlot m slot a b → Keeps (IsOutside m) a b
 keeps_outside a b m slot keeps = record {
-  rows = λ p outside row. keeps.rows p row (λ is. absurd (member_not_outside m p (pair_is_member a m slot p is) outside));
+  rows = λ p outside row. keeps.rows p row
+      (λ is. absurd (member_not_outside m p (pair_is_member a m slot p is) outside));
 }
 
 -- a slot outlives the loss of any one disk
-pub holds_without : (s : SetState) (m : Members) (slot : ℕ) (block : List ℕ) (d : ℕ) (disk : DiskState) → Holds s m slot block
+pub holds_without : (s : SetState) (m : Members) (slot : ℕ) (block : List ℕ) (d : ℕ) (disk : DiskState)
+    → Holds s m slot block
     → Holds (without_disk s d disk) m slot block
 holds_without s m slot block d disk has = record {
   one_has = content_without s d disk (one_of s.geometry m slot) (row_of s.geometry slot) block has.one_has;
@@ -64,12 +67,14 @@ holds_without s m slot block d disk has = record {
 }
 
 -- on a broken set a slot holds what it held, whatever was written
-pub broken_holds : (a b : SetState) (m : Members) (slot : ℕ) (block : List ℕ) → b.geometry ≡ a.geometry → b.health ≡ Broken
+pub broken_holds : (a b : SetState) (m : Members) (slot : ℕ) (block : List ℕ) → b.geometry ≡ a.geometry
+    → b.health ≡ Broken
     → Holds a m slot block → Holds b m slot block
 broken_holds a b m slot block same is has =
     broken_has b (one_of b.geometry m slot) (other_of b.geometry m slot) (row_of b.geometry slot) block is
 
--- Once the next extent counts as done, a slot holds its block, if that extent isn't in its pair or has the block by now.
+-- Once the next extent counts as done, a slot holds its block, if that extent isn't in its pair or has the block by
+-- now.
 pub done_holds : (s : SetState) (m : Members) (slot : ℕ) (block : List ℕ) → IsGroup s m → (has : Holds s m slot block)
     → (IsInPair s.geometry m slot (next_place s) → content s (next_place s) (row_of s.geometry slot) ≡ block)
     → Holds (with_done s) m slot block

@@ -1,5 +1,6 @@
 -- What slots hold while an extent is rebuilt.
-use Rattle.std.proofs.Common.{◌≡◌, ◌⊎◌, inl, inr, ℕ, zero, suc, ◌+◌, ◌*◌, ◌/◌, ◌<◌, List, refl, sym, ◌∙◌, ap, subst, arith}
+use Rattle.std.proofs.Common.{◌≡◌, ◌⊎◌, inl, inr, ℕ, zero, suc, ◌+◌, ◌*◌, ◌/◌, ◌<◌, List, refl, sym, ◌∙◌, ap, subst}
+use Rattle.std.proofs.Common.{arith}
 use Rattle.ar_disks.specs.declared.address.Place.{Place}
 use Rattle.ar_disks.specs.declared.address.Members.{Members}
 use Rattle.ar_extents.specs.Health.{IsRebuilding}
@@ -16,22 +17,27 @@ use Rattle.ar_mirror.proofs.SlotLemmas.{pair_fits}
 use Rattle.ar_mirror.proofs.Holding.{holds_at}
 
 -- a row of an extent that is sound, when only a missing one was written
-kept_when_sound : (a b : SetState) (p : Place) (written row : ℕ) → IsRebuilding a.health → Follows a b → KeepsBut (next_place a) written a b → IsSound b p → content b p row ≡ content a p row
+kept_when_sound : (a b : SetState) (p : Place) (written row : ℕ) → IsRebuilding a.health → Follows a b
+    → KeepsBut (next_place a) written a b → IsSound b p → content b p row ≡ content a p row
 kept_when_sound a b p written row is ab keeps sound =
     keeps.other_places.rows p
-    (λ same. lost_not_sound a p (missing_lost a p (let P : Place → Type 0 = λ x. IsMissing a x in subst P (sym same) (next_missing a is))) (ab.usable p sound))
+    (λ same. lost_not_sound a p (missing_lost a p (let P : Place
+    → Type 0 = λ x. IsMissing a x in subst P (sym same) (next_missing a is))) (ab.usable p sound))
     row
 
 -- writing the extent that is rebuilt takes no slot's block away
-pub rebuild_holds : (a b : SetState) (written : ℕ) → IsRebuilding a.health → Follows a b → KeepsBut (next_place a) written a b
+pub rebuild_holds : (a b : SetState) (written : ℕ) → IsRebuilding a.health → Follows a b
+    → KeepsBut (next_place a) written a b
     → (m : Members) (slot : ℕ) (block : List ℕ) → Holds a m slot block → Holds b m slot block
 rebuild_holds a b written is ab keeps m slot block has =
     holds_at b a.geometry m slot block ab.geometry
     (record {
       one_has = λ sound.
-          kept_when_sound a b (one_of a.geometry m slot) written (row_of a.geometry slot) is ab keeps sound ∙ has.one_has (ab.usable (one_of a.geometry m slot) sound);
+          kept_when_sound a b (one_of a.geometry m slot) written (row_of a.geometry slot) is ab keeps sound
+          ∙ has.one_has (ab.usable (one_of a.geometry m slot) sound);
       other_has = λ sound.
-          kept_when_sound a b (other_of a.geometry m slot) written (row_of a.geometry slot) is ab keeps sound ∙ has.other_has (ab.usable (other_of a.geometry m slot) sound);
+          kept_when_sound a b (other_of a.geometry m slot) written (row_of a.geometry slot) is ab keeps sound
+          ∙ has.other_has (ab.usable (other_of a.geometry m slot) sound);
     })
 
 partner_of_one : (pair : ℕ) → pair < 2 → partner_of (2 * pair) ≡ 2 * pair + 1
@@ -45,14 +51,22 @@ partner_of_other (suc zero) lt = refl
 partner_of_other (suc (suc n)) lt = absurd (omega arith)
 
 -- A rebuilt row has the block that the slot of that row holds.
-pub rebuilt_has : (a b : SetState) (m : Members) (slot position : ℕ) (block : List ℕ) → slot < mirror_slots_of a.geometry
+pub rebuilt_has : (a b : SetState) (m : Members) (slot position : ℕ) (block : List ℕ)
+    → slot < mirror_slots_of a.geometry
     → (position ≡ 2 * (slot / rows_of a.geometry)) ⊎ (position ≡ 2 * (slot / rows_of a.geometry) + 1)
-    → IsCopied a b (member m (partner_of position)) (row_of a.geometry slot) → Holds a m slot block → content b (next_place a) (row_of a.geometry slot) ≡ block
+    → IsCopied a b (member m (partner_of position)) (row_of a.geometry slot) → Holds a m slot block
+    → content b (next_place a) (row_of a.geometry slot) ≡ block
 rebuilt_has a b m slot position block lt (inl is) copied has =
-    let partner = ap (λ n. member m (partner_of n)) is ∙ ap (λ n. member m n) (partner_of_one (slot / rows_of a.geometry) (pair_fits a.geometry slot lt)) in
+    let partner =
+    ap (λ n. member m (partner_of n)) is
+    ∙ ap (λ n. member m n) (partner_of_one (slot / rows_of a.geometry) (pair_fits a.geometry slot lt)) in
     let P : Place → Type 0 = λ p. IsSound a p in
-    copied.same ∙ ap (λ (p : Place). content a p (row_of a.geometry slot)) partner ∙ has.other_has (subst P partner copied.was_sound)
+    copied.same ∙ ap (λ (p : Place). content a p (row_of a.geometry slot)) partner
+    ∙ has.other_has (subst P partner copied.was_sound)
 rebuilt_has a b m slot position block lt (inr is) copied has =
-    let partner = ap (λ n. member m (partner_of n)) is ∙ ap (λ n. member m n) (partner_of_other (slot / rows_of a.geometry) (pair_fits a.geometry slot lt)) in
+    let partner =
+    ap (λ n. member m (partner_of n)) is
+    ∙ ap (λ n. member m n) (partner_of_other (slot / rows_of a.geometry) (pair_fits a.geometry slot lt)) in
     let P : Place → Type 0 = λ p. IsSound a p in
-    copied.same ∙ ap (λ (p : Place). content a p (row_of a.geometry slot)) partner ∙ has.one_has (subst P partner copied.was_sound)
+    copied.same ∙ ap (λ (p : Place). content a p (row_of a.geometry slot)) partner
+    ∙ has.one_has (subst P partner copied.was_sound)

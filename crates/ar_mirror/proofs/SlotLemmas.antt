@@ -45,13 +45,15 @@ members_disjoint m n i j disjoint hi hj same =
     disjoint i j hi hj (sym (ap (λ (x : Place). x.disk) same)) (sym (ap (λ (x : Place). x.extent) same))
 
 -- the two members of a pair are on different disks
-pub pair_apart : (g : Geometry) (m : Members) (slot : ℕ) → AreApart m → slot < mirror_slots_of g → (one_of g m slot).disk ≢ (other_of g m slot).disk
+pub pair_apart : (g : Geometry) (m : Members) (slot : ℕ) → AreApart m → slot < mirror_slots_of g
+    → (one_of g m slot).disk ≢ (other_of g m slot).disk
 pair_apart g m slot apart lt =
     let fits = pair_fits g slot lt in
     apart (2 * (slot / rows_of g)) (2 * (slot / rows_of g) + 1) (omega arith) (omega arith) (omega arith)
 
 -- and so are a member and its partner
-pub partner_apart : (m : Members) (position : ℕ) → AreApart m → position < 4 → (member m position).disk ≢ (member m (partner_of position)).disk
+pub partner_apart : (m : Members) (position : ℕ) → AreApart m → position < 4
+    → (member m position).disk ≢ (member m (partner_of position)).disk
 partner_apart m zero apart lt = apart 0 1 (omega arith) (omega arith) (omega arith)
 partner_apart m (suc zero) apart lt = apart 1 0 (omega arith) (omega arith) (omega arith)
 partner_apart m (suc (suc zero)) apart lt = apart 2 3 (omega arith) (omega arith) (omega arith)

@@ -10,7 +10,8 @@ use Rattle.ar_mirror.specs.Holds.{Holds, standing}
 use Rattle.ar_mirror.proofs.SlotLemmas.{pair_apart}
 
 -- while the set isn't broken, what stands in a slot is the block that it holds
-pub standing_is : (s : SetState) (m : Members) (slot : ℕ) (block : List ℕ) → AreApart m → slot < mirror_slots_of s.geometry
+pub standing_is : (s : SetState) (m : Members) (slot : ℕ) (block : List ℕ) → AreApart m
+    → slot < mirror_slots_of s.geometry
     → s.health ≢ Broken
     → Holds s m slot block → standing s m slot ≡ block
 standing_is s m slot block apart lt healthy has =
@@ -20,7 +21,8 @@ standing_is s m slot block apart lt healthy has =
       | inr sound ↦ rw sound (has.one_has sound)
       | inl lost ↦
           elim (lost_missing_or_broken s one lost) [
-            | inl missing ↦ rw lost (has.other_has (other_sound s one other missing (pair_apart s.geometry m slot apart lt)))
+            | inl missing ↦
+                rw lost (has.other_has (other_sound s one other missing (pair_apart s.geometry m slot apart lt)))
             | inr broken ↦ absurd (healthy broken)
           ]
     ]

@@ -18,27 +18,32 @@ use Rattle.ar_disks.specs.Endings.{OnDone}
 use Rattle.ar_parity.proofs.Sums.{sum_of_others, back_from_sum}
 
 -- of a member that is lost anything may be said
-pub lost_stands : (s : SetState) (m : Members) (row i : ℕ) (bytes : List ℕ) → IsLost s (member m i) → Stands s m row i bytes
+pub lost_stands : (s : SetState) (m : Members) (row i : ℕ) (bytes : List ℕ) → IsLost s (member m i)
+    → Stands s m row i bytes
 lost_stands s m row i bytes lost = record { content_is = λ sound. absurd (lost_not_sound s (member m i) lost sound) }
 
-pub broken_stands : (s : SetState) (m : Members) (row i : ℕ) (bytes : List ℕ) → s.health ≡ AllBroken → Stands s m row i bytes
+pub broken_stands : (s : SetState) (m : Members) (row i : ℕ) (bytes : List ℕ) → s.health ≡ AllBroken
+    → Stands s m row i bytes
 broken_stands s m row i bytes is = lost_stands s m row i bytes (broken_lost s (member m i) is)
 
 pub stands_kept : (a b : SetState) (m : Members) (row i : ℕ) (bytes : List ℕ) → Follows a b
     → content b (member m i) row ≡ content a (member m i) row → Stands a m row i bytes → Stands b m row i bytes
-stands_kept a b m row i bytes ab same stands = record { content_is = λ sound. same ∙ stands.content_is (ab.usable (member m i) sound) }
+stands_kept a b m row i bytes ab same stands =
+    record { content_is = λ sound. same ∙ stands.content_is (ab.usable (member m i) sound) }
 
 -- after reads a member has what it had
 pub stands_read : (a b : SetState) (m : Members) (row i : ℕ) (bytes : List ℕ) → Follows a b → Keeps Anywhere a b
     → Stands a m row i bytes → Stands b m row i bytes
 stands_read a b m row i bytes ab keeps stands = stands_kept a b m row i bytes ab (keeps.rows (member m i) tt row) stands
 
-pub add_up_then : (a b : SetState) (blocks : Blocks) → Follows a b → AddUp (block_len_of a.geometry) blocks → AddUp (block_len_of b.geometry) blocks
+pub add_up_then : (a b : SetState) (blocks : Blocks) → Follows a b → AddUp (block_len_of a.geometry) blocks
+    → AddUp (block_len_of b.geometry) blocks
 add_up_then a b blocks ab up = subst (λ (g : Geometry). AddUp (block_len_of g) blocks) (sym ab.geometry) up
 
 -- a row whose content stays agrees on the blocks that it agreed on
 pub agrees_kept : (a b : SetState) (m : Members) (row : ℕ) (blocks : Blocks) → Follows a b
-    → ((i : ℕ) → i < 4 → content b (member m i) row ≡ content a (member m i) row) → RowAgrees a m row blocks → RowAgrees b m row blocks
+    → ((i : ℕ) → i < 4 → content b (member m i) row ≡ content a (member m i) row) → RowAgrees a m row blocks
+    → RowAgrees b m row blocks
 agrees_kept a b m row blocks ab same agrees = record {
   add_up = add_up_then a b blocks ab agrees.add_up;
   stand = λ i lt. stands_kept a b m row i (block blocks i) ab (same i lt) (agrees.stand i lt);
@@ -46,20 +51,24 @@ agrees_kept a b m row blocks ab same agrees = record {
 
 pub agrees_read : (a b : SetState) (m : Members) (row : ℕ) (blocks : Blocks) → Follows a b → Keeps Anywhere a b
     → RowAgrees a m row blocks → RowAgrees b m row blocks
-agrees_read a b m row blocks ab keeps agrees = agrees_kept a b m row blocks ab (λ i lt. keeps.rows (member m i) tt row) agrees
+agrees_read a b m row blocks ab keeps agrees =
+    agrees_kept a b m row blocks ab (λ i lt. keeps.rows (member m i) tt row) agrees
 
 pub broken_agrees : (s : SetState) (m : Members) (row : ℕ) (blocks : Blocks) → s.health ≡ AllBroken
     → AddUp (block_len_of s.geometry) blocks → RowAgrees s m row blocks
 broken_agrees s m row blocks is up = record { add_up = up; stand = λ i lt. broken_stands s m row i (block blocks i) is }
 
 -- two of the blocks beside a lost one, read in turn and added
-two_sum : (s t : SetState) (m : Members) (row lost beside low high : ℕ) (x y : List ℕ) → lost < 4 → beside < 4 → beside ≢ lost
-    → low ≡ low_other lost beside → high ≡ high_other lost beside → low < 4 → high < 4 → Follows s t → Keeps Anywhere s t
+two_sum : (s t : SetState) (m : Members) (row lost beside low high : ℕ) (x y : List ℕ) → lost < 4 → beside < 4
+    → beside ≢ lost
+    → low ≡ low_other lost beside → high ≡ high_other lost beside → low < 4 → high < 4 → Follows s t
+    → Keeps Anywhere s t
     → ((b : List ℕ) → Stands s m row low b → x ≡ b) → ((b : List ℕ) → Stands t m row high b → y ≡ xor x b)
     → (blocks : Blocks) → RowAgrees s m row blocks → y ≡ xor (block blocks beside) (block blocks lost)
 two_sum s t m row lost beside low high x y ll lb ne is_low is_high ll_low ll_high st keeps first second blocks agrees =
     let one = first (block blocks low) (agrees.stand low ll_low) in
-    let two = second (block blocks high) (stands_read s t m row high (block blocks high) st keeps (agrees.stand high ll_high)) in
+    let two = second (block blocks high)
+    (stands_read s t m row high (block blocks high) st keeps (agrees.stand high ll_high)) in
     let sum = sum_of_others (block_len_of s.geometry) blocks lost beside agrees.add_up ll lb (λ e. ne (sym e)) in
     two ∙ ap (λ z. xor z (block blocks high)) one
     ∙ ap (λ i. xor (block blocks i) (block blocks high)) is_low
@@ -67,7 +76,8 @@ two_sum s t m row lost beside low high x y ll lb ne is_low is_high ll_low ll_hig
     ∙ sum
 
 -- the third one, added to that sum
-three_sum : (s t : SetState) (m : Members) (row lost third : ℕ) (x y : List ℕ) → third < 4 → Follows s t → Keeps Anywhere s t
+three_sum : (s t : SetState) (m : Members) (row lost third : ℕ) (x y : List ℕ) → third < 4 → Follows s t
+    → Keeps Anywhere s t
     → ((blocks : Blocks) → RowAgrees s m row blocks → x ≡ xor (block blocks third) (block blocks lost))
     → ((b : List ℕ) → Stands t m row third b → y ≡ xor x b)
     → (blocks : Blocks) → RowAgrees s m row blocks → y ≡ block blocks lost
@@ -75,25 +85,32 @@ three_sum s t m row lost third x y lt st keeps first second blocks agrees =
     let up = agrees.add_up in
     second (block blocks third) (stands_read s t m row third (block blocks third) st keeps (agrees.stand third lt))
     ∙ ap (λ z. xor z (block blocks third)) (first blocks agrees)
-    ∙ back_from_sum (block_len_of s.geometry) (block blocks lost) (block blocks third) (up.lengths lost) (up.lengths third)
+    ∙ back_from_sum (block_len_of s.geometry) (block blocks lost) (block blocks third) (up.lengths lost)
+    (up.lengths third)
 
 -- and so where the last read answers that it is done
-pub two_sum_done : (o : Completion) (s t : SetState) (m : Members) (row lost beside low high : ℕ) (x y : List ℕ) → lost < 4 → beside < 4 → beside ≢ lost
-    → low ≡ low_other lost beside → high ≡ high_other lost beside → low < 4 → high < 4 → Follows s t → Keeps Anywhere s t
+pub two_sum_done : (o : Completion) (s t : SetState) (m : Members) (row lost beside low high : ℕ) (x y : List ℕ)
+    → lost < 4 → beside < 4 → beside ≢ lost
+    → low ≡ low_other lost beside → high ≡ high_other lost beside → low < 4 → high < 4 → Follows s t
+    → Keeps Anywhere s t
     → ((b : List ℕ) → Stands s m row low b → x ≡ b) → OnDone o ((b : List ℕ) → Stands t m row high b → y ≡ xor x b)
     → OnDone o ((blocks : Blocks) → RowAgrees s m row blocks → y ≡ xor (block blocks beside) (block blocks lost))
 two_sum_done Done s t m row lost beside low high x y ll lb ne is_low is_high ll_low ll_high st keeps first second =
     two_sum s t m row lost beside low high x y ll lb ne is_low is_high ll_low ll_high st keeps first second
 two_sum_done Broken s t m row lost beside low high x y ll lb ne is_low is_high ll_low ll_high st keeps first second = tt
 
-pub three_sum_done : (o : Completion) (s t : SetState) (m : Members) (row lost third : ℕ) (x y : List ℕ) → third < 4 → Follows s t → Keeps Anywhere s t
+pub three_sum_done : (o : Completion) (s t : SetState) (m : Members) (row lost third : ℕ) (x y : List ℕ) → third < 4
+    → Follows s t → Keeps Anywhere s t
     → ((blocks : Blocks) → RowAgrees s m row blocks → x ≡ xor (block blocks third) (block blocks lost))
     → OnDone o ((b : List ℕ) → Stands t m row third b → y ≡ xor x b)
     → OnDone o ((blocks : Blocks) → RowAgrees s m row blocks → y ≡ block blocks lost)
-three_sum_done Done s t m row lost third x y lt st keeps first second = three_sum s t m row lost third x y lt st keeps first second
+three_sum_done Done s t m row lost third x y lt st keeps first second =
+    three_sum s t m row lost third x y lt st keeps first second
 three_sum_done Broken s t m row lost third x y lt st keeps first second = tt
 
 -- a row beside the one that was written agrees on what it agreed on
-pub other_row_agrees : (a b : SetState) (m : Members) (row r : ℕ) (blocks : Blocks) → Follows a b → KeepsButRow m row a b → r ≢ row
+pub other_row_agrees : (a b : SetState) (m : Members) (row r : ℕ) (blocks : Blocks) → Follows a b
+    → KeepsButRow m row a b → r ≢ row
     → RowAgrees a m r blocks → RowAgrees b m r blocks
-other_row_agrees a b m row r blocks ab keeps ne agrees = agrees_kept a b m r blocks ab (λ i lt. keeps.other_rows (member m i) r ne) agrees
+other_row_agrees a b m row r blocks ab keeps ne agrees =
+    agrees_kept a b m r blocks ab (λ i lt. keeps.other_rows (member m i) r ne) agrees

@@ -32,7 +32,8 @@ holds_kept a b m slot bytes ab keeps has = record {
 pub disjoint_holds : (a b : SetState) (m n : Members) (slot : ℕ) (bytes : List ℕ) → Follows a b
     → Keeps (IsOutside n) a b → AreDisjoint m n
     → Holds a m slot bytes → Holds b m slot bytes
-disjoint_holds a b m n slot bytes ab keeps apart has = holds_kept a b m slot bytes ab (disjoint_keeps a b m n apart keeps) has
+disjoint_holds a b m n slot bytes ab keeps apart has =
+    holds_kept a b m slot bytes ab (disjoint_keeps a b m n apart keeps) has
 
 -- and after reads
 pub read_holds : (a b : SetState) (m : Members) (slot : ℕ) (bytes : List ℕ) → Follows a b → Keeps Anywhere a b
@@ -41,7 +42,8 @@ read_holds a b m slot bytes ab keeps has =
     holds_kept a b m slot bytes ab (keeps_fewer Anywhere (IsMember m) a b (λ p is. tt) keeps) has
 
 -- a slot's put leaves all that is outside of its group
-pub keeps_outside : (a b : SetState) (m : Members) (slot : ℕ) → KeepsButRow m (row_of slot) a b → Keeps (IsOutside m) a b
+pub keeps_outside : (a b : SetState) (m : Members) (slot : ℕ) → KeepsButRow m (row_of slot) a b
+    → Keeps (IsOutside m) a b
 keeps_outside a b m slot keeps = keeps.other_places
 
 -- a row agrees on its blocks also without any one disk
@@ -56,7 +58,8 @@ agrees_without s m row blocks d disk agrees = record {
 }
 
 -- a slot outlives the loss of any one disk
-pub holds_without : (s : SetState) (m : Members) (slot : ℕ) (bytes : List ℕ) (d : ℕ) (disk : DiskState) → Holds s m slot bytes
+pub holds_without : (s : SetState) (m : Members) (slot : ℕ) (bytes : List ℕ) (d : ℕ) (disk : DiskState)
+    → Holds s m slot bytes
     → Holds (without_disk s d disk) m slot bytes
 holds_without s m slot bytes d disk has = record {
   blocks = has.blocks;
@@ -65,7 +68,8 @@ holds_without s m slot bytes d disk has = record {
 }
 
 -- on a broken set a slot holds what it held, whatever was written
-pub broken_holds : (a b : SetState) (m : Members) (slot : ℕ) (bytes : List ℕ) → b.geometry ≡ a.geometry → b.health ≡ AllBroken
+pub broken_holds : (a b : SetState) (m : Members) (slot : ℕ) (bytes : List ℕ) → b.geometry ≡ a.geometry
+    → b.health ≡ AllBroken
     → Holds a m slot bytes → Holds b m slot bytes
 broken_holds a b m slot bytes same is has =
     let P : Geometry → Type 0 = λ g. AddUp (block_len_of g) has.blocks in
@@ -82,7 +86,8 @@ pub done_agrees : (s : SetState) (m : Members) (row : ℕ) (blocks : Blocks) →
 done_agrees s m row blocks group agrees rebuilt = record {
   add_up = agrees.add_up;
   stand = λ i lt. record {
-    content_is = content_with_done s (member m i) row (block blocks i) (group.extents i lt) (agrees.stand i lt).content_is
+    content_is =
+        content_with_done s (member m i) row (block blocks i) (group.extents i lt) (agrees.stand i lt).content_is
         (λ same. ap (λ (p : Place). content s p row) same ∙ rebuilt i lt same);
   };
 }

@@ -27,7 +27,8 @@ pub positions_apart : (k slot : ℕ) → row_of k ≡ row_of slot → k ≢ slot
 positions_apart k slot same ne = grind (arith, nat_tests)
 
 -- the slot that was put holds the new block
-pub slot_changed : (a b : SetState) (m : Members) (slot : ℕ) (bytes : List ℕ) → UpdatesStripe a b m (row_of slot) (data_position slot) bytes
+pub slot_changed : (a b : SetState) (m : Members) (slot : ℕ) (bytes : List ℕ)
+    → UpdatesStripe a b m (row_of slot) (data_position slot) bytes
     → (x : List ℕ) → Holds a m slot x → Holds b m slot bytes
 slot_changed a b m slot bytes changes x holds =
     let i = data_position slot in
@@ -35,10 +36,12 @@ slot_changed a b m slot bytes changes x holds =
     record {
       blocks = changed holds.blocks i j bytes;
       agrees = changes.agrees holds.blocks holds.agrees;
-      here = changed-data holds.blocks i j bytes (position_below slot) (parity_below (row_of slot)) (position_apart slot);
+      here = changed-data holds.blocks i j bytes (position_below slot) (parity_below (row_of slot))
+          (position_apart slot);
     }
 
-same_row : (a b : SetState) (m : Members) (slot k : ℕ) (bytes : List ℕ) → UpdatesStripe a b m (row_of slot) (data_position slot) bytes
+same_row : (a b : SetState) (m : Members) (slot k : ℕ) (bytes : List ℕ)
+    → UpdatesStripe a b m (row_of slot) (data_position slot) bytes
     → k ≢ slot → row_of k ≡ row_of slot → (x : List ℕ) → Holds a m k x → Holds b m k x
 same_row a b m slot k bytes changes ne same x holds =
     let i = data_position slot in
@@ -48,7 +51,8 @@ same_row a b m slot k bytes changes ne same x holds =
       blocks = changed holds.blocks i j bytes;
       agrees = subst (λ r. RowAgrees b m r (changed holds.blocks i j bytes)) (sym same) agrees;
       here =
-          changed-other holds.blocks i j (data_position k) bytes (position_below slot) (parity_below (row_of slot)) (position_below k)
+          changed-other holds.blocks i j (data_position k) bytes (position_below slot) (parity_below (row_of slot))
+          (position_below k)
           (positions_apart k slot same ne) (λ e. position_apart k (e ∙ ap parity_position (sym same)))
           ∙ holds.here;
     }
@@ -63,13 +67,15 @@ others_kept a b m slot bytes ab changes keeps k ne x holds =
       | inr q ↦
           record {
             blocks = holds.blocks;
-            agrees = agrees_kept a b m (row_of k) holds.blocks ab (λ i lt. keeps.other_rows (member m i) (row_of k) q.1) holds.agrees;
+            agrees = agrees_kept a b m (row_of k) holds.blocks ab (λ i lt. keeps.other_rows (member m i) (row_of k) q.1)
+                holds.agrees;
             here = holds.here;
           }
     ]
 
 -- where every row agrees on zeros, every slot holds zeros
-pub zero_slots : (s : SetState) (m : Members) (rows n : ℕ) → ((row : ℕ) → row < rows → RowAgrees s m row (zero_blocks n))
+pub zero_slots : (s : SetState) (m : Members) (rows n : ℕ)
+    → ((row : ℕ) → row < rows → RowAgrees s m row (zero_blocks n))
     → (slot : ℕ) → slot < 3 * rows → Holds s m slot (zeros n)
 zero_slots s m rows n all slot lt = record {
   blocks = zero_blocks n;
@@ -78,10 +84,12 @@ zero_slots s m rows n all slot lt = record {
 }
 
 -- the same, where row and position are told by equations
-pub others_kept_at : (a b : SetState) (m : Members) (slot row position : ℕ) (bytes : List ℕ) → row ≡ row_of slot → position ≡ data_position slot
+pub others_kept_at : (a b : SetState) (m : Members) (slot row position : ℕ) (bytes : List ℕ) → row ≡ row_of slot
+    → position ≡ data_position slot
     → Follows a b → UpdatesStripe a b m row position bytes → KeepsButRow m row a b
     → (k : ℕ) → k ≢ slot → (x : List ℕ) → Holds a m k x → Holds b m k x
 others_kept_at a b m slot row position bytes row_is position_is ab changes keeps =
     others_kept a b m slot bytes ab
-    (subst (λ r. UpdatesStripe a b m r (data_position slot) bytes) row_is (subst (λ i. UpdatesStripe a b m row i bytes) position_is changes))
+    (subst (λ r. UpdatesStripe a b m r (data_position slot) bytes) row_is
+    (subst (λ i. UpdatesStripe a b m row i bytes) position_is changes))
     (subst (λ r. KeepsButRow m r a b) row_is keeps)

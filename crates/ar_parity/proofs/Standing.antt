@@ -49,7 +49,8 @@ sum_is s m row (suc (suc (suc zero))) n x lt up others =
 sum_is s m row (suc (suc (suc (suc i)))) n x lt up others = absurd (omega arith)
 
 -- what the members beside a missing one add up to is its block
-pub sum_beside_is : (s : SetState) (m : Members) (row i : ℕ) (blocks : Blocks) → AreApart m → i < 4 → IsMissing s (member m i)
+pub sum_beside_is : (s : SetState) (m : Members) (row i : ℕ) (blocks : Blocks) → AreApart m → i < 4
+    → IsMissing s (member m i)
     → RowAgrees s m row blocks → sum_beside s m row i ≡ block blocks i
 sum_beside_is s m row i blocks apart lt missing agrees =
     sum_is s m row i (block_len_of s.geometry) blocks lt agrees.add_up
@@ -57,7 +58,8 @@ sum_beside_is s m row i blocks apart lt missing agrees =
     (other_sound s (member m i) (member m k) missing (apart i k lt lk (λ e. ne (sym e)))))
 
 -- while the set isn't broken, what stands at a position of a row is the row's block there
-pub standing_at_is : (s : SetState) (m : Members) (row i : ℕ) (blocks : Blocks) → AreApart m → i < 4 → s.health ≢ AllBroken
+pub standing_at_is : (s : SetState) (m : Members) (row i : ℕ) (blocks : Blocks) → AreApart m → i < 4
+    → s.health ≢ AllBroken
     → RowAgrees s m row blocks → standing_at s m row i ≡ block blocks i
 standing_at_is s m row i blocks apart lt healthy agrees =
     let place = member m i in

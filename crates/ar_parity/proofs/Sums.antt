@@ -40,18 +40,21 @@ front s zero (suc (suc (suc zero))) li lj ne = f03 s.first s.second s.third s.fo
 front s zero (suc (suc (suc (suc j)))) li lj ne = absurd (omega arith)
 front s (suc zero) zero li lj ne = s12 s.first s.second s.third s.fourth
 front s (suc zero) (suc zero) li lj ne = absurd (ne refl)
-front s (suc zero) (suc (suc zero)) li lj ne = s12 s.first s.second s.third s.fourth ∙ s23 s.second s.first s.third s.fourth
+front s (suc zero) (suc (suc zero)) li lj ne =
+    s12 s.first s.second s.third s.fourth ∙ s23 s.second s.first s.third s.fourth
 front s (suc zero) (suc (suc (suc zero))) li lj ne =
     s12 s.first s.second s.third s.fourth ∙ f03 s.second s.first s.third s.fourth
 front s (suc zero) (suc (suc (suc (suc j)))) li lj ne = absurd (omega arith)
 front s (suc (suc zero)) zero li lj ne = f20 s.first s.second s.third s.fourth
-front s (suc (suc zero)) (suc zero) li lj ne = f20 s.first s.second s.third s.fourth ∙ s23 s.third s.first s.second s.fourth
+front s (suc (suc zero)) (suc zero) li lj ne =
+    f20 s.first s.second s.third s.fourth ∙ s23 s.third s.first s.second s.fourth
 front s (suc (suc zero)) (suc (suc zero)) li lj ne = absurd (ne refl)
 front s (suc (suc zero)) (suc (suc (suc zero))) li lj ne =
     f20 s.first s.second s.third s.fourth ∙ f03 s.third s.first s.second s.fourth
 front s (suc (suc zero)) (suc (suc (suc (suc j)))) li lj ne = absurd (omega arith)
 front s (suc (suc (suc zero))) zero li lj ne = f30 s.first s.second s.third s.fourth
-front s (suc (suc (suc zero))) (suc zero) li lj ne = f30 s.first s.second s.third s.fourth ∙ s23 s.fourth s.first s.second s.third
+front s (suc (suc (suc zero))) (suc zero) li lj ne =
+    f30 s.first s.second s.third s.fourth ∙ s23 s.fourth s.first s.second s.third
 front s (suc (suc (suc zero))) (suc (suc zero)) li lj ne =
     f30 s.first s.second s.third s.fourth ∙ f03 s.fourth s.first s.second s.third
 front s (suc (suc (suc zero))) (suc (suc (suc zero))) li lj ne = absurd (ne refl)
@@ -61,7 +64,8 @@ front s (suc (suc (suc (suc i)))) j li lj ne = absurd (omega arith)
 -- blocks whose sum is the zero block are equal
 equal_of_sum : (x y : List ℕ) (n : ℕ) → length x ≡ n → length y ≡ n → xor x y ≡ zeros n → x ≡ y
 equal_of_sum x y n lx ly e =
-    sym (xor_cancel x y (lx ∙ sym ly)) ∙ ap (λ z. xor z y) (e ∙ ap zeros (sym ly)) ∙ xor_comm (zeros (length y)) y ∙ xor-zeros y
+    sym (xor_cancel x y (lx ∙ sym ly)) ∙ ap (λ z. xor z y) (e ∙ ap zeros (sym ly)) ∙ xor_comm (zeros (length y)) y
+    ∙ xor-zeros y
 
 length_sum : (x y : List ℕ) (n : ℕ) → length x ≡ n → length y ≡ n → length (xor x y) ≡ n
 length_sum x y n lx ly = length-xor x y (lx ∙ sym ly) ∙ lx
@@ -74,7 +78,8 @@ sum_of_others n s i j up li lj ne =
     let b = block s j in
     let c = block s (low_other i j) in
     let d = block s (high_other i j) in
-    let whole : xor (xor a b) (xor c d) ≡ zeros n = sym (xor_assoc (xor a b) c d) ∙ sym (front s i j li lj ne) ∙ up.sum in
+    let whole : xor (xor a b) (xor c d) ≡ zeros n =
+    sym (xor_assoc (xor a b) c d) ∙ sym (front s i j li lj ne) ∙ up.sum in
     sym (equal_of_sum (xor a b) (xor c d) n (length_sum a b n (up.lengths i) (up.lengths j))
     (length_sum c d n (up.lengths (low_other i j)) (up.lengths (high_other i j))) whole)
     ∙ xor_comm a b
@@ -89,7 +94,8 @@ with_block-same s (suc zero) x = refl
 with_block-same s (suc (suc zero)) x = refl
 with_block-same s (suc (suc (suc i))) x = refl
 
-pub with_block-other : (s : Blocks) (i j : ℕ) (x : List ℕ) → i < 4 → j < 4 → j ≢ i → block (with_block s i x) j ≡ block s j
+pub with_block-other : (s : Blocks) (i j : ℕ) (x : List ℕ) → i < 4 → j < 4 → j ≢ i
+    → block (with_block s i x) j ≡ block s j
 with_block-other s zero zero x li lj ne = absurd (ne refl)
 with_block-other s zero (suc zero) x li lj ne = refl
 with_block-other s zero (suc (suc zero)) x li lj ne = refl
@@ -130,12 +136,15 @@ pub changed-data : (s : Blocks) (i j : ℕ) (x : List ℕ) → i < 4 → j < 4 �
 changed-data s i j x li lj ne =
     with_block-other (with_block s i x) j i (xor (xor (block s j) (block s i)) x) lj li ne ∙ with_block-same s i x
 
-pub changed-parity : (s : Blocks) (i j : ℕ) (x : List ℕ) → block (changed s i j x) j ≡ xor (xor (block s j) (block s i)) x
+pub changed-parity : (s : Blocks) (i j : ℕ) (x : List ℕ)
+    → block (changed s i j x) j ≡ xor (xor (block s j) (block s i)) x
 changed-parity s i j x = with_block-same (with_block s i x) j (xor (xor (block s j) (block s i)) x)
 
-pub changed-other : (s : Blocks) (i j k : ℕ) (x : List ℕ) → i < 4 → j < 4 → k < 4 → k ≢ i → k ≢ j → block (changed s i j x) k ≡ block s k
+pub changed-other : (s : Blocks) (i j k : ℕ) (x : List ℕ) → i < 4 → j < 4 → k < 4 → k ≢ i → k ≢ j
+    → block (changed s i j x) k ≡ block s k
 changed-other s i j k x li lj lk ki kj =
-    with_block-other (with_block s i x) j k (xor (xor (block s j) (block s i)) x) lj lk kj ∙ with_block-other s i k x li lk ki
+    with_block-other (with_block s i x) j k (xor (xor (block s j) (block s i)) x) lj lk kj
+    ∙ with_block-other s i k x li lk ki
 
 pub low_apart : (i j : ℕ) → (low_other i j < 4) × (low_other i j ≢ i) × (low_other i j ≢ j)
 low_apart i j = grind (arith, nat_tests)
@@ -161,12 +170,15 @@ changed-sum n s i j x up li lj ne lx =
     let in_k = changed-other s i j (low_other i j) x li lj low.0 low.1 low.2 in
     let in_l = changed-other s i j (high_other i j) x li lj high.0 high.1 high.2 in
     let first = front (changed s i j x) i j li lj ne in
-    let middle = sum_of_changed n (block s i) (block s j) (block s (low_other i j)) (block s (high_other i j)) x (up.lengths i) (up.lengths j) lx in
+    let middle =
+    sum_of_changed n (block s i) (block s j) (block s (low_other i j)) (block s (high_other i j)) x (up.lengths i)
+    (up.lengths j) lx in
     let last = front s i j li lj ne in
     let sum = up.sum in
     record {
       lengths = with_block-lengths n (with_block s i x) j y (with_block-lengths n s i x up.lengths lx)
-          (length_sum (xor (block s j) (block s i)) x n (length_sum (block s j) (block s i) n (up.lengths j) (up.lengths i)) lx);
+          (length_sum (xor (block s j) (block s i)) x n
+          (length_sum (block s j) (block s i) n (up.lengths j) (up.lengths i)) lx);
       sum = cc;
     }
 

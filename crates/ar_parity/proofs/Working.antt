@@ -14,13 +14,15 @@ use Rattle.std.proofs.lemmas.Bool.Decides.{eqb_tells}
 use Rattle.ar_extents.specs.Groups.{IsGroup, IsMember}
 use Rattle.ar_extents.proofs.Follows.{works_more}
 use Rattle.ar_extents.proofs.Asking.{attempt_follows, unread_lost}
-use Rattle.ar_extents.proofs.Losses.{missing_lost, next_missing, lost_not_sound, lost_missing_or_broken, stays_lost, other_sound}
+use Rattle.ar_extents.proofs.Losses.{missing_lost, next_missing, lost_not_sound, lost_missing_or_broken, stays_lost}
+use Rattle.ar_extents.proofs.Losses.{other_sound}
 use Rattle.ar_parity.specs.Row.{Blocks}
 use Rattle.ar_parity.specs.Group.{RowAgrees}
 use Rattle.ar_parity.proofs.Agrees.{add_up_then, agrees_read}
 
 -- where another disk's extent is lost, a read that fails leaves a set that has failed
-pub unread_beside : (lost p : Place) (row : ℕ) (a b : SetState) → IsLost a lost → lost.disk ≢ p.disk → Attempts (read_at p row) false a b → b.health ≡ Broken
+pub unread_beside : (lost p : Place) (row : ℕ) (a b : SetState) → IsLost a lost → lost.disk ≢ p.disk
+    → Attempts (read_at p row) false a b → b.health ≡ Broken
 unread_beside lost p row a b was apart tried =
     elim (lost_missing_or_broken b lost (stays_lost a b lost (attempt_follows (read_at p row) false a b tried) was)) [
       | inr broken ↦ broken
@@ -28,12 +30,15 @@ unread_beside lost p row a b was apart tried =
     ]
 
 -- work on the one, and on the other of two members
-pub first_of_two : (m : Members) (i j : ℕ) (a b : SetState) → WorksOn (IsPlace (member m i)) a b → WorksOn (IsEither (member m i) (member m j)) a b
-first_of_two m i j a b works = works_more (IsPlace (member m i)) (IsEither (member m i) (member m j)) a b (λ p is. inl is) works
+pub first_of_two : (m : Members) (i j : ℕ) (a b : SetState) → WorksOn (IsPlace (member m i)) a b
+    → WorksOn (IsEither (member m i) (member m j)) a b
+first_of_two m i j a b works =
+    works_more (IsPlace (member m i)) (IsEither (member m i) (member m j)) a b (λ p is. inl is) works
 
 -- The extent that is rebuilt was written, once its group was read: every row agrees on what it agreed on.
 pub rebuilt_agrees : (a b c : SetState) (m : Members) (row : ℕ) → IsRebuilding a.health
-    → WorksOn (IsMember m) a b → Keeps Anywhere a b → b.health ≡ a.health → Follows b c → KeepsBut (next_place b) row b c
+    → WorksOn (IsMember m) a b → Keeps Anywhere a b → b.health ≡ a.health → Follows b c
+    → KeepsBut (next_place b) row b c
     → (r : ℕ) (blocks : Blocks) → RowAgrees a m r blocks → RowAgrees c m r blocks
 rebuilt_agrees a b c m row rebuilding works keeps health bc but r blocks agrees =
     let read = agrees_read a b m r blocks works.follows keeps agrees in
@@ -46,14 +51,16 @@ rebuilt_agrees a b c m row rebuilding works keeps health bc but r blocks agrees 
             (λ is.
             (let P : Health → Type 0 = λ h. IsRebuilding h in
             let Q : Place → Type 0 = λ p. IsSound b p in
-            lost_not_sound b (next_place b) (missing_lost b (next_place b) (next_missing b (subst P (sym health) rebuilding))) (subst Q is before)))
+            lost_not_sound b (next_place b)
+            (missing_lost b (next_place b) (next_missing b (subst P (sym health) rebuilding))) (subst Q is before)))
             r
             ∙ (read.stand i lt).content_is before);
       };
     }
 
 -- while a member is rebuilt, work on the group that doesn't use it leaves its disk
-pub row_unasked : (m : Members) (i : ℕ) (a b : SetState) → IsGroup a m → i < 4 → IsRebuilding a.health → member m i ≡ next_place a → WorksOn (IsMember m) a b
+pub row_unasked : (m : Members) (i : ℕ) (a b : SetState) → IsGroup a m → i < 4 → IsRebuilding a.health
+    → member m i ≡ next_place a → WorksOn (IsMember m) a b
     → LeavesDisks (λ d. d ≡ rebuilt_disk a.health) a b
 row_unasked m i a b group lt rebuilding next works = record {
   disks = λ d is.

@@ -23,7 +23,8 @@ returns-in-Missing-get g c =
     record {
       outcome = search rules;
       gives = search rules;
-      plan = carried_at read_either c.args.members.now c.args.slot _ _ _ _ _ _ c.geometry.ensures pair.one pair.other pair.row
+      plan = carried_at read_either c.args.members.now c.args.slot _ _ _ _ _ _ c.geometry.ensures pair.one pair.other
+          pair.row
           (falls_back _ _ _ _ _ _ c.in-Missing.ensures.made (carries_one _ _ _ _ c.get-in-Missing.ensures.made));
     }
 

@@ -10,14 +10,17 @@ returns-in-Broken-put g c =
     let pair = c.pair_of-pair.ensures in
     let first = c.put.ensures in
     let second = c.put-in-Written.ensures in
-    let written = slot_written c.args.members.now c.args.slot _ _ _ _ _ _ _ c.args.from.now _ _ c.requires.group c.requires.slot c.geometry.ensures pair.one
+    let written =
+    slot_written c.args.members.now c.args.slot _ _ _ _ _ _ _ c.args.from.now _ _ c.requires.group c.requires.slot
+    c.geometry.ensures pair.one
     pair.other pair.row first.answer first.made second.answer second.made in
     record {
       outcome = search rules;
       holds = written.holds;
       slots = written.slots;
       groups = written.groups;
-      plan = carried_at write_pair c.args.members.now c.args.slot _ _ _ _ _ _ c.geometry.ensures pair.one pair.other pair.row
+      plan = carried_at write_pair c.args.members.now c.args.slot _ _ _ _ _ _ c.geometry.ensures pair.one pair.other
+          pair.row
           (carries_both _ _ _ _ _ _ first.made (carries_one _ _ _ _ second.made));
     }
 
@@ -26,14 +29,17 @@ returns-in-Written-put g c =
     let pair = c.pair_of-pair.ensures in
     let first = c.put.ensures in
     let second = c.put-in-Written.ensures in
-    let written = slot_written c.args.members.now c.args.slot _ _ _ _ _ _ _ c.args.from.now _ _ c.requires.group c.requires.slot c.geometry.ensures pair.one
+    let written =
+    slot_written c.args.members.now c.args.slot _ _ _ _ _ _ _ c.args.from.now _ _ c.requires.group c.requires.slot
+    c.geometry.ensures pair.one
     pair.other pair.row first.answer first.made second.answer second.made in
     record {
       outcome = search rules;
       holds = written.holds;
       slots = written.slots;
       groups = written.groups;
-      plan = carried_at write_pair c.args.members.now c.args.slot _ _ _ _ _ _ c.geometry.ensures pair.one pair.other pair.row
+      plan = carried_at write_pair c.args.members.now c.args.slot _ _ _ _ _ _ c.geometry.ensures pair.one pair.other
+          pair.row
           (carries_both _ _ _ _ _ _ first.made (carries_one _ _ _ _ second.made));
     }
 

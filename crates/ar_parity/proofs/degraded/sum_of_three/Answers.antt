@@ -7,7 +7,8 @@ use Rattle.ar_parity.proofs.degraded.sum_of_three.Goals as goal
 
 pub returns-in-Done-clause-block : goal.returns-in-Done-clause-block
 returns-in-Done-clause-block g c =
-    three_sum_done c.add_beside.result c.args.set.now c.sum_of_two.new.set c.args.members.now c.args.row c.args.lost c.another-third.result
+    three_sum_done c.add_beside.result c.args.set.now c.sum_of_two.new.set c.args.members.now c.args.row c.args.lost
+    c.another-third.result
     c.sum_of_two.new.into c.add_beside.new.into c.another-third.ensures.below
     c.in-Done.ensures.works.follows c.in-Done.ensures.keeps c.in-Done.ensures.sum c.add_beside.ensures.bytes
 
@@ -21,7 +22,9 @@ returns-in-Done-clause-works g c =
 
 pub returns-in-Done-clause-made : goal.returns-in-Done-clause-made
 returns-in-Done-clause-made g c =
-    three_read c.args.members.now c.args.lost c.args.row _ _ _ _ _ c.another-third.ensures.next c.in-Done.ensures.made c.add_beside.ensures.made
+    three_read c.args.members.now c.args.lost c.args.row _ _ _ _ _ c.another-third.ensures.next c.in-Done.ensures.made
+    c.add_beside.ensures.made
 
 pub returns-in-Broken-clause-made : goal.returns-in-Broken-clause-made
-returns-in-Broken-clause-made g c = two_failed c.args.members.now c.args.lost c.args.row _ _ _ c.another-third.ensures.next c.in-Broken.ensures.made
+returns-in-Broken-clause-made g c =
+    two_failed c.args.members.now c.args.lost c.args.row _ _ _ c.another-third.ensures.next c.in-Broken.ensures.made

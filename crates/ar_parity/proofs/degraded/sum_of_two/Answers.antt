@@ -7,7 +7,8 @@ use Rattle.ar_parity.proofs.degraded.sum_of_two.Goals as goal
 
 pub returns-in-Done-clause-sum : goal.returns-in-Done-clause-sum
 returns-in-Done-clause-sum g c =
-    two_sum_done c.add_beside.result c.args.set.now c.read_beside.new.set c.args.members.now c.args.row c.args.lost c.args.beside
+    two_sum_done c.add_beside.result c.args.set.now c.read_beside.new.set c.args.members.now c.args.row c.args.lost
+    c.args.beside
     c.lowest_beside-low.result c.highest_beside-high.result c.read_beside.new.into c.add_beside.new.into
     c.requires.lost_below c.requires.below c.requires.apart c.lowest_beside-low.ensures.position
     c.highest_beside-high.ensures.position c.lowest_beside-low.ensures.below c.highest_beside-high.ensures.below
@@ -19,14 +20,17 @@ returns-in-Done-clause-works g c =
     let a = c.args.set.now in
     let b = c.read_beside.new.set in
     let d = c.add_beside.new.set in
-    works_then (IsMember m) a b d (works_member m c.lowest_beside-low.result a b c.lowest_beside-low.ensures.below c.in-Done.ensures.works)
+    works_then (IsMember m) a b d
+    (works_member m c.lowest_beside-low.result a b c.lowest_beside-low.ensures.below c.in-Done.ensures.works)
     (works_member m c.highest_beside-high.result b d c.highest_beside-high.ensures.below c.add_beside.ensures.works)
 
 pub returns-in-Done-clause-made : goal.returns-in-Done-clause-made
 returns-in-Done-clause-made g c =
-    two_read c.args.members.now c.args.lost c.args.beside c.args.row _ _ _ _ _ _ c.lowest_beside-low.ensures.position c.highest_beside-high.ensures.position
+    two_read c.args.members.now c.args.lost c.args.beside c.args.row _ _ _ _ _ _ c.lowest_beside-low.ensures.position
+    c.highest_beside-high.ensures.position
     c.in-Done.ensures.made c.add_beside.ensures.made
 
 pub returns-in-Broken-clause-made : goal.returns-in-Broken-clause-made
 returns-in-Broken-clause-made g c =
-    first_failed c.args.members.now c.args.lost c.args.beside c.args.row _ _ _ c.lowest_beside-low.ensures.position c.in-Broken.ensures.made
+    first_failed c.args.members.now c.args.lost c.args.beside c.args.row _ _ _ c.lowest_beside-low.ensures.position
+    c.in-Broken.ensures.made

@@ -17,7 +17,8 @@ invariant-loop-row g l = record {
   keeps : Keeps (IsOutside l.members) l.initial.set l.set;
   agrees : (r : ℕ) → r < l.row → RowAgrees l.set l.members r (zero_blocks (block_len_of l.initial.set.geometry));
   past : (p : Place) (r : ℕ) → l.row ≤ r → content l.set p r ≡ content l.initial.set p r;
-  plan : (new : SetState) → CarriesOut (each_of (stripes_from l.members l.row (rows_of l.initial.set.geometry - l.row))) l.set new
+  plan : (new : SetState)
+      → CarriesOut (each_of (stripes_from l.members l.row (rows_of l.initial.set.geometry - l.row))) l.set new
       → CarriesOut (each_of (stripes_from l.members 0 (rows_of l.initial.set.geometry))) l.initial.set new;
   healthy : 0 < l.row → l.set.health ≢ AllBroken;
 }

@@ -15,7 +15,8 @@ returns-clause-slots g c =
     let row = c.row_of_slot.result in
     let j = parity_position row in
     let told = stripe_told m i j row a b c.data_at.ensures.below (omega arith) c.change.ensures.plan in
-    others_kept_at a b m c.args.slot row i c.args.from.now c.row_of_slot.ensures c.data_at.ensures.position told.works.follows c.change.ensures.changes
+    others_kept_at a b m c.args.slot row i c.args.from.now c.row_of_slot.ensures c.data_at.ensures.position
+    told.works.follows c.change.ensures.changes
     (stripe_keeps m i j row a b c.data_at.ensures.below (omega arith) told)
 
 pub returns-clause-outcome : goal.returns-clause-outcome
@@ -23,4 +24,5 @@ returns-clause-outcome g c = outcome_told c.change.new.set c.change.result c.cha
 
 pub returns-clause-plan : goal.returns-clause-plan
 returns-clause-plan g c =
-    write_carried c.args.members.now c.args.slot _ _ _ _ c.data_at.ensures.position c.row_of_slot.ensures c.change.ensures.plan
+    write_carried c.args.members.now c.args.slot _ _ _ _ c.data_at.ensures.position c.row_of_slot.ensures
+    c.change.ensures.plan

@@ -12,13 +12,19 @@ returns-in-Written g c = record {
   here = search rules;
   keeps = search rules;
   works = search rules;
-  plan = carries_one _ _ _ _ (attempt_at (λ p. write_at p c.args.row) _ _ (member c.args.members.now c.args.position) _ _ c.at.ensures c.put.ensures.made);
+  plan = carries_one _ _ _ _
+      (attempt_at (λ p. write_at p c.args.row) _ _ (member c.args.members.now c.args.position) _ _ c.at.ensures
+      c.put.ensures.made);
 }
 
 pub returns-in-Broken-clause-works : goal.returns-in-Broken-clause-works
 returns-in-Broken-clause-works g c =
-    write_works _ _ _ _ _ (attempt_at (λ p. write_at p c.args.row) _ _ (member c.args.members.now c.args.position) _ _ c.at.ensures c.put.ensures.made)
+    write_works _ _ _ _ _
+    (attempt_at (λ p. write_at p c.args.row) _ _ (member c.args.members.now c.args.position) _ _ c.at.ensures
+    c.put.ensures.made)
 
 pub returns-in-Broken-clause-plan : goal.returns-in-Broken-clause-plan
 returns-in-Broken-clause-plan g c =
-    carries_one _ _ _ _ (attempt_at (λ p. write_at p c.args.row) _ _ (member c.args.members.now c.args.position) _ _ c.at.ensures c.put.ensures.made)
+    carries_one _ _ _ _
+    (attempt_at (λ p. write_at p c.args.row) _ _ (member c.args.members.now c.args.position) _ _ c.at.ensures
+    c.put.ensures.made)

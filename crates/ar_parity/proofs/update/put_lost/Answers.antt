@@ -8,16 +8,20 @@ use Rattle.ar_parity.proofs.update.put_lost.Goals as goal
 
 pub returns-in-Done-clause-agrees : goal.returns-in-Done-clause-agrees
 returns-in-Done-clause-agrees g c =
-    lost_changed c.args.set.now c.sum_of_two.new.set c.write.new.set c.args.members.now c.args.row c.args.position c.parity_at-parity.result
+    lost_changed c.args.set.now c.sum_of_two.new.set c.write.new.set c.args.members.now c.args.row c.args.position
+    c.parity_at-parity.result
     (parity_position c.args.row) c.args.from.now c.sum_of_two.new.into c.add_into.new.target c.requires.group.apart
     c.parity_at-parity.ensures.position c.requires.below c.parity_at-parity.ensures.below c.requires.apart
-    c.requires.whole c.requires.lost c.in-Done.ensures.works.follows c.in-Done.ensures.keeps c.write.ensures.works.follows c.write.ensures.keeps
+    c.requires.whole c.requires.lost c.in-Done.ensures.works.follows c.in-Done.ensures.keeps
+    c.write.ensures.works.follows c.write.ensures.keeps
     c.add_into.ensures c.write.ensures.here c.in-Done.ensures.sum
 
 pub returns-in-Broken-clause-agrees : goal.returns-in-Broken-clause-agrees
 returns-in-Broken-clause-agrees g c =
-    broken_changed c.args.set.now c.sum_of_two.new.set c.args.members.now c.args.row c.args.position (parity_position c.args.row) c.args.from.now
-    c.in-Broken.ensures.works.follows c.in-Broken.ensures.answer c.requires.below (omega arith) c.requires.apart c.requires.whole
+    broken_changed c.args.set.now c.sum_of_two.new.set c.args.members.now c.args.row c.args.position
+    (parity_position c.args.row) c.args.from.now
+    c.in-Broken.ensures.works.follows c.in-Broken.ensures.answer c.requires.below (omega arith) c.requires.apart
+    c.requires.whole
 
 pub returns-in-Done-clause-plan : goal.returns-in-Done-clause-plan
 returns-in-Done-clause-plan g c =

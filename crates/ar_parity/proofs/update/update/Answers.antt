@@ -14,23 +14,33 @@ use Rattle.ar_parity.proofs.update.update.Goals as goal
 
 pub returns-in-Read-clause-agrees : goal.returns-in-Read-clause-agrees
 returns-in-Read-clause-agrees g c =
-    both_changed c.args.set.now c.get.new.self c.write_both.new.set c.args.members.now c.args.row c.args.position c.parity_at-parity.result
-    (parity_position c.args.row) c.at.result c.args.from.now c.args.before.now c.get.new.into (xor c.get.new.into c.args.before.now) c.add_both_into.new.target
-    c.at.ensures c.parity_at-parity.ensures.position c.requires.below c.parity_at-parity.ensures.below c.requires.apart c.requires.whole
-    (attempt_follows _ _ _ _ c.get.ensures.made) (read_changes_none _ _ _ _ _ c.get.ensures.made) c.in-Read.ensures.answer refl c.add_both_into.ensures
-    (plan_follows _ _ _ c.write_both.ensures.plan) c.write_both.ensures.block c.write_both.ensures.parity c.write_both.ensures.others
+    both_changed c.args.set.now c.get.new.self c.write_both.new.set c.args.members.now c.args.row c.args.position
+    c.parity_at-parity.result
+    (parity_position c.args.row) c.at.result c.args.from.now c.args.before.now c.get.new.into
+    (xor c.get.new.into c.args.before.now) c.add_both_into.new.target
+    c.at.ensures c.parity_at-parity.ensures.position c.requires.below c.parity_at-parity.ensures.below c.requires.apart
+    c.requires.whole
+    (attempt_follows _ _ _ _ c.get.ensures.made) (read_changes_none _ _ _ _ _ c.get.ensures.made)
+    c.in-Read.ensures.answer refl c.add_both_into.ensures
+    (plan_follows _ _ _ c.write_both.ensures.plan) c.write_both.ensures.block c.write_both.ensures.parity
+    c.write_both.ensures.others
 
 pub returns-in-Missing-clause-agrees : goal.returns-in-Missing-clause-agrees
 returns-in-Missing-clause-agrees g c = λ blocks agrees before.
-    alone_changed c.args.set.now c.get.new.self c.write.new.set c.args.members.now c.args.row c.args.position c.parity_at-parity.result
-    (parity_position c.args.row) c.at.result c.args.from.now c.requires.group.apart c.at.ensures c.parity_at-parity.ensures.position c.requires.below
-    c.parity_at-parity.ensures.below c.requires.apart c.requires.whole (attempt_follows _ _ _ _ c.get.ensures.made) (read_changes_none _ _ _ _ _ c.get.ensures.made) c.in-Missing.ensures.answer
+    alone_changed c.args.set.now c.get.new.self c.write.new.set c.args.members.now c.args.row c.args.position
+    c.parity_at-parity.result
+    (parity_position c.args.row) c.at.result c.args.from.now c.requires.group.apart c.at.ensures
+    c.parity_at-parity.ensures.position c.requires.below
+    c.parity_at-parity.ensures.below c.requires.apart c.requires.whole (attempt_follows _ _ _ _ c.get.ensures.made)
+    (read_changes_none _ _ _ _ _ c.get.ensures.made) c.in-Missing.ensures.answer
     c.write.ensures.works.follows c.write.ensures.keeps c.write.ensures.here blocks agrees
 
 pub returns-in-Broken-clause-agrees : goal.returns-in-Broken-clause-agrees
 returns-in-Broken-clause-agrees g c = λ blocks agrees before.
-    broken_changed c.args.set.now c.get.new.self c.args.members.now c.args.row c.args.position (parity_position c.args.row) c.args.from.now
-    (attempt_follows _ _ _ _ c.get.ensures.made) c.in-Broken.ensures.answer c.requires.below (omega arith) c.requires.apart c.requires.whole blocks agrees
+    broken_changed c.args.set.now c.get.new.self c.args.members.now c.args.row c.args.position
+    (parity_position c.args.row) c.args.from.now
+    (attempt_follows _ _ _ _ c.get.ensures.made) c.in-Broken.ensures.answer c.requires.below (omega arith)
+    c.requires.apart c.requires.whole blocks agrees
 
 pub returns-in-Read-clause-plan : goal.returns-in-Read-clause-plan
 returns-in-Read-clause-plan g c =
@@ -38,8 +48,10 @@ returns-in-Read-clause-plan g c =
     let i = c.args.position in
     let row = c.args.row in
     carried_to (λ j. write_known m i j row) _ _ _ _ c.parity_at-parity.ensures.position
-    (goes_on (read_at (member m c.parity_at-parity.result) row) (write_two m i c.parity_at-parity.result row) (write_member m i row) _ _ _
-    (attempt_at (λ p. read_at p row) _ _ (member m c.parity_at-parity.result) _ _ c.at.ensures c.in-Read.ensures.made) c.write_both.ensures.plan)
+    (goes_on (read_at (member m c.parity_at-parity.result) row) (write_two m i c.parity_at-parity.result row)
+    (write_member m i row) _ _ _
+    (attempt_at (λ p. read_at p row) _ _ (member m c.parity_at-parity.result) _ _ c.at.ensures c.in-Read.ensures.made)
+    c.write_both.ensures.plan)
 
 pub returns-in-Missing-clause-plan : goal.returns-in-Missing-clause-plan
 returns-in-Missing-clause-plan g c =
@@ -47,8 +59,10 @@ returns-in-Missing-clause-plan g c =
     let i = c.args.position in
     let row = c.args.row in
     carried_to (λ j. write_known m i j row) _ _ _ _ c.parity_at-parity.ensures.position
-    (falls_back (read_at (member m c.parity_at-parity.result) row) (write_two m i c.parity_at-parity.result row) (write_member m i row) _ _ _
-    (attempt_at (λ p. read_at p row) _ _ (member m c.parity_at-parity.result) _ _ c.at.ensures c.in-Missing.ensures.made) c.write.ensures.plan)
+    (falls_back (read_at (member m c.parity_at-parity.result) row) (write_two m i c.parity_at-parity.result row)
+    (write_member m i row) _ _ _
+    (attempt_at (λ p. read_at p row) _ _ (member m c.parity_at-parity.result) _ _ c.at.ensures
+    c.in-Missing.ensures.made) c.write.ensures.plan)
 
 pub returns-in-Broken-clause-plan : goal.returns-in-Broken-clause-plan
 returns-in-Broken-clause-plan g c =
@@ -56,6 +70,7 @@ returns-in-Broken-clause-plan g c =
     let i = c.args.position in
     let row = c.args.row in
     carried_to (λ j. write_known m i j row) _ _ _ _ c.parity_at-parity.ensures.position
-    (falls_back (read_at (member m c.parity_at-parity.result) row) (write_two m i c.parity_at-parity.result row) (write_member m i row) _ _ _
+    (falls_back (read_at (member m c.parity_at-parity.result) row) (write_two m i c.parity_at-parity.result row)
+    (write_member m i row) _ _ _
     (attempt_at (λ p. read_at p row) _ _ (member m c.parity_at-parity.result) _ _ c.at.ensures c.in-Broken.ensures.made)
     (carries_broken (write_member m i row) _ c.in-Broken.ensures.answer))

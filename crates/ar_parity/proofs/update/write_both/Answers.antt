@@ -7,4 +7,5 @@ returns-in-Done-clause-plan g c = one_then _ _ _ _ _ c.write.ensures.plan c.writ
 
 pub returns-in-Broken-clause-plan : goal.returns-in-Broken-clause-plan
 returns-in-Broken-clause-plan g c =
-    one_then _ _ _ _ _ c.write.ensures.plan (carries_broken (write_member c.args.members.now c.args.parity c.args.row) _ c.in-Broken.ensures.answer)
+    one_then _ _ _ _ _ c.write.ensures.plan
+    (carries_broken (write_member c.args.members.now c.args.parity c.args.row) _ c.in-Broken.ensures.answer)

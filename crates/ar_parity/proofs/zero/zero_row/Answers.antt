@@ -11,12 +11,14 @@ use Rattle.ar_parity.proofs.zero.zero_row.Goals as goal
 
 pub write-requires-clause-whole : goal.write-requires-clause-whole
 write-requires-clause-whole g c =
-    ap length c.requires.zero ∙ length-zeros (block_len_of c.args.set.now.geometry) ∙ ap block_len_of (sym c.loop-position.invariant.works.follows.geometry)
+    ap length c.requires.zero ∙ length-zeros (block_len_of c.args.set.now.geometry)
+    ∙ ap block_len_of (sym c.loop-position.invariant.works.follows.geometry)
 
 pub returns-in-Broken-clause-agrees : goal.returns-in-Broken-clause-agrees
 returns-in-Broken-clause-agrees g c =
     broken_zero_agrees c.args.set.now c.write.new.set c.args.members.now c.args.row
-    (follows_then c.args.set.now c.loop-position.set c.write.new.set c.loop-position.invariant.works.follows c.write.ensures.works.follows)
+    (follows_then c.args.set.now c.loop-position.set c.write.new.set c.loop-position.invariant.works.follows
+    c.write.ensures.works.follows)
     c.in-Broken.ensures.answer
 
 pub loop-position-preserved : goal.loop-position-preserved
@@ -25,19 +27,25 @@ loop-position-preserved g c =
     let below = c.loop-position-test.true in
     record {
       works = works_then (IsMember c.args.members.now) c.args.set.now c.loop-position.set c.write.new.set inv.works
-          (works_member c.args.members.now c.loop-position.position c.loop-position.set c.write.new.set below c.write.ensures.works);
-      keeps = row_then c.args.set.now c.loop-position.set c.write.new.set c.args.members.now c.args.row c.loop-position.position below inv.keeps c.write.ensures.keeps;
-      stands = stands_then c.loop-position.set c.write.new.set c.args.members.now c.args.row c.loop-position.position c.args.zero.now c.requires.group.apart
+          (works_member c.args.members.now c.loop-position.position c.loop-position.set c.write.new.set below
+          c.write.ensures.works);
+      keeps = row_then c.args.set.now c.loop-position.set c.write.new.set c.args.members.now c.args.row
+          c.loop-position.position below inv.keeps c.write.ensures.keeps;
+      stands = stands_then c.loop-position.set c.write.new.set c.args.members.now c.args.row c.loop-position.position
+          c.args.zero.now c.requires.group.apart
           below c.write.ensures.works.follows c.write.ensures.keeps inv.stands c.write.ensures.here;
       plan = λ new rest.
-          inv.plan new (next_written c.args.members.now c.args.row c.loop-position.position 4 c.loop-position.set c.write.new.set new below c.write.ensures.plan rest);
+          inv.plan new
+          (next_written c.args.members.now c.args.row c.loop-position.position 4 c.loop-position.set c.write.new.set
+          new below c.write.ensures.plan rest);
       healthy = λ lt. c.in-Done.ensures.answer;
     }
 
 pub returns-clause-agrees : goal.returns-clause-agrees
 returns-clause-agrees g c =
     let inv = c.loop-position.invariant in
-    zero_agrees c.args.set.now c.loop-position.set c.args.members.now c.args.row c.args.zero.now c.requires.zero inv.works.follows
+    zero_agrees c.args.set.now c.loop-position.set c.args.members.now c.args.row c.args.zero.now c.requires.zero
+    inv.works.follows
     (λ i lt. inv.stands i (omega arith))
 
 pub returns-in-Broken-clause-works : goal.returns-in-Broken-clause-works
@@ -51,7 +59,9 @@ returns-in-Broken-clause-works g c =
 pub returns-clause-plan : goal.returns-clause-plan
 returns-clause-plan g c =
     let inv = c.loop-position.invariant in
-    inv.plan c.loop-position.set (all_written c.args.members.now c.args.row c.loop-position.position (4 - c.loop-position.position) c.loop-position.set (omega arith))
+    inv.plan c.loop-position.set
+    (all_written c.args.members.now c.args.row c.loop-position.position (4 - c.loop-position.position)
+    c.loop-position.set (omega arith))
 
 pub returns-in-Broken-clause-plan : goal.returns-in-Broken-clause-plan
 returns-in-Broken-clause-plan g c =
@@ -59,5 +69,6 @@ returns-in-Broken-clause-plan g c =
     let m = c.args.members.now in
     let i = c.loop-position.position in
     inv.plan c.write.new.set
-    (next_written m c.args.row i 4 c.loop-position.set c.write.new.set c.write.new.set c.loop-position-test.true c.write.ensures.plan
+    (next_written m c.args.row i 4 c.loop-position.set c.write.new.set c.write.new.set c.loop-position-test.true
+    c.write.ensures.plan
     (carries_broken _ c.write.new.set c.in-Broken.ensures.answer))

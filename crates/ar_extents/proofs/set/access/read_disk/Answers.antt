@@ -4,8 +4,10 @@ use Rattle.ar_extents.proofs.set.access.read_disk.Goals as goal
 
 pub returns-clause-read : goal.returns-clause-read
 returns-clause-read g c =
-    Reads-map_set g.D.Disk.state c.args.disks.now.items c.args.place.disk c.index_mut-disk.result.now c.read-answered.new.self c.args.place.extent c.args.row c.read-answered.result c.read-answered.new.into
+    Reads-map_set g.D.Disk.state c.args.disks.now.items c.args.place.disk c.index_mut-disk.result.now
+    c.read-answered.new.self c.args.place.extent c.args.row c.read-answered.result c.read-answered.new.into
     (omega (arith, c.args.disks.now.ok.0)) c.index_mut-disk.ensures.value c.read-answered.ensures.read
 
 pub returns-clause-others : goal.returns-clause-others
-returns-clause-others g c = OthersStay-map_set g.D.Disk.state c.args.disks.now.items c.args.place.disk c.read-answered.new.self
+returns-clause-others g c =
+    OthersStay-map_set g.D.Disk.state c.args.disks.now.items c.args.place.disk c.read-answered.new.self

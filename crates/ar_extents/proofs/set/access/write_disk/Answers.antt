@@ -4,8 +4,10 @@ use Rattle.ar_extents.proofs.set.access.write_disk.Goals as goal
 
 pub returns-clause-written : goal.returns-clause-written
 returns-clause-written g c =
-    Writes-map_set g.D.Disk.state c.args.disks.now.items c.args.place.disk c.index_mut-disk.result.now c.write-answered.new.self c.args.place.extent c.args.row c.write-answered.result c.args.from.now
+    Writes-map_set g.D.Disk.state c.args.disks.now.items c.args.place.disk c.index_mut-disk.result.now
+    c.write-answered.new.self c.args.place.extent c.args.row c.write-answered.result c.args.from.now
     (omega (arith, c.args.disks.now.ok.0)) c.index_mut-disk.ensures.value c.write-answered.ensures.written
 
 pub returns-clause-others : goal.returns-clause-others
-returns-clause-others g c = OthersStay-map_set g.D.Disk.state c.args.disks.now.items c.args.place.disk c.write-answered.new.self
+returns-clause-others g c =
+    OthersStay-map_set g.D.Disk.state c.args.disks.now.items c.args.place.disk c.write-answered.new.self
