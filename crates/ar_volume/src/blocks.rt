@@ -5,8 +5,8 @@ ghost use Rattle.ar_disks.specs.declared.address.Key.{Key};
 ghost use Rattle.ar_disks.specs.Block.{zeros};
 ghost use Rattle.ar_disks.specs.Geometry.{block_len_of, rows_of};
 ghost use Rattle.ar_extents.specs.Set.{HasExtent};
-ghost use Rattle.ar_extents.specs.Access.{Accesses, Gets, is_read};
-ghost use Rattle.ar_extents.specs.Follows.{Keeps, Anywhere};
+ghost use Rattle.ar_extents.specs.Access.{Gets, is_read};
+ghost use Rattle.ar_extents.specs.Plans.{Attempts, read_at};
 ghost use Rattle.ar_book.specs.Tables.{has_unit};
 ghost use Rattle.ar_cache.specs.Cache.{cached};
 ghost use Rattle.ar_volume.specs.Image.{is_broken, geometry_of, seen_at, knows_in, attention_at};
@@ -267,9 +267,9 @@ impl<D: Disk> Blocks<D> {
         requires whole { length into.old ≡ block_len_of (geometry_of self.old) }
 
         ensures answer { Gets self.old.store.disks self.new.store.disks place row into.new result }
-        ensures access { Accesses self.old.store.disks self.new.store.disks place (is_read result) }
+        // Exactly this access is made: one read, or none where the extent is lost.
+        ensures made { Attempts (read_at place row) (is_read result) self.old.store.disks self.new.store.disks }
 
-        ensures keeps { Keeps Anywhere self.old.store.disks self.new.store.disks }
         ensures places { SamePlaces self.old self.new }
         ensures seen { is_broken self.new ≡ false → SameSeen self.old self.new }
         ensures follows { ArrayFollows self.old self.new }
