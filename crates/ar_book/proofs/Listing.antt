@@ -1,16 +1,17 @@
 -- The directory of units has the place of each.
-use Rattle.std.proofs.Common.{◌≡◌, ◌≢◌, if◌then◌else◌, ℕ, ◌+◌, ◌*◌, ◌<◌, ◌≤◌, Bool, true, false, not, cond, eqb, nat_lt}
+use Rattle.std.proofs.Common.{◌≡◌, if◌then◌else◌, ℕ, zero, suc, ◌+◌, ◌*◌, ◌<◌, ◌≤◌, Bool, true, false, not, cond, nat_lt}
 use Rattle.std.proofs.Common.{Option, None, Some, IsSome, is_some, List, [], ◌∷◌, ◌++◌, length, get_or, set, take}
 use Rattle.std.proofs.Common.{slice_get, position, replicate, refl, sym, ap, subst, ◌∙◌, inl, inr, arith, true≢false}
 use Rattle.std.proofs.Common.{get_or-set_same, get_or-set_other, lt-ltb, le-ltb, length-append, append_assoc, drop}
 use Rattle.std.specs.List.{position_or_len, IsDistinct}
-use Rattle.std.specs.Map.{lookup, keys_of, values_of, remove_entry}
+use Rattle.std.specs.Map.{lookup, keys_of, values_of, set_value, remove_entry}
+use Rattle.indexmap.specs.Layout.{set_value_at}
 use Rattle.std.proofs.lemmas.List.{get_or_past, get_or-replicate, length-set, length-take, take_more, take-append-drop}
 use Rattle.std.proofs.lemmas.List.Folds.{position_or_len_push}
 use Rattle.std.proofs.lemmas.List.Sums.{prefix_len-le-length}
 use Rattle.std.proofs.lemmas.Bool.{cases_lt, le-leb}
 use Rattle.std.proofs.lemmas.Bool.Decides.{eqb_tells, leb_tells}
-use Rattle.std.specs.Option.{option_map}
+use Rattle.std.specs.Option.{option_map, unwrap_or}
 use Rattle.std.proofs.lemmas.Option.{slice_get-map, slice_get_within, get_or_from_slice_get}
 use Rattle.std.proofs.lemmas.Map.Entries.{length-keys_of}
 use Rattle.indexmap.proofs.MapLemmas.{some_index, absent_before, Found-position, Missing-position}
@@ -18,7 +19,7 @@ use Rattle.ar_disks.specs.declared.address.Addr.{Addr}
 use Rattle.ar_disks.specs.Addresses.{same_addr}
 use Rattle.ar_disks.proofs.Addresses.{make_addr, same_host, addr_tells, same_addr_self, addr_apart, addr_laws}
 use Rattle.ar_index.proofs.Orders.{no_place}
-use Rattle.ar_book.specs.Tables.{UnitTableState}
+use Rattle.ar_book.specs.Tables.{UnitTableState, unit_in, no_unit}
 use Rattle.ar_book.specs.Listing.{spot_of, AreListed, HaveSpots}
 
 spot_low : (a : Addr) → a.lun ≤ 7 → spot_of a ≡ 8 * a.host.number + a.lun
@@ -183,6 +184,36 @@ same_listed places es fs same listed =
 pub at_place : (es : List (Addr × UnitTableState)) (a : Addr) (place : ℕ)
     → position (same_addr a) (keys_of es) ≡ Some place → lookup (same_addr a) es ≡ slice_get (values_of es) place
 at_place es a place found = (Found-position (same_addr a) es place found).value
+
+-- a value written at the first place at which a test passes is that of its first entry
+put_first : {K X : Type 0} (test : K → Bool) (es : List (K × X)) (place : ℕ) (w : X) → position_or_len test (keys_of es) ≡ place
+    → set_value_at es place w ≡ set_value test es w
+put_first test [] place w first = refl
+put_first test (e ∷ es) place w first = by (test e.0) refl place first (λ i. put_first test es i w)
+  where
+    next : (b : Bool) → test e.0 ≡ b → position_or_len test (keys_of (e ∷ es)) ≡ cond (not b) (1 + position_or_len test (keys_of es)) 0
+    next b is = ap (λ b. cond (not b) (1 + position_or_len test (keys_of es)) 0) is
+
+    set : (b : Bool) → test e.0 ≡ b → cond b ((e.0, w) ∷ es) (e ∷ set_value test es w) ≡ set_value test (e ∷ es) w
+    set b is = sym (ap (λ b. cond b ((e.0, w) ∷ es) (e ∷ set_value test es w)) is)
+
+    by : (b : Bool) → test e.0 ≡ b → (i : ℕ) → position_or_len test (keys_of (e ∷ es)) ≡ i
+        → ((j : ℕ) → position_or_len test (keys_of es) ≡ j → set_value_at es j w ≡ set_value test es w)
+        → set_value_at (e ∷ es) i w ≡ set_value test (e ∷ es) w
+    by true is zero at rest = set true is
+    by true is (suc i) at rest = absurd (let here = next true is in omega arith)
+    by false is zero at rest = absurd (let more = next false is in omega arith)
+    by false is (suc i) at rest = ap (λ l. e ∷ l) (rest i (let more = next false is in omega arith)) ∙ set false is
+
+-- a value written at the place of an address is that of its unit
+pub put_at_place : (es : List (Addr × UnitTableState)) (a : Addr) (place : ℕ) (u : UnitTableState)
+    → position (same_addr a) (keys_of es) ≡ Some place → set_value_at es place u ≡ set_value (same_addr a) es u
+put_at_place es a place u found = put_first (same_addr a) es place u (Found-position (same_addr a) es place found).or_len
+
+-- the unit read at the place of an address
+pub unit_at_place : (es : List (Addr × UnitTableState)) (a : Addr) (place : ℕ) (u : UnitTableState)
+    → position (same_addr a) (keys_of es) ≡ Some place → Some u ≡ slice_get (values_of es) place → unit_in es a ≡ u
+unit_at_place es a place u found at = ap (λ o. unwrap_or o no_unit) (at_place es a place found ∙ sym at)
 
 pub no_unit_there : (es : List (Addr × UnitTableState)) (a : Addr) → position (same_addr a) (keys_of es) ≡ None
     → lookup (same_addr a) es ≡ None

@@ -84,7 +84,9 @@ pub(crate) fn set_home(units: &mut Units, key: Key, home: Option<Slot>)
     requires { key.rb < length (unit_in units.old.entries key.addr).homes }
     ensures { units.new.entries ≡ homed units.old.entries key home }
 {
-    unit_map::set_home(&mut units.map, key, home);
+    if let Some(place) = units.place(key.addr) {
+        unit_map::set_home(&mut units.map, place, key, home);
+    }
 }
 
 /// Sets the stamp of a unit's block and returns its home: one look-up serves both.
@@ -93,7 +95,10 @@ pub(crate) fn restamp(units: &mut Units, key: Key, stamp: u64) -> Option<Slot>
     ensures home { result ≡ home_in units.old.entries key }
     ensures stamp { units.new.entries ≡ restamped units.old.entries key stamp }
 {
-    unit_map::restamp(&mut units.map, key, stamp)
+    let Some(place) = units.place(key.addr) else {
+        return None;
+    };
+    unit_map::restamp(&mut units.map, place, key, stamp)
 }
 
 /// Extends an existing unit to `sectors` sectors, and a UNIT ATTENTION is pending. On `AllocError` nothing changes.

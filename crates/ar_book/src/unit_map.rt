@@ -1,5 +1,5 @@
 // Changes of the map of units, in order of creation. The directory of units is kept beside it.
-ghost use Rattle.std.specs.Prelude.{◌≡◌, ◌<◌, ◌≤◌, length, ◌++◌, [], ◌∷◌, false, None, OnOk, OnErr, IfNone, IsSome};
+ghost use Rattle.std.specs.Prelude.{◌≡◌, ◌<◌, ◌≤◌, length, position, ◌++◌, [], ◌∷◌, false, None, Some, OnOk, OnErr, IfNone, IsSome};
 ghost use Rattle.std.specs.Map.{lookup, keys_of, set_value, remove_entry};
 ghost use Rattle.std.specs.List.{IsDistinct};
 ghost use Rattle.ar_disks.specs.Addresses.{same_addr};
@@ -11,23 +11,35 @@ use ar_disks::{Addr, Geometry, Key};
 use indexmap::IndexMap;
 use std::alloc::{AllocError, Global};
 
-/// Sets the home of a unit's block.
-pub(crate) fn set_home(units: &mut IndexMap<Addr, UnitTable>, key: Key, home: Option<Slot>)
-    requires { key.rb < length (unit_in units.old.entries key.addr).homes }
+/// Sets the home of a block of the unit at `place`, which needs no hash.
+pub(crate) fn set_home(
+    units: &mut IndexMap<Addr, UnitTable>,
+    place: usize,
+    key: Key,
+    home: Option<Slot>,
+)
+    requires place { position (same_addr key.addr) (keys_of units.old.entries) ≡ Some place }
+    requires block { key.rb < length (unit_in units.old.entries key.addr).homes }
     ensures { units.new.entries ≡ homed units.old.entries key home }
 {
-    if let Some(unit) = units.get_mut(&key.addr) {
+    if let Some(unit) = units.get_index_mut(place) {
         unit.set_home(key.rb, home);
     }
 }
 
-/// Sets the stamp of a unit's block and returns its home: one look-up serves both.
-pub(crate) fn restamp(units: &mut IndexMap<Addr, UnitTable>, key: Key, stamp: u64) -> Option<Slot>
-    requires { key.rb < length (unit_in units.old.entries key.addr).stamps }
+/// Sets the stamp of a block of the unit at `place`, and returns its home.
+pub(crate) fn restamp(
+    units: &mut IndexMap<Addr, UnitTable>,
+    place: usize,
+    key: Key,
+    stamp: u64,
+) -> Option<Slot>
+    requires place { position (same_addr key.addr) (keys_of units.old.entries) ≡ Some place }
+    requires block { key.rb < length (unit_in units.old.entries key.addr).stamps }
     ensures home { result ≡ home_in units.old.entries key }
     ensures stamp { units.new.entries ≡ restamped units.old.entries key stamp }
 {
-    let unit = units.get_mut(&key.addr)?;
+    let unit = units.get_index_mut(place)?;
     unit.set_stamp(key.rb, stamp);
     unit.home(key.rb)
 }
