@@ -9,7 +9,7 @@ ghost use Rattle.ar_cache.specs.Backing.{IsHonest, stored, KeepsBacking, SameBlo
 
 use crate::answers::Flush;
 use crate::backing::Backing;
-use crate::entries::{last_key, replace};
+use crate::entries::{last_key, peek, replace};
 use ar_disks::{Addr, Block, Completion, Geometry, Key};
 use lru::LruCache;
 use std::alloc::{AllocError, Global};
@@ -110,7 +110,7 @@ impl Cache {
         ensures asked { cached self.now key ≡ None → result ≡ stored (B.is_broken backing.new) }
         ensures keeps { KeepsBacking B.geometry B.knows B.is_broken B.follows backing.old backing.new }
     {
-        match self.entries.peek(&key) {
+        match peek(&self.entries, key) {
             Some(block) => {
                 into.copy_from_slice(block.bytes());
                 Completion::Done
@@ -185,7 +185,7 @@ impl Cache {
         ensures all_known { KnowsAll (B.knows backing.new) self.new }
         ensures keeps { KeepsBacking B.geometry B.knows B.is_broken B.follows backing.old backing.new }
     {
-        let Some(block) = self.entries.peek(&key) else {
+        let Some(block) = peek(&self.entries, key) else {
             return Completion::Done;
         };
         match backing.put(key, block.bytes()) {

@@ -2,12 +2,23 @@
 ghost use Rattle.std.specs.Prelude.{◌≡◌, ◌↔◌, ◌∷◌, All, IsTrue, IsSome, length};
 ghost use Rattle.std.specs.Bool.{OnTrue, OnFalse};
 ghost use Rattle.std.specs.Map.{lookup};
+ghost use Rattle.std.specs.Option.{option_copied};
 ghost use Rattle.lru.specs.LruCache.{lru_cache};
 ghost use Rattle.ar_cache.specs.Cache as spec;
 ghost use Rattle.ar_cache.specs.Cache.{same_key, without_key, CacheState};
 
 use ar_disks::{Block, Key};
 use lru::LruCache;
+
+// The block of a key. Where there is no entry, as in a cache of capacity 0, the key isn't hashed.
+pub(crate) fn peek(entries: &LruCache<Key, Block>, key: Key) -> Option<&Block>
+    ensures { option_copied result ≡ lookup (same_key key) entries.now.entries }
+{
+    if entries.is_empty() {
+        return None;
+    }
+    entries.peek(&key)
+}
 
 // Copies a block into the entry of a key, which becomes the most recently used. Returns whether there is one.
 pub(crate) fn replace(entries: &mut LruCache<Key, Block>, key: Key, block: &[u8]) -> bool
@@ -16,6 +27,9 @@ pub(crate) fn replace(entries: &mut LruCache<Key, Block>, key: Key, block: &[u8]
     ensures put { OnTrue result (entries.new ≡ lru_cache ((key, block.now) ∷ without_key entries.old.entries key) entries.old.cap) }
     ensures absent { OnFalse result (entries.new ≡ entries.old) }
 {
+    if entries.is_empty() {
+        return false;
+    }
     match entries.get_mut(&key) {
         Some(present) => {
             present.copy_from_slice(block);
