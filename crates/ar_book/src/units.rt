@@ -1,14 +1,13 @@
 // Units are created, resized and deleted. All blocks of a unit are reserved from the start, written or not, and what is
 // reserved fits all groups but one as parity groups.
-ghost use Rattle.std.specs.Prelude.{◌≡◌, ◌≢◌, ◌-◌, ◌≤◌, ◌↔◌, length, nat_lt, IsOk, IsTrue, Some, None, IfErr, OnOk, OnErr, if◌then◌else◌};
+ghost use Rattle.std.specs.Prelude.{◌≡◌, ◌-◌, ◌≤◌, ◌↔◌, length, nat_lt, IsOk, IsTrue, Some, None, IfErr, OnOk, OnErr, if◌then◌else◌};
 ghost use Rattle.std.specs.Option.{unwrap_or};
 ghost use Rattle.std.specs.Map.{keys_of};
 ghost use Rattle.std.specs.Set.{remove_key};
-ghost use Rattle.ar_disks.specs.declared.address.Key.{Key};
-ghost use Rattle.ar_book.specs.declared.class.Slot.{Slot};
 ghost use Rattle.ar_disks.specs.Addresses.{same_addr};
-ghost use Rattle.ar_book.specs.Tables.{key_at, home, level, stamp_of, has_unit, room, blocks_of, unit_in};
+ghost use Rattle.ar_book.specs.Tables.{has_unit, room, blocks_of, unit_in};
 ghost use Rattle.ar_book.specs.Changes.{made, grown, dropped};
+ghost use Rattle.ar_book.specs.Deletion.{KeepsOtherUnits};
 ghost use Rattle.ar_book.specs.Refusals.{unit_make_refusal, unit_grow_refusal};
 
 use crate::directory::MAX_LUN;
@@ -118,10 +117,7 @@ impl Book {
         ensures dropped { OnOk result (self.new ≡ dropped self.old addr) }
         ensures unchanged { OnErr result (self.new ≡ self.old) }
 
-        ensures others { (s : Slot) (k : Key) → k.addr ≢ addr → key_at self.old s ≡ Some k → key_at self.new s ≡ Some k }
-        ensures homes { (k : Key) → k.addr ≢ addr → home self.new k ≡ home self.old k }
-        ensures levels { (k : Key) → k.addr ≢ addr → level self.new k ≡ level self.old k }
-        ensures stamps { (k : Key) → k.addr ≢ addr → stamp_of self.new k ≡ stamp_of self.old k }
+        ensures others { KeepsOtherUnits self.old addr self.new }
         ensures order { OnOk result (keys_of self.new.units ≡ remove_key (same_addr addr) (keys_of self.old.units)) }
     {
         let Some(unit) = self.units.get(addr) else {

@@ -1,10 +1,11 @@
 use Rattle.ar_book.proofs.GroupLemmas.{there_group}
 use Rattle.ar_book.proofs.Reorders.{gone_right, gone_leaves}
-use Rattle.ar_book.specs.Changes.{vacated}
+use Rattle.ar_book.specs.Changes.{vacated, dropped}
+use Rattle.ar_book.specs.Deletion.{KeepsOtherUnits}
 use Rattle.ar_book.specs.Index.{IsBlanked}
 use Rattle.ar_book.proofs.IndexLemmas.{index_length}
 use Rattle.ar_book.proofs.IndexAfter.{vacated_all_size}
-use Rattle.std.proofs.Common.{◌≡◌, ◌≤◌, ℕ, None, Some, is_some, length, get_or, fold, sym, ap, subst, ◌∙◌, true≢false, arith}
+use Rattle.std.proofs.Common.{◌≡◌, ◌≤◌, ℕ, None, Some, is_some, length, get_or, fold, refl, sym, ap, subst, ◌∙◌, true≢false, arith}
 use Rattle.std.specs.Option.{option_copied}
 use Rattle.std.specs.Map.{lookup, keys_of}
 use Rattle.std.specs.Set.{remove_key}
@@ -39,34 +40,26 @@ overflow_sub-self c =
     omega arith
 
 pub returns-clause-others : goal.returns-clause-others
-returns-clause-others c = λ s k ne e.
+returns-clause-others c =
     let t : Tables = the_view c.self.inside in
+    let ok = c.self.invariant.kept.tables in
     let found : lookup (same_addr c.args.addr) t.units ≡ Some c.in-Some-take_unit.unit = sym c.take_unit.ensures.taken ∙ c.in-Some-take_unit.is in
-    let before : key_at t s ≡ Some k = ap (λ x. key_at x s) c.self.view_is ∙ e in
-    let keep = dropped_key_other t c.args.addr c.self.invariant.kept.tables s k ne before in
-    rw (c.vacate_all.ensures, c.homes-2.ensures, ← found_is t.units c.args.addr c.in-Some-take_unit.unit found) keep
-
-pub returns-clause-homes : goal.returns-clause-homes
-returns-clause-homes c = λ k ne.
-    let keep = dropped_home_other (the_view c.self.inside) c.args.addr c.self.invariant.kept.tables k ne ∙ ap (λ x. home x k) c.self.view_is in
-    rw c.take_unit.ensures.left keep
-
-pub returns-clause-levels : goal.returns-clause-levels
-returns-clause-levels c = λ k ne.
-    let t : Tables = the_view c.self.inside in
-    let found : lookup (same_addr c.args.addr) t.units ≡ Some c.in-Some-take_unit.unit = sym c.take_unit.ensures.taken ∙ c.in-Some-take_unit.is in
-    let keep = dropped_level_other t c.args.addr c.self.invariant.kept.tables k ne ∙ ap (λ x. level x k) c.self.view_is in
-    rw (c.vacate_all.ensures, c.homes-2.ensures, c.take_unit.ensures.left, ← found_is t.units c.args.addr c.in-Some-take_unit.unit found) keep
-
-pub returns-clause-stamps : goal.returns-clause-stamps
-returns-clause-stamps c = λ k ne.
-    let keep = dropped_stamp_other (the_view c.self.inside) c.args.addr c.self.invariant.kept.tables k ne ∙ ap (λ x. stamp_of x k) c.self.view_is in
-    rw c.take_unit.ensures.left keep
+    let others : KeepsOtherUnits c.args.self.now c.args.addr (dropped t c.args.addr) = record {
+      slots = λ s k ne e. dropped_key_other t c.args.addr ok s k ne (ap (λ x. key_at x s) c.self.view_is ∙ e);
+      homes = λ k ne. dropped_home_other t c.args.addr ok k ne ∙ ap (λ x. home x k) c.self.view_is;
+      levels = λ k ne. dropped_level_other t c.args.addr ok k ne ∙ ap (λ x. level x k) c.self.view_is;
+      stamps = λ k ne. dropped_stamp_other t c.args.addr ok k ne ∙ ap (λ x. stamp_of x k) c.self.view_is;
+    } in
+    rw (c.vacate_all.ensures, c.homes-2.ensures, c.take_unit.ensures.left, ← found_is t.units c.args.addr c.in-Some-take_unit.unit found) others
 
 pub returns-clause-order : goal.returns-clause-order
 returns-clause-order c =
     let keep = dropped_order (the_view c.self.inside) c.args.addr c.self.invariant.kept.tables ∙ ap (λ (x : Tables). remove_key (same_addr c.args.addr) (keys_of x.units)) c.self.view_is in
     rw c.take_unit.ensures.left keep
+
+pub returns-in_default-clause-others : goal.returns-in_default-clause-others
+returns-in_default-clause-others c =
+    record { slots = λ s k ne e. e; homes = λ k ne. refl; levels = λ k ne. refl; stamps = λ k ne. refl }
 
 pub returns-in_default-clause-there : goal.returns-in_default-clause-there
 returns-in_default-clause-there c =
