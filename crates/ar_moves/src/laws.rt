@@ -33,7 +33,7 @@ pub fn rules_name_one_move()
 
 /// What a move costs where no disk faults. A demotion is one read, and then the two reads and two writes of a put to a
 /// parity slot; a group that is opened for it costs four writes for each row before. Cleaning is one read, and then two
-/// writes among the mirrored groups, two reads and two writes among the parity groups. If no group is opened, a disk may
+/// writes among the mirrored groups, two reads and two writes among the parity groups. If it opens no group, a disk may
 /// be missing: only the extents that the move uses have to be usable. A call does nothing.
 pub fn move_accesses()
     ensures demotion { (old new : StoreState) (key : Key) (from to : Slot) → home old.book key ≡ Some from

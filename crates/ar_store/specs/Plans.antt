@@ -99,7 +99,7 @@ ReadsUsable Free s m i = Unit {0}
 ReadsUsable Mirrored s m i = IsSound s (one_of s.geometry m i) ⊎ IsSound s (other_of s.geometry m i)
 ReadsUsable Parity s m i = IsSound s (member m (data_position i))
 
--- The two extents that a write of a slot uses are usable: a mirrored slot's pair; the own extent of one with parity, and
+-- The two extents that a write of a slot uses are usable: a mirrored slot's pair; of one with parity its own extent and
 -- that of its stripe's parity. The group may lack another extent.
 abbrev pub WritesUsable : Class → SetState → Members → ℕ → Type 0
 WritesUsable Free s m i = Unit {0}

@@ -19,8 +19,8 @@ ghost use Rattle.ar_store.specs.Plans.{CarriesOutPut, GoesToMirrored, GoesToPari
 ghost use Rattle.ar_store.specs.Plans.{slot_read, LacksOnly, LacksOneOf};
 ghost use Rattle.ar_parity.specs.Row.{row_of, data_position, parity_position};
 
-/// Where no disk faults, and the extents that are used are usable, whichever disk is missing: the get of a block without a
-/// home accesses nothing, of another one it is one read; the write of a mirrored slot is two writes, of one with parity
+/// Where no disk faults, and the extents in use are usable, whichever disk is missing: a get of a block without a home
+/// accesses nothing, of another one it is one read; the write of a mirrored slot is two writes, of one with parity
 /// two reads and then two writes; a move is one read, and then the accesses of a write of the new slot. With all disks
 /// present every extent is usable, and a squeeze is four writes for each row of an extent, and then a move of each slot
 /// of the mirrored group. A call has no effect.
@@ -68,7 +68,7 @@ pub fn a_put_has_one_plan()
         → CarriesOutPut old k new → IsPutPlan old k plan → CarriesOut plan old.disks new.disks }
 {}
 
-/// A put where no disk faults: to a mirrored slot it is two writes; to a slot with parity two reads and then two writes;
+/// A put where no disk faults: to a mirrored slot it is two writes; to one with parity two reads and then two writes;
 /// and if it needs a squeeze, those of the squeeze, and then these. So it is with all disks present and, of a put to a
 /// slot whose two extents are usable, whichever disk is missing. A call has no effect.
 pub fn put_accesses()
