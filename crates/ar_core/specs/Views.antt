@@ -6,8 +6,8 @@ use Rattle.ar_disks.specs.Geometry.{rows_of}
 use Rattle.ar_extents.specs.declared.answers.Got.{Got}
 use Rattle.ar_extents.specs.declared.answers.Got.TheVariants.{Read, Missing as ReadMissing, Broken as ReadBroken}
 use Rattle.ar_extents.specs.Set.{SetState, HasExtent}
-use Rattle.ar_extents.specs.Access.{Accesses, Gets, is_read}
-use Rattle.ar_extents.specs.Follows.{Keeps, Anywhere}
+use Rattle.ar_extents.specs.Access.{Gets, is_read}
+use Rattle.ar_extents.specs.Plans.{Attempts, read_at}
 use Rattle.ar_book.specs.declared.class.Level.{Level}
 use Rattle.ar_book.specs.declared.class.Level.TheVariants.{Unplaced as NowherePlaced, Mirrored as AtMirrored, Parity as AtParity}
 use Rattle.ar_book.specs.declared.class.Slot.{Slot}
@@ -53,13 +53,11 @@ pub record HasRow (s : SetState) (place : Place) (row : ℕ) : Type 0 where
   pub extent : HasExtent s place
   pub below : row < rows_of s.geometry
 
--- a row of an extent was read, with this result: only its disk was accessed, none if the extent is lost, and every row
--- of every disk keeps its content
+-- a row of an extent was read, with this result, at exactly one access; at none where the extent is lost
 pub record IsShown (old new : SetState) (place : Place) (row : ℕ) (bytes : List ℕ) (got : Got) : Type 0 where
   pub there : HasRow old place row
   pub answer : Gets old new place row bytes got
-  pub access : Accesses old new place (is_read got)
-  pub keeps : Keeps Anywhere old new
+  pub made : Attempts (read_at place row) (is_read got) old new
 
 -- the view of a row: it doesn't exist, and nothing was read; or the result of reading it
 abbrev pub Shows : SetState → SetState → Place → ℕ → List ℕ → Shown → Type 0
